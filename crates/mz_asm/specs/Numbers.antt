@@ -5,7 +5,7 @@ use Rattle.std.specs.List.{list_all}
 use Rattle.std.specs.Str.Parse.{digits_value}
 use Rattle.hex.specs.Hex.{encode_lower, decode_sized}
 use Rattle.hex.specs.declared.error.FromHexError.{FromHexError}
-use Rattle.mz_names.specs.Identifiers.{is_digit}
+use Rattle.mz_base.specs.Identifiers.{is_digit}
 use Rattle.mz_logic.specs.declared.word.Word.{Word}
 
 -- ---- numbers, decimal, without leading zeros

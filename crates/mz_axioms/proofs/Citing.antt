@@ -3,12 +3,12 @@ use Rattle.std.proofs.Common.{◌≡◌, ◌∙◌, ◌≤◌, ◌<◌, ◌+◌,
 use Rattle.std.specs.Prelude.{◌↔◌, All}
 use Rattle.std.proofs.lemmas.List.{drop-drop, drop-take, length-drop}
 use Rattle.std.proofs.lemmas.List.Elements.{All-nil, All-cons, All-head, All-tail, All-append}
-use Rattle.mz_general.proofs.Offered.{take-short}
+use Rattle.mz_base_theory.proofs.Offered.{take-short}
 use Rattle.mz_cmd.specs.declared.command.Cmd.{Cmd}
 use Rattle.mz_cmd.specs.declared.command.CmdFault.{CmdFault}
 use Rattle.mz_cmd.specs.Reading.{first_command}
-use Rattle.mz_unification.proofs.Offered.{command-long, cmd-is}
-use Rattle.mz_soundness.specs.Sound.{IsCitation, CitesWithin}
+use Rattle.mz_unify_theory.proofs.Offered.{command-long, cmd-is}
+use Rattle.mz_machine_theory.specs.Sound.{IsCitation, CitesWithin}
 use Rattle.mz_layout.specs.Heads.{body_bytes}
 use Rattle.mz_axioms.specs.Commands.{StandThere, length_of, IsCiting, IsCitedIn}
 use Rattle.mz_axioms.specs.Citations.{IsFirstCitation, CiteNothing, IsFirstIn}

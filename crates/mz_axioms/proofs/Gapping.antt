@@ -3,15 +3,15 @@ use Rattle.std.proofs.Common.{◌≡◌, ◌∙◌, ◌<◌, ℕ, zero, suc, Boo
 use Rattle.std.specs.Prelude.{All, MatchBool}
 use Rattle.std.proofs.lemmas.List.Elements.{All-append}
 use Rattle.std.proofs.lemmas.Option.{slice_get_within}
-use Rattle.mz_files.specs.Gapped.{GappedIn}
+use Rattle.mz_binary_theory.specs.Gapped.{GappedIn}
 use Rattle.mz_logic.specs.Declaration.{Declaration, sort_decl, term_decl, assertion_decl, assertions}
 use Rattle.mz_logic.specs.LegalLists.{Statement, declarations}
 use Rattle.mz_spec.specs.State.{Entry, env_of}
 use Rattle.mz_spec.specs.Spec.{SpecMakes}
 use Rattle.mz_spec.proofs.Offered.{one-reading}
 use Rattle.mz_match.specs.Drafts.{IsGapOf, ListsGaps}
-use Rattle.mz_verdicts.specs.Match.{publics, Agrees}
-use Rattle.mz_verdicts.proofs.Offered.{length-env}
+use Rattle.mz_match_theory.specs.Match.{publics, Agrees}
+use Rattle.mz_match_theory.proofs.Offered.{length-env}
 use Rattle.mz_axioms.specs.Gaps.{AreGapsOf}
 use Rattle.mz_axioms.proofs.Placing.{declared-at}
 

@@ -4,22 +4,22 @@ use Rattle.std.specs.Prelude.{All, Contains, flat_map, if◌then◌else◌, not,
 use Rattle.std.proofs.lemmas.List.{map-append}
 use Rattle.std.proofs.lemmas.List.Elements.{All-nil, All-cons, All-append}
 use Rattle.std.proofs.lemmas.Option.{none-some, slice_get_within}
-use Rattle.mz_general.proofs.Offered.{slice_get-some, slice_get-map_back, slice_get-map_at, place-of as contained-get, contains_at}
+use Rattle.mz_base_theory.proofs.Offered.{slice_get-some, slice_get-map_back, slice_get-map_at, place-of as contained-get, contains_at}
 use Rattle.mz_logic.specs.Declaration.{Declaration, sort_decl, term_decl, assertion_decl}
 use Rattle.mz_logic.specs.LegalLists.{Statement, declarations, IsProvedBy, Legal, gap_free}
 use Rattle.mz_logic.proofs.Offered.{one_at, legal_at}
 use Rattle.mz_layout.specs.Tables.{list_at}
 use Rattle.mz_cmd.specs.StatementList.{statement_at}
-use Rattle.mz_files.specs.Good.{Good}
-use Rattle.mz_files.proofs.Offered.{good-legal, one-list, good-spelled}
-use Rattle.mz_verdicts.specs.Match.{publics, Agrees}
-use Rattle.mz_verdicts.specs.Verdict.{Accepts}
+use Rattle.mz_binary_theory.specs.Good.{Good}
+use Rattle.mz_binary_theory.proofs.Offered.{good-legal, one-list, good-spelled}
+use Rattle.mz_match_theory.specs.Match.{publics, Agrees}
+use Rattle.mz_match_theory.specs.Verdict.{Accepts}
 use Rattle.mz_axioms.specs.declared.rows.Place.{Place}
 use Rattle.mz_axioms.specs.declared.rows.Row.{Row}
-use Rattle.mz_files.specs.Gapped.{AssertionBody, body_there, place_after, body_of, bodies_from, bodies_of}
+use Rattle.mz_binary_theory.specs.Gapped.{AssertionBody, body_there, place_after, body_of, bodies_from, bodies_of}
 use Rattle.mz_axioms.specs.Supports.{IsKind, InSupport, within_support}
 use Rattle.mz_axioms.specs.Places.{StandsFor, theorems_of, place_there, places_from, is_listed}
-use Rattle.mz_walk.specs.Walk.{past_public}
+use Rattle.mz_binary_walk.specs.Walk.{past_public}
 use Rattle.mz_axioms.specs.Lists.{TheoremSupport, IsSupportOf, AreSupports}
 use Rattle.mz_axioms.specs.Rows.{Tells, TellsAll, number_at, number_in, support_of, supports_at, supports_of}
 use Rattle.mz_axioms.proofs.Increasing.{increasing-map}
@@ -27,8 +27,8 @@ use Rattle.mz_axioms.proofs.Supporting.{support-axiom, one-kind, kind-within}
 use Rattle.mz_axioms.proofs.Placing.{IsPlaceOf, place-of, numbers-grow, declared-at, publics-count, listed_number, listed_numbers, theorems-listed}
 use Rattle.mz_axioms.proofs.Resting.{rest-on-supports}
 use Rattle.mz_axioms.proofs.Telling.{rows-many}
-use Rattle.mz_files.specs.Standards.{strict_standard}
-use Rattle.mz_verdicts.proofs.Offered.{never-local}
+use Rattle.mz_binary_theory.specs.Standards.{strict_standard}
+use Rattle.mz_match_theory.proofs.Offered.{never-local}
 
 -- ---- lists
 

@@ -2,19 +2,19 @@
 use Rattle.std.proofs.Common.{◌≡◌, ◌∙◌, ◌≤◌, ◌<◌, ◌+◌, ◌⊎◌, ℕ, zero, suc, Bool, true, false, List, [], ◌∷◌, ◌++◌, length, slice_get, Some, refl, sym, ap, subst, inl, inr, arith, append_assoc, append-nil}
 use Rattle.std.specs.Prelude.{if◌then◌else◌, MatchBool, not, ◌&&◌, flat_map, option_to_list}
 use Rattle.std.proofs.lemmas.Option.{none-some}
-use Rattle.mz_checks.specs.Checks.{AllHold}
+use Rattle.mz_base_theory.specs.Checks.{AllHold}
 use Rattle.mz_cmd.specs.declared.code.StatementCode.{StatementCode}
 use Rattle.mz_cmd.specs.declared.code.StatementCode.TheVariants as codes
 use Rattle.mz_cmd.specs.Codes.{statement_byte}
 use Rattle.mz_logic.specs.Declaration.{Declaration, sort_decl, term_decl, assertion_decl, Assertion, Form, plain_form, abstract_form, defined, assertions}
 use Rattle.mz_logic.specs.LegalLists.{Statement, declarations}
 use Rattle.mz_logic.proofs.Offered.{one_at}
-use Rattle.mz_files.specs.Spelling.{IsKindOf, is_local_code, HasKind}
-use Rattle.mz_verdicts.specs.declared.kind.Kind.TheVariants as kinds
-use Rattle.mz_verdicts.specs.Match.{Partner, partner_of, publics, publics_after, kind_of, kind_of_form, match_checks, Agrees}
-use Rattle.mz_verdicts.proofs.Offered.{publics-append, publics-public}
-use Rattle.mz_walk.specs.Walk.{past_public}
-use Rattle.mz_walk.proofs.Offered.{one-code}
+use Rattle.mz_binary_theory.specs.Spelling.{IsKindOf, is_local_code, HasKind}
+use Rattle.mz_match_theory.specs.declared.kind.Kind.TheVariants as kinds
+use Rattle.mz_match_theory.specs.Match.{Partner, partner_of, publics, publics_after, kind_of, kind_of_form, match_checks, Agrees}
+use Rattle.mz_match_theory.proofs.Offered.{publics-append, publics-public}
+use Rattle.mz_binary_walk.specs.Walk.{past_public}
+use Rattle.mz_binary_walk.proofs.Offered.{one-code}
 use Rattle.mz_axioms.specs.declared.rows.Place.{Place}
 use Rattle.mz_axioms.specs.Places.{theorem_number, theorems_from, place_there, places_from, publics_past, place_by, is_listed}
 

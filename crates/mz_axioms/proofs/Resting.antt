@@ -9,17 +9,17 @@ use Rattle.mz_logic.specs.LegalLists.{Statement, declarations, IsProvedBy, IsPro
 use Rattle.mz_logic.specs.Closed.{AreSupports, by_number, on_support}
 use Rattle.mz_logic.proofs.Offered.{one_at, assertions-append, cites_more, legal_at, legal_by_supports}
 use Rattle.mz_layout.specs.Tables.{list_at}
-use Rattle.mz_soundness.specs.Sound.{IsCited, used_by, cites_as}
+use Rattle.mz_machine_theory.specs.Sound.{IsCited, used_by, cites_as}
 use Rattle.mz_layout.specs.Heads.{body_bytes}
-use Rattle.mz_files.specs.Chains.{IsGoodStatement, GoodTo}
-use Rattle.mz_files.specs.Good.{Good}
-use Rattle.mz_files.proofs.Offered.{chain-more, good-legal, cite-as-bodies}
+use Rattle.mz_binary_theory.specs.Chains.{IsGoodStatement, GoodTo}
+use Rattle.mz_binary_theory.specs.Good.{Good}
+use Rattle.mz_binary_theory.proofs.Offered.{chain-more, good-legal, cite-as-bodies}
 use Rattle.mz_axioms.specs.Commands.{IsCitedIn}
-use Rattle.mz_files.specs.Gapped.{AssertionBody, body_there, place_after, body_of, bodies_from, bodies_of}
+use Rattle.mz_binary_theory.specs.Gapped.{AssertionBody, body_there, place_after, body_of, bodies_from, bodies_of}
 use Rattle.mz_axioms.specs.Supports.{Cites, IsKind, InSupport, within_support}
 use Rattle.mz_axioms.proofs.Citing.{cited-within}
 use Rattle.mz_axioms.proofs.Supporting.{support-step}
-use Rattle.mz_files.specs.Standards.{strict_standard}
+use Rattle.mz_binary_theory.specs.Standards.{strict_standard}
 
 pub at-seam : (done : List AssertionBody) (body : AssertionBody) (tail : List AssertionBody) (n : ℕ) → length done ≡ n → slice_get (done ++ body ∷ tail) n ≡ Some body
 at-seam [] body tail zero is = refl

@@ -2,9 +2,9 @@
 use Rattle.std.proofs.Common.{◌≡◌, ◌∙◌, ◌<◌, ◌+◌, ℕ, Bool, true, false, List, [], ◌++◌, length, refl, sym, ap, subst, inl, inr, arith}
 use Rattle.std.specs.Prelude.{◌↔◌}
 use Rattle.std.proofs.lemmas.Option.{slice_get_within}
-use Rattle.mz_general.proofs.Offered.{slice_get-within}
+use Rattle.mz_base_theory.proofs.Offered.{slice_get-within}
 use Rattle.mz_logic.proofs.Offered.{one_at}
-use Rattle.mz_files.specs.Gapped.{AssertionBody}
+use Rattle.mz_binary_theory.specs.Gapped.{AssertionBody}
 use Rattle.mz_axioms.specs.Supports.{Cites, IsKind, InSupport, by_axiom, by_theorem}
 use Rattle.mz_axioms.specs.Rows.{ComesTo}
 

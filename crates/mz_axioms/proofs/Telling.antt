@@ -5,8 +5,8 @@ use Rattle.std.specs.List.Sorted.{IsStrictlyIncreasing}
 use Rattle.std.proofs.lemmas.List.{length-map, map_push}
 use Rattle.std.proofs.lemmas.List.Elements.{Contains-push, Contains-push_cases}
 use Rattle.std.proofs.lemmas.Option.{none-some, slice_get_within, slice_get-get_or}
-use Rattle.mz_general.proofs.Offered.{contains_none, slice_get-some, contains_at}
-use Rattle.mz_checks.specs.Checks.{AllHold}
+use Rattle.mz_base_theory.proofs.Offered.{contains_none, slice_get-some, contains_at}
+use Rattle.mz_base_theory.specs.Checks.{AllHold}
 use Rattle.mz_cmd.specs.Codes.{statement_byte}
 use Rattle.mz_cmd.specs.StatementList.{statement_at}
 use Rattle.mz_logic.specs.Declaration.{Declaration, sort_decl, term_decl, assertion_decl, assertions}
@@ -15,16 +15,16 @@ use Rattle.mz_logic.proofs.Offered.{one_at, split_at}
 use Rattle.mz_layout.specs.Tables.{list_at}
 use Rattle.mz_layout.specs.Heads.{body_bytes, head_checks}
 use Rattle.mz_layout.specs.declared.head.Head.{Head}
-use Rattle.mz_files.specs.Spelling.{is_local_code}
-use Rattle.mz_files.specs.Chains.{GoodTo, IsListEnd}
-use Rattle.mz_files.specs.Good.{Good}
-use Rattle.mz_walk.specs.Walk.{GoesOn, nothing_passed, past_public}
-use Rattle.mz_walk.specs.declared.passed.Passed.{Passed}
-use Rattle.mz_walk.proofs.Offered.{HasGone, IsOnWay, head-here, way-asks, way-first, way-last, way-more}
+use Rattle.mz_binary_theory.specs.Spelling.{is_local_code}
+use Rattle.mz_binary_theory.specs.Chains.{GoodTo, IsListEnd}
+use Rattle.mz_binary_theory.specs.Good.{Good}
+use Rattle.mz_binary_walk.specs.Walk.{GoesOn, nothing_passed, past_public}
+use Rattle.mz_binary_walk.specs.declared.passed.Passed.{Passed}
+use Rattle.mz_binary_walk.proofs.Offered.{HasGone, IsOnWay, head-here, way-asks, way-first, way-last, way-more}
 use Rattle.mz_axioms.specs.declared.rows.Place.{Place}
 use Rattle.mz_axioms.specs.declared.rows.Row.{Row}
 use Rattle.mz_axioms.specs.Commands.{IsCitedIn}
-use Rattle.mz_files.specs.Gapped.{AssertionBody, body_there, place_after, body_of, bodies_from, bodies_of}
+use Rattle.mz_binary_theory.specs.Gapped.{AssertionBody, body_there, place_after, body_of, bodies_from, bodies_of}
 use Rattle.mz_axioms.specs.Supports.{InSupport}
 use Rattle.mz_axioms.specs.Places.{place_there, places_from, publics_past, place_by}
 use Rattle.mz_axioms.specs.Rows.{ComesTo, Tells, TellsAll, TellsFile, Gives, Reaches, IsNew, IsNoted, AreInOrder, AreWithin, AreFew}
@@ -33,7 +33,7 @@ use Rattle.mz_axioms.proofs.Increasing.{increasing-few}
 use Rattle.mz_axioms.proofs.Placing.{places-more, publics-more, places-many, by-code}
 use Rattle.mz_axioms.proofs.Resting.{at-seam}
 use Rattle.mz_axioms.proofs.Supporting.{support-step, support-inverts, comes-on, comes-low, one-kind}
-use Rattle.mz_files.specs.Standards.{strict_standard}
+use Rattle.mz_binary_theory.specs.Standards.{strict_standard}
 
 -- ---- answers
 

@@ -6,7 +6,7 @@ use Rattle.mz_logic.specs.Declaration.{Declaration}
 use Rattle.mz_spec.specs.State.{Entry, env_of}
 use Rattle.mz_spec.specs.Spec.{SpecMakes}
 use Rattle.mz_spec.proofs.Offered.{one-reading}
-use Rattle.mz_verdicts.proofs.Offered.{length-env}
+use Rattle.mz_match_theory.proofs.Offered.{length-env}
 use Rattle.mz_axioms.specs.Lists.{TheoremSupport}
 use Rattle.mz_axioms.specs.Text.{IsNamed, AreOfSome}
 

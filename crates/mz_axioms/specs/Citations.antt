@@ -4,10 +4,10 @@ use Rattle.std.specs.Prelude.{◌≡◌, ◌≤◌, ◌+◌, ℕ, List, [], ◌�
 use Rattle.mz_cmd.specs.declared.command.Cmd.{Cmd}
 use Rattle.mz_cmd.specs.declared.statement.StmtAt.TheVariants.{Head}
 use Rattle.mz_cmd.specs.StatementList.{statement_at}
-use Rattle.mz_soundness.specs.Sound.{IsCitation}
+use Rattle.mz_machine_theory.specs.Sound.{IsCitation}
 use Rattle.mz_layout.specs.Heads.{body_bytes}
 use Rattle.mz_axioms.specs.Commands.{StandThere, length_of, IsCiting, IsCitedIn}
-use Rattle.mz_files.specs.Gapped.{place_after}
+use Rattle.mz_binary_theory.specs.Gapped.{place_after}
 
 -- Of the commands of bytes that begin at a place, the first that cites: it cites the row, the next command's place is this
 -- one, and no command before it cites.

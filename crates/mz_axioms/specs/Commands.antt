@@ -5,7 +5,7 @@ use Rattle.mz_cmd.specs.declared.command.Cmd.{Cmd}
 use Rattle.mz_cmd.specs.declared.code.ProofCode.TheVariants.{Thm, ThmSave}
 use Rattle.mz_cmd.specs.Codes.{proof_code}
 use Rattle.mz_cmd.specs.Reading.{first_command}
-use Rattle.mz_soundness.specs.Sound.{IsCitation}
+use Rattle.mz_machine_theory.specs.Sound.{IsCitation}
 
 -- these commands stand in the bytes one after another, the first of them at the front
 abbrev pub StandThere : List ℕ → List Cmd → Type 0

@@ -4,8 +4,8 @@ use Rattle.std.specs.Prelude.{◌≡◌, ◌<◌, ◌^◌, ℕ, false, List, [],
 use Rattle.std.specs.List.Sorted.{IsStrictlyIncreasing}
 use Rattle.mz_logic.specs.Declaration.{Declaration}
 use Rattle.mz_logic.specs.LegalLists.{Statement, declarations, IsProvedBy}
-use Rattle.mz_verdicts.specs.Verdict.{Accepts}
-use Rattle.mz_files.specs.Gapped.{bodies_of}
+use Rattle.mz_match_theory.specs.Verdict.{Accepts}
+use Rattle.mz_binary_theory.specs.Gapped.{bodies_of}
 use Rattle.mz_axioms.specs.Supports.{InSupport, within_support}
 use Rattle.mz_axioms.specs.Places.{StandsFor, theorems_of}
 

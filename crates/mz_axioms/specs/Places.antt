@@ -1,13 +1,13 @@
 -- The axioms and theorems of a list of statements beside the declarations of a specification (mm0.md: a specification
 -- declares what a proof file is to prove, and the file's public statements follow it in order; local ones stand for nothing).
 use Rattle.std.specs.Prelude.{◌≡◌, ◌+◌, ℕ, Bool, true, false, not, ◌&&◌, if◌then◌else◌, List, [], ◌∷◌, ◌++◌, length, slice_get, Option, Some, None}
-use Rattle.mz_checks.specs.Checks.{AllHold}
+use Rattle.mz_base_theory.specs.Checks.{AllHold}
 use Rattle.mz_cmd.specs.declared.code.StatementCode.{StatementCode}
 use Rattle.mz_cmd.specs.declared.code.StatementCode.TheVariants as codes
 use Rattle.mz_logic.specs.Declaration.{Declaration, sort_decl, term_decl, assertion_decl, Assertion, assertions}
 use Rattle.mz_logic.specs.LegalLists.{Statement, declarations}
-use Rattle.mz_verdicts.specs.Match.{publics, partner_of, match_checks}
-use Rattle.mz_walk.specs.Walk.{past_public}
+use Rattle.mz_match_theory.specs.Match.{publics, partner_of, match_checks}
+use Rattle.mz_binary_walk.specs.Walk.{past_public}
 use Rattle.mz_axioms.specs.declared.rows.Place.{Place}
 
 -- The T-th axiom or theorem of the statements stands for the k-th of the declarations: it is public, k public statements

@@ -1,11 +1,11 @@
 -- What is said of a specification and a binary together (this project's own: `verify`'s refusals, or the supports).
 use Rattle.std.specs.Prelude.{◌≡◌, ◌+◌, ⊤, ℕ, List}
-use Rattle.mz_files.specs.FileRun.{file_steps}
-use Rattle.mz_verdicts.specs.Verdict.{FirstRefusal, Ticks}
+use Rattle.mz_binary_theory.specs.FileRun.{file_steps}
+use Rattle.mz_match_theory.specs.Verdict.{FirstRefusal, Ticks}
 use Rattle.mz_axioms.specs.Lists.{AreSupports}
 use Rattle.mz_axioms.specs.declared.axioms.AxiomsRead.{AxiomsRead}
 use Rattle.mz_axioms.specs.declared.axioms.AxiomsRead.TheVariants as read
-use Rattle.mz_files.specs.Standards.{strict_standard}
+use Rattle.mz_binary_theory.specs.Standards.{strict_standard}
 
 -- the supports of an accepted pair, or its first refusal
 abbrev pub IsAxiomsRead : List ℕ → List ℕ → AxiomsRead → Type 0

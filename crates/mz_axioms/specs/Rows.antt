@@ -3,15 +3,15 @@
 use Rattle.std.specs.Prelude.{◌≡◌, ◌≤◌, ◌<◌, ◌⊎◌, ◌↔◌, ℕ, true, false, if◌then◌else◌, MatchBool, List, [], ◌∷◌, ◌++◌, map, flat_map, length, All, Contains, slice_get, Option, Some, None}
 use Rattle.std.specs.List.Sorted.{IsStrictlyIncreasing}
 use Rattle.mz_logic.specs.LegalLists.{Statement}
-use Rattle.mz_files.specs.Good.{Good}
-use Rattle.mz_files.specs.Gapped.{AssertionBody, bodies_of}
+use Rattle.mz_binary_theory.specs.Good.{Good}
+use Rattle.mz_binary_theory.specs.Gapped.{AssertionBody, bodies_of}
 use Rattle.mz_axioms.specs.Supports.{IsKind, InSupport}
 use Rattle.mz_axioms.specs.Commands.{IsCitedIn}
 use Rattle.mz_axioms.specs.Places.{places_from, is_listed}
 use Rattle.mz_axioms.specs.Lists.{TheoremSupport}
 use Rattle.mz_axioms.specs.declared.rows.Place.{Place}
 use Rattle.mz_axioms.specs.declared.rows.Row.{Row}
-use Rattle.mz_files.specs.Standards.{strict_standard}
+use Rattle.mz_binary_theory.specs.Standards.{strict_standard}
 
 -- a citation of the U-th comes to axiom A: it is A, or a theorem in whose support A is
 abbrev pub ComesTo : List AssertionBody → ℕ → ℕ → Type 0

@@ -4,7 +4,7 @@ use Rattle.std.specs.Prelude.{◌≡◌, ◌<◌, ℕ, Bool, true, false, List, 
 use Rattle.mz_logic.specs.Declaration.{Declaration}
 use Rattle.mz_logic.specs.Derivations.{Derivation, CitesOnly, without_gaps}
 use Rattle.mz_logic.specs.Closed.{IsAxiomIn}
-use Rattle.mz_files.specs.Gapped.{AssertionBody}
+use Rattle.mz_binary_theory.specs.Gapped.{AssertionBody}
 use Rattle.mz_axioms.specs.Commands.{IsCitedIn}
 
 -- ---- supports

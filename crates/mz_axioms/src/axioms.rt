@@ -1,10 +1,10 @@
 // A specification and a binary together: what each theorem rests on.
 ghost use Rattle.std.specs.Prelude.{◌≡◌, ◌≤◌, ◌<◌, ◌⊎◌, ◌+◌, ◌*◌, ◌^◌, List, length, IfOk};
-ghost use Rattle.mz_verdicts.specs.declared.verdict.Verdict.{Verdict as TheVerdict};
-ghost use Rattle.mz_verdicts.specs.Verdict.{Accepts, FirstRefusal};
+ghost use Rattle.mz_match_theory.specs.declared.verdict.Verdict.{Verdict as TheVerdict};
+ghost use Rattle.mz_match_theory.specs.Verdict.{Accepts, FirstRefusal};
 ghost use Rattle.mz_axioms.specs.declared.rows.Row.{Row};
 ghost use Rattle.mz_axioms.specs.Reading.{IsAxiomsRead, IsLists, TicksAs};
-ghost use Rattle.mz_files.specs.Good.{IsGood};
+ghost use Rattle.mz_binary_theory.specs.Good.{IsGood};
 ghost use Rattle.mz_axioms.specs.Rows.{TellsFile, supports_of};
 
 use crate::lists::{Lists, lists_of};
@@ -12,8 +12,8 @@ use crate::walk::rows_of;
 use mz_cmd::Steps;
 use mz_layout::Mmb;
 use mz_match::verify_bytes;
+use mz_match_theory::Verdict;
 use mz_store::Seed;
-use mz_verdicts::Verdict;
 use std::alloc::{AllocError, Global};
 use std::sync::ledger::Ledger;
 

@@ -2,7 +2,7 @@
 ghost use Rattle.std.specs.Prelude.{◌≡◌, ◌≤◌, ◌<◌, ◌+◌, ◌^◌, ◌↔◌, ℕ, length, IsTrue, Some, None};
 ghost use Rattle.mz_cmd.specs.StatementList.{statement_at};
 ghost use Rattle.mz_layout.specs.Heads.{body_bytes};
-ghost use Rattle.mz_files.specs.Gapped.{place_after};
+ghost use Rattle.mz_binary_theory.specs.Gapped.{place_after};
 ghost use Rattle.mz_axioms.specs.Commands.{IsCiting};
 ghost use Rattle.mz_axioms.specs.Citations.{CiteNothing, IsFirstCitation, IsFirstIn, IsInBody, rest_of_body};
 

@@ -4,14 +4,14 @@ ghost use Rattle.std.specs.List.Sorted.{IsStrictlyIncreasing};
 ghost use Rattle.mz_layout.specs.Heads.{body_bytes};
 ghost use Rattle.mz_axioms.specs.Places.{place_by};
 ghost use Rattle.mz_axioms.specs.Rows.{AreInOrder, Gives, IsNoted, Reaches, TellsFile};
-ghost use Rattle.mz_files.specs.Good.{IsGood};
+ghost use Rattle.mz_binary_theory.specs.Good.{IsGood};
 
 use crate::citations::citation_in;
 use crate::places::place_of;
 use crate::rows::{Place, Row};
 use crate::union::union;
+use mz_binary_walk::Passed;
 use mz_layout::{Head, Mmb};
-use mz_walk::Passed;
 use std::alloc::{AllocError, Global};
 
 /// The rows of a good binary. No body is run.

@@ -1,15 +1,15 @@
 -- What the run of a body comes to, on whichever machine.
 use Rattle.std.proofs.Common.{◌≡◌, ℕ, true, false, List, Result}
 use Rattle.mz_cmd.specs.declared.rule.K.{K}
-use Rattle.mz_mode.specs.declared.mode.Mode.{Mode}
+use Rattle.mz_base.specs.declared.mode.Mode.{Mode}
 use Rattle.mz_logic.specs.Tree.{Tree}
-use Rattle.mz_soundness.specs.MachineState.{State, Heading}
+use Rattle.mz_machine_theory.specs.MachineState.{State, Heading}
 use Rattle.mz_machine.specs.BodyAnswers.{IsBodyRun as IsRunOverTrees}
 use Rattle.mz_machine.specs.declared.body.BodyChecked.{BodyChecked}
 use Rattle.mz_machine.specs.declared.body.BodyChecked.TheVariants.{Good, Refused, Mem}
-use Rattle.mz_numbered.specs.Numbered.{Numbered}
+use Rattle.mz_pmachine_theory.specs.Numbered.{Numbered}
 use Rattle.mz_pmachine.specs.BodyAnswers.{IsBodyRun as IsRunByAddress}
-use Rattle.mz_files.specs.declared.standard.Standard.TheVariants.{Published, Portable}
+use Rattle.mz_binary_theory.specs.declared.standard.Standard.TheVariants.{Published, Portable}
 use Rattle.mz_binary.specs.Judging.{IsBodyRun}
 
 pub by-trees : (mode : Mode) (h : Heading) (bytes : List ℕ) (r : Result (State Tree) (ℕ × K)) (b : BodyChecked) → IsRunOverTrees h bytes r b → IsBodyRun (Published mode) bytes r b

@@ -1,16 +1,16 @@
 -- The citations of a body, one after another: whether one of them is of a marked theorem.
 use Rattle.std.proofs.Common.{◌≡◌, ◌≤◌, ◌⊎◌, ◌∙◌, ℕ, zero, suc, Bool, true, false, List, length, drop, slice_get, Option, Some, None, Ok, Err, refl, sym, ap, subst, inl, inr, arith}
 use Rattle.std.specs.Prelude.{◌↔◌, ◌&&◌}
-use Rattle.mz_general.proofs.Offered.{both-true as both}
+use Rattle.mz_base_theory.proofs.Offered.{both-true as both}
 use Rattle.mz_cmd.specs.declared.command.Cmd.{Cmd}
 use Rattle.mz_cmd.specs.declared.command.CmdFault.{CmdFault}
 use Rattle.mz_cmd.specs.declared.code.ProofCode.{ProofCode}
 use Rattle.mz_cmd.specs.declared.code.ProofCode.TheVariants as code
 use Rattle.mz_cmd.specs.Codes.{proof_code}
 use Rattle.mz_cmd.specs.Reading.{first_command}
-use Rattle.mz_unification.proofs.Offered.{command-long, drop-less}
-use Rattle.mz_soundness.specs.Sound.{IsCitation, CitesWithin}
-use Rattle.mz_files.specs.Gapped.{CitesMarked, IsMarked, is_citing, mark_in, cites_mark}
+use Rattle.mz_unify_theory.proofs.Offered.{command-long, drop-less}
+use Rattle.mz_machine_theory.specs.Sound.{IsCitation, CitesWithin}
+use Rattle.mz_binary_theory.specs.Gapped.{CitesMarked, IsMarked, is_citing, mark_in, cites_mark}
 
 cites-is : (o : Option ProofCode) → is_citing o ≡ true → (o ≡ Some code.Thm) ⊎ (o ≡ Some code.ThmSave)
 cites-is None e = absurd cc

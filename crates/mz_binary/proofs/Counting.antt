@@ -1,20 +1,20 @@
 -- The commands executed in what is left of a list.
 use Rattle.std.proofs.Common.{◌≡◌, ◌<◌, ◌≤◌, ◌+◌, ◌∙◌, ℕ, suc, List, length, Result, Ok, Err, refl, sym, ap, arith, mul-suc, ◌-◌, ◌*◌}
-use Rattle.mz_checks.specs.Checks.{FailsFirst, Judges}
-use Rattle.mz_checks.proofs.Offered.{all_hold-excludes}
+use Rattle.mz_base_theory.specs.Checks.{FailsFirst, Judges}
+use Rattle.mz_base_theory.proofs.Offered.{all_hold-excludes}
 use Rattle.mz_cmd.specs.declared.rule.K.{K}
 use Rattle.mz_layout.specs.Tables.{list_at}
 use Rattle.mz_layout.specs.Layout.{Layout, layout_checks}
-use Rattle.mz_soundness.specs.FileRows.{Taken, nothing_taken}
-use Rattle.mz_soundness.proofs.Offered.{times-grow, add-times}
-use Rattle.mz_earlier.specs.Before.{taken_before}
-use Rattle.mz_files.specs.FileRun.{Passing, test_layout, steps_after, file_steps, list_ends, stands_alone, Onward, ended, onward, find_at, run_place, found_steps, follow_steps, list_steps}
+use Rattle.mz_machine_theory.specs.FileRows.{Taken, nothing_taken}
+use Rattle.mz_machine_theory.proofs.Offered.{times-grow, add-times}
+use Rattle.mz_machine_env.specs.Before.{taken_before}
+use Rattle.mz_binary_theory.specs.FileRun.{Passing, test_layout, steps_after, file_steps, list_ends, stands_alone, Onward, ended, onward, find_at, run_place, found_steps, follow_steps, list_steps}
 use Rattle.mz_binary.specs.Progress.{Progress, next_steps, steps_left}
 use Rattle.mz_binary.specs.declared.checker.Next.{Next}
 use Rattle.mz_binary.specs.declared.checker.Next.TheVariants as next
 use Rattle.mz_binary.specs.Judging.{IfTold}
-use Rattle.mz_files.proofs.Offered.{layout-judged, bound-never-ends}
-use Rattle.mz_files.specs.declared.standard.Standard.{Standard}
+use Rattle.mz_binary_theory.proofs.Offered.{layout-judged, bound-never-ends}
+use Rattle.mz_binary_theory.specs.declared.standard.Standard.{Standard}
 
 -- of any answer, and so of one that is told
 pub if-told : (r : Next) (P : Type 0) → P → IfTold r P

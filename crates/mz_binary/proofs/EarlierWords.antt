@@ -1,16 +1,16 @@
 -- The words of the rows before a statement were right in their turn.
 use Rattle.std.proofs.Common.{◌<◌, ◌≤◌, ◌+◌, ℕ, List, [], ◌∷◌, ◌++◌, length, refl, sym, subst, inl, inr, arith}
-use Rattle.mz_general.proofs.Offered.{below-or-last}
-use Rattle.mz_checks.specs.Checks.{AllHold}
+use Rattle.mz_base_theory.proofs.Offered.{below-or-last}
+use Rattle.mz_base_theory.specs.Checks.{AllHold}
 use Rattle.mz_logic.specs.Declaration.{Declaration, sort_decl, term_decl, assertion_decl, sorts, terms, assertions}
 use Rattle.mz_logic.specs.LegalLists.{Statement}
 use Rattle.mz_logic.specs.declared.binder.SortMods.{SortMods}
 use Rattle.mz_layout.specs.Tables.{term_row, thm_row}
-use Rattle.mz_words.specs.RowWords.{param_checks, word_checks}
-use Rattle.mz_earlier.specs.Before.{HasRightWords, HasRightParams}
-use Rattle.mz_files.specs.Chains.{GoodTo}
-use Rattle.mz_files.proofs.Offered.{sorts-many, terms-many, assertions-many, HasSorts, sorts-more, HasRightRow, right-row}
-use Rattle.mz_files.specs.declared.standard.Standard.{Standard}
+use Rattle.mz_layout_words.specs.RowWords.{param_checks, word_checks}
+use Rattle.mz_machine_env.specs.Before.{HasRightWords, HasRightParams}
+use Rattle.mz_binary_theory.specs.Chains.{GoodTo}
+use Rattle.mz_binary_theory.proofs.Offered.{sorts-many, terms-many, assertions-many, HasSorts, sorts-more, HasRightRow, right-row}
+use Rattle.mz_binary_theory.specs.declared.standard.Standard.{Standard}
 
 -- each row's words are right where some of these sorts are declared
 pub record WereRight (file : List ℕ) (many_sorts many_terms many_thms : ℕ) : Type 0 where

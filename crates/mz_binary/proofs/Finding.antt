@@ -1,8 +1,8 @@
 -- What is found at a place, from what is answered of its head, its words and its body.
 use Rattle.std.proofs.Common.{◌≡◌, ◌≤◌, ◌∙◌, ℕ, Bool, true, false, cond, List, drop, Option, Some, None, Result, Ok, Err, refl, sym, ap, subst, inl, inr}
 use Rattle.std.specs.Prelude.{IfOk}
-use Rattle.mz_checks.specs.Checks.{Checks, AllHold, FailsFirst, Judges}
-use Rattle.mz_checks.proofs.Offered.{all_hold-excludes, fails_first-unique}
+use Rattle.mz_base_theory.specs.Checks.{Checks, AllHold, FailsFirst, Judges}
+use Rattle.mz_base_theory.proofs.Offered.{all_hold-excludes, fails_first-unique}
 use Rattle.mz_cmd.specs.declared.code.StatementCode.{StatementCode}
 use Rattle.mz_cmd.specs.declared.code.StatementCode.TheVariants as codes
 use Rattle.mz_cmd.specs.declared.rule.K.{K}
@@ -17,20 +17,20 @@ use Rattle.mz_layout.specs.Heads as heads
 use Rattle.mz_layout.specs.declared.head.Head.{Head}
 use Rattle.mz_layout.specs.declared.taken.Rows.{Rows}
 use Rattle.mz_layout.specs.Tables.{sort_count, term_row, thm_row}
-use Rattle.mz_unification.specs.Steps.{◌>>◌ as ◌then◌}
-use Rattle.mz_soundness.specs.MachineState.{Heading}
-use Rattle.mz_soundness.specs.Lists.{definition_of, assertion_of}
-use Rattle.mz_soundness.specs.FileRows.{Taken, term_of_file, thm_of_file}
-use Rattle.mz_words.specs.RowWords.{param_checks, word_checks}
-use Rattle.mz_words.proofs.Offered.{length-first_sorts}
-use Rattle.mz_earlier.specs.OwnRow.{heading_of}
-use Rattle.mz_earlier.specs.Before.{taken_before}
-use Rattle.mz_files.specs.Checking.{counts}
-use Rattle.mz_files.specs.FileRun.{Passing, test, test_params, test_words, test_row, Found, list_ends, stands_alone, has_body, is_empty_body, with_term, with_thm, after_kind, find_empty, find_term_body, find_term_parts, find_thm_parts, find_parts, find_kind, find_of, find_at, all_taken}
+use Rattle.mz_unify_theory.specs.Steps.{◌>>◌ as ◌then◌}
+use Rattle.mz_machine_theory.specs.MachineState.{Heading}
+use Rattle.mz_machine_theory.specs.Lists.{definition_of, assertion_of}
+use Rattle.mz_machine_theory.specs.FileRows.{Taken, term_of_file, thm_of_file}
+use Rattle.mz_layout_words.specs.RowWords.{param_checks, word_checks}
+use Rattle.mz_layout_words.proofs.Offered.{length-first_sorts}
+use Rattle.mz_machine_env.specs.OwnRow.{heading_of}
+use Rattle.mz_machine_env.specs.Before.{taken_before}
+use Rattle.mz_binary_theory.specs.Checking.{counts}
+use Rattle.mz_binary_theory.specs.FileRun.{Passing, test, test_params, test_words, test_row, Found, list_ends, stands_alone, has_body, is_empty_body, with_term, with_thm, after_kind, find_empty, find_term_body, find_term_parts, find_thm_parts, find_parts, find_kind, find_of, find_at, all_taken}
 use Rattle.mz_binary.specs.Progress.{Finds, IsOf, StandsAt, found_of, kind_byte, is_axiom_kind, IsTermKind, IsAssertionKind}
 use Rattle.mz_binary.specs.declared.place.Found.{Found as Seen}
 use Rattle.mz_binary.specs.declared.place.Found.TheVariants as seen
-use Rattle.mz_files.proofs.Offered.{code-of, judges-test, params-judged, words-judged, row-judged, empty-decides, taken-decides}
+use Rattle.mz_binary_theory.proofs.Offered.{code-of, judges-test, params-judged, words-judged, row-judged, empty-decides, taken-decides}
 
 -- ---- one after another
 

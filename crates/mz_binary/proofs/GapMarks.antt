@@ -10,17 +10,17 @@ use Rattle.mz_logic.specs.Declaration.{Declaration, Assertion, sort_decl, term_d
 use Rattle.mz_logic.specs.LegalLists.{Statement}
 use Rattle.mz_layout.specs.Tables.{list_at, thm_row}
 use Rattle.mz_layout.specs.Heads.{body_bytes}
-use Rattle.mz_soundness.specs.Lists.{assertion_of}
-use Rattle.mz_soundness.specs.Sound.{HasGap}
-use Rattle.mz_soundness.specs.FileRows.{Taken, thm_of_file}
-use Rattle.mz_files.specs.Checking.{counts}
-use Rattle.mz_files.specs.FileRun.{test_params, test_row, Found, stands_alone, has_body, with_thm, find_thm_parts, find_parts, find_kind}
-use Rattle.mz_files.proofs.Offered.{then-ok, found-is, bodies-many, bodies-more, gapped-within, marks-with, new-gapped, no-assertion}
-use Rattle.mz_files.specs.Chains.{GoodTo}
-use Rattle.mz_files.specs.Gapped.{AssertionBody, body_there, body_of, bodies_of, IsGapped, GappedIn, IsMarked, AreMarks, CitesMarked}
+use Rattle.mz_machine_theory.specs.Lists.{assertion_of}
+use Rattle.mz_machine_theory.specs.Sound.{HasGap}
+use Rattle.mz_machine_theory.specs.FileRows.{Taken, thm_of_file}
+use Rattle.mz_binary_theory.specs.Checking.{counts}
+use Rattle.mz_binary_theory.specs.FileRun.{test_params, test_row, Found, stands_alone, has_body, with_thm, find_thm_parts, find_parts, find_kind}
+use Rattle.mz_binary_theory.proofs.Offered.{then-ok, found-is, bodies-many, bodies-more, gapped-within, marks-with, new-gapped, no-assertion}
+use Rattle.mz_binary_theory.specs.Chains.{GoodTo}
+use Rattle.mz_binary_theory.specs.Gapped.{AssertionBody, body_there, body_of, bodies_of, IsGapped, GappedIn, IsMarked, AreMarks, CitesMarked}
 use Rattle.mz_binary.specs.Progress.{is_theorem_kind, is_assertion_kind, marks_past}
-use Rattle.mz_files.specs.Spelling.{IsKindOf}
-use Rattle.mz_files.specs.declared.standard.Standard.{Standard}
+use Rattle.mz_binary_theory.specs.Spelling.{IsKindOf}
+use Rattle.mz_binary_theory.specs.declared.standard.Standard.{Standard}
 
 -- ---- what a kind says of the body
 

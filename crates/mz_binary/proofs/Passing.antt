@@ -1,7 +1,7 @@
 -- Past one statement more.
 use Rattle.std.proofs.Common.{◌≡◌, ◌⊎◌, ◌<◌, ◌≤◌, ◌+◌, ◌∙◌, ℕ, Bool, true, false, List, [], ◌∷◌, ◌++◌, length, Some, Result, Ok, Err, refl, sym, ap, subst, inl, inr, arith, length-append}
 use Rattle.std.specs.Prelude.{◌↔◌, MatchBool, if◌then◌else◌}
-use Rattle.mz_checks.specs.Checks.{AllHold, Judges}
+use Rattle.mz_base_theory.specs.Checks.{AllHold, Judges}
 use Rattle.mz_cmd.specs.declared.code.StatementCode.{StatementCode}
 use Rattle.mz_cmd.specs.declared.code.StatementCode.TheVariants as codes
 use Rattle.mz_cmd.specs.declared.rule.K.{K}
@@ -13,30 +13,30 @@ use Rattle.mz_logic.specs.Declaration.{Declaration, sort_decl, term_decl, assert
 use Rattle.mz_logic.specs.LegalLists.{Statement}
 use Rattle.mz_layout.specs.Tables.{list_at, mods_of, sort_count, term_count, thm_count}
 use Rattle.mz_layout.specs.Layout.{IsBinary}
-use Rattle.mz_unification.specs.Steps.{◌>>=◌}
-use Rattle.mz_soundness.specs.MachineState.{Heading, Kind, State}
-use Rattle.mz_soundness.specs.Bodies.{body_run, body_steps}
-use Rattle.mz_earlier.specs.OwnRow.{heading_by, kind_at}
-use Rattle.mz_earlier.specs.Before.{tables_before, taken_before}
+use Rattle.mz_unify_theory.specs.Steps.{◌>>=◌}
+use Rattle.mz_machine_theory.specs.MachineState.{Heading, Kind, State}
+use Rattle.mz_machine_theory.specs.Bodies.{body_run, body_steps}
+use Rattle.mz_machine_env.specs.OwnRow.{heading_by, kind_at}
+use Rattle.mz_machine_env.specs.Before.{tables_before, taken_before}
 use Rattle.mz_binary.specs.declared.place.Found.TheVariants as seen
 use Rattle.mz_layout.specs.declared.head.Head.{Head}
 use Rattle.mz_layout.specs.declared.taken.Rows.{Rows}
 use Rattle.mz_layout.specs.Heads.{IsHead, body_bytes, next_row, rows_after}
-use Rattle.mz_files.specs.declared.statement.Statement.{Statement as Told}
-use Rattle.mz_soundness.specs.FileRows.{Taken, taken_by}
-use Rattle.mz_files.specs.Spelling.{IsKindOf, HasKind, IsSpelled, is_local_code}
-use Rattle.mz_files.specs.Checking.{kind_checks, place_checks}
-use Rattle.mz_files.specs.FileRun.{with_term, with_thm, Found, list_ends, has_body, Onward, ended, onward, if_runs, after_kind, find_at, found_steps, run_found, run_place, RunsBody}
-use Rattle.mz_files.specs.Chains.{IsGoodStatement, GoodTo}
-use Rattle.mz_files.specs.Good.{Good, FailsAfter}
+use Rattle.mz_binary_theory.specs.declared.statement.Statement.{Statement as Told}
+use Rattle.mz_machine_theory.specs.FileRows.{Taken, taken_by}
+use Rattle.mz_binary_theory.specs.Spelling.{IsKindOf, HasKind, IsSpelled, is_local_code}
+use Rattle.mz_binary_theory.specs.Checking.{kind_checks, place_checks}
+use Rattle.mz_binary_theory.specs.FileRun.{with_term, with_thm, Found, list_ends, has_body, Onward, ended, onward, if_runs, after_kind, find_at, found_steps, run_found, run_place, RunsBody}
+use Rattle.mz_binary_theory.specs.Chains.{IsGoodStatement, GoodTo}
+use Rattle.mz_binary_theory.specs.Good.{Good, FailsAfter}
 use Rattle.mz_binary.specs.Progress.{Progress, HasPassed, found_of, CountsRows, IsReached, RestsOnGap, marks_past, kind_byte, is_local_kind, kind_code, row_after}
-use Rattle.mz_files.specs.Gapped.{AreMarks}
+use Rattle.mz_binary_theory.specs.Gapped.{AreMarks}
 use Rattle.mz_binary.specs.Judging.{Passes}
-use Rattle.mz_files.proofs.Offered.{code-of, head-at, IsHeadAt, chain-more, place-judged, ends-there, FollowedBy, followed, well-chain, at-head, no-assertion}
+use Rattle.mz_binary_theory.proofs.Offered.{code-of, head-at, IsHeadAt, chain-more, place-judged, ends-there, FollowedBy, followed, well-chain, at-head, no-assertion}
 use Rattle.mz_binary.proofs.GapMarks.{kind-tells, NewMark, new-mark}
 use Rattle.mz_binary.proofs.TakenSoFar.{taken}
-use Rattle.mz_files.specs.declared.standard.Standard.{Standard}
-use Rattle.mz_files.specs.Standards.{lets_gaps, profile_of}
+use Rattle.mz_binary_theory.specs.declared.standard.Standard.{Standard}
+use Rattle.mz_binary_theory.specs.Standards.{lets_gaps, profile_of}
 
 -- ---- kinds
 

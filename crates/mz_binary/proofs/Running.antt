@@ -1,25 +1,25 @@
 -- A statement whose body is to run: what is asked before it holds.
 use Rattle.std.proofs.Common.{◌≡◌, ◌⊎◌, ℕ, Bool, true, false, cond, List, length, drop, Some, None, Result, Ok, Err, refl, sym, subst, inl, inr, arith}
-use Rattle.mz_checks.specs.Checks.{Checks, AllHold, Judges}
+use Rattle.mz_base_theory.specs.Checks.{Checks, AllHold, Judges}
 use Rattle.mz_cmd.specs.declared.code.StatementCode.{StatementCode}
 use Rattle.mz_cmd.specs.declared.code.StatementCode.TheVariants as codes
 use Rattle.mz_cmd.specs.declared.rule.K.{K}
 use Rattle.mz_cmd.specs.declared.rule.K.TheVariants as rules
 use Rattle.mz_layout.specs.Tables.{TermRow, term_row, thm_row, list_at}
-use Rattle.mz_unification.specs.Steps.{◌>>◌ as ◌then◌}
-use Rattle.mz_soundness.specs.MachineState.{Heading}
-use Rattle.mz_words.specs.RowWords.{param_checks, word_checks}
-use Rattle.mz_soundness.specs.FileRows.{Taken, thm_of_file}
+use Rattle.mz_unify_theory.specs.Steps.{◌>>◌ as ◌then◌}
+use Rattle.mz_machine_theory.specs.MachineState.{Heading}
+use Rattle.mz_layout_words.specs.RowWords.{param_checks, word_checks}
+use Rattle.mz_machine_theory.specs.FileRows.{Taken, thm_of_file}
 use Rattle.mz_layout.specs.Heads.{body_bytes, next_row, row_checks}
-use Rattle.mz_earlier.specs.OwnRow.{IsNextRow, MayRun, kind_at}
-use Rattle.mz_earlier.specs.Before.{taken_before}
-use Rattle.mz_soundness.specs.Lists.{assertion_of}
+use Rattle.mz_machine_env.specs.OwnRow.{IsNextRow, MayRun, kind_at}
+use Rattle.mz_machine_env.specs.Before.{taken_before}
+use Rattle.mz_machine_theory.specs.Lists.{assertion_of}
 use Rattle.mz_layout.specs.declared.taken.Rows.{Rows}
 use Rattle.mz_logic.specs.Declaration.{sorts, terms, assertions}
-use Rattle.mz_files.specs.Checking.{counts}
-use Rattle.mz_files.specs.FileRun.{Passing, test, test_params, test_row, test_words, Found, stands_alone, has_body, is_empty_body, with_sort, with_term, with_thm, find_empty, find_term_body, find_term_parts, find_thm_parts, find_parts, find_kind}
+use Rattle.mz_binary_theory.specs.Checking.{counts}
+use Rattle.mz_binary_theory.specs.FileRun.{Passing, test, test_params, test_row, test_words, Found, stands_alone, has_body, is_empty_body, with_sort, with_term, with_thm, find_empty, find_term_body, find_term_parts, find_thm_parts, find_parts, find_kind}
 use Rattle.mz_binary.specs.Progress.{Progress, IsReached, kind_byte}
-use Rattle.mz_files.proofs.Offered.{params-judged, row-judged, words-judged, then-ok, found-is}
+use Rattle.mz_binary_theory.proofs.Offered.{params-judged, row-judged, words-judged, then-ok, found-is}
 use Rattle.mz_binary.proofs.EarlierWords.{WereRight, were-right}
 
 -- ---- tests that went through

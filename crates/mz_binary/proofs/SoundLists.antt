@@ -2,11 +2,11 @@
 use Rattle.std.proofs.Common.{ℕ, Bool, true, false, List}
 use Rattle.mz_logic.specs.LegalLists.{Statement, LegalBy, allowed_with}
 use Rattle.mz_logic.proofs.Offered.{legal_list_is_closed}
-use Rattle.mz_files.specs.Good.{Good}
+use Rattle.mz_binary_theory.specs.Good.{Good}
 use Rattle.mz_binary.specs.Judging.{AreSound}
-use Rattle.mz_files.proofs.Offered.{good-legal, ungapped-free}
-use Rattle.mz_files.specs.declared.standard.Standard.{Standard}
-use Rattle.mz_files.specs.Standards.{lets_gaps}
+use Rattle.mz_binary_theory.proofs.Offered.{good-legal, ungapped-free}
+use Rattle.mz_binary_theory.specs.declared.standard.Standard.{Standard}
+use Rattle.mz_binary_theory.specs.Standards.{lets_gaps}
 
 pub good-sound : (standard : Standard) (file : List ℕ) (ss : List Statement) → Good standard file ss → AreSound (lets_gaps standard) file ss
 good-sound standard file ss good = go (lets_gaps standard) (good-legal standard file ss good)

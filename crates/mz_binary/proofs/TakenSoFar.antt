@@ -3,11 +3,11 @@ use Rattle.std.proofs.Common.{◌≡◌, ◌∙◌, List, [], refl, sym, ap}
 use Rattle.mz_logic.specs.Declaration.{Declaration, sorts}
 use Rattle.mz_logic.specs.LegalLists.{Statement}
 use Rattle.mz_layout.specs.Tables.{list_at}
-use Rattle.mz_words.specs.RowWords.{first_sorts}
-use Rattle.mz_earlier.specs.Before.{taken_before}
+use Rattle.mz_layout_words.specs.RowWords.{first_sorts}
+use Rattle.mz_machine_env.specs.Before.{taken_before}
 use Rattle.mz_binary.specs.Progress.{Progress, HasPassed}
-use Rattle.mz_soundness.specs.FileRows.{taken_by}
-use Rattle.mz_files.proofs.Offered.{same-taken, chain-sorts}
+use Rattle.mz_machine_theory.specs.FileRows.{taken_by}
+use Rattle.mz_binary_theory.proofs.Offered.{same-taken, chain-sorts}
 
 pub taken : (p : Progress) (ss : List Statement) (env : List Declaration) → HasPassed p ss env → taken_by env ≡ taken_before p.file p.rows
 taken p ss env before =

@@ -6,23 +6,23 @@ use Rattle.mz_logic.specs.LegalLists.{Statement, Legal, DraftLegal, declarations
 use Rattle.mz_logic.specs.Closed.{TheoremsClosed}
 use Rattle.mz_layout.specs.Tables.{list_at}
 use Rattle.mz_layout.specs.Layout.{Layout}
-use Rattle.mz_files.specs.declared.statement.Statement.{Statement as Told}
+use Rattle.mz_binary_theory.specs.declared.statement.Statement.{Statement as Told}
 use Rattle.mz_binary.specs.declared.checker.Next.{Next}
 use Rattle.mz_binary.specs.declared.checker.Next.TheVariants as next
 use Rattle.mz_binary.specs.declared.whole.Checked.{Checked}
 use Rattle.mz_binary.specs.declared.whole.Checked.TheVariants as checked
-use Rattle.mz_soundness.specs.MachineState.{State}
-use Rattle.mz_soundness.specs.FileRows.{taken_by}
-use Rattle.mz_soundness.specs.Sound.{HasGap}
+use Rattle.mz_machine_theory.specs.MachineState.{State}
+use Rattle.mz_machine_theory.specs.FileRows.{taken_by}
+use Rattle.mz_machine_theory.specs.Sound.{HasGap}
 use Rattle.mz_machine.specs.declared.body.BodyChecked.{BodyChecked}
 use Rattle.mz_machine.specs.declared.body.BodyChecked.TheVariants as bodies
-use Rattle.mz_files.specs.FileRun.{RunsBody}
-use Rattle.mz_files.specs.Chains.{IsGoodStatement, GoodTo}
-use Rattle.mz_files.specs.Good.{Good, FailsAfter, BinaryFault}
-use Rattle.mz_files.specs.Gapped.{GappedIn, AreFreeUnlessGapped}
+use Rattle.mz_binary_theory.specs.FileRun.{RunsBody}
+use Rattle.mz_binary_theory.specs.Chains.{IsGoodStatement, GoodTo}
+use Rattle.mz_binary_theory.specs.Good.{Good, FailsAfter, BinaryFault}
+use Rattle.mz_binary_theory.specs.Gapped.{GappedIn, AreFreeUnlessGapped}
 use Rattle.mz_binary.specs.Progress.{Progress, HasPassed, CountsRows, Tells, next_steps, steps_left, most_left}
-use Rattle.mz_files.specs.declared.standard.Standard.{Standard}
-use Rattle.mz_files.specs.Standards.{lets_gaps}
+use Rattle.mz_binary_theory.specs.declared.standard.Standard.{Standard}
+use Rattle.mz_binary_theory.specs.Standards.{lets_gaps}
 
 -- The answer is what the run of these bytes comes to, and where gaps are let through it tells whether they leave one.
 -- Want of memory says nothing.

@@ -11,17 +11,17 @@ use Rattle.mz_layout.specs.Layout.{IsBinary}
 use Rattle.mz_layout.specs.Heads.{IsHeadAt, body_bytes, next_row}
 use Rattle.mz_layout.specs.declared.head.Head.{Head}
 use Rattle.mz_layout.specs.declared.taken.Rows.{Rows}
-use Rattle.mz_earlier.specs.OwnRow.{heading_of}
-use Rattle.mz_earlier.specs.Before.{taken_before}
-use Rattle.mz_files.specs.FileRun.{Found, list_ends, stands_alone, has_body, after_kind, find_at, found_steps, list_steps}
-use Rattle.mz_files.specs.declared.statement.Statement.{Statement as Told}
+use Rattle.mz_machine_env.specs.OwnRow.{heading_of}
+use Rattle.mz_machine_env.specs.Before.{taken_before}
+use Rattle.mz_binary_theory.specs.FileRun.{Found, list_ends, stands_alone, has_body, after_kind, find_at, found_steps, list_steps}
+use Rattle.mz_binary_theory.specs.declared.statement.Statement.{Statement as Told}
 use Rattle.mz_binary.specs.declared.place.Found.{Found as Seen}
 use Rattle.mz_binary.specs.declared.place.Found.TheVariants as seen
-use Rattle.mz_soundness.specs.Sound.{HasGap}
-use Rattle.mz_files.specs.Chains.{GoodTo, IsListEnd}
-use Rattle.mz_files.specs.Gapped.{AreMarks, CitesMarked}
-use Rattle.mz_files.specs.declared.standard.Standard.{Standard}
-use Rattle.mz_files.specs.Standards.{lets_gaps}
+use Rattle.mz_machine_theory.specs.Sound.{HasGap}
+use Rattle.mz_binary_theory.specs.Chains.{GoodTo, IsListEnd}
+use Rattle.mz_binary_theory.specs.Gapped.{AreMarks, CitesMarked}
+use Rattle.mz_binary_theory.specs.declared.standard.Standard.{Standard}
+use Rattle.mz_binary_theory.specs.Standards.{lets_gaps}
 
 -- what env declares has taken these rows
 pub record CountsRows (rows : Rows) (env : List Declaration) : Type 0 where

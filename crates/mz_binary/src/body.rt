@@ -1,19 +1,19 @@
 // A body, run as its binary is held to.
 ghost use Rattle.std.specs.Prelude.{◌≡◌, ◌≤◌, ◌+◌, ◌-◌, ◌*◌, length};
-ghost use Rattle.mz_earlier.specs.OwnRow.{MayRun, byte_of, heading_of};
-ghost use Rattle.mz_earlier.specs.Before.{tables_before};
+ghost use Rattle.mz_machine_env.specs.OwnRow.{MayRun, byte_of, heading_of};
+ghost use Rattle.mz_machine_env.specs.Before.{tables_before};
 ghost use Rattle.mz_machine.specs.BodyAnswers.{UnlessMem};
-ghost use Rattle.mz_soundness.specs.Bodies.{body_run, body_steps};
+ghost use Rattle.mz_machine_theory.specs.Bodies.{body_run, body_steps};
 ghost use Rattle.mz_layout.specs.Heads.{body_bytes};
 ghost use Rattle.mz_binary.specs.Judging.{IsBodyRun};
-ghost use Rattle.mz_files.specs.Standards.{profile_of};
+ghost use Rattle.mz_binary_theory.specs.Standards.{profile_of};
 
 use crate::rooms::Rooms;
+use mz_binary_theory::Standard;
 use mz_cmd::Steps;
-use mz_earlier::BodyKind;
-use mz_files::Standard;
 use mz_layout::{Mmb, Rows};
 use mz_machine::{BodyChecked, check_body_in};
+use mz_machine_env::BodyKind;
 use mz_pmachine::check_portable_in;
 use std::alloc::Global;
 use std::sync::ledger::Ledger;

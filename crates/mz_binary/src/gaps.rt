@@ -1,7 +1,7 @@
 // What rests on a gap.
 ghost use Rattle.std.specs.Prelude.{◌≡◌, ◌↔◌, ◌<◌, ◌^◌, length, slice_get, true};
 ghost use Rattle.mz_cmd.specs.Codes.{proof_code};
-ghost use Rattle.mz_files.specs.Gapped.{CitesMarked, cites_mark, is_citing, mark_in};
+ghost use Rattle.mz_binary_theory.specs.Gapped.{CitesMarked, cites_mark, is_citing, mark_in};
 
 use mz_cmd::{Cmd, ProofCode, cmd_at};
 

@@ -15,6 +15,6 @@ mod whole;
 
 pub use checker::{Checker, Next};
 pub use line::refusal_line;
-pub use mz_files::Statement;
+pub use mz_binary_theory::Statement;
 pub use mz_layout::Rows;
 pub use whole::{Checked, check_all};

@@ -1,6 +1,6 @@
 // The line that tells a refusal.
 ghost use Rattle.std.specs.Prelude.{◌≡◌, IfOk};
-ghost use Rattle.mz_files.specs.RefusalLine.{refusal_line as line_of};
+ghost use Rattle.mz_binary_theory.specs.RefusalLine.{refusal_line as line_of};
 
 use mz_cmd::{Mem, Refusal};
 use std::alloc::Global;

@@ -1,13 +1,13 @@
 // A whole binary.
 ghost use Rattle.std.specs.Prelude.{◌≡◌, ◌≤◌, ◌<◌, ◌+◌, ◌*◌, ◌^◌, List, [], length};
 ghost use Rattle.mz_layout.specs.Layout.{Layout};
-ghost use Rattle.mz_files.specs.FileRun.{file_steps};
+ghost use Rattle.mz_binary_theory.specs.FileRun.{file_steps};
 ghost use Rattle.mz_binary.specs.Progress.{HasPassed, most_left, steps_left};
 ghost use Rattle.mz_binary.specs.Judging.{IfJudged, IsChecked};
 
 use crate::checker::{Checker, Next};
+use mz_binary_theory::Standard;
 use mz_cmd::{Refusal, Steps};
-use mz_files::Standard;
 use mz_layout::{Mmb, Rows};
 use mz_store::Seed;
 use std::alloc::Global;

@@ -3,7 +3,7 @@ use Rattle.std.proofs.Common.{◌≡◌, ◌∙◌, ◌⊎◌, ◌<◌, ◌≤�
 use Rattle.std.specs.Prelude.{Result, MatchBool}
 use Rattle.std.proofs.lemmas.List.{append-nil, get_or_at}
 use Rattle.std.proofs.lemmas.Option.{slice_get_within}
-use Rattle.mz_checks.specs.Checks.{AllHold}
+use Rattle.mz_base_theory.specs.Checks.{AllHold}
 use Rattle.mz_cmd.specs.declared.code.StatementCode.{StatementCode}
 use Rattle.mz_cmd.specs.declared.code.StatementCode.TheVariants as codes
 use Rattle.mz_cmd.specs.declared.statement.StmtAt.{StmtAt}
@@ -20,39 +20,39 @@ use Rattle.mz_logic.specs.declared.binder.SortMods.{SortMods}
 use Rattle.mz_logic.proofs.Offered.{length-binders, length-signatures}
 use Rattle.mz_layout.specs.Tables.{list_at, term_count, thm_count, term_row, thm_row, tables_of}
 use Rattle.mz_layout.proofs.Offered.{slice_get-rows, length-sorts}
-use Rattle.mz_unification.specs.Profile.{strict}
-use Rattle.mz_soundness.specs.Bodies.{Runs}
+use Rattle.mz_unify_theory.specs.Profile.{strict}
+use Rattle.mz_machine_theory.specs.Bodies.{Runs}
 use Rattle.mz_layout.specs.Heads.{IsHeadAt, body_bytes, rows_after}
 use Rattle.mz_layout.specs.declared.head.Head.{Head}
-use Rattle.mz_soundness.specs.FileRows.{Taken, taken_by, rows_taken, term_of_file}
-use Rattle.mz_words.specs.RowWords.{first_sorts, param_checks}
-use Rattle.mz_soundness.specs.MachineState.{Declares}
-use Rattle.mz_soundness.proofs.Offered.{signature-at}
-use Rattle.mz_earlier.specs.Before.{AreWithin, HasRightParams, taken_before}
-use Rattle.mz_earlier.specs.OwnRow.{MayRun, heading_of}
+use Rattle.mz_machine_theory.specs.FileRows.{Taken, taken_by, rows_taken, term_of_file}
+use Rattle.mz_layout_words.specs.RowWords.{first_sorts, param_checks}
+use Rattle.mz_machine_theory.specs.MachineState.{Declares}
+use Rattle.mz_machine_theory.proofs.Offered.{signature-at}
+use Rattle.mz_machine_env.specs.Before.{AreWithin, HasRightParams, taken_before}
+use Rattle.mz_machine_env.specs.OwnRow.{MayRun, heading_of}
 use Rattle.mz_layout.specs.declared.taken.Rows.{Rows}
-use Rattle.mz_files.specs.Chains.{IsGoodStatement, GoodTo}
-use Rattle.mz_files.specs.Checking.{checks_of, counts as taken-counts}
-use Rattle.mz_files.specs.Good.{Good}
-use Rattle.mz_files.specs.Spelling.{IsKindOf, SpellsRow, is_local_code}
-use Rattle.mz_files.specs.Standards.{strict_standard}
-use Rattle.mz_files.proofs.Offered.{sorts-many, terms-many, assertions-many, entry-good, same-taken, head-at, well-chain, HasRightRow, right-row, HasSorts, chain-sorts}
+use Rattle.mz_binary_theory.specs.Chains.{IsGoodStatement, GoodTo}
+use Rattle.mz_binary_theory.specs.Checking.{checks_of, counts as taken-counts}
+use Rattle.mz_binary_theory.specs.Good.{Good}
+use Rattle.mz_binary_theory.specs.Spelling.{IsKindOf, SpellsRow, is_local_code}
+use Rattle.mz_binary_theory.specs.Standards.{strict_standard}
+use Rattle.mz_binary_theory.proofs.Offered.{sorts-many, terms-many, assertions-many, entry-good, same-taken, head-at, well-chain, HasRightRow, right-row, HasSorts, chain-sorts}
 use Rattle.mz_binary.proofs.Offered.{were-right}
-use Rattle.mz_forms.specs.Proof.{Proof}
-use Rattle.mz_statements.specs.Statements.{Statement}
-use Rattle.mz_statements.specs.DeclaredNames.{sort_name, term_name, sort_names, term_names, assertion_name, assertion_names}
-use Rattle.mz_tracing.specs.Laws.{BodiesMakeOne}
-use Rattle.mz_tracing.specs.Traces.{Made, under_lets}
-use Rattle.mz_phrasing.specs.Naming.{Naming, vocabulary_by}
-use Rattle.mz_naming.specs.Names.{naming_of}
-use Rattle.mz_unspell.specs.Rows.{AreArities}
-use Rattle.mz_restating.specs.Restated.{IsProofMade, IsRestated, AreRestated}
+use Rattle.mz_mmu_forms.specs.Proof.{Proof}
+use Rattle.mz_mmu_statements.specs.Statements.{Statement}
+use Rattle.mz_mmu_statements.specs.DeclaredNames.{sort_name, term_name, sort_names, term_names, assertion_name, assertion_names}
+use Rattle.mz_trace_theory.specs.Laws.{BodiesMakeOne}
+use Rattle.mz_trace_theory.specs.Traces.{Made, under_lets}
+use Rattle.mz_decompile_text_theory.specs.Naming.{Naming, vocabulary_by}
+use Rattle.mz_decompile_names.specs.Names.{naming_of}
+use Rattle.mz_decompile_rows.specs.Rows.{AreArities}
+use Rattle.mz_decompile_theory.specs.Restated.{IsProofMade, IsRestated, AreRestated}
 use Rattle.mz_decompile.specs.Naming.{next_name}
 use Rattle.mz_decompile.specs.Telling.{Counts, HasProof, MakesProof, Stands}
-use Rattle.mz_walk.specs.Walk.{nothing_passed, passed_with}
-use Rattle.mz_walk.specs.declared.passed.Passed.{Passed}
-use Rattle.mz_walk.proofs.Offered.{IsOnWay, one-code, way-asks, way-end, way-first, way-on}
-use Rattle.mz_restating.proofs.Offered.{theorem-asked}
+use Rattle.mz_binary_walk.specs.Walk.{nothing_passed, passed_with}
+use Rattle.mz_binary_walk.specs.declared.passed.Passed.{Passed}
+use Rattle.mz_binary_walk.proofs.Offered.{IsOnWay, one-code, way-asks, way-end, way-first, way-on}
+use Rattle.mz_decompile_theory.proofs.Offered.{theorem-asked}
 use Rattle.mz_decompile.specs.Standing.{AreStanding, AreAll}
 
 -- ---- names by their places

@@ -1,14 +1,14 @@
 -- What is answered, by what the first pass gives.
 use Rattle.std.proofs.Common.{◌≡◌, ◌<◌, ◌≤◌, ◌+◌, ◌*◌, ℕ, List, length, inl, ap, arith}
 use Rattle.std.specs.Prelude.{max}
-use Rattle.mz_checks.specs.Checks.{AllHold, FailsFirst, demand}
-use Rattle.mz_checks.proofs.Offered.{fails-before, fails-after, all_hold-both}
-use Rattle.mz_statements.specs.Statements.{Statement}
+use Rattle.mz_base_theory.specs.Checks.{AllHold, FailsFirst, demand}
+use Rattle.mz_base_theory.proofs.Offered.{fails-before, fails-after, all_hold-both}
+use Rattle.mz_mmu_statements.specs.Statements.{Statement}
 use Rattle.mz_type.specs.Weight.{weight_of}
-use Rattle.mz_phrasing.specs.Phrasing.{Vocabulary, text_of}
-use Rattle.mz_stating.specs.Measures.{capped}
-use Rattle.mz_wording.specs.Wording.{longest}
-use Rattle.mz_restating.specs.Restated.{deep, too_long, told_length, depth_checks, greater_length, stating_checks}
+use Rattle.mz_decompile_text_theory.specs.Phrasing.{Vocabulary, text_of}
+use Rattle.mz_decompile_phrases.specs.Measures.{capped}
+use Rattle.mz_prefix_theory.specs.Wording.{longest}
+use Rattle.mz_decompile_theory.specs.Restated.{deep, too_long, told_length, depth_checks, greater_length, stating_checks}
 
 module _ (v : Vocabulary) (ts : List Statement) where
   pub too-deep : (k : ℕ) → FailsFirst (depth_checks v 1 ts) (deep k) → FailsFirst (stating_checks v ts) (deep k)

@@ -10,21 +10,21 @@ use Rattle.mz_logic.specs.Declaration.{Term, Assertion, Declaration, sort_decl, 
 use Rattle.mz_logic.specs.declared.binder.Binder.{Binder}
 use Rattle.mz_logic.specs.declared.binder.SortMods.{SortMods}
 use Rattle.mz_layout.specs.Tables.{tables_of, term_count, thm_count}
-use Rattle.mz_unification.specs.Spells.{SpellsTerm, SpellsThm}
-use Rattle.mz_soundness.specs.FileRows.{term_of_file, thm_of_file}
+use Rattle.mz_unify_theory.specs.Spells.{SpellsTerm, SpellsThm}
+use Rattle.mz_machine_theory.specs.FileRows.{term_of_file, thm_of_file}
 use Rattle.mz_layout.specs.declared.head.Head.{Head}
 use Rattle.mz_layout.specs.declared.taken.Rows.{Rows}
 use Rattle.mz_binary.specs.Progress.{IsTermKind}
-use Rattle.mz_files.specs.Spelling.{IsKindOf, SpellsRow}
-use Rattle.mz_walk.proofs.Offered.{one-code}
-use Rattle.mz_forms.specs.Proof.{Proof}
-use Rattle.mz_statements.specs.Statements.{Statement}
+use Rattle.mz_binary_theory.specs.Spelling.{IsKindOf, SpellsRow}
+use Rattle.mz_binary_walk.proofs.Offered.{one-code}
+use Rattle.mz_mmu_forms.specs.Proof.{Proof}
+use Rattle.mz_mmu_statements.specs.Statements.{Statement}
 use Rattle.mz_type.specs.Weight.{declaration_weight, stated_weight}
-use Rattle.mz_phrasing.specs.Phrases.{Phrase}
-use Rattle.mz_phrasing.specs.Phrasing.{Vocabulary, declared_parts, assertion_parts}
-use Rattle.mz_phrasing.specs.Naming.{Naming, vocabulary_by}
-use Rattle.mz_stating.specs.Measures.{capped}
-use Rattle.mz_unspell.specs.Rows.{AreArities}
+use Rattle.mz_decompile_text_theory.specs.Phrases.{Phrase}
+use Rattle.mz_decompile_text_theory.specs.Phrasing.{Vocabulary, declared_parts, assertion_parts}
+use Rattle.mz_decompile_text_theory.specs.Naming.{Naming, vocabulary_by}
+use Rattle.mz_decompile_phrases.specs.Measures.{capped}
+use Rattle.mz_decompile_rows.specs.Rows.{AreArities}
 use Rattle.mz_decompile.specs.Adding.{Adds}
 use Rattle.mz_decompile.specs.Naming.{next_name}
 use Rattle.mz_decompile.specs.Telling.{Counts, HasProof, MakesProof, MakesSome, Stands, SpellsSomeTerm, SpellsSomeThm, IsTerm, IsAxiom, IsTheorem, AreParts}

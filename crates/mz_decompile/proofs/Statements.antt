@@ -9,17 +9,17 @@ use Rattle.mz_logic.specs.declared.binder.Binder.{Binder}
 use Rattle.mz_logic.specs.Words.{binders_of, result_of}
 use Rattle.mz_logic.proofs.Offered.{length-binders}
 use Rattle.mz_layout.specs.Tables.{term_row, thm_row}
-use Rattle.mz_unification.specs.Spells.{SpellsTerm, SpellsThm, SpellsForm, dummy_of}
-use Rattle.mz_soundness.specs.FileRows.{term_of_file, thm_of_file}
-use Rattle.mz_forms.specs.Proof.{Proof}
+use Rattle.mz_unify_theory.specs.Spells.{SpellsTerm, SpellsThm, SpellsForm, dummy_of}
+use Rattle.mz_machine_theory.specs.FileRows.{term_of_file, thm_of_file}
+use Rattle.mz_mmu_forms.specs.Proof.{Proof}
 use Rattle.mz_type.specs.Weight.{proof_weight, stated_weight}
-use Rattle.mz_phrasing.specs.Phrases.{Phrase, Phrases, a_word, a_list, one_more}
-use Rattle.mz_phrasing.specs.Phrasing.{Vocabulary, list_of, expression, expressions, binders, result, term_parts, assertion_parts, named_hypotheses, proof as statement-proof-by}
-use Rattle.mz_stating.specs.ByNumber.{phrase_at, phrases_at, Grows}
-use Rattle.mz_stating.specs.Measures.{capped, word_count, words_of_all}
-use Rattle.mz_unspell.specs.Rows.{IsSaid, IsDefined}
-use Rattle.mz_unspell.specs.declared.row.Said.{Said}
-use Rattle.mz_unspell.specs.declared.row.Defined.{Defined}
+use Rattle.mz_decompile_text_theory.specs.Phrases.{Phrase, Phrases, a_word, a_list, one_more}
+use Rattle.mz_decompile_text_theory.specs.Phrasing.{Vocabulary, list_of, expression, expressions, binders, result, term_parts, assertion_parts, named_hypotheses, proof as statement-proof-by}
+use Rattle.mz_decompile_phrases.specs.ByNumber.{phrase_at, phrases_at, Grows}
+use Rattle.mz_decompile_phrases.specs.Measures.{capped, word_count, words_of_all}
+use Rattle.mz_decompile_rows.specs.Rows.{IsSaid, IsDefined}
+use Rattle.mz_decompile_rows.specs.declared.row.Said.{Said}
+use Rattle.mz_decompile_rows.specs.declared.row.Defined.{Defined}
 use Rattle.mz_decompile.specs.Adding.{Adds}
 use Rattle.mz_decompile.specs.Hypotheses.{named}
 use Rattle.mz_decompile.specs.Telling.{IsTerm, IsAxiom, IsTheorem, IsProved}

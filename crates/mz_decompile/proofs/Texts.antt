@@ -2,13 +2,13 @@
 use Rattle.std.proofs.Common.{◌≡◌, ◌<◌, ◌^◌, ◌∙◌, ℕ, Bool, false, List, length, sym, ap, subst}
 use Rattle.mz_type.specs.Laws.{IsTypedOrFaulty}
 use Rattle.mz_type.specs.Meaning.{marked}
-use Rattle.mz_files.specs.Standards.{strict_standard}
-use Rattle.mz_files.specs.WholeLaws.{OneListOfStatements, GoodFilesSpell}
-use Rattle.mz_verdicts.specs.Match.{publics, Agrees}
-use Rattle.mz_verdicts.specs.Verdict.{Accepts}
+use Rattle.mz_binary_theory.specs.Standards.{strict_standard}
+use Rattle.mz_binary_theory.specs.WholeLaws.{OneListOfStatements, GoodFilesSpell}
+use Rattle.mz_match_theory.specs.Match.{publics, Agrees}
+use Rattle.mz_match_theory.specs.Verdict.{Accepts}
 use Rattle.mz_emit.specs.Compiling.{CompilesTo}
-use Rattle.mz_restating.specs.Laws.{AreBytes, IsTextOfBinary, PlainTextsAreTexts}
-use Rattle.mz_restating.specs.Texts.{IsPlainText}
+use Rattle.mz_decompile_theory.specs.Laws.{AreBytes, IsTextOfBinary, PlainTextsAreTexts}
+use Rattle.mz_decompile_theory.specs.Texts.{IsPlainText}
 use Rattle.mz_decompile.specs.Decompiling.{IsTextFor}
 
 module _ (typed_or_faulty : (gaps : Bool) (text : List ℕ) → IsTypedOrFaulty gaps text) (one_list : OneListOfStatements) (spells : GoodFilesSpell)

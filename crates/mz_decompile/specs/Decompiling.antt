@@ -1,13 +1,13 @@
 -- What making a text of a binary answers (this project's own answers).
 use Rattle.std.specs.Prelude.{◌≡◌, ◌⊎◌, ◌+◌, ⊤, ℕ, false, List}
-use Rattle.mz_files.specs.FileRun.{file_steps}
-use Rattle.mz_files.specs.Standards.{strict_standard}
+use Rattle.mz_binary_theory.specs.FileRun.{file_steps}
+use Rattle.mz_binary_theory.specs.Standards.{strict_standard}
 use Rattle.mz_emit.specs.Compiling.{IsCompilable, CompilesTo}
-use Rattle.mz_verdicts.specs.declared.verdict.Verdict.{Verdict}
-use Rattle.mz_verdicts.specs.Verdict.{Accepts, FirstRefusal, Ticks}
-use Rattle.mz_restating.specs.Restated.{Unstated, deep, too_long}
-use Rattle.mz_restating.specs.Laws.{IsTextOfBinary}
-use Rattle.mz_restating.specs.Texts.{IsPlainText, IsUnstated}
+use Rattle.mz_match_theory.specs.declared.verdict.Verdict.{Verdict}
+use Rattle.mz_match_theory.specs.Verdict.{Accepts, FirstRefusal, Ticks}
+use Rattle.mz_decompile_theory.specs.Restated.{Unstated, deep, too_long}
+use Rattle.mz_decompile_theory.specs.Laws.{IsTextOfBinary}
+use Rattle.mz_decompile_theory.specs.Texts.{IsPlainText, IsUnstated}
 use Rattle.mz_decompile.specs.declared.decompiled.Decompiled.{Decompiled}
 use Rattle.mz_decompile.specs.declared.decompiled.Decompiled.TheVariants as answers
 

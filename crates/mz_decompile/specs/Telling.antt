@@ -4,26 +4,26 @@ use Rattle.mz_cmd.specs.Codes.{statement_byte}
 use Rattle.mz_logic.specs.Signature.{Signature}
 use Rattle.mz_logic.specs.Declaration.{Term, Assertion, Declaration, sort_decl, term_decl, assertion_decl, sorts, terms, signatures, assertions}
 use Rattle.mz_logic.specs.declared.binder.Binder.{Binder}
-use Rattle.mz_unification.specs.Profile.{strict}
-use Rattle.mz_unification.specs.Spells.{SpellsTerm, SpellsThm, dummy_of}
-use Rattle.mz_soundness.specs.Bodies.{Runs}
+use Rattle.mz_unify_theory.specs.Profile.{strict}
+use Rattle.mz_unify_theory.specs.Spells.{SpellsTerm, SpellsThm, dummy_of}
+use Rattle.mz_machine_theory.specs.Bodies.{Runs}
 use Rattle.mz_layout.specs.Heads.{body_bytes}
-use Rattle.mz_soundness.specs.FileRows.{term_of_file, thm_of_file}
-use Rattle.mz_soundness.specs.MachineState.{Declares}
-use Rattle.mz_earlier.specs.OwnRow.{MayRun, heading_of}
-use Rattle.mz_earlier.specs.Before.{tables_before}
+use Rattle.mz_machine_theory.specs.FileRows.{term_of_file, thm_of_file}
+use Rattle.mz_machine_theory.specs.MachineState.{Declares}
+use Rattle.mz_machine_env.specs.OwnRow.{MayRun, heading_of}
+use Rattle.mz_machine_env.specs.Before.{tables_before}
 use Rattle.mz_layout.specs.declared.head.Head.{Head}
 use Rattle.mz_layout.specs.declared.taken.Rows.{Rows}
-use Rattle.mz_files.specs.Spelling.{IsKindOf, is_local_code, SpellsRow}
-use Rattle.mz_forms.specs.Proof.{Proof}
-use Rattle.mz_statements.specs.Statements.{Statement}
+use Rattle.mz_binary_theory.specs.Spelling.{IsKindOf, is_local_code, SpellsRow}
+use Rattle.mz_mmu_forms.specs.Proof.{Proof}
+use Rattle.mz_mmu_statements.specs.Statements.{Statement}
 use Rattle.mz_type.specs.Weight.{statement_weight, declaration_weight, proof_weight, stated_weight}
-use Rattle.mz_tracing.specs.Traces.{Made, under_lets}
-use Rattle.mz_phrasing.specs.Phrases.{Phrase}
-use Rattle.mz_phrasing.specs.Phrasing.{Vocabulary, statement, declared_parts, term_parts, assertion_parts, proof}
-use Rattle.mz_phrasing.specs.Naming.{Naming, vocabulary_by}
-use Rattle.mz_stating.specs.Measures.{capped}
-use Rattle.mz_unspell.specs.Rows.{AreArities, IsPhrase}
+use Rattle.mz_trace_theory.specs.Traces.{Made, under_lets}
+use Rattle.mz_decompile_text_theory.specs.Phrases.{Phrase}
+use Rattle.mz_decompile_text_theory.specs.Phrasing.{Vocabulary, statement, declared_parts, term_parts, assertion_parts, proof}
+use Rattle.mz_decompile_text_theory.specs.Naming.{Naming, vocabulary_by}
+use Rattle.mz_decompile_phrases.specs.Measures.{capped}
+use Rattle.mz_decompile_rows.specs.Rows.{AreArities, IsPhrase}
 use Rattle.mz_decompile.specs.Adding.{Adds}
 use Rattle.mz_decompile.specs.Naming.{next_name}
 use Rattle.mz_decompile.specs.declared.told.Told.{Told}

@@ -4,12 +4,12 @@ ghost use Rattle.mz_logic.specs.Declaration.{Assertion};
 ghost use Rattle.mz_logic.specs.Signature.{Signature};
 ghost use Rattle.mz_logic.specs.Words.{binders_of};
 ghost use Rattle.mz_layout.specs.Tables.{thm_count, thm_row};
-ghost use Rattle.mz_unification.specs.Spells.{SpellsThm};
-ghost use Rattle.mz_soundness.specs.FileRows.{thm_of_file};
-ghost use Rattle.mz_phrasing.specs.Phrases.{a_word, a_list};
-ghost use Rattle.mz_phrasing.specs.Phrasing.{binders};
-ghost use Rattle.mz_phrasing.specs.Naming.{vocabulary_by};
-ghost use Rattle.mz_unspell.specs.Rows.{AreArities};
+ghost use Rattle.mz_unify_theory.specs.Spells.{SpellsThm};
+ghost use Rattle.mz_machine_theory.specs.FileRows.{thm_of_file};
+ghost use Rattle.mz_decompile_text_theory.specs.Phrases.{a_word, a_list};
+ghost use Rattle.mz_decompile_text_theory.specs.Phrasing.{binders};
+ghost use Rattle.mz_decompile_text_theory.specs.Naming.{vocabulary_by};
+ghost use Rattle.mz_decompile_rows.specs.Rows.{AreArities};
 ghost use Rattle.mz_decompile.specs.Adding.{Adds};
 ghost use Rattle.mz_decompile.specs.Telling.{IsAxiom, SpellsSomeThm};
 
@@ -17,10 +17,10 @@ use crate::params::put_params;
 use crate::parts::{put_list, put_word};
 use crate::weight::weight_said;
 use mz_cmd::Mem;
+use mz_decompile_names::Names;
+use mz_decompile_phrases::Phrases;
+use mz_decompile_rows::assertion;
 use mz_layout::{Mmb, Row};
-use mz_naming::Names;
-use mz_stating::Phrases;
-use mz_unspell::assertion;
 use std::alloc::Global;
 
 /// Adds the parts of an axiom. The result is its weight.

@@ -1,20 +1,20 @@
 // A binary as a text.
 ghost use Rattle.std.specs.Prelude.{◌≡◌, ◌≤◌, ◌<◌, ◌+◌, ◌*◌, ◌^◌, IfOk, length};
-ghost use Rattle.mz_verdicts.specs.Verdict.{Accepts};
+ghost use Rattle.mz_match_theory.specs.Verdict.{Accepts};
 ghost use Rattle.mz_decompile.specs.Decompiling.{IsDecompilation, IsTextForPair, TicksAs};
 ghost use Rattle.mz_decompile.specs.Passes.{IsOfAccepted};
 
 use crate::answering::answer;
 use mz_cmd::{Mem, Steps};
+use mz_decompile_names::Names;
+use mz_decompile_theory::{accepted_are_restated, plain_texts_are_texts};
 use mz_layout::Mmb;
 use mz_match::verify_bytes;
-use mz_naming::Names;
-use mz_restating::{accepted_are_restated, plain_texts_are_texts};
+use mz_match_theory::Verdict;
 use mz_spec::Hashing;
 use mz_store::Seed;
-use mz_tracing::bodies_make_proofs;
+use mz_trace_theory::bodies_make_proofs;
 use mz_type::typed_or_faulty;
-use mz_verdicts::Verdict;
 use std::alloc::Global;
 use std::sync::ledger::Ledger;
 

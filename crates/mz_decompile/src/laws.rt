@@ -2,8 +2,8 @@
 ghost use Rattle.std.specs.Prelude.{ℕ, List};
 ghost use Rattle.mz_decompile.specs.Decompiling.{IsDecided};
 
-use mz_restating::accepted_are_restated;
-use mz_verdicts::each_pair_has_one_verdict;
+use mz_decompile_theory::accepted_are_restated;
+use mz_match_theory::each_pair_has_one_verdict;
 
 /// Each pair that is accepted has one text, or one thing that stands first against it, and never both; and no other
 /// pair has either.

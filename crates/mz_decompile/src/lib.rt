@@ -1,6 +1,6 @@
 //! From a binary that proves a specification to a text that states it, proofs and all.
 //!
-//! `specs/Decompiling.antt` says what is answered; the text itself is defined in `mz_restating`. A statement's row, its
+//! `specs/Decompiling.antt` says what is answered; the text itself is defined in `mz_decompile_theory`. A statement's row, its
 //! stream and its body are read in place, and what they say is put together part by part (`specs/Adding.antt`);
 //! `specs/Telling.antt` says what is known of a statement, and what is told of it.
 #![tactic(auto)]

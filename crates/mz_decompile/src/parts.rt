@@ -1,13 +1,13 @@
 //! Parts of a list, one after another.
 ghost use Rattle.std.specs.Prelude.{◌≡◌, ◌<◌, ◌∷◌, [], All, OnOk, if◌then◌else◌, length};
-ghost use Rattle.mz_phrasing.specs.Phrases.{a_word, a_list};
-ghost use Rattle.mz_phrasing.specs.Naming.{vocabulary_by};
-ghost use Rattle.mz_stating.specs.ByNumber.{phrases_at};
+ghost use Rattle.mz_decompile_text_theory.specs.Phrases.{a_word, a_list};
+ghost use Rattle.mz_decompile_text_theory.specs.Naming.{vocabulary_by};
+ghost use Rattle.mz_decompile_phrases.specs.ByNumber.{phrases_at};
 ghost use Rattle.mz_decompile.specs.Adding.{Adds};
 
 use mz_cmd::Mem;
-use mz_naming::Names;
-use mz_stating::Phrases;
+use mz_decompile_names::Names;
+use mz_decompile_phrases::Phrases;
 use std::alloc::Global;
 
 /// Adds a word.

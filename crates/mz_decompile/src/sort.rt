@@ -3,17 +3,17 @@ ghost use Rattle.std.specs.Prelude.{◌≡◌, ◌<◌, ◌∷◌, [], None, OnO
 ghost use Rattle.mz_logic.specs.Declaration.{sort_decl};
 ghost use Rattle.mz_logic.specs.declared.binder.SortMods.{SortMods as TheMods};
 ghost use Rattle.mz_layout.specs.Tables.{tables_of};
-ghost use Rattle.mz_phrasing.specs.Phrases.{a_word};
-ghost use Rattle.mz_phrasing.specs.Phrasing.{declared_parts, modifiers};
-ghost use Rattle.mz_phrasing.specs.Naming.{vocabulary_by};
+ghost use Rattle.mz_decompile_text_theory.specs.Phrases.{a_word};
+ghost use Rattle.mz_decompile_text_theory.specs.Phrasing.{declared_parts, modifiers};
+ghost use Rattle.mz_decompile_text_theory.specs.Naming.{vocabulary_by};
 ghost use Rattle.mz_decompile.specs.Adding.{Adds};
 
 use crate::parts::{put_word, put_word_if};
 use mz_cmd::Mem;
+use mz_decompile_names::Names;
+use mz_decompile_phrases::Phrases;
 use mz_layout::Mmb;
 use mz_logic::{SortMods, Terms};
-use mz_naming::Names;
-use mz_stating::Phrases;
 
 /// Adds the parts of a sort.
 pub(crate) fn put_sort(

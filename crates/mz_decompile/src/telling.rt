@@ -1,8 +1,8 @@
 //! A statement, whatever its kind.
 ghost use Rattle.std.specs.Prelude.{IfOk, List};
 ghost use Rattle.mz_logic.specs.Declaration.{Declaration};
-ghost use Rattle.mz_statements.specs.Statements.{Statement};
-ghost use Rattle.mz_phrasing.specs.Naming.{vocabulary_by};
+ghost use Rattle.mz_mmu_statements.specs.Statements.{Statement};
+ghost use Rattle.mz_decompile_text_theory.specs.Naming.{vocabulary_by};
 ghost use Rattle.mz_decompile.specs.Telling.{AreParts, IsTold, SomeStands, Stands};
 
 use crate::axiom::put_axiom;
@@ -11,11 +11,11 @@ use crate::sort::put_sort;
 use crate::term::put_term;
 use crate::theorem::put_theorem;
 use crate::told::Told;
+use mz_binary_walk::is_local;
 use mz_cmd::{Mem, StatementCode};
+use mz_decompile_names::Names;
+use mz_decompile_phrases::Phrases;
 use mz_layout::{Head, Mmb, Rows};
-use mz_naming::Names;
-use mz_stating::Phrases;
-use mz_walk::is_local;
 use std::alloc::Global;
 
 /// The phrase and the weight of the statement with this head, before which so many rows were taken. The phrase, and

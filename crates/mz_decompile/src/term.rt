@@ -4,12 +4,12 @@ ghost use Rattle.mz_logic.specs.Declaration.{Term};
 ghost use Rattle.mz_logic.specs.Signature.{Signature};
 ghost use Rattle.mz_logic.specs.Words.{binders_of, result_of};
 ghost use Rattle.mz_layout.specs.Tables.{term_count, term_row};
-ghost use Rattle.mz_unification.specs.Spells.{SpellsTerm};
-ghost use Rattle.mz_soundness.specs.FileRows.{term_of_file};
-ghost use Rattle.mz_phrasing.specs.Phrases.{a_word, a_list};
-ghost use Rattle.mz_phrasing.specs.Phrasing.{binders, result as the_result};
-ghost use Rattle.mz_phrasing.specs.Naming.{vocabulary_by};
-ghost use Rattle.mz_unspell.specs.Rows.{AreArities};
+ghost use Rattle.mz_unify_theory.specs.Spells.{SpellsTerm};
+ghost use Rattle.mz_machine_theory.specs.FileRows.{term_of_file};
+ghost use Rattle.mz_decompile_text_theory.specs.Phrases.{a_word, a_list};
+ghost use Rattle.mz_decompile_text_theory.specs.Phrasing.{binders, result as the_result};
+ghost use Rattle.mz_decompile_text_theory.specs.Naming.{vocabulary_by};
+ghost use Rattle.mz_decompile_rows.specs.Rows.{AreArities};
 ghost use Rattle.mz_decompile.specs.Adding.{Adds};
 ghost use Rattle.mz_decompile.specs.Telling.{IsTerm, SpellsSomeTerm};
 
@@ -17,11 +17,11 @@ use crate::dummies::put_dummies;
 use crate::params::{put_params, put_result};
 use crate::parts::put_word;
 use mz_cmd::Mem;
+use mz_decompile_names::Names;
+use mz_decompile_phrases::Phrases;
+use mz_decompile_rows::definition;
 use mz_layout::{Mmb, Row};
 use mz_logic::Terms;
-use mz_naming::Names;
-use mz_stating::Phrases;
-use mz_unspell::definition;
 use std::alloc::Global;
 
 /// Adds the parts of a term or a definition. The result is its weight.

@@ -4,11 +4,11 @@ ghost use Rattle.mz_logic.specs.Declaration.{Assertion, Declaration};
 ghost use Rattle.mz_logic.specs.Signature.{Signature};
 ghost use Rattle.mz_logic.specs.declared.binder.Binder.{Binder};
 ghost use Rattle.mz_layout.specs.Tables.{thm_count};
-ghost use Rattle.mz_unification.specs.Spells.{SpellsThm};
-ghost use Rattle.mz_soundness.specs.FileRows.{thm_of_file};
-ghost use Rattle.mz_forms.specs.Proof.{Proof};
-ghost use Rattle.mz_phrasing.specs.Naming.{vocabulary_by};
-ghost use Rattle.mz_unspell.specs.Rows.{AreArities};
+ghost use Rattle.mz_unify_theory.specs.Spells.{SpellsThm};
+ghost use Rattle.mz_machine_theory.specs.FileRows.{thm_of_file};
+ghost use Rattle.mz_mmu_forms.specs.Proof.{Proof};
+ghost use Rattle.mz_decompile_text_theory.specs.Naming.{vocabulary_by};
+ghost use Rattle.mz_decompile_rows.specs.Rows.{AreArities};
 ghost use Rattle.mz_decompile.specs.Telling.{IsTheorem, MakesProof, MakesSome, SpellsSomeThm};
 
 use crate::axiom::put_heading;
@@ -17,10 +17,10 @@ use crate::hypotheses::put_hypotheses;
 use crate::proof::prove;
 use crate::weight::weight_said;
 use mz_cmd::Mem;
+use mz_decompile_names::Names;
+use mz_decompile_phrases::Phrases;
+use mz_decompile_rows::assertion;
 use mz_layout::{Head, Mmb, Rows};
-use mz_naming::Names;
-use mz_stating::Phrases;
-use mz_unspell::assertion;
 use std::alloc::Global;
 
 /// Adds the parts of a theorem. The result is its weight.

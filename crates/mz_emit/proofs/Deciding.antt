@@ -1,6 +1,6 @@
 -- Each text can be compiled, or has one first fault, or passes one first limit.
 use Rattle.std.proofs.Common.{ℕ, Bool, ◌⊎◌, inl, inr, List, subst}
-use Rattle.mz_statements.specs.Statements.{Statement}
+use Rattle.mz_mmu_statements.specs.Statements.{Statement}
 use Rattle.mz_sexpr.specs.declared.rule.TextRefusal.{TextRefusal}
 use Rattle.mz_type.specs.TextOf.{TextOf, TextFault}
 use Rattle.mz_type.specs.Weight.{Passed, Passes, IsWithinLimits}

@@ -7,17 +7,16 @@ use Rattle.mz_logic.proofs.Offered.{sorts-append}
 use Rattle.mz_layout.specs.Normal.{Parts, file_of, file_length}
 use Rattle.mz_layout.specs.Standing.{Fit}
 use Rattle.mz_layout.proofs.Offered.{file-bound, file-length}
-use Rattle.mz_files.specs.Gapped.{GappedIn}
-use Rattle.mz_statements.specs.Statements.{Statement}
+use Rattle.mz_binary_theory.specs.Gapped.{GappedIn}
+use Rattle.mz_mmu_statements.specs.Statements.{Statement}
 use Rattle.mz_type.specs.Meaning.{LegalAsStated, marked}
 use Rattle.mz_type.specs.TypedText.{declared}
 use Rattle.mz_type.specs.Weight.{sort_count, byte_bound, IsWithinLimits}
 use Rattle.mz_type.proofs.Offered.{stated_is_legal}
-use Rattle.mz_streams.specs.SpelledLists.{list_spelled}
-use Rattle.mz_writing.specs.Writing.{IsWrittenAs}
-use Rattle.mz_writing.proofs.Offered.{written-gapped, files-good, files-spell, written-same}
-use Rattle.mz_accepting.proofs.Offered.{files-accepted}
-use Rattle.mz_accepting.proofs.Offered.{accepted-by-address}
+use Rattle.mz_emit_theory.specs.SpelledLists.{list_spelled}
+use Rattle.mz_emit_theory.specs.FileWriting.{IsWrittenAs}
+use Rattle.mz_emit_theory.proofs.Offered.{written-gapped, files-good, files-spell, written-same}
+use Rattle.mz_emit_accepted_theory.proofs.Offered.{files-accepted, accepted-by-address}
 use Rattle.mz_emit.specs.Compiling.{IsBinaryOf}
 use Rattle.mz_emit.specs.Emitting.{compiled_file, HasWritten}
 use Rattle.mz_emit.specs.Gapped.{proofs_of, IsGappedIn}

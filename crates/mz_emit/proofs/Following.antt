@@ -1,14 +1,14 @@
 -- Each statement of a well-typed text within the limits may follow those before it.
 use Rattle.std.proofs.Common.{ℕ, zero, suc, ◌≡◌, Bool, true, ◌≤◌, ◌<◌, ◌+◌, List, [], ◌∷◌, ◌++◌, length, take, All, sym, subst, ap, arith, append_assoc, append-nil}
 use Rattle.std.proofs.lemmas.List.Elements.{All-get_or}
-use Rattle.mz_checks.specs.Checks.{AllHold}
-use Rattle.mz_checks.proofs.Offered.{all_hold-first, all_hold-rest}
+use Rattle.mz_base_theory.specs.Checks.{AllHold}
+use Rattle.mz_base_theory.proofs.Offered.{all_hold-first, all_hold-rest}
 use Rattle.mz_logic.specs.Declaration.{Declaration, sorts}
 use Rattle.mz_logic.specs.Legality.{LegalEnvAfter}
 use Rattle.mz_logic.specs.WordsWritten.{CanBeWords}
-use Rattle.mz_statements.specs.Statements.{HasGapsOnly, Statement}
+use Rattle.mz_mmu_statements.specs.Statements.{HasGapsOnly, Statement}
 use Rattle.mz_mmu.specs.Laws.{IsWhole}
-use Rattle.mz_typing.specs.Names.{StatementThere, StatementsThere}
+use Rattle.mz_type_rules.specs.Names.{StatementThere, StatementsThere}
 use Rattle.mz_type.specs.Meaning.{IsLegalAsStated, LegalAsStatedAfter, LegalAsStated}
 use Rattle.mz_type.specs.Ready.{CanBeWordsAfter}
 use Rattle.mz_type.specs.TypedText.{statement_at, declared}

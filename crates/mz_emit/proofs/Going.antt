@@ -16,12 +16,12 @@ use Rattle.mz_logic.proofs.Offered.{extends_append, one_at, trees_size-followed}
 use Rattle.mz_store.specs.Bits.{Tells, bound_vars}
 use Rattle.mz_store.specs.Sharing.{AreIn, Sharing, IsIn, IsOver, IsTold, head_of as head_term, operands_of, tree_of, trees_of}
 use Rattle.mz_store.specs.declared.item.Id.{Id}
-use Rattle.mz_steps.specs.Works.{from_to}
-use Rattle.mz_unification.specs.Streams.{UnifyCommand, u_ref, u_dummy, u_hyp}
-use Rattle.mz_streams.specs.Writing.{Writing, Written, are_met, head_of, headed, marked_if, meeting, place_in, referred, unify_bytes, write, write_all, write_hyps, and_then}
-use Rattle.mz_shared.specs.Instances.{InReach, AllInReach}
-use Rattle.mz_shared.specs.Places.{place_of}
-use Rattle.mz_shared.proofs.Offered.{in_push, is_var}
+use Rattle.mz_emit_theory.specs.Works.{from_to}
+use Rattle.mz_unify_theory.specs.Streams.{UnifyCommand, u_ref, u_dummy, u_hyp}
+use Rattle.mz_emit_theory.specs.StreamWriting.{Writing, Written, are_met, head_of, headed, marked_if, meeting, place_in, referred, unify_bytes, write, write_all, write_hyps, and_then}
+use Rattle.mz_emit_bodies.specs.Instances.{InReach, AllInReach}
+use Rattle.mz_emit_bodies.specs.Places.{place_of}
+use Rattle.mz_emit_bodies.proofs.Offered.{in_push, is_var}
 use Rattle.mz_emit.specs.declared.stream.Stream.{Stream}
 use Rattle.mz_emit.specs.Going.{Going, HasWritten, IsGoing, IsMarked, IsReady, IsStatement, Job, behind, hyps_written, met_so_far, own, scope, spelled, to_do}
 use Rattle.mz_emit.proofs.Marking.{mark_put, same_place}

@@ -3,7 +3,7 @@ use Rattle.std.proofs.Common.{ℕ, ◌≡◌, ◌≤◌, ◌+◌, ◌*◌, List,
 use Rattle.mz_logic.specs.Declaration.{Declaration}
 use Rattle.mz_layout.specs.Normal.{Row, Written, Parts, file_length}
 use Rattle.mz_layout.specs.NormalLaws.{rows_cost, statements_cost, LengthIsBounded}
-use Rattle.mz_statements.specs.Statements.{Statement}
+use Rattle.mz_mmu_statements.specs.Statements.{Statement}
 use Rattle.mz_type.specs.TypedText.{declared}
 use Rattle.mz_emit.specs.Emitting.{cost_of}
 use Rattle.mz_type.specs.Weight.{statement_weight, weight_after, weight_of, byte_bound}

@@ -3,10 +3,10 @@ use Rattle.std.specs.Prelude.{Some, None, option_map, slice_get}
 use Rattle.std.proofs.Common.{ℕ, zero, suc, ◌≡◌, ◌+◌, ◌≤◌, ◌<◌, List, [], ◌∷◌, length, drop, sym, ap, subst, inl, inr, arith, add-one}
 use Rattle.std.proofs.Math.Seq.{drop-cons}
 use Rattle.std.proofs.Math.ListN.{drop_of_length-le}
-use Rattle.mz_checks.specs.Checks.{AllHold, FailsFirst}
-use Rattle.mz_checks.proofs.Offered.{Decides, decides-whole, fails-before, fails-after, all_hold-both}
+use Rattle.mz_base_theory.specs.Checks.{AllHold, FailsFirst}
+use Rattle.mz_base_theory.proofs.Offered.{Decides, decides-whole, fails-before, fails-after, all_hold-both}
 use Rattle.mz_logic.specs.Declaration.{sorts}
-use Rattle.mz_statements.specs.Statements.{Statement}
+use Rattle.mz_mmu_statements.specs.Statements.{Statement}
 use Rattle.mz_type.specs.TypedText.{statement_at}
 use Rattle.mz_type.specs.Weight.{Limit, sort_limit, parameter_limit, bound_limit, byte_limit, Passed, sort_count, parameter_count, bound_count, byte_bound, each_within, limit_checks}
 use Rattle.mz_emit.specs.Limits.{over}

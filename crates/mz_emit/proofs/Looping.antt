@@ -4,8 +4,8 @@ use Rattle.std.specs.Prelude.{Some, None, slice_get}
 use Rattle.std.proofs.lemmas.List.{take_more, take_all}
 use Rattle.std.proofs.Math.Seq.{drop-nil}
 use Rattle.mz_logic.specs.Declaration.{Declaration}
-use Rattle.mz_statements.specs.Statements.{Statement}
-use Rattle.mz_forms.specs.Name.{no_names}
+use Rattle.mz_mmu_statements.specs.Statements.{Statement}
+use Rattle.mz_mmu_forms.specs.Name.{no_names}
 use Rattle.mz_mmu.proofs.Offered.{only_drafts, are_whole}
 use Rattle.mz_type.specs.Meaning.{LegalAsStated}
 use Rattle.mz_type.specs.TextOf.{TextOf}

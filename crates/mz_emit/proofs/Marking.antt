@@ -8,10 +8,10 @@ use Rattle.mz_logic.specs.declared.binder.Binder.{Binder}
 use Rattle.mz_logic.proofs.Offered.{extends_append, split_at, one_at}
 use Rattle.mz_store.specs.Bits.{Tells, bound_vars}
 use Rattle.mz_store.specs.Sharing.{Sharing, Holds, IsIn, tree_of}
-use Rattle.mz_steps.specs.Works.{from_to}
-use Rattle.mz_streams.specs.Writing.{Writing, place_in}
-use Rattle.mz_streams.proofs.Offered.{place-found, place-missing}
-use Rattle.mz_shared.specs.Places.{place_of}
+use Rattle.mz_emit_theory.specs.Works.{from_to}
+use Rattle.mz_emit_theory.specs.StreamWriting.{Writing, place_in}
+use Rattle.mz_emit_theory.proofs.Offered.{place-found, place-missing}
+use Rattle.mz_emit_bodies.specs.Places.{place_of}
 use Rattle.mz_emit.specs.Going.{IsMarked, IsStatement}
 
 slice_last : (xs : List Tree) (y : Tree) (n : ℕ) → n ≡ length xs → slice_get (xs ++ y ∷ []) n ≡ Some y

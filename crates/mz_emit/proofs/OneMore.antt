@@ -10,16 +10,16 @@ use Rattle.mz_logic.specs.WordsWritten.{words_of, words_from, result_word}
 use Rattle.mz_logic.specs.declared.binder.Binder.{Binder}
 use Rattle.mz_logic.specs.declared.binder.SortMods.{SortMods}
 use Rattle.mz_layout.specs.Normal.{Row, Written, Parts, no_parts, row_of_term, row_of_thm}
-use Rattle.mz_files.specs.Spelling.{HasKind, is_local_code}
-use Rattle.mz_statements.specs.Statements.{Statement}
+use Rattle.mz_binary_theory.specs.Spelling.{HasKind, is_local_code}
+use Rattle.mz_mmu_statements.specs.Statements.{Statement}
 use Rattle.mz_type.specs.Meaning.{marked}
 use Rattle.mz_type.specs.TypedText.{declared}
 use Rattle.mz_type.specs.Weight.{declaration_weight, statement_weight}
-use Rattle.mz_steps.specs.Sameness.{IsSameForm}
-use Rattle.mz_streams.specs.SpelledLists.{form_spelled, decl_spelled, statement_spelled, list_spelled}
-use Rattle.mz_writing.specs.Growing.{HasOneMore}
-use Rattle.mz_writing.specs.Writing.{SayParams, SaySignature, IsWrittenDeclaration, IsWrittenStatement, IsWrittenAssertion, HaveNoMore, IsWrittenAs}
-use Rattle.mz_writing.proofs.Offered.{writing-grows, rows-counted, appended-next}
+use Rattle.mz_emit_theory.specs.Sameness.{IsSameForm}
+use Rattle.mz_emit_theory.specs.SpelledLists.{form_spelled, decl_spelled, statement_spelled, list_spelled}
+use Rattle.mz_emit_theory.specs.FileGrowing.{HasOneMore}
+use Rattle.mz_emit_theory.specs.FileWriting.{SayParams, SaySignature, IsWrittenDeclaration, IsWrittenStatement, IsWrittenAssertion, HaveNoMore, IsWrittenAs}
+use Rattle.mz_emit_theory.proofs.Offered.{writing-grows, rows-counted, appended-next}
 use Rattle.mz_emit.specs.Emitting.{with_sort, with_term, with_thm, term_row, thm_row, definition_code, assertion_code, definition_stream_of, definition_body_of, assertion_stream_of, assertion_body_of, with_declaration, parts_after, SaysDefinition, SaysAssertion, cost_of, HasWritten}
 use Rattle.mz_emit.specs.Gapped.{StatementUses, SayTheirUses}
 use Rattle.mz_emit.proofs.Gapped.{uses_more}

@@ -8,15 +8,15 @@ use Rattle.mz_logic.specs.Legality.{IsDummy}
 use Rattle.mz_logic.specs.declared.binder.Binder.{Binder}
 use Rattle.mz_logic.specs.declared.binder.SortMods.{SortMods}
 use Rattle.mz_logic.proofs.Offered.{sorts-append, each_from_all, signatures-append}
-use Rattle.mz_forms.specs.Proof.{Proof}
-use Rattle.mz_statements.specs.Statements.{Statement}
+use Rattle.mz_mmu_forms.specs.Proof.{Proof}
+use Rattle.mz_mmu_statements.specs.Statements.{Statement}
 use Rattle.mz_type.specs.TypedText.{declared}
-use Rattle.mz_files.specs.Spelling.{HasKind, is_local_code}
-use Rattle.mz_writing.proofs.Offered.{words-say-params}
+use Rattle.mz_binary_theory.specs.Spelling.{HasKind, is_local_code}
+use Rattle.mz_emit_theory.proofs.Offered.{words-say-params}
 use Rattle.mz_logic.specs.Words.{signatures_of}
-use Rattle.mz_shared.specs.Rows.{words_of_row}
-use Rattle.mz_shared.specs.declared.table.Table.{Table}
-use Rattle.mz_claims.specs.Laws.{StatedProofsAreSound}
+use Rattle.mz_emit_bodies.specs.Rows.{words_of_row}
+use Rattle.mz_emit_bodies.specs.declared.table.Table.{Table}
+use Rattle.mz_emit_accepted_theory.specs.ClaimsLaws.{StatedProofsAreSound}
 use Rattle.mz_emit.specs.Emitting.{IsConcrete, MayFollow, with_sort, with_term, with_thm, term_row, thm_row, definition_code, assertion_code, SaysDefinition, SaysAssertion, IsProvedBy, HasWritten, table_of, HasRows, IsNext}
 use Rattle.mz_emit.specs.declared.emitter.Emitter.{Emitter}
 use Rattle.mz_emit.proofs.Saying.{definition_kind, term_words, same_form, thm_words, sort_unmarked, plain_unmarked, thm_kind, definition_can, assertion_can, proof_can, axiom_is}

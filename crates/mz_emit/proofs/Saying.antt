@@ -17,20 +17,19 @@ use Rattle.mz_logic.specs.WordsWritten.{CanBeWords}
 use Rattle.mz_logic.specs.declared.binder.Binder.{Binder}
 use Rattle.mz_logic.specs.declared.binder.SortMods.{SortMods}
 use Rattle.mz_logic.proofs.Offered.{each_from_all, assertions_are_sorted, terms_are_sorted}
-use Rattle.mz_soundness.specs.Premises.{bound_count as bound_in}
-use Rattle.mz_forms.specs.Gaps.{LeavesOnly, SomeLeavesOnly}
-use Rattle.mz_statements.specs.Statements.{Statement}
-use Rattle.mz_forms.specs.Proof.{Proof}
+use Rattle.mz_machine_theory.specs.Premises.{bound_count as bound_in}
+use Rattle.mz_mmu_forms.specs.Gaps.{LeavesOnly, SomeLeavesOnly}
+use Rattle.mz_mmu_statements.specs.Statements.{Statement}
+use Rattle.mz_mmu_forms.specs.Proof.{Proof}
 use Rattle.mz_mmu.specs.Laws.{Ascends, HasNoProof, HasItsProof}
-use Rattle.mz_typing.specs.Names.{ProofThere, DummiesThere, TermThere, StatedProofThere, DeclThere}
+use Rattle.mz_type_rules.specs.Names.{ProofThere, DummiesThere, TermThere, StatedProofThere, DeclThere}
 use Rattle.mz_type.specs.Meaning.{IsProofOf, IsProvedAsStated}
 use Rattle.mz_type.specs.TypedText.{declared}
 use Rattle.mz_type.specs.Weight.{params_of, dummy_count, declaration_weight, weight_after}
-use Rattle.mz_steps.specs.Sameness.{IsSameForm}
-use Rattle.mz_streams.specs.SpelledLists.{form_spelled}
-use Rattle.mz_streams.proofs.Offered.{bodies-same}
-use Rattle.mz_files.specs.Spelling.{HasKind, is_local_code}
-use Rattle.mz_writing.proofs.Offered.{words-say-signatures}
+use Rattle.mz_emit_theory.specs.Sameness.{IsSameForm}
+use Rattle.mz_emit_theory.specs.SpelledLists.{form_spelled}
+use Rattle.mz_emit_theory.proofs.Offered.{bodies-same, words-say-signatures}
+use Rattle.mz_binary_theory.specs.Spelling.{HasKind, is_local_code}
 use Rattle.mz_spec.proofs.Offered.{terms-few}
 use Rattle.mz_emit.specs.Emitting.{MayFollow, HasWords, AreReady, CanBeDefined, CanBeAsserted, definition_code, assertion_code}
 

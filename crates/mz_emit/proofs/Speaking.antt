@@ -14,25 +14,25 @@ use Rattle.mz_logic.proofs.Offered.{extends_append, each_from_all, keep_sorts}
 use Rattle.mz_store.specs.Bits.{bound_from, bound_vars}
 use Rattle.mz_store.specs.Sharing.{Sharing, Holds, tree_of}
 use Rattle.mz_store.specs.declared.item.Id.{Id}
-use Rattle.mz_unification.specs.Sorted.{Sorted, AllSorted}
-use Rattle.mz_unification.specs.Spells.{dummy_of}
-use Rattle.mz_unification.specs.Streams.{of_definition, of_assertion}
-use Rattle.mz_soundness.specs.Lists.{kind_of}
-use Rattle.mz_soundness.specs.Premises.{bound_count as bound_in}
-use Rattle.mz_soundness.specs.MachineState.{is_theorem, is_definition}
-use Rattle.mz_earlier.proofs.Offered.{binders_many}
-use Rattle.mz_forms.specs.Proof.{Proof}
-use Rattle.mz_steps.specs.SharedBodies.{IsSharedBody}
-use Rattle.mz_streams.specs.Laws.{IsSmall}
-use Rattle.mz_streams.specs.SharedTexts.{IsSharedText}
-use Rattle.mz_streams.specs.Writing.{assertion_written, definition_written, body_spelled, dummies_spelled, stream_of}
-use Rattle.mz_streams.proofs.Offered.{assertions-short, definitions-short, assertions-bounded, definitions-bounded, assertions-written, definitions-written, assertions-shared, definitions-shared}
-use Rattle.mz_shared.specs.Instances.{Grows, InReach, AllInReach, AreSorted}
-use Rattle.mz_shared.specs.Variables.{IsShared}
-use Rattle.mz_shared.proofs.Offered.{tree_grown, reach_of_sort}
+use Rattle.mz_unify_theory.specs.Sorted.{Sorted, AllSorted}
+use Rattle.mz_unify_theory.specs.Spells.{dummy_of}
+use Rattle.mz_unify_theory.specs.Streams.{of_definition, of_assertion}
+use Rattle.mz_machine_theory.specs.Lists.{kind_of}
+use Rattle.mz_machine_theory.specs.Premises.{bound_count as bound_in}
+use Rattle.mz_machine_theory.specs.MachineState.{is_theorem, is_definition}
+use Rattle.mz_machine_env.proofs.Offered.{binders_many}
+use Rattle.mz_mmu_forms.specs.Proof.{Proof}
+use Rattle.mz_emit_theory.specs.SharedBodies.{IsSharedBody}
+use Rattle.mz_emit_theory.specs.StreamLaws.{IsSmall}
+use Rattle.mz_emit_theory.specs.SharedTexts.{IsSharedText}
+use Rattle.mz_emit_theory.specs.StreamWriting.{assertion_written, definition_written, body_spelled, dummies_spelled, stream_of}
+use Rattle.mz_emit_theory.proofs.Offered.{assertions-short, definitions-short, assertions-bounded, definitions-bounded, assertions-written, definitions-written, assertions-shared, definitions-shared}
+use Rattle.mz_emit_bodies.specs.Instances.{Grows, InReach, AllInReach, AreSorted}
+use Rattle.mz_emit_bodies.specs.Variables.{IsShared}
+use Rattle.mz_emit_bodies.proofs.Offered.{tree_grown, reach_of_sort}
 use Rattle.mz_emit.specs.Params.{HasParams}
-use Rattle.mz_bodies.specs.Claims.{IsSound, proved}
-use Rattle.mz_bodies.specs.Stages.{HasDummiesBehind}
+use Rattle.mz_emit_bodies.specs.Claims.{IsSound, proved}
+use Rattle.mz_emit_bodies.specs.Stages.{HasDummiesBehind}
 use Rattle.mz_emit.proofs.Saying.{few_nodes}
 use Rattle.mz_emit.proofs.Using.{used_as_stated}
 use Rattle.mz_emit.specs.Gapped.{SaysItsUses}

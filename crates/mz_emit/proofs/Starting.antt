@@ -15,15 +15,15 @@ use Rattle.mz_logic.proofs.Offered.{split_at, one_at}
 use Rattle.mz_store.specs.Bits.{Tells, bound_vars}
 use Rattle.mz_store.specs.Sharing.{Sharing, Holds, IsIn, IsOver, IsTold, tree_of, trees_of}
 use Rattle.mz_store.specs.declared.item.Id.{Id}
-use Rattle.mz_unification.specs.Streams.{UnifyCommand}
-use Rattle.mz_shared.specs.Variables.{IsShared}
-use Rattle.mz_shared.proofs.Offered.{variable_id}
-use Rattle.mz_steps.specs.Works.{from_to}
-use Rattle.mz_streams.specs.Writing.{Written, and_then, assertion_written, stream_of, unify_bytes, write, write_hyps, writing_start}
-use Rattle.mz_unification.specs.Spells.{variables_from}
-use Rattle.mz_unification.proofs.Offered.{length-params}
-use Rattle.mz_shared.specs.Places.{place_of}
-use Rattle.mz_steps.proofs.Offered.{get-own}
+use Rattle.mz_unify_theory.specs.Streams.{UnifyCommand}
+use Rattle.mz_emit_bodies.specs.Variables.{IsShared}
+use Rattle.mz_emit_bodies.proofs.Offered.{variable_id}
+use Rattle.mz_emit_theory.specs.Works.{from_to}
+use Rattle.mz_emit_theory.specs.StreamWriting.{Written, and_then, assertion_written, stream_of, unify_bytes, write, write_hyps, writing_start}
+use Rattle.mz_unify_theory.specs.Spells.{variables_from}
+use Rattle.mz_unify_theory.proofs.Offered.{length-params}
+use Rattle.mz_emit_bodies.specs.Places.{place_of}
+use Rattle.mz_emit_theory.proofs.Offered.{get-own}
 use Rattle.mz_emit.specs.Going.{IsMarked, IsStatement, spelled}
 use Rattle.mz_emit.proofs.Telling.{RegularFirst, first_bits, own_in, own_is, tells_as, tells_or}
 use Rattle.mz_emit.proofs.Going.{spelled_join}

@@ -11,11 +11,10 @@ use Rattle.mz_logic.specs.declared.binder.Binder.{Binder}
 use Rattle.mz_logic.proofs.Offered.{one_at}
 use Rattle.mz_store.specs.Bits.{HasAt, Tells, bound_from, bound_vars}
 use Rattle.mz_store.proofs.Offered.{bound-has, zero-or-one}
-use Rattle.mz_steps.specs.Works.{from_to}
-use Rattle.mz_streams.specs.Writing.{are_met}
-use Rattle.mz_streams.proofs.Offered.{all-met, met-all}
-use Rattle.mz_shared.specs.Instances.{InReach, AllInReach}
-use Rattle.mz_steps.proofs.Offered.{has-place, own-below}
+use Rattle.mz_emit_theory.specs.Works.{from_to}
+use Rattle.mz_emit_theory.specs.StreamWriting.{are_met}
+use Rattle.mz_emit_theory.proofs.Offered.{all-met, met-all, has-place, own-below}
+use Rattle.mz_emit_bodies.specs.Instances.{InReach, AllInReach}
 
 -- ---- words
 

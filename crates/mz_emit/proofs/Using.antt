@@ -6,11 +6,11 @@ use Rattle.mz_cmd.specs.declared.code.ProofCode.TheVariants as code
 use Rattle.mz_logic.specs.Tree.{Tree}
 use Rattle.mz_logic.specs.Declaration.{Declaration}
 use Rattle.mz_logic.specs.declared.binder.Binder.{Binder}
-use Rattle.mz_soundness.specs.MachineState.{Kind}
-use Rattle.mz_forms.specs.Proof.{Proof}
-use Rattle.mz_bodies.specs.Uses.{Use, a_gap, assertion, uses, command_uses, commands_use, IsBodyUsing}
-use Rattle.mz_writing.specs.Gaps.{LeaveGap, Cite, SaysItsGaps}
-use Rattle.mz_writing.proofs.Offered.{bodies-say-gaps, in-none}
+use Rattle.mz_machine_theory.specs.MachineState.{Kind}
+use Rattle.mz_mmu_forms.specs.Proof.{Proof}
+use Rattle.mz_emit_bodies.specs.Uses.{Use, a_gap, assertion, uses, command_uses, commands_use, IsBodyUsing}
+use Rattle.mz_emit_theory.specs.Gaps.{LeaveGap, Cite, SaysItsGaps}
+use Rattle.mz_emit_theory.proofs.Offered.{bodies-say-gaps, in-none}
 use Rattle.mz_emit.specs.Gapped.{UsesAsStated}
 
 -- ---- commands that use something

@@ -4,27 +4,27 @@ use Rattle.mz_logic.specs.Declaration.{Declaration}
 use Rattle.mz_logic.specs.LegalLists.{Statement as Marked}
 use Rattle.mz_layout.specs.Normal.{Parts, file_of}
 use Rattle.mz_layout.specs.Standing.{Fit}
-use Rattle.mz_files.specs.Chains.{Statements}
-use Rattle.mz_files.specs.Gapped.{GappedIn}
-use Rattle.mz_files.specs.Good.{Good}
+use Rattle.mz_binary_theory.specs.Chains.{Statements}
+use Rattle.mz_binary_theory.specs.Gapped.{GappedIn}
+use Rattle.mz_binary_theory.specs.Good.{Good}
 use Rattle.mz_spec.specs.Spec.{SpecOf}
-use Rattle.mz_verdicts.specs.Match.{publics, Agrees}
-use Rattle.mz_verdicts.specs.Verdict.{AcceptsBy}
+use Rattle.mz_match_theory.specs.Match.{publics, Agrees}
+use Rattle.mz_match_theory.specs.Verdict.{AcceptsBy}
 use Rattle.mz_sexpr.specs.declared.rule.TextRefusal.{TextRefusal}
-use Rattle.mz_statements.specs.Statements.{HasGapsOnly, Statement}
+use Rattle.mz_mmu_statements.specs.Statements.{HasGapsOnly, Statement}
 use Rattle.mz_type.specs.Meaning.{marked}
 use Rattle.mz_type.specs.TextOf.{TextOf, TextFault}
 use Rattle.mz_type.specs.Weight.{Passed, Passes, IsWithinLimits, byte_bound}
-use Rattle.mz_steps.specs.SameLists.{IsSameList}
-use Rattle.mz_writing.specs.Writing.{IsWrittenAs}
+use Rattle.mz_emit_theory.specs.SameLists.{IsSameList}
+use Rattle.mz_emit_theory.specs.FileWriting.{IsWrittenAs}
 use Rattle.mz_emit.specs.Gapped.{proofs_of, IsGappedIn}
 use Rattle.mz_emit.specs.Emitting.{compiled_file}
 use Rattle.mz_emit.specs.Limits.{limit, over}
 use Rattle.mz_emit.specs.declared.compiled.Compiled.{Compiled}
 use Rattle.mz_emit.specs.declared.compiled.Compiled.TheVariants as answers
-use Rattle.mz_files.specs.Standards.{by_table}
-use Rattle.mz_files.specs.declared.standard.Standard.{Standard}
-use Rattle.mz_files.specs.declared.standard.Standard.TheVariants.{Portable}
+use Rattle.mz_binary_theory.specs.Standards.{by_table}
+use Rattle.mz_binary_theory.specs.declared.standard.Standard.{Standard}
+use Rattle.mz_binary_theory.specs.declared.standard.Standard.TheVariants.{Portable}
 
 -- ---- the binary, of a finished text or, with gaps, of a draft
 

@@ -12,30 +12,30 @@ use Rattle.mz_logic.specs.declared.binder.Binder.{Binder}
 use Rattle.mz_logic.specs.declared.binder.SortMods.{SortMods}
 use Rattle.mz_layout.specs.Normal.{Row, Written, Parts, no_parts, row_of_term, row_of_thm, file_of}
 use Rattle.mz_layout.specs.NormalLaws.{rows_cost, statements_cost}
-use Rattle.mz_unification.specs.Sorted.{Sorted}
-use Rattle.mz_unification.specs.Streams.{of_assertion, of_definition}
-use Rattle.mz_soundness.specs.Lists.{kind_of}
-use Rattle.mz_soundness.specs.Premises.{bound_count as bound_in}
-use Rattle.mz_soundness.specs.MachineState.{is_axiom, is_theorem, is_definition}
-use Rattle.mz_statements.specs.Statements.{HasGapsOnly, Statement}
-use Rattle.mz_forms.specs.Proof.{Proof}
+use Rattle.mz_unify_theory.specs.Sorted.{Sorted}
+use Rattle.mz_unify_theory.specs.Streams.{of_assertion, of_definition}
+use Rattle.mz_machine_theory.specs.Lists.{kind_of}
+use Rattle.mz_machine_theory.specs.Premises.{bound_count as bound_in}
+use Rattle.mz_machine_theory.specs.MachineState.{is_axiom, is_theorem, is_definition}
+use Rattle.mz_mmu_statements.specs.Statements.{HasGapsOnly, Statement}
+use Rattle.mz_mmu_forms.specs.Proof.{Proof}
 use Rattle.mz_mmu.specs.Laws.{IsWhole}
-use Rattle.mz_typing.specs.Names.{StatementThere}
+use Rattle.mz_type_rules.specs.Names.{StatementThere}
 use Rattle.mz_type.specs.Meaning.{IsLegalAsStated, LegalAsStated, marked}
 use Rattle.mz_type.specs.TypedText.{declared}
 use Rattle.mz_type.specs.Weight.{params_of, parameter_count, bound_count, statement_weight, weight_of}
-use Rattle.mz_steps.specs.SharedBodies.{IsSharedBody}
-use Rattle.mz_streams.specs.Laws.{IsSmall}
-use Rattle.mz_streams.specs.SharedTexts.{IsSharedText}
-use Rattle.mz_streams.specs.SpelledLists.{list_spelled}
-use Rattle.mz_streams.specs.Writing.{stream_of, body_spelled, dummies_spelled, assertion_written as assertion_streamed, definition_written as definition_streamed}
-use Rattle.mz_steps.specs.Endings.{spelled_body}
-use Rattle.mz_bodies.specs.Writing.{definition_written, axiom_written, theorem_written}
-use Rattle.mz_writing.specs.Writing.{SaySignature, IsWrittenAs}
-use Rattle.mz_shared.specs.Rows.{words_of_row}
-use Rattle.mz_bodies.specs.Claims.{IsSound, proved}
-use Rattle.mz_bodies.specs.Uses.{uses, IsBodyUsing}
-use Rattle.mz_bodies.specs.Weights.{proof_weight}
+use Rattle.mz_emit_theory.specs.SharedBodies.{IsSharedBody}
+use Rattle.mz_emit_theory.specs.StreamLaws.{IsSmall}
+use Rattle.mz_emit_theory.specs.SharedTexts.{IsSharedText}
+use Rattle.mz_emit_theory.specs.SpelledLists.{list_spelled}
+use Rattle.mz_emit_theory.specs.StreamWriting.{stream_of, body_spelled, dummies_spelled, assertion_written as assertion_streamed, definition_written as definition_streamed}
+use Rattle.mz_emit_theory.specs.Endings.{spelled_body}
+use Rattle.mz_emit_bodies.specs.Writing.{definition_written, axiom_written, theorem_written}
+use Rattle.mz_emit_theory.specs.FileWriting.{SaySignature, IsWrittenAs}
+use Rattle.mz_emit_bodies.specs.Rows.{words_of_row}
+use Rattle.mz_emit_bodies.specs.Claims.{IsSound, proved}
+use Rattle.mz_emit_bodies.specs.Uses.{uses, IsBodyUsing}
+use Rattle.mz_emit_bodies.specs.Weights.{proof_weight}
 use Rattle.mz_emit.specs.Gapped.{SaysItsUses, SayTheirUses}
 use Rattle.mz_emit.specs.declared.emitter.Emitter.{Emitter}
 

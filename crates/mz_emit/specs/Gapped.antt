@@ -3,10 +3,10 @@
 use Rattle.std.specs.Prelude.{◌≡◌, ◌<◌, ◌↔◌, ⊤, ℕ, Bool, true, false, List, [], ◌∷◌, ◌++◌, length, slice_get, Option, Some, None}
 use Rattle.mz_logic.specs.Declaration.{Declaration, sort_decl, term_decl, assertion_decl}
 use Rattle.mz_layout.specs.Normal.{Written}
-use Rattle.mz_soundness.specs.Sound.{HasGap, CitesWithin}
-use Rattle.mz_forms.specs.Proof.{Proof}
-use Rattle.mz_statements.specs.Statements.{Statement}
-use Rattle.mz_bodies.specs.Uses.{a_gap, assertion, uses}
+use Rattle.mz_machine_theory.specs.Sound.{HasGap, CitesWithin}
+use Rattle.mz_mmu_forms.specs.Proof.{Proof}
+use Rattle.mz_mmu_statements.specs.Statements.{Statement}
+use Rattle.mz_emit_bodies.specs.Uses.{a_gap, assertion, uses}
 
 -- ---- the proofs of the axioms and theorems of a text, numbered together in their order
 

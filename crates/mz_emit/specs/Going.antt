@@ -4,15 +4,15 @@ use Rattle.std.specs.Prelude.{ℕ, ◌≡◌, ◌<◌, ◌++◌, ◌∷◌, [], 
 use Rattle.mz_logic.specs.Tree.{Tree, Trees, var, none, more, followed_by}
 use Rattle.mz_logic.specs.Signature.{Signature}
 use Rattle.mz_logic.specs.declared.binder.Binder.{Binder}
-use Rattle.mz_steps.specs.Works.{from_to}
+use Rattle.mz_emit_theory.specs.Works.{from_to}
 use Rattle.mz_store.specs.Bits.{Tells, bound_vars}
 use Rattle.mz_store.specs.Sharing.{AreIn, Holds, IsIn, IsOver, Sharing, tree_of, trees_of}
 use Rattle.mz_store.specs.declared.item.DepsMode.TheVariants as of
 use Rattle.mz_store.specs.declared.item.Id.{Id}
-use Rattle.mz_unification.specs.Streams.{UnifyCommand}
-use Rattle.mz_streams.specs.Writing.{Writing, Written, unify_bytes, write_all, write_hyps}
-use Rattle.mz_shared.specs.Instances.{AllInReach}
-use Rattle.mz_shared.specs.Places.{place_of}
+use Rattle.mz_unify_theory.specs.Streams.{UnifyCommand}
+use Rattle.mz_emit_theory.specs.StreamWriting.{Writing, Written, unify_bytes, write_all, write_hyps}
+use Rattle.mz_emit_bodies.specs.Instances.{AllInReach}
+use Rattle.mz_emit_bodies.specs.Places.{place_of}
 use Rattle.mz_emit.specs.declared.stream.Stream.{Stream}
 
 -- what is to be spelled, the next first, from a list whose last is the next

@@ -1,7 +1,7 @@
 // From a text to a binary.
 ghost use Rattle.std.specs.Prelude.{Bool, false, ◌≡◌, ◌<◌, ◌^◌, IfOk, ℕ, List, length};
-ghost use Rattle.mz_mode.specs.Gaps.{gaps_of};
-ghost use Rattle.mz_statements.specs.Statements.{Statement};
+ghost use Rattle.mz_base.specs.Gaps.{gaps_of};
+ghost use Rattle.mz_mmu_statements.specs.Statements.{Statement};
 ghost use Rattle.mz_type.specs.Meaning.{LegalAsStated};
 ghost use Rattle.mz_type.specs.StatedView.{AreRead, statements_of};
 ghost use Rattle.mz_type.specs.TextOf.{TextOf};
@@ -12,11 +12,11 @@ ghost use Rattle.mz_emit.specs.Compiling.{IsBinaryOf, IsCompilation, IsDecided, 
 use crate::compiled::Compiled;
 use crate::emitter::Emitter;
 use crate::limit::{Passed, limit_of};
+use mz_base::Mode;
 use mz_cmd::Mem;
-use mz_forms::Hashing;
 use mz_logic::Env;
 use mz_mmu::{TextRead, read_text};
-use mz_mode::Mode;
+use mz_mmu_forms::Hashing;
 use mz_type::{
     Beside, Typed, TypedRead, check_text, limits_are_decided, statements_can_be_words, take_last,
     typed_or_faulty,

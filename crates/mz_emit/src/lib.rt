@@ -1,7 +1,7 @@
 //! The compiler: a well-typed proof text within the limits becomes a binary that is accepted
 //! against each specification with which the text's public statements agree.
 //!
-//! Bodies are those of `mz_bodies`; a unify stream spells a statement's conclusion and hypotheses, or a definition's
+//! Bodies are those of `mz_emit_bodies`; a unify stream spells a statement's conclusion and hypotheses, or a definition's
 //! body, and builds each expression once (`src/stream.rt`).
 #![tactic(auto)]
 

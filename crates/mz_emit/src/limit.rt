@@ -1,6 +1,6 @@
 // The limits of a compiled file.
 ghost use Rattle.std.specs.Prelude.{◌≡◌, ◌+◌, ◌*◌, ◌<◌, ◌^◌, ◌≤◌, ◌∷◌, [], length, count_by, option_map};
-ghost use Rattle.mz_checks.specs.Checks.{Answers};
+ghost use Rattle.mz_base_theory.specs.Checks.{Answers};
 ghost use Rattle.mz_logic.specs.DeclView.{declaration};
 ghost use Rattle.mz_logic.specs.Declaration.{sorts};
 ghost use Rattle.mz_type.specs.TypedText.{statement_at};

@@ -3,14 +3,14 @@ ghost use Rattle.std.specs.Prelude.{ℕ, ◌≡◌, ◌<◌, ◌++◌, IfOk, Lis
 ghost use Rattle.mz_logic.specs.Signature.{Signature};
 ghost use Rattle.mz_logic.specs.declared.binder.Binder.{Binder};
 ghost use Rattle.mz_store.specs.Sharing.{AreIn, IsIn, tree_of, trees_of};
-ghost use Rattle.mz_streams.specs.Writing.{assertion_written, definition_written, stream_of};
-ghost use Rattle.mz_shared.specs.Instances.{AllInReach, InReach};
-ghost use Rattle.mz_shared.specs.Variables.{IsShared};
+ghost use Rattle.mz_emit_theory.specs.StreamWriting.{assertion_written, definition_written, stream_of};
+ghost use Rattle.mz_emit_bodies.specs.Instances.{AllInReach, InReach};
+ghost use Rattle.mz_emit_bodies.specs.Variables.{IsShared};
 ghost use Rattle.mz_emit.specs.Params.{HasParams};
 
 use crate::stream::Stream;
 use mz_cmd::Mem;
-use mz_shared::Shared;
+use mz_emit_bodies::Shared;
 use mz_store::Id;
 use std::alloc::Global;
 

@@ -5,16 +5,16 @@ ghost use Rattle.mz_cmd.specs.Codes.{unify_byte};
 ghost use Rattle.mz_cmd.specs.Spelling.{shortest};
 ghost use Rattle.mz_logic.specs.Tree.{more, trees_size};
 ghost use Rattle.mz_logic.specs.declared.binder.Binder.{Binder};
-ghost use Rattle.mz_steps.specs.Works.{from_to};
+ghost use Rattle.mz_emit_theory.specs.Works.{from_to};
 ghost use Rattle.mz_store.specs.Bits.{Tells, bound_vars};
 ghost use Rattle.mz_store.specs.Sharing.{AreIn, IsIn, head_of, tree_of, trees_of};
-ghost use Rattle.mz_streams.specs.Writing.{Writing, are_met, write, writing_start};
-ghost use Rattle.mz_shared.specs.Instances.{AllInReach, InReach};
-ghost use Rattle.mz_shared.specs.Places.{place_of};
+ghost use Rattle.mz_emit_theory.specs.StreamWriting.{Writing, are_met, write, writing_start};
+ghost use Rattle.mz_emit_bodies.specs.Instances.{AllInReach, InReach};
+ghost use Rattle.mz_emit_bodies.specs.Places.{place_of};
 ghost use Rattle.mz_emit.specs.Going.{Going, HasWritten, IsReady, IsStatement, Job, hyps_written, met_so_far, to_do};
 
 use mz_cmd::{END, Mem, UnifyCode, put_cmd};
-use mz_shared::Heap;
+use mz_emit_bodies::Heap;
 use mz_store::{Id, Store};
 use std::alloc::Global;
 

@@ -5,7 +5,7 @@ use Rattle.std.specs.Prelude.{bytes_eq, slice_range, ◌==◌}
 use Rattle.std.specs.List.{list_all, list_any}
 use Rattle.std.proofs.lemmas.List.Folds.{list_all-append}
 use Rattle.std.proofs.lemmas.Bool.{false≢true, and_from, and_left, and_right, or_cases, and_parts, leb-true, eqb-true, lt-leb, ne_eqb, or_from}
-use Rattle.mz_names.specs.Identifiers.{is_name, is_name_start, is_name_byte, is_between}
+use Rattle.mz_base.specs.Identifiers.{is_name, is_name_start, is_name_byte, is_between}
 use Rattle.mz_lex.specs.Kinds.{is_symbol, is_of_kind}
 use Rattle.mz_lex.specs.declared.token.TokenKind.{TokenKind}
 use Rattle.mz_lex.specs.declared.token.TokenKind.TheVariants as kinds

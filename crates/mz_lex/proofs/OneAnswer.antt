@@ -4,12 +4,11 @@ use Rattle.std.specs.Prelude.{bytes_eq, slice_range, ◌==◌, codes}
 use Rattle.std.specs.List.{list_all}
 use Rattle.std.proofs.lemmas.Bool.{and_parts, and_from, or_left, or_cases, eqb-true, cases_order, cases_lt, false≢true, true≢false, leb-true, le-leb}
 use Rattle.std.proofs.lemmas.List.{get_or-drop, get_or-take}
-use Rattle.mz_names.specs.Identifiers.{is_name_start, is_between, is_digit}
+use Rattle.mz_base.specs.Identifiers.{is_name_start, is_between, is_digit}
 use Rattle.mz_lex.specs.Kinds.{is_of_kind, is_allowed, is_comment_byte, is_math_byte, is_symbol_byte, ends_math, is_space}
-use Rattle.mz_lex.specs.Lexemes.{IsGap, IsBlank, IsNext, IsBadByte, InComment, InMath, HasBadByte, HasNoLexeme}
+use Rattle.mz_lex.specs.Lexemes.{IsGap, IsBlank, IsNext, IsBadByte, InComment, InMath, HasBadByte, HasNoLexeme, Lexeme}
 use Rattle.mz_lex.specs.declared.token.TokenKind.{TokenKind}
 use Rattle.mz_lex.specs.declared.token.TokenKind.TheVariants as kinds
-use Rattle.mz_lex.specs.Lexemes.{Lexeme}
 use Rattle.mz_lex.proofs.Names.{among}
 use Rattle.mz_lex.proofs.OneLexeme.{Starts, lexeme-starts, end-starts, blank-same, part-at, first-byte, no-dash, dollar-math}
 

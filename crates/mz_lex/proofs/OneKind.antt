@@ -3,12 +3,11 @@ use Rattle.std.proofs.Common.{◌≡◌, ◌∙◌, ◌&&◌, ◌⊎◌, ℕ, Li
 use Rattle.std.specs.Prelude.{bytes_eq, codes, ◌==◌}
 use Rattle.std.specs.List.{list_all}
 use Rattle.std.proofs.lemmas.Bool.{and_parts, or_cases, eqb-true, false≢true, true≢false}
-use Rattle.mz_names.specs.Identifiers.{is_name, is_name_start, is_digit, is_between}
+use Rattle.mz_base.specs.Identifiers.{is_name, is_name_start, is_digit, is_between}
 use Rattle.mz_lex.specs.Kinds.{is_of_kind, is_symbol_byte, ends_math}
-use Rattle.mz_lex.specs.Lexemes.{IsNext}
+use Rattle.mz_lex.specs.Lexemes.{IsNext, Lexeme}
 use Rattle.mz_lex.specs.declared.token.TokenKind.{TokenKind}
 use Rattle.mz_lex.specs.declared.token.TokenKind.TheVariants as kinds
-use Rattle.mz_lex.specs.Lexemes.{Lexeme}
 use Rattle.mz_lex.proofs.Names.{among, starts-no_digit}
 use Rattle.mz_lex.proofs.OneLexeme.{next-text}
 

@@ -1,20 +1,16 @@
 -- From each place of a text on there is at most one next lexeme.
 use Rattle.std.proofs.Common.{◌≡◌, ◌<◌, ◌≤◌, ◌+◌, ◌-◌, ◌∙◌, ◌⊎◌, ◌++◌, ◌∷◌, [], ◌&&◌, ℕ, List, length, drop, take, get_or, Bool, true, false, not, arith, ap, sym, refl, inl, inr, subst, length-drop, length-take, append_assoc}
-use Rattle.std.proofs.lemmas.Bool.{or_right, and_from, and_left, and_right}
-use Rattle.mz_names.specs.Identifiers.{is_name_byte, is_digit, is_between}
-use Rattle.mz_lex.specs.Kinds.{ends_math, is_allowed, is_math_byte}
+use Rattle.std.proofs.lemmas.Bool.{or_right, and_from, and_left, and_right, and_parts, or_cases, eqb-true, cases_order, false≢true, true≢false}
+use Rattle.mz_base.specs.Identifiers.{is_name_byte, is_digit, is_between, is_name, is_name_start}
+use Rattle.mz_lex.specs.Kinds.{ends_math, is_allowed, is_math_byte, is_of_kind, is_symbol, is_number, is_space, is_comment_byte}
 use Rattle.std.specs.Prelude.{bytes_eq, slice_range, ◌==◌}
 use Rattle.std.specs.List.{list_all}
-use Rattle.std.proofs.lemmas.Bool.{and_parts, or_cases, eqb-true, cases_order, false≢true, true≢false}
 use Rattle.std.proofs.lemmas.List.{get_or-drop, get_or-take, drop-drop}
 use Rattle.std.proofs.Math.Seq.{take-add}
 use Rattle.std.proofs.lemmas.List.Sums.{AllPass-from_list_all}
-use Rattle.mz_names.specs.Identifiers.{is_name, is_name_start}
-use Rattle.mz_lex.specs.Kinds.{is_of_kind, is_symbol, is_number, is_space, is_comment_byte}
-use Rattle.mz_lex.specs.Lexemes.{IsSpace, IsComment, BlankVia, IsBlank, IsNext}
+use Rattle.mz_lex.specs.Lexemes.{IsSpace, IsComment, BlankVia, IsBlank, IsNext, Lexeme}
 use Rattle.mz_lex.specs.declared.token.TokenKind.{TokenKind}
 use Rattle.mz_lex.specs.declared.token.TokenKind.TheVariants as kinds
-use Rattle.mz_lex.specs.Lexemes.{Lexeme}
 use Rattle.mz_lex.proofs.Names.{slice-first, name-is, two-bytes}
 
 pub no-space : (kind : TokenKind) (cs : List ℕ) → is_of_kind kind (32 ∷ cs) ≡ false

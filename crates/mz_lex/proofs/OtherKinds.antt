@@ -4,7 +4,7 @@ use Rattle.std.specs.Prelude.{slice_range, ◌==◌}
 use Rattle.std.specs.List.{list_all}
 use Rattle.std.proofs.lemmas.List.Folds.{list_all-append}
 use Rattle.std.proofs.lemmas.Bool.{or_from, or_right, and_from, and_left, and_right, and_parts, ne_eqb, false≢true, true≢false}
-use Rattle.mz_names.specs.Identifiers.{is_name, is_name_start, is_name_byte, is_digit, is_between}
+use Rattle.mz_base.specs.Identifiers.{is_name, is_name_start, is_name_byte, is_digit, is_between}
 use Rattle.mz_lex.specs.Kinds.{is_of_kind, is_symbol_byte, is_math_byte, is_allowed, ends_math}
 use Rattle.mz_lex.specs.Scan.{IsStart, IsNoName}
 use Rattle.mz_lex.specs.Lexemes.{lexeme, IsNext, IsBlank, IsBadByte, InComment, InMath, HasNoLexeme}

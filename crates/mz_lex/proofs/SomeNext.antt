@@ -3,7 +3,7 @@ use Rattle.std.proofs.Common.{◌≡◌, ◌≢◌, ◌<◌, ◌≤◌, ◌+◌,
 use Rattle.std.specs.Prelude.{slice_range, ◌==◌}
 use Rattle.std.specs.List.{list_all}
 use Rattle.std.proofs.lemmas.Bool.{cases_Bool, cases_lt, cases_eq, and_cases, or_from, ne_eqb, false≢true, true≢false}
-use Rattle.mz_names.specs.Identifiers.{is_digit, is_name_byte, is_name_start}
+use Rattle.mz_base.specs.Identifiers.{is_digit, is_name_byte, is_name_start}
 use Rattle.mz_lex.specs.Kinds.{is_allowed, is_comment_byte, is_math_byte, is_number_start, is_of_kind, is_space, is_symbol_byte}
 use Rattle.mz_lex.specs.Lexemes.{Answer, ComesNext, HasBadByte, InComment, IsBadByte, IsBlank, IsGap}
 use Rattle.mz_lex.specs.Scan.{IsNameTo, IsNoName, IsRun, IsStart}

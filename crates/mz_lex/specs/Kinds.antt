@@ -1,7 +1,7 @@
 -- Bytes, and which of them make a lexeme of each kind (mm0.md, section on the lexical structure).
 use Rattle.std.specs.Prelude.{ℕ, ◌-◌, List, [], ◌∷◌, length, slice_range, Bool, false, ◌==◌, ◌&&◌, ◌||◌, not, bytes_eq, codes}
 use Rattle.std.specs.List.{list_all, list_any}
-use Rattle.mz_names.specs.Identifiers.{is_between, is_digit, is_name}
+use Rattle.mz_base.specs.Identifiers.{is_between, is_digit, is_name}
 use Rattle.mz_lex.specs.declared.token.TokenKind.{TokenKind}
 use Rattle.mz_lex.specs.declared.token.TokenKind.TheVariants as kinds
 

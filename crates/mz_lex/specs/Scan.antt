@@ -3,7 +3,7 @@ use Rattle.std.specs.Prelude.{◌≡◌, ◌<◌, ◌≤◌, ◌⊎◌, ◌+◌,
 use Rattle.std.specs.List.{list_all}
 use Rattle.mz_lex.specs.declared.bytes.Class.{Class}
 use Rattle.mz_lex.specs.declared.bytes.Class.TheVariants as classes
-use Rattle.mz_names.specs.Identifiers.{is_name_start, is_name_byte, is_digit}
+use Rattle.mz_base.specs.Identifiers.{is_name_start, is_name_byte, is_digit}
 use Rattle.mz_lex.specs.Kinds.{is_comment_byte, is_math_byte}
 use Rattle.mz_lex.specs.Lexemes.{IsGap, InComment}
 

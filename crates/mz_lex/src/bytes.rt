@@ -3,7 +3,7 @@ ghost use Rattle.std.specs.Prelude.{◌≡◌, ◌≤◌, length};
 ghost use Rattle.mz_lex.specs.Kinds.{is_allowed as allowed, is_number_start as number_start, is_space as space, is_symbol_byte};
 ghost use Rattle.mz_lex.specs.Scan.{IsRun, is_in};
 
-use mz_names::{is_digit, is_name_byte};
+use mz_base::{is_digit, is_name_byte};
 
 /// The bytes of which runs are made.
 #[derive(Clone, Copy)]

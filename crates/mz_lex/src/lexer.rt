@@ -7,7 +7,7 @@ ghost use Rattle.mz_lex.specs.declared.token.LexFault.{LexFault};
 
 use crate::bytes::{Class, is_allowed, is_number_start, is_space, is_symbol};
 use crate::token::{LexFault, Token, TokenKind};
-use mz_names::is_name_start;
+use mz_base::is_name_start;
 
 /// The next lexeme from the byte `pos` on; None where only whitespace and comments are left.
 pub fn next_token(text: &[u8], pos: usize) -> Result<Option<Token>, LexFault>

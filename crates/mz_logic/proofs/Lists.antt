@@ -2,7 +2,7 @@
 use Rattle.std.proofs.Common.{ℕ, ◌≡◌, ◌<◌, ◌≤◌, ◌+◌, ◌⊎◌, List, length, get_or, slice_get, Some, sym, ◌∙◌, subst, inl, inr, arith, eq-or-lt_of_le, All}
 use Rattle.std.proofs.lemmas.List.{get_or_default}
 use Rattle.std.proofs.lemmas.Option.{slice_get_within, get_or_from_slice_get, slice_get-get_or}
-use Rattle.mz_general.proofs.Offered.{AllSoFar}
+use Rattle.mz_base_theory.proofs.Offered.{AllSoFar}
 
 -- at the end of the loop
 pub all_at_end : {X : Type 0} (P : X → Type 0) (xs ys : List X) (i : ℕ) → AllSoFar P xs i → length xs ≤ i → xs ≡ ys → All P ys

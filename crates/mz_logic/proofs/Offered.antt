@@ -4,7 +4,7 @@ pub use Rattle.mz_logic.proofs.AsExprs.{expr-at, expr-read, exprs-within, exprs_
 pub use Rattle.mz_logic.proofs.Closing.{legal_at, legal_by_supports, legal_list_is_closed}
 pub use Rattle.mz_logic.proofs.Compose.{instance-instance, instances-followed_by}
 pub use Rattle.mz_logic.proofs.EightRules.{legal_by_rules}
-pub use Rattle.mz_logic.proofs.Extend.{apart_extends, assertions-append, env_extends_append, Extends, extends_append, extends_itself, fits_extends, fresh_extends, in_v_back, in_v_extends, signatures-append, sort_extends, sorts-append, terms-append}
+pub use Rattle.mz_logic.proofs.Extend.{apart_extends, assertions-append, env_extends_append, Extends, extends_append, extends_itself, fits_extends, fresh_extends, in_v_back, in_v_extends, signatures-append, sort_extends, sorts-append, terms-append, length-signatures, same-signatures, same-sorts}
 pub use Rattle.mz_logic.proofs.Follow.{followed_by_assoc, followed_by_none, followed_by_push}
 pub use Rattle.mz_logic.proofs.Fresh.{split_at}
 pub use Rattle.mz_logic.proofs.Graft.{cites_more}
@@ -25,4 +25,3 @@ pub use Rattle.mz_logic.proofs.Bound.{is_at}
 pub use Rattle.mz_logic.proofs.WordBits.{length-binders, place_to, set_cases}
 pub use Rattle.mz_logic.proofs.WorkedExamples.{nothing_in}
 pub use Rattle.mz_logic.proofs.Constructors.{no-application, no-trees, same-first, same-operands, same-rest, same-term, same-variable, trees_size-followed}
-pub use Rattle.mz_logic.proofs.Extend.{length-signatures, same-signatures, same-sorts}

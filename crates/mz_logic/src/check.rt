@@ -1,5 +1,5 @@
 ghost use Rattle.std.specs.Prelude.{◌≡◌, ◌↔◌, ◌<◌, ◌≤◌, length, All, IsTrue};
-ghost use Rattle.mz_checks.specs.Checks.{Judges};
+ghost use Rattle.mz_base_theory.specs.Checks.{Judges};
 ghost use Rattle.mz_logic.specs.Declaration.{signatures, sorts, context_of, body_of};
 ghost use Rattle.mz_logic.specs.Modifiers.{MayBeResultSort, MayBeBoundSort, MayBeDummySort};
 ghost use Rattle.mz_logic.specs.Variables.{IsBoundAt};

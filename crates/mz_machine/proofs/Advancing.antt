@@ -4,15 +4,15 @@ use Rattle.std.proofs.Common.{◌≡◌, ◌+◌, ◌<◌, ◌^◌, ℕ, length,
 use Rattle.mz_cmd.specs.declared.command.Cmd.{Cmd}
 use Rattle.mz_cmd.specs.declared.rule.K.{K}
 use Rattle.mz_cmd.specs.Codes.{proof_code}
-use Rattle.mz_mode.specs.Gaps.{gaps_of}
+use Rattle.mz_base.specs.Gaps.{gaps_of}
 use Rattle.mz_logic.specs.Tree.{Tree}
 use Rattle.mz_store.specs.Sharing.{AreIn}
-use Rattle.mz_unification.specs.Profile.{plain}
+use Rattle.mz_unify_theory.specs.Profile.{plain}
 use Rattle.mz_unify.specs.Stored.{AreItemsIn}
-use Rattle.mz_soundness.specs.MachineState.{Kind, State}
-use Rattle.mz_soundness.specs.Bodies.{body_command}
-use Rattle.mz_earlier.specs.Before.{signatures_of, tables_of}
-use Rattle.mz_earlier.specs.OwnRow.{byte_of, kind_at, kind_of, heading_of}
+use Rattle.mz_machine_theory.specs.MachineState.{Kind, State}
+use Rattle.mz_machine_theory.specs.Bodies.{body_command}
+use Rattle.mz_machine_env.specs.Before.{signatures_of, tables_of}
+use Rattle.mz_machine_env.specs.OwnRow.{byte_of, kind_at, kind_of, heading_of}
 use Rattle.mz_machine.specs.OverStore.{Gives, Grows, NeverWants, UnlessMem}
 use Rattle.mz_machine.specs.Running.{IsRunning, machine_of}
 use Rattle.mz_machine.specs.Stepping.{IsStepped, stepped_to}
@@ -21,7 +21,7 @@ use Rattle.mz_unify.specs.declared.stop.Stop.{Stop}
 use Rattle.mz_unify.specs.declared.stop.Stop.TheVariants.{Rule, Mem}
 use Rattle.mz_machine.specs.declared.machine.Parts.{Parts}
 use Rattle.mz_machine.specs.declared.machine.Setting.{Setting}
-use Rattle.mz_earlier.proofs.Offered.{kind-byte, kind-is}
+use Rattle.mz_machine_env.proofs.Offered.{kind-byte, kind-is}
 use Rattle.mz_machine.proofs.Machines.{goes-on, one-more}
 
 module _ (t : Setting) (p q : Parts) where

@@ -6,15 +6,15 @@ use Rattle.mz_logic.specs.Words.{binders_of}
 use Rattle.mz_logic.specs.declared.word.Word.{Word}
 use Rattle.mz_store.specs.Sharing.{Sharing, tree_of, IsIn, IsOver}
 use Rattle.mz_store.specs.declared.item.Item.TheVariants.{Expr}
-use Rattle.mz_unification.specs.Profile.{strict, Item, expr}
+use Rattle.mz_unify_theory.specs.Profile.{strict, Item, expr}
 use Rattle.mz_unify.specs.Stored.{AreItemsIn}
-use Rattle.mz_soundness.specs.MachineState.{signatures_in}
-use Rattle.mz_soundness.specs.Bodies.{body_start}
-use Rattle.mz_earlier.specs.OwnRow.{kind_at, heading_of, MayRun, mode_for, own_words, first_items}
-use Rattle.mz_earlier.specs.Before.{tables_before}
+use Rattle.mz_machine_theory.specs.MachineState.{signatures_in}
+use Rattle.mz_machine_theory.specs.Bodies.{body_start}
+use Rattle.mz_machine_env.specs.OwnRow.{kind_at, heading_of, MayRun, mode_for, own_words, first_items}
+use Rattle.mz_machine_env.specs.Before.{tables_before}
 use Rattle.mz_machine.specs.OverStore.{heap_at, state_at, AreFirst, IsUnderway}
 use Rattle.mz_layout.specs.declared.taken.Rows.{Rows}
-use Rattle.mz_earlier.proofs.Offered.{binders_many, own-binders}
+use Rattle.mz_machine_env.proofs.Offered.{binders_many, own-binders}
 use Rattle.mz_machine.proofs.Dummies.{no-dummies}
 use Rattle.mz_machine.proofs.EndRows.{own-are}
 

@@ -4,12 +4,11 @@ use Rattle.std.proofs.Common.{◌≡◌, ◌≤◌, ◌<◌, ◌+◌, ◌*◌, �
 use Rattle.std.proofs.Math.Nat.{add-mul, mul-le-mul_right}
 use Rattle.mz_cmd.specs.declared.rule.K.{K}
 use Rattle.mz_logic.specs.Tree.{Tree}
-use Rattle.mz_soundness.specs.MachineState.{State}
-use Rattle.mz_soundness.specs.ProofMachine.{proof_end}
-use Rattle.mz_unification.specs.Profile.{plain}
-use Rattle.mz_soundness.specs.Sound.{HasGap}
-use Rattle.mz_machine.specs.BodyAnswers.{IsBodyRun}
-use Rattle.mz_machine.specs.BodyAnswers.{UnlessMem as UnlessBodyMem}
+use Rattle.mz_machine_theory.specs.MachineState.{State}
+use Rattle.mz_machine_theory.specs.ProofMachine.{proof_end}
+use Rattle.mz_unify_theory.specs.Profile.{plain}
+use Rattle.mz_machine_theory.specs.Sound.{HasGap}
+use Rattle.mz_machine.specs.BodyAnswers.{IsBodyRun, UnlessMem as UnlessBodyMem}
 use Rattle.mz_machine.specs.Steps.{Underway, tables_for, heading_for, row_of, steps_for, end_steps}
 use Rattle.mz_cmd.specs.declared.command.Cmd.{Cmd}
 use Rattle.mz_unify.specs.Rows.{StopsBy}

@@ -8,16 +8,16 @@ use Rattle.mz_logic.specs.Tree.{Tree}
 use Rattle.mz_logic.specs.declared.binder.Binder.{Binder}
 use Rattle.mz_logic.specs.Words.{binders_of}
 use Rattle.mz_layout.specs.Tables.{thm_row}
-use Rattle.mz_unification.specs.Spells.{SpelledThm}
-use Rattle.mz_unification.specs.Profile.{Profile, Item, proof}
-use Rattle.mz_unification.specs.UnifyMachine.{in_citation, Matching, UnifyState, unify, unify_steps}
-use Rattle.mz_soundness.specs.MachineState.{RowsBefore, State, signatures_in}
-use Rattle.mz_soundness.specs.Premises.{pop_expr, pop_operands, operands_fit, are_apart}
-use Rattle.mz_soundness.specs.ProofMachine.{proof_row, citation, cited}
-use Rattle.mz_soundness.specs.Bodies.{row_steps}
-use Rattle.mz_earlier.specs.Before.{Before, tables_of, signatures_of}
-use Rattle.mz_soundness.specs.FileRows.{thm_of_file}
-use Rattle.mz_earlier.proofs.Offered.{thm-before, no-thm-before, binders_many}
+use Rattle.mz_unify_theory.specs.Spells.{SpelledThm}
+use Rattle.mz_unify_theory.specs.Profile.{Profile, Item, proof}
+use Rattle.mz_unify_theory.specs.UnifyMachine.{in_citation, Matching, UnifyState, unify, unify_steps}
+use Rattle.mz_machine_theory.specs.MachineState.{RowsBefore, State, signatures_in}
+use Rattle.mz_machine_theory.specs.Premises.{pop_expr, pop_operands, operands_fit, are_apart}
+use Rattle.mz_machine_theory.specs.ProofMachine.{proof_row, citation, cited}
+use Rattle.mz_machine_theory.specs.Bodies.{row_steps}
+use Rattle.mz_machine_env.specs.Before.{Before, tables_of, signatures_of}
+use Rattle.mz_machine_theory.specs.FileRows.{thm_of_file}
+use Rattle.mz_machine_env.proofs.Offered.{thm-before, no-thm-before, binders_many}
 use Rattle.mz_machine.proofs.TakenOperands.{too-few}
 
 -- the trees of operands, as the machine's own list of them

@@ -8,13 +8,13 @@ use Rattle.mz_layout.specs.Tables.{thm_row}
 use Rattle.mz_store.specs.Sharing.{Sharing}
 use Rattle.mz_store.specs.declared.item.Id.{Id}
 use Rattle.mz_store.specs.declared.item.Item.{Item as Kept}
-use Rattle.mz_unification.specs.Profile.{strict}
-use Rattle.mz_unification.specs.UnifyMachine.{unify, unify_steps}
+use Rattle.mz_unify_theory.specs.Profile.{strict}
+use Rattle.mz_unify_theory.specs.UnifyMachine.{unify, unify_steps}
 use Rattle.mz_unify.specs.Stored.{item_at, items_at, matching_at}
 use Rattle.mz_unify.specs.declared.unified.UnifyMode.TheVariants.{Use}
-use Rattle.mz_soundness.specs.MachineState.{State}
-use Rattle.mz_earlier.specs.Before.{Before, signatures_of, words_before}
-use Rattle.mz_earlier.proofs.Offered.{signatures-before}
+use Rattle.mz_machine_theory.specs.MachineState.{State}
+use Rattle.mz_machine_env.specs.Before.{Before, signatures_of, words_before}
+use Rattle.mz_machine_env.proofs.Offered.{signatures-before}
 
 pub items-many : (s : Sharing) (xs : List Kept) → length (items_at s xs) ≡ length xs
 items-many s xs = length-map (reverse xs) (item_at s) ∙ length-reverse xs

@@ -2,23 +2,23 @@
 use Rattle.std.proofs.Common.{◌≡◌, ◌≤◌, ◌⊎◌, inl, inr, ℕ, suc, Bool, true, false, List, [], ◌∷◌, length, map, drop, Option, Some, None, Result, Ok, Err, slice_get, refl, sym, ap, ◌∙◌, eq-eqb}
 use Rattle.std.specs.Prelude.{⊤, if◌then◌else◌, ◌==◌, OnOk, MatchResult}
 use Rattle.std.proofs.lemmas.Bool.{eqb-true}
-use Rattle.mz_general.proofs.Offered.{drop-past}
+use Rattle.mz_base_theory.proofs.Offered.{drop-past}
 use Rattle.mz_cmd.specs.declared.rule.K.{K}
 use Rattle.mz_cmd.specs.declared.rule.K.TheVariants as k
 use Rattle.mz_cmd.specs.declared.code.ProofCode.TheVariants as code
 use Rattle.mz_store.specs.declared.item.Id.{Id}
-use Rattle.mz_unification.specs.Steps.{◌>>=◌, want}
-use Rattle.mz_unification.specs.Profile.{Profile, Item, proof, obligation}
-use Rattle.mz_unification.specs.UnifyMachine.{in_definition, Matching, UnifyState, unify, unify_steps}
+use Rattle.mz_unify_theory.specs.Steps.{◌>>=◌, want}
+use Rattle.mz_unify_theory.specs.Profile.{Profile, Item, proof, obligation}
+use Rattle.mz_unify_theory.specs.UnifyMachine.{in_definition, Matching, UnifyState, unify, unify_steps}
 use Rattle.mz_unify.specs.Rows.{StopsBy}
 use Rattle.mz_unify.specs.declared.stop.Stop.{Stop}
 use Rattle.mz_unify.specs.declared.stop.Stop.TheVariants.{Rule, Mem}
 use Rattle.mz_unify.proofs.Offered.{Parts, differ}
-use Rattle.mz_soundness.specs.MachineState.{RowsBefore, State, signatures_in}
-use Rattle.mz_soundness.specs.Premises.{pop_expr, pop_obligation, pop_proof, pop_sides}
-use Rattle.mz_soundness.specs.ProofMachine.{proof_row, sides, same_term, stream_of, unfolding_of}
-use Rattle.mz_soundness.specs.Bodies.{row_steps}
-use Rattle.mz_earlier.proofs.Offered.{next-at}
+use Rattle.mz_machine_theory.specs.MachineState.{RowsBefore, State, signatures_in}
+use Rattle.mz_machine_theory.specs.Premises.{pop_expr, pop_obligation, pop_proof, pop_sides}
+use Rattle.mz_machine_theory.specs.ProofMachine.{proof_row, sides, same_term, stream_of, unfolding_of}
+use Rattle.mz_machine_theory.specs.Bodies.{row_steps}
+use Rattle.mz_machine_env.proofs.Offered.{next-at}
 use Rattle.mz_machine.specs.OverStore.{Gives}
 
 -- ---- Refl and Cong

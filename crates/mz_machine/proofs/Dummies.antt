@@ -5,7 +5,7 @@ use Rattle.mz_logic.specs.Legality.{IsDummy}
 use Rattle.mz_logic.specs.declared.binder.Binder.{Binder}
 use Rattle.mz_store.specs.Bits.{bound_vars}
 use Rattle.mz_store.specs.Sharing.{dummy_binder}
-use Rattle.mz_soundness.specs.Premises.{bound_count}
+use Rattle.mz_machine_theory.specs.Premises.{bound_count}
 use Rattle.mz_machine.specs.OverStore.{IsContextOf}
 use Rattle.mz_machine.proofs.RowResults.{count-is}
 

@@ -6,20 +6,19 @@ use Rattle.mz_cmd.specs.declared.rule.K.TheVariants as k
 use Rattle.mz_logic.specs.Sorts.{HasSort}
 use Rattle.mz_logic.proofs.Offered.{sort_is}
 use Rattle.mz_logic.specs.declared.binder.Binder.{Binder}
-use Rattle.mz_unification.specs.Profile.{Profile, Item}
-use Rattle.mz_unification.specs.Steps.{◌>>◌, need}
-use Rattle.mz_unification.specs.UnifyMachine.{at_end, in_definition, Matching, UnifyState, unify, unify_steps}
-use Rattle.mz_soundness.specs.MachineState.{RowsBefore, State, Heading, is_axiom, is_definition, signatures_in}
-use Rattle.mz_soundness.specs.FreeVars.{free_within}
-use Rattle.mz_soundness.specs.ProofMachine.{as_proofs, has_provable_sort, last_item, own_stream, own_variables, ending, ends_with, proof_end}
-use Rattle.mz_soundness.specs.Bodies.{match_steps}
+use Rattle.mz_unify_theory.specs.Profile.{Profile, Item}
+use Rattle.mz_unify_theory.specs.Steps.{◌>>◌, need}
+use Rattle.mz_unify_theory.specs.UnifyMachine.{at_end, in_definition, Matching, UnifyState, unify, unify_steps}
+use Rattle.mz_machine_theory.specs.MachineState.{RowsBefore, State, Heading, is_axiom, is_definition, signatures_in}
+use Rattle.mz_machine_theory.specs.FreeVars.{free_within}
+use Rattle.mz_machine_theory.specs.ProofMachine.{as_proofs, has_provable_sort, last_item, own_stream, own_variables, ending, ends_with, proof_end}
+use Rattle.mz_machine_theory.specs.Bodies.{match_steps}
 use Rattle.mz_machine.specs.OverStore.{Gives, UnlessMem}
 use Rattle.mz_machine.specs.Endings.{IsOwnRun}
 use Rattle.mz_unify.specs.declared.stop.Stop.{Stop}
 use Rattle.mz_unify.specs.declared.stop.Stop.TheVariants.{Rule, Mem}
 use Rattle.mz_unify.specs.Rows.{gone_through}
-use Rattle.mz_unify.specs.Stored.{IsRun}
-use Rattle.mz_unify.specs.Stored.{UnlessMem as UnlessRunMem}
+use Rattle.mz_unify.specs.Stored.{IsRun, UnlessMem as UnlessRunMem}
 use Rattle.mz_unify.specs.declared.unified.Unified.{Unified}
 use Rattle.mz_unify.specs.declared.unified.Unified.TheVariants as said
 

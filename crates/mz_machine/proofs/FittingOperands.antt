@@ -1,7 +1,7 @@
 -- Operands beside the parameters of their row, one after another, in any machine.
 use Rattle.std.proofs.Common.{◌≡◌, ◌≤◌, ℕ, suc, Bool, true, false, List, [], ◌∷◌, length, take, drop, Some, Result, Ok, Err, refl, ap, ◌∙◌, eq-eqb, ne_eqb}
 use Rattle.std.specs.Prelude.{slice_get, ◌==◌, not, ◌||◌}
-use Rattle.mz_general.proofs.Offered.{drop-past}
+use Rattle.mz_base_theory.proofs.Offered.{drop-past}
 use Rattle.mz_cmd.specs.declared.rule.K.{K}
 use Rattle.mz_cmd.specs.declared.rule.K.TheVariants as k
 use Rattle.mz_logic.specs.Tree.{Tree}
@@ -9,15 +9,15 @@ use Rattle.mz_logic.specs.Signature.{Signature}
 use Rattle.mz_logic.specs.Legality.{sort_of}
 use Rattle.mz_logic.specs.Sorts.{HasSort, IsBoundVar}
 use Rattle.mz_logic.proofs.Offered.{sort_is}
-use Rattle.mz_unification.proofs.Offered.{bound-is}
+use Rattle.mz_unify_theory.proofs.Offered.{bound-is}
 use Rattle.mz_logic.specs.Words.{word_bound, word_sort, bound_places, binder_of, binders_of}
 use Rattle.mz_logic.specs.declared.binder.Binder.{Binder}
 use Rattle.mz_logic.specs.declared.word.Word.{Word}
-use Rattle.mz_unification.specs.Steps.{◌>>◌, need}
-use Rattle.mz_unification.specs.Tests.{is_bound_var}
-use Rattle.mz_soundness.specs.Premises.{operands_fit}
+use Rattle.mz_unify_theory.specs.Steps.{◌>>◌, need}
+use Rattle.mz_unify_theory.specs.Tests.{is_bound_var}
+use Rattle.mz_machine_theory.specs.Premises.{operands_fit}
 use Rattle.mz_store.proofs.Offered.{next-binder}
-use Rattle.mz_earlier.proofs.Offered.{next-at}
+use Rattle.mz_machine_env.proofs.Offered.{next-at}
 
 -- ---- one operand
 

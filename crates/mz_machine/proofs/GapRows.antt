@@ -8,19 +8,19 @@ use Rattle.mz_cmd.specs.declared.code.ProofCode.TheVariants as code
 use Rattle.mz_logic.specs.Tree.{Tree}
 use Rattle.mz_logic.specs.Sorts.{HasSort}
 use Rattle.mz_logic.proofs.Offered.{sort_is}
-use Rattle.mz_unification.specs.Profile.{plain, strict, draft, Item, expr, proof, obligation, conversion}
-use Rattle.mz_unification.specs.UnifyMachine.{Matching}
-use Rattle.mz_unification.proofs.Offered.{unify_steps-plain}
-use Rattle.mz_soundness.specs.MachineState.{RowsBefore, State, signatures_in, Kind, Heading}
-use Rattle.mz_soundness.specs.Premises.{pop, is_provable_sort}
-use Rattle.mz_soundness.specs.ProofMachine.{proof_row, citation, unfolding_of, ends_with}
-use Rattle.mz_soundness.specs.Bodies.{proves, body_command, match_steps, fst_of, row_steps, body_start}
+use Rattle.mz_unify_theory.specs.Profile.{plain, strict, draft, Item, expr, proof, obligation, conversion}
+use Rattle.mz_unify_theory.specs.UnifyMachine.{Matching}
+use Rattle.mz_unify_theory.proofs.Offered.{unify_steps-plain}
+use Rattle.mz_machine_theory.specs.MachineState.{RowsBefore, State, signatures_in, Kind, Heading}
+use Rattle.mz_machine_theory.specs.Premises.{pop, is_provable_sort}
+use Rattle.mz_machine_theory.specs.ProofMachine.{proof_row, citation, unfolding_of, ends_with}
+use Rattle.mz_machine_theory.specs.Bodies.{proves, body_command, match_steps, fst_of, row_steps, body_start}
 use Rattle.mz_machine.specs.Steps.{row_by, steps_by, is_sorry}
-use Rattle.mz_earlier.specs.Before.{Before, tables_of, signatures_of}
+use Rattle.mz_machine_env.specs.Before.{Before, tables_of, signatures_of}
 use Rattle.mz_machine.specs.OverStore.{with_stack, Gives, UnlessMem}
 use Rattle.mz_unify.specs.declared.stop.Stop.{Stop}
 use Rattle.mz_unify.specs.declared.stop.Stop.TheVariants.{Rule, Mem}
-use Rattle.mz_soundness.proofs.Offered.{citation-plain, unfolding-plain, row-plain, ends-plain, own-plain, command-plain}
+use Rattle.mz_machine_theory.proofs.Offered.{citation-plain, unfolding-plain, row-plain, ends-plain, own-plain, command-plain}
 
 module _ (b : Before) (at n : ℕ) (st : State Tree) where
   pub gap-none : (d : K) → pop st.stack ≡ Err d → proof_row draft (tables_of b) at code.Sorry n st ≡ Err d

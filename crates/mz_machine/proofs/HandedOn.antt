@@ -6,12 +6,12 @@ use Rattle.mz_cmd.specs.declared.rule.K.{K}
 use Rattle.mz_logic.specs.Tree.{Tree}
 use Rattle.mz_logic.specs.Signature.{Signature}
 use Rattle.mz_store.specs.Sharing.{Sharing, IsOver}
-use Rattle.mz_unification.specs.Profile.{Profile}
-use Rattle.mz_soundness.specs.MachineState.{RowsBefore, State}
-use Rattle.mz_soundness.specs.Bodies.{row_steps}
-use Rattle.mz_earlier.specs.CommandCodes.{code_of_making}
-use Rattle.mz_earlier.specs.declared.command.Making.{Making}
-use Rattle.mz_earlier.specs.declared.command.Making.TheVariants as making
+use Rattle.mz_unify_theory.specs.Profile.{Profile}
+use Rattle.mz_machine_theory.specs.MachineState.{RowsBefore, State}
+use Rattle.mz_machine_theory.specs.Bodies.{row_steps}
+use Rattle.mz_machine_env.specs.CommandCodes.{code_of_making}
+use Rattle.mz_machine_env.specs.declared.command.Making.{Making}
+use Rattle.mz_machine_env.specs.declared.command.Making.TheVariants as making
 use Rattle.mz_unify.specs.Rows.{StopsBy}
 use Rattle.mz_unify.specs.declared.stop.Stop.{Stop}
 use Rattle.mz_unify.specs.declared.stop.Stop.TheVariants.{Rule, Mem}

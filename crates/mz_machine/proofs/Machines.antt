@@ -10,18 +10,18 @@ use Rattle.mz_store.specs.Sharing.{Sharing, AreIn}
 use Rattle.mz_store.specs.declared.item.Id.{Id}
 use Rattle.mz_store.specs.declared.item.Item.{Item as Kept}
 use Rattle.mz_store.specs.declared.item.DepsMode.TheVariants.{All}
-use Rattle.mz_unification.specs.Profile.{strict}
+use Rattle.mz_unify_theory.specs.Profile.{strict}
 use Rattle.mz_unify.specs.Stored.{AreItemsIn}
 use Rattle.mz_unify.proofs.Offered.{still-in}
-use Rattle.mz_soundness.specs.MachineState.{Kind, is_axiom, is_theorem, is_definition, signatures_in}
-use Rattle.mz_soundness.specs.Bodies.{BodyCommand, ends, proves, stands_in, if_allowed, body_command}
-use Rattle.mz_earlier.specs.Before.{tables_before}
-use Rattle.mz_earlier.specs.OwnRow.{heading_of, mode_for}
+use Rattle.mz_machine_theory.specs.MachineState.{Kind, is_axiom, is_theorem, is_definition, signatures_in}
+use Rattle.mz_machine_theory.specs.Bodies.{BodyCommand, ends, proves, stands_in, if_allowed, body_command}
+use Rattle.mz_machine_env.specs.Before.{tables_before}
+use Rattle.mz_machine_env.specs.OwnRow.{heading_of, mode_for}
 use Rattle.mz_machine.specs.OverStore.{code_of, for_theorems, Grows, IsUnderway}
 use Rattle.mz_machine.specs.declared.command.Command.{Command}
 use Rattle.mz_machine.specs.declared.command.Command.TheVariants.{Makes, Keeps, Converts}
-use Rattle.mz_earlier.specs.declared.command.Making.TheVariants as making
-use Rattle.mz_earlier.specs.declared.command.Converting.TheVariants as converting
+use Rattle.mz_machine_env.specs.declared.command.Making.TheVariants as making
+use Rattle.mz_machine_env.specs.declared.command.Converting.TheVariants as converting
 use Rattle.mz_layout.specs.declared.taken.Rows.{Rows}
 use Rattle.mz_machine.proofs.TermResults.{tree-kept}
 

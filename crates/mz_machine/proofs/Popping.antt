@@ -9,13 +9,13 @@ use Rattle.mz_store.specs.Sharing.{Sharing, tree_of}
 use Rattle.mz_store.specs.declared.item.Id.{Id}
 use Rattle.mz_store.specs.declared.item.Item.{Item as Kept}
 use Rattle.mz_store.specs.declared.item.Item.TheVariants.{Expr, Proof, Obligation, Conversion}
-use Rattle.mz_unification.specs.Profile.{Item, proof}
+use Rattle.mz_unify_theory.specs.Profile.{Item, proof}
 use Rattle.mz_unify.specs.Stored.{item_at, items_at, trees_at, IsItemIn, AreItemsIn}
 use Rattle.mz_unify.proofs.Offered.{items-in-left, items-in-right, items-push}
-use Rattle.mz_soundness.specs.Premises.{is_conversion, is_obligation}
+use Rattle.mz_machine_theory.specs.Premises.{is_conversion, is_obligation}
 use Rattle.mz_machine.specs.Steps.{is_conversion_at}
 use Rattle.mz_machine.specs.OverStore.{heap_at, state_at}
-use Rattle.mz_earlier.specs.Items.{is_owed}
+use Rattle.mz_machine_env.specs.Items.{is_owed}
 
 pub popped : (s : Sharing) (old new : List Kept) (x : Kept) → old ≡ new ++ x ∷ [] → AreItemsIn s old → IsItemIn s x × AreItemsIn s new
 popped s old new x is h =

@@ -8,13 +8,13 @@ use Rattle.mz_logic.specs.Sorts.{HasSort}
 use Rattle.mz_logic.specs.declared.binder.Binder.{Binder}
 use Rattle.mz_logic.proofs.Offered.{sort_is}
 use Rattle.mz_store.specs.Bits.{bound_from, bound_vars}
-use Rattle.mz_unification.specs.Spells.{dummy_of}
-use Rattle.mz_unification.specs.Profile.{Profile, Item, expr, proof, obligation, conversion}
+use Rattle.mz_unify_theory.specs.Spells.{dummy_of}
+use Rattle.mz_unify_theory.specs.Profile.{Profile, Item, expr, proof, obligation, conversion}
 use Rattle.mz_unify.proofs.Offered.{Parts, differ}
-use Rattle.mz_soundness.specs.MachineState.{RowsBefore, State}
-use Rattle.mz_soundness.specs.Premises.{pop_expr, pop_obligation, is_conversion, is_obligation, may_be_dummy_sort, is_provable_sort, bound_count}
-use Rattle.mz_soundness.specs.ProofMachine.{proof_row, referred, has_provable_sort}
-use Rattle.mz_earlier.specs.Before.{Before, tables_of, signatures_of}
+use Rattle.mz_machine_theory.specs.MachineState.{RowsBefore, State}
+use Rattle.mz_machine_theory.specs.Premises.{pop_expr, pop_obligation, is_conversion, is_obligation, may_be_dummy_sort, is_provable_sort, bound_count}
+use Rattle.mz_machine_theory.specs.ProofMachine.{proof_row, referred, has_provable_sort}
+use Rattle.mz_machine_env.specs.Before.{Before, tables_of, signatures_of}
 
 -- ---- an item of the heap
 

@@ -2,8 +2,8 @@
 use Rattle.std.proofs.Common.{◌≡◌, ◌<◌, ◌≤◌, ℕ, Bool, true, false, List, [], length, Result, refl, arith, le-leb, leb-true}
 use Rattle.std.specs.Prelude.{nat_le}
 use Rattle.mz_cmd.specs.declared.rule.K.{K}
-use Rattle.mz_unification.specs.Profile.{Item}
-use Rattle.mz_soundness.specs.Premises.{pop_exprs, pop_operands}
+use Rattle.mz_unify_theory.specs.Profile.{Item}
+use Rattle.mz_machine_theory.specs.Premises.{pop_exprs, pop_operands}
 
 pub too-few : (n m : ℕ) → m < n → nat_le n m ≡ false
 too-few n m few = go (nat_le n m) refl

@@ -1,27 +1,25 @@
 -- Operands of terms over a store, and a store that grows.
 use Rattle.std.proofs.Common.{◌≡◌, ◌<◌, ℕ, List, [], ◌∷◌, ◌++◌, Ok, length, map, refl, sym, ap, ◌∙◌, subst}
 use Rattle.mz_logic.specs.Signature.{Signature}
-use Rattle.mz_logic.specs.Words.{binders_of}
-use Rattle.mz_logic.specs.Words.{signatures_of as signatures_by}
+use Rattle.mz_logic.specs.Words.{binders_of, signatures_of as signatures_by}
 use Rattle.mz_layout.specs.Tables.{term_row}
-use Rattle.mz_store.specs.Sharing.{Sharing, tree_of, IsIn, AreIn, IsOver, KeepsIds, CanTake}
-use Rattle.mz_store.specs.Sharing.{trees_of as trees_in}
+use Rattle.mz_store.specs.Sharing.{Sharing, tree_of, IsIn, AreIn, IsOver, KeepsIds, CanTake, trees_of as trees_in}
 use Rattle.mz_store.specs.declared.item.Id.{Id}
 use Rattle.mz_store.specs.declared.item.Item.{Item as Kept}
 use Rattle.mz_store.specs.declared.item.Item.TheVariants.{Expr, Proof, Obligation, Conversion}
-use Rattle.mz_unification.specs.Spells.{trees_of}
-use Rattle.mz_unification.specs.Sorted.{AllSorted}
-use Rattle.mz_unification.specs.Profile.{expr, proof}
+use Rattle.mz_unify_theory.specs.Spells.{trees_of}
+use Rattle.mz_unify_theory.specs.Sorted.{AllSorted}
+use Rattle.mz_unify_theory.specs.Profile.{expr, proof}
 use Rattle.mz_unify.specs.Stored.{trees_at, item_at, items_at, IsItemIn, AreItemsIn}
 use Rattle.std.specs.Prelude.{reverse}
 use Rattle.std.proofs.lemmas.List.{length-map, reverse-append}
 use Rattle.mz_unify.proofs.Offered.{items-in-both, still-in}
-use Rattle.mz_soundness.specs.Premises.{operands_fit}
-use Rattle.mz_earlier.specs.Before.{Before, signatures_of, words_before}
+use Rattle.mz_machine_theory.specs.Premises.{operands_fit}
+use Rattle.mz_machine_env.specs.Before.{Before, signatures_of, words_before}
 use Rattle.mz_machine.specs.OverStore.{heap_at, state_at}
 use Rattle.mz_machine.proofs.Popping.{heap-push}
 use Rattle.mz_machine.proofs.TermRows.{can-stand}
-use Rattle.mz_earlier.proofs.Offered.{signatures-before}
+use Rattle.mz_machine_env.proofs.Offered.{signatures-before}
 use Rattle.mz_store.proofs.Offered.{old-ids-keep-trees}
 
 pub map-same : {A : Type 0} (xs : List A) → map (λ (x : A). x) xs ≡ xs

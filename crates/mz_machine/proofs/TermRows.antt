@@ -6,23 +6,22 @@ use Rattle.mz_cmd.specs.declared.rule.K.TheVariants as k
 use Rattle.mz_cmd.specs.declared.code.ProofCode.TheVariants as code
 use Rattle.mz_logic.specs.Tree.{Tree, Trees}
 use Rattle.mz_logic.specs.Sorts.{Fits}
-use Rattle.mz_logic.specs.Words.{signature_of, binders_of}
-use Rattle.mz_logic.specs.Words.{signatures_of as signatures_by}
+use Rattle.mz_logic.specs.Words.{signature_of, binders_of, signatures_of as signatures_by}
 use Rattle.mz_logic.specs.declared.binder.Binder.{Binder}
 use Rattle.mz_logic.proofs.Offered.{length-binders}
 use Rattle.mz_layout.specs.Tables.{term_row}
 use Rattle.mz_store.specs.Sharing.{CanTake}
-use Rattle.mz_unification.specs.Spells.{SpelledTerm, trees_of}
-use Rattle.mz_unification.specs.Sorted.{AllSorted}
-use Rattle.mz_unification.specs.Profile.{Profile, Item, expr}
-use Rattle.mz_unification.specs.Steps.{◌>>=◌}
-use Rattle.mz_soundness.specs.MachineState.{RowsBefore, signatures_in, State}
-use Rattle.mz_soundness.specs.Premises.{pop_operands, operands_fit}
-use Rattle.mz_soundness.specs.ProofMachine.{proof_row, built, push, saved}
-use Rattle.mz_earlier.specs.Before.{Before, signatures_of, words_before}
-use Rattle.mz_soundness.specs.FileRows.{term_of_file}
-use Rattle.mz_soundness.proofs.Offered.{fits-from}
-use Rattle.mz_earlier.proofs.Offered.{length-words, words-at, signatures-before}
+use Rattle.mz_unify_theory.specs.Spells.{SpelledTerm, trees_of}
+use Rattle.mz_unify_theory.specs.Sorted.{AllSorted}
+use Rattle.mz_unify_theory.specs.Profile.{Profile, Item, expr}
+use Rattle.mz_unify_theory.specs.Steps.{◌>>=◌}
+use Rattle.mz_machine_theory.specs.MachineState.{RowsBefore, signatures_in, State}
+use Rattle.mz_machine_theory.specs.Premises.{pop_operands, operands_fit}
+use Rattle.mz_machine_theory.specs.ProofMachine.{proof_row, built, push, saved}
+use Rattle.mz_machine_env.specs.Before.{Before, signatures_of, words_before}
+use Rattle.mz_machine_theory.specs.FileRows.{term_of_file}
+use Rattle.mz_machine_theory.proofs.Offered.{fits-from}
+use Rattle.mz_machine_env.proofs.Offered.{length-words, words-at, signatures-before}
 
 module _ (P : Profile) (tables : RowsBefore) (at t : ℕ) (st : State P.T) where
   -- ---- what is made decides

@@ -6,24 +6,23 @@ use Rattle.std.proofs.lemmas.List.{length-map}
 use Rattle.mz_logic.specs.Tree.{Tree, var, app, listed}
 use Rattle.mz_logic.specs.Signature.{Signature}
 use Rattle.mz_logic.specs.Sorts.{HasSort}
-use Rattle.mz_logic.specs.Words.{TermWords, signature_of}
-use Rattle.mz_logic.specs.Words.{signatures_of as signatures_by}
+use Rattle.mz_logic.specs.Words.{TermWords, signature_of, signatures_of as signatures_by}
 use Rattle.mz_logic.specs.declared.binder.Binder.{Binder}
 use Rattle.mz_layout.specs.Tables.{term_row}
 use Rattle.mz_store.specs.Sharing.{Sharing, IsIn, IsOver, tree_of, head_of, operands_of}
 use Rattle.mz_store.specs.declared.item.Id.{Id}
 use Rattle.mz_store.specs.declared.item.Item.{Item as Kept}
-use Rattle.mz_unification.specs.Profile.{strict}
-use Rattle.mz_unification.specs.UnifyMachine.{in_definition, Matching, unify, unify_steps}
+use Rattle.mz_unify_theory.specs.Profile.{strict}
+use Rattle.mz_unify_theory.specs.UnifyMachine.{in_definition, Matching, unify, unify_steps}
 use Rattle.mz_unify.specs.Stored.{IsItemIn, AreItemsIn, item_at, items_at, trees_at, matching_at}
 use Rattle.mz_unify.proofs.Offered.{items-push}
 use Rattle.mz_unify.specs.declared.unified.UnifyMode.TheVariants.{Body}
-use Rattle.mz_soundness.specs.ProofMachine.{stream_of}
+use Rattle.mz_machine_theory.specs.ProofMachine.{stream_of}
 use Rattle.mz_machine.specs.OverStore.{UnlessMem}
 use Rattle.mz_unify.specs.declared.stop.Stop.{Stop}
 use Rattle.mz_unify.specs.declared.stop.Stop.TheVariants.{Rule, Mem}
-use Rattle.mz_earlier.specs.Before.{Before, tables_of, signatures_of, words_before}
-use Rattle.mz_earlier.proofs.Offered.{signatures-before, length-words, term-before}
+use Rattle.mz_machine_env.specs.Before.{Before, tables_of, signatures_of, words_before}
+use Rattle.mz_machine_env.proofs.Offered.{signatures-before, length-words, term-before}
 use Rattle.mz_machine.proofs.Converting.{put_in}
 
 -- ---- terms of expressions

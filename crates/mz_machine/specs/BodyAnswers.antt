@@ -3,8 +3,8 @@
 use Rattle.std.specs.Prelude.{◌≡◌, ◌↔◌, ℕ, ⊤, ◌+◌, true, List, length, Result, Ok, Err}
 use Rattle.mz_cmd.specs.declared.rule.K.{K}
 use Rattle.mz_logic.specs.Tree.{Tree}
-use Rattle.mz_soundness.specs.MachineState.{State, Heading}
-use Rattle.mz_soundness.specs.Sound.{HasGap}
+use Rattle.mz_machine_theory.specs.MachineState.{State, Heading}
+use Rattle.mz_machine_theory.specs.Sound.{HasGap}
 use Rattle.mz_machine.specs.declared.body.BodyEnd.{BodyEnd}
 use Rattle.mz_machine.specs.declared.body.BodyChecked.{BodyChecked}
 use Rattle.mz_machine.specs.declared.body.BodyChecked.TheVariants.{Good, Refused, Mem}

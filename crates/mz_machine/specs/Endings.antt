@@ -2,12 +2,12 @@
 use Rattle.std.specs.Prelude.{◌≡◌, ℕ, ⊤, List, [], Result, Ok, Err}
 use Rattle.mz_cmd.specs.declared.rule.K.{K}
 use Rattle.mz_logic.specs.Tree.{Tree}
-use Rattle.mz_unification.specs.Profile.{strict, Item}
-use Rattle.mz_unification.specs.UnifyMachine.{Matching, UnifyState, at_end, in_definition}
+use Rattle.mz_unify_theory.specs.Profile.{strict, Item}
+use Rattle.mz_unify_theory.specs.UnifyMachine.{Matching, UnifyState, at_end, in_definition}
 use Rattle.mz_unify.specs.declared.unified.UnifyMode.{UnifyMode}
 use Rattle.mz_unify.specs.declared.unified.UnifyMode.TheVariants.{Final, Body}
-use Rattle.mz_soundness.specs.MachineState.{State, Kind, is_axiom, is_theorem, is_definition, Heading}
-use Rattle.mz_soundness.specs.ProofMachine.{own_stream, as_proofs}
+use Rattle.mz_machine_theory.specs.MachineState.{State, Kind, is_axiom, is_theorem, is_definition, Heading}
+use Rattle.mz_machine_theory.specs.ProofMachine.{own_stream, as_proofs}
 use Rattle.mz_unify.specs.declared.stop.Stop.{Stop}
 use Rattle.mz_unify.specs.declared.stop.Stop.TheVariants.{Rule, Mem}
 

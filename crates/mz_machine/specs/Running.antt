@@ -1,8 +1,8 @@
 -- A machine in two parts: the statement whose body runs, and what its commands change.
 use Rattle.std.specs.Prelude.{◌≡◌, length}
-use Rattle.mz_mode.specs.Gaps.{gaps_of}
+use Rattle.mz_base.specs.Gaps.{gaps_of}
 use Rattle.mz_store.specs.Bits.{bound_vars}
-use Rattle.mz_earlier.specs.OwnRow.{byte_of, heading_of}
+use Rattle.mz_machine_env.specs.OwnRow.{byte_of, heading_of}
 use Rattle.mz_machine.specs.OverStore.{IsUnderway, state_at}
 use Rattle.mz_machine.specs.Steps.{Underway}
 use Rattle.mz_machine.specs.declared.machine.Setting.{Setting}

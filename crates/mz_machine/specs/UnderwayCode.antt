@@ -4,8 +4,8 @@ use Rattle.std.specs.Coded.{Coded, code_by, coded×, coded_ℕ, coded_bool, code
 use Rattle.mz_logic.specs.Tree.{Tree}
 use Rattle.mz_logic.specs.Codes.{tree_code, binder_code}
 use Rattle.mz_logic.specs.declared.binder.Binder.{Binder}
-use Rattle.mz_unification.specs.Profile.{Item, expr, proof, obligation, conversion}
-use Rattle.mz_soundness.specs.MachineState.{State}
+use Rattle.mz_unify_theory.specs.Profile.{Item, expr, proof, obligation, conversion}
+use Rattle.mz_machine_theory.specs.MachineState.{State}
 use Rattle.mz_machine.specs.Steps.{Underway}
 use Rattle.mz_layout.specs.declared.taken.Rows.{Rows}
 

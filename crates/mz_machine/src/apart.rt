@@ -9,13 +9,13 @@ ghost use Rattle.mz_layout.specs.Rows.{params_of};
 ghost use Rattle.mz_store.specs.Sharing.{IsIn, AreIn, IsOver, tree_of, deps_of};
 ghost use Rattle.mz_store.specs.declared.item.DepsMode.TheVariants.{All};
 ghost use Rattle.mz_unify.specs.Stored.{trees_at};
-ghost use Rattle.mz_unification.specs.Tests.{is_bound_var, var_within};
-ghost use Rattle.mz_soundness.specs.Premises.{operands_fit, apart_from, are_apart};
-ghost use Rattle.mz_earlier.specs.Before.{signatures_of};
-ghost use Rattle.mz_earlier.specs.OperandRows.{AreAmong, IsBefore};
+ghost use Rattle.mz_unify_theory.specs.Tests.{is_bound_var, var_within};
+ghost use Rattle.mz_machine_theory.specs.Premises.{operands_fit, apart_from, are_apart};
+ghost use Rattle.mz_machine_env.specs.Before.{signatures_of};
+ghost use Rattle.mz_machine_env.specs.OperandRows.{AreAmong, IsBefore};
 
-use mz_earlier::{Earlier, dependencies, may_meet};
 use mz_layout::Row;
+use mz_machine_env::{Earlier, dependencies, may_meet};
 use mz_store::{Id, Store};
 
 /// Whether each two operands of a row are apart, whichever of them comes first. They fit, and the bound

@@ -1,22 +1,22 @@
 //! A whole body, read in place.
 ghost use Rattle.std.specs.Prelude.{◌≡◌, ◌≤◌, ◌<◌, ◌^◌, ◌+◌, ◌-◌, ◌*◌, false, length};
-ghost use Rattle.mz_mode.specs.Gaps.{gaps_of};
-ghost use Rattle.mz_unification.specs.Profile.{plain};
-ghost use Rattle.mz_soundness.specs.Bodies.{body_run, body_steps, body_from, body_steps_from};
+ghost use Rattle.mz_base.specs.Gaps.{gaps_of};
+ghost use Rattle.mz_unify_theory.specs.Profile.{plain};
+ghost use Rattle.mz_machine_theory.specs.Bodies.{body_run, body_steps, body_from, body_steps_from};
 ghost use Rattle.mz_machine.specs.Steps.{heading_for, tables_for};
 ghost use Rattle.mz_layout.specs.Heads.{body_bytes};
-ghost use Rattle.mz_earlier.specs.OwnRow.{MayRun, byte_of, heading_of};
-ghost use Rattle.mz_earlier.specs.Before.{tables_before};
+ghost use Rattle.mz_machine_env.specs.OwnRow.{MayRun, byte_of, heading_of};
+ghost use Rattle.mz_machine_env.specs.Before.{tables_before};
 ghost use Rattle.mz_machine.specs.BodyAnswers.{IsBodyRun, UnlessMem};
 ghost use Rattle.mz_machine.specs.Running.{IsRunning, machine_of};
 ghost use Rattle.mz_machine.specs.Stepping.{ended_at, stopped_at};
 
 use crate::machine::{Finished, Parts, Setting};
 use crate::room::{Desk, Room};
+use mz_base::Mode;
 use mz_cmd::{END, K, Steps, cmd_at};
-use mz_earlier::{BodyKind, kind_by};
 use mz_layout::{Mmb, Rows};
-use mz_mode::Mode;
+use mz_machine_env::{BodyKind, kind_by};
 use mz_store::Seed;
 use mz_unify::Stop;
 use std::alloc::Global;

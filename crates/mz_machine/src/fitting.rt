@@ -7,15 +7,15 @@ ghost use Rattle.mz_logic.specs.declared.binder.Binder.{Binder};
 ghost use Rattle.mz_layout.specs.Rows.{params_of};
 ghost use Rattle.mz_store.specs.Sharing.{IsIn, AreIn, IsOver, tree_of};
 ghost use Rattle.mz_unify.specs.Stored.{items_at, trees_at, AreItemsIn};
-ghost use Rattle.mz_soundness.specs.Premises.{pop_operands, operands_fit};
-ghost use Rattle.mz_earlier.specs.Before.{signatures_of};
-ghost use Rattle.mz_earlier.specs.OperandRows.{IsBefore};
+ghost use Rattle.mz_machine_theory.specs.Premises.{pop_operands, operands_fit};
+ghost use Rattle.mz_machine_env.specs.Before.{signatures_of};
+ghost use Rattle.mz_machine_env.specs.OperandRows.{IsBefore};
 ghost use Rattle.mz_machine.specs.OverStore.{exprs_of, Gives, GivesRule};
 
 use mz_cmd::K;
-use mz_earlier::Earlier;
 use mz_layout::Row;
 use mz_logic::Word;
+use mz_machine_env::Earlier;
 use mz_store::{Id, Item, Store};
 use mz_unify::{Stop, push};
 

@@ -1,16 +1,15 @@
 //! A machine that takes the commands of one body.
 ghost use Rattle.std.specs.Prelude.{◌≡◌, ◌≤◌, ◌<◌, ◌+◌, ◌^◌, ◌&&◌, ◌||◌, ℕ, IfOk, OnOk, Some, length};
-ghost use Rattle.mz_mode.specs.Gaps.{gaps_of};
+ghost use Rattle.mz_base.specs.Gaps.{gaps_of};
 ghost use Rattle.mz_cmd.specs.Codes.{proof_code};
 ghost use Rattle.mz_store.specs.Bits.{bound_vars};
 ghost use Rattle.mz_store.specs.Sharing.{AreIn, IsOver};
-ghost use Rattle.mz_unification.specs.Profile.{plain};
+ghost use Rattle.mz_unify_theory.specs.Profile.{plain};
 ghost use Rattle.mz_unify.specs.Stored.{AreItemsIn};
-ghost use Rattle.mz_soundness.specs.Bodies.{body_command};
-ghost use Rattle.mz_earlier.specs.OwnRow.{MayRun, byte_of, kind_of, mode_for};
-ghost use Rattle.mz_earlier.specs.Before.{tables_of, signatures_of};
-ghost use Rattle.mz_machine.specs.OverStore.{state_at, code_of, Gives, NeverWants, Grows};
-ghost use Rattle.mz_machine.specs.OverStore.{UnlessMem as OrMem};
+ghost use Rattle.mz_machine_theory.specs.Bodies.{body_command};
+ghost use Rattle.mz_machine_env.specs.OwnRow.{MayRun, byte_of, kind_of, mode_for};
+ghost use Rattle.mz_machine_env.specs.Before.{tables_of, signatures_of};
+ghost use Rattle.mz_machine.specs.OverStore.{state_at, code_of, Gives, NeverWants, Grows, UnlessMem as OrMem};
 ghost use Rattle.mz_machine.specs.Steps.{heading_for, tables_for, steps_for, row_by, steps_by, end_steps, is_sorry, TakesNone};
 ghost use Rattle.mz_machine.specs.Stepping.{IsBegun, IsStepped, IsFinished, stepped_to, UnlessMem, UnlessEndMem};
 ghost use Rattle.mz_machine.specs.Running.{IsRunning, machine_of};
@@ -19,13 +18,13 @@ use crate::body::BodyEnd;
 use crate::command::{Command, decoded};
 use crate::commands::{execute, gap};
 use crate::end::end;
+use mz_base::Mode;
 use mz_cmd::{Cmd, K, ProofCode, Steps};
-use mz_earlier::{
-    BodyKind, Converting, Earlier, Spare, deps_mode, first_items, kind_by, read_words,
-};
 use mz_layout::{Mmb, Rows};
 use mz_logic::Word;
-use mz_mode::Mode;
+use mz_machine_env::{
+    BodyKind, Converting, Earlier, Spare, deps_mode, first_items, kind_by, read_words,
+};
 use mz_store::{Id, Item, Seed, Store};
 use mz_unify::Stop;
 use std::alloc::{AllocError, Global};

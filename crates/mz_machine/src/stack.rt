@@ -3,7 +3,7 @@ ghost use Rattle.std.specs.Prelude.{◌≡◌, ◌≤◌, ◌<◌, ◌-◌, ◌+
 ghost use Rattle.mz_store.specs.Sharing.{Sharing, IsIn, tree_of};
 ghost use Rattle.mz_store.specs.declared.item.Item.TheVariants.{Conversion};
 ghost use Rattle.mz_unify.specs.Stored.{items_at, item_at, AreItemsIn, IsItemIn};
-ghost use Rattle.mz_soundness.specs.Premises.{pop, pop_expr, pop_proof, pop_obligation, pop_conversion, is_conversion};
+ghost use Rattle.mz_machine_theory.specs.Premises.{pop, pop_expr, pop_proof, pop_obligation, pop_conversion, is_conversion};
 ghost use Rattle.mz_machine.specs.OverStore.{GivesRule};
 
 use mz_cmd::K;

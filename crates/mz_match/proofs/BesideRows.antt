@@ -4,7 +4,7 @@ use Rattle.std.specs.Prelude.{IsTrue, ◌↔◌, MatchBool}
 use Rattle.std.proofs.lemmas.List.{reverse-reverse}
 use Rattle.std.proofs.lemmas.Bool.{true≢false, false≢true}
 use Rattle.mz_logic.specs.Tree.{Tree, Trees, listed}
-use Rattle.mz_checks.specs.Checks.{AllHold, FailsFirst}
+use Rattle.mz_base_theory.specs.Checks.{AllHold, FailsFirst}
 use Rattle.mz_logic.specs.Declaration.{Assertion, Term, Form, plain_form, abstract_form, defined, is_defined}
 use Rattle.mz_logic.specs.DeclView.{form}
 use Rattle.mz_logic.specs.declared.binder.Binder.{Binder}
@@ -12,12 +12,12 @@ use Rattle.mz_logic.specs.declared.expr.Expr.{Expr}
 use Rattle.mz_logic.specs.declared.decl.TermForm.{TermForm}
 use Rattle.mz_logic.specs.declared.decl.TermForm.TheVariants.{Plain, Abstract, Body}
 use Rattle.mz_layout.specs.Tables.{term_row}
-use Rattle.mz_verdicts.specs.declared.rule.M.TheVariants as rules
-use Rattle.mz_verdicts.specs.Match.{form_checks}
-use Rattle.mz_unification.specs.Spells.{Marks, trees_of}
-use Rattle.mz_unification.proofs.Offered.{trees_of-listed}
+use Rattle.mz_match_theory.specs.declared.rule.M.TheVariants as rules
+use Rattle.mz_match_theory.specs.Match.{form_checks}
+use Rattle.mz_unify_theory.specs.Spells.{Marks, trees_of}
+use Rattle.mz_unify_theory.proofs.Offered.{trees_of-listed}
 use Rattle.mz_match.specs.declared.compare.Sides.{Sides}
-use Rattle.mz_verdicts.specs.Trees.{SameTrees, SameBody}
+use Rattle.mz_match_theory.specs.Trees.{SameTrees, SameBody}
 use Rattle.mz_match.specs.TellsRow.{SaysFirst, SaysForm, SaysClaims, IsTermRow}
 use Rattle.mz_match.specs.Marks.{AreKept}
 use Rattle.mz_match.specs.Beside.{IsStream, IsPlainStream}

@@ -9,12 +9,12 @@ use Rattle.mz_logic.specs.Tree.{Tree, Trees, var, app, none, more, listed}
 use Rattle.mz_logic.specs.declared.expr.Expr.{Expr}
 use Rattle.mz_logic.specs.View.{tree, trees}
 use Rattle.mz_layout.specs.Tables.{term_row}
-use Rattle.mz_unification.specs.Spells.{Marks, dummy_of}
+use Rattle.mz_unify_theory.specs.Spells.{Marks, dummy_of}
 use Rattle.mz_match.specs.declared.stream.Step.{Step}
 use Rattle.mz_match.specs.declared.stream.Cursor.{Cursor}
 use Rattle.mz_match.specs.Streams.{step_at, Says, HasArity, IsSaid, AreSaid, IsMade, IsMarkAt, AreMarks}
 use Rattle.mz_match.specs.Comparison.{Answers}
-use Rattle.mz_verdicts.specs.Comparing.{Beside, is_number, makes_term, dummy_compared, compared, all_compared, and_then, beside_dummy}
+use Rattle.mz_match_theory.specs.Comparing.{Beside, is_number, makes_term, dummy_compared, compared, all_compared, and_then, beside_dummy}
 use Rattle.mz_match.proofs.Steps.{step-takes, says-is, says-no}
 
 abbrev StepIs : List ℕ → ℕ → Step → UnifyCode → ℕ → ℕ → Type 0

@@ -2,8 +2,8 @@
 use Rattle.std.proofs.Common.{◌≡◌, ◌≤◌, ◌+◌, ◌∙◌, ℕ, zero, suc, Bool, true, false, not, cond, ltb, eqb, List, [], ◌∷◌, ◌++◌, length, drop, Option, Some, None, Result, Ok, Err, slice_get, refl, sym, ap, subst, inl, inr, arith}
 use Rattle.std.specs.Prelude.{if◌then◌else◌, ◌&&◌, ◌==◌}
 use Rattle.std.proofs.lemmas.Bool.{false≢true, ltb-true}
-use Rattle.mz_checks.specs.Checks.{AllHold}
-use Rattle.mz_checks.proofs.Offered.{all_hold-rest}
+use Rattle.mz_base_theory.specs.Checks.{AllHold}
+use Rattle.mz_base_theory.proofs.Offered.{all_hold-rest}
 use Rattle.mz_cmd.specs.declared.rule.K.TheVariants as k
 use Rattle.mz_cmd.specs.declared.command.Cmd.{Cmd}
 use Rattle.mz_cmd.specs.declared.command.CmdFault.{CmdFault}
@@ -20,31 +20,31 @@ use Rattle.mz_logic.specs.Conversions.{AreFresh}
 use Rattle.mz_logic.specs.Words.{binders_of}
 use Rattle.mz_logic.specs.declared.binder.Binder.{Binder}
 use Rattle.mz_layout.specs.Tables.{list_at, term_row}
-use Rattle.mz_unification.specs.Steps.{◌>>◌, need, at_place, Turn, over, goes_on, follow}
-use Rattle.mz_unification.specs.Streams.{of_definition}
-use Rattle.mz_unification.specs.Spells.{trees_of, dummy_of, variables_from, SpellsForm}
-use Rattle.mz_unification.specs.Profile.{plain, strict, Item, expr, proof, obligation, conversion}
-use Rattle.mz_unification.specs.UnifyMachine.{in_definition, is_empty}
-use Rattle.mz_unification.proofs.Offered.{from_bind, from_need, from_want, taken, taken-is, place-ok, place_from, renamed, definition-spelled, unfolding-is, one-text, length-params}
-use Rattle.mz_soundness.specs.MachineState.{RowsBefore, signatures_in, State, Kind, is_definition, Heading, Declares}
+use Rattle.mz_unify_theory.specs.Steps.{◌>>◌, need, at_place, Turn, over, goes_on, follow}
+use Rattle.mz_unify_theory.specs.Streams.{of_definition}
+use Rattle.mz_unify_theory.specs.Spells.{trees_of, dummy_of, variables_from, SpellsForm}
+use Rattle.mz_unify_theory.specs.Profile.{plain, strict, Item, expr, proof, obligation, conversion}
+use Rattle.mz_unify_theory.specs.UnifyMachine.{in_definition, is_empty}
+use Rattle.mz_unify_theory.proofs.Offered.{from_bind, from_need, from_want, taken, taken-is, place-ok, place_from, renamed, definition-spelled, unfolding-is, one-text, length-params}
+use Rattle.mz_machine_theory.specs.MachineState.{RowsBefore, signatures_in, State, Kind, is_definition, Heading, Declares}
 use Rattle.mz_logic.specs.Legality.{sort_of}
-use Rattle.mz_soundness.specs.FreeVars.{free_within}
-use Rattle.mz_soundness.specs.Premises.{bound_count, pop, pop_obligation, is_obligation, may_be_dummy_sort}
-use Rattle.mz_words.specs.RowWords.{word_checks}
-use Rattle.mz_soundness.specs.Lists.{definition_of}
+use Rattle.mz_machine_theory.specs.FreeVars.{free_within}
+use Rattle.mz_machine_theory.specs.Premises.{bound_count, pop, pop_obligation, is_obligation, may_be_dummy_sort}
+use Rattle.mz_layout_words.specs.RowWords.{word_checks}
+use Rattle.mz_machine_theory.specs.Lists.{definition_of}
 use Rattle.mz_layout.specs.Heads.{body_bytes}
-use Rattle.mz_soundness.specs.FileRows.{taken_by, rows_taken, term_of_file}
-use Rattle.mz_soundness.specs.ProofMachine.{ends_with, matched_by, built, referred, proof_row, proof_end, last_item, ending, own_stream}
-use Rattle.mz_soundness.specs.Bodies.{BodyCommand, ends, proves, stands_in, if_allowed, body_command, body_turn, body_turn_by, body_from, body_start, Runs}
-use Rattle.mz_soundness.proofs.Offered.{bodies-checked, body-fact, end-ran, own-run, last-expr}
-use Rattle.mz_words.proofs.Offered.{right-words}
-use Rattle.mz_files.specs.Chains.{IsGoodStatement, GoodTo}
-use Rattle.mz_files.specs.Checking.{checks_of, kind_checks, term_checks, term_body_checks}
-use Rattle.mz_files.specs.Laws.{HasRow}
-use Rattle.mz_files.specs.Spelling.{IsKindOf, SpellsRow}
-use Rattle.mz_files.proofs.Offered.{well-chain, good-rows, runs-by-table, Among, fresh-fewer, words-bound}
-use Rattle.mz_files.specs.Standards.{lets_gaps, profile_of}
-use Rattle.mz_files.specs.declared.standard.Standard.{Standard}
+use Rattle.mz_machine_theory.specs.FileRows.{taken_by, rows_taken, term_of_file}
+use Rattle.mz_machine_theory.specs.ProofMachine.{ends_with, matched_by, built, referred, proof_row, proof_end, last_item, ending, own_stream}
+use Rattle.mz_machine_theory.specs.Bodies.{BodyCommand, ends, proves, stands_in, if_allowed, body_command, body_turn, body_turn_by, body_from, body_start, Runs}
+use Rattle.mz_machine_theory.proofs.Offered.{bodies-checked, body-fact, end-ran, own-run, last-expr}
+use Rattle.mz_layout_words.proofs.Offered.{right-words}
+use Rattle.mz_binary_theory.specs.Chains.{IsGoodStatement, GoodTo}
+use Rattle.mz_binary_theory.specs.Checking.{checks_of, kind_checks, term_checks, term_body_checks}
+use Rattle.mz_binary_theory.specs.Laws.{HasRow}
+use Rattle.mz_binary_theory.specs.Spelling.{IsKindOf, SpellsRow}
+use Rattle.mz_binary_theory.proofs.Offered.{well-chain, good-rows, runs-by-table, Among, fresh-fewer, words-bound}
+use Rattle.mz_binary_theory.specs.Standards.{lets_gaps, profile_of}
+use Rattle.mz_binary_theory.specs.declared.standard.Standard.{Standard}
 
 -- ---- the commands of a definition's body add at most one bound variable, where there are fewer than 55
 

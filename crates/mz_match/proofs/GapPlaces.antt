@@ -5,23 +5,23 @@ use Rattle.mz_logic.specs.Declaration.{Declaration, Assertion, sort_decl, term_d
 use Rattle.mz_logic.specs.LegalLists.{Statement, declarations}
 use Rattle.mz_logic.proofs.Offered.{assertions-append}
 use Rattle.mz_layout.specs.Tables.{list_at}
-use Rattle.mz_files.specs.declared.statement.Statement.{Statement as Told}
-use Rattle.mz_files.specs.Chains.{IsGoodStatement}
-use Rattle.mz_files.specs.Gapped.{body_of, bodies_of, IsGapped, GappedIn}
+use Rattle.mz_binary_theory.specs.declared.statement.Statement.{Statement as Told}
+use Rattle.mz_binary_theory.specs.Chains.{IsGoodStatement}
+use Rattle.mz_binary_theory.specs.Gapped.{body_of, bodies_of, IsGapped, GappedIn}
 use Rattle.mz_binary.specs.Judging.{Passes}
 use Rattle.mz_binary.specs.Progress.{Progress}
-use Rattle.mz_files.proofs.Offered.{chain-declares, ungapped-free, bodies-more, bodies-many, gapped-on, gapped-back, gapped-within, good-legal, good-spelled}
+use Rattle.mz_binary_theory.proofs.Offered.{chain-declares, ungapped-free, bodies-more, bodies-many, gapped-on, gapped-back, gapped-within, good-legal, good-spelled}
 use Rattle.mz_match.specs.declared.draft.Draft.{Draft}
 use Rattle.mz_match.specs.declared.draft.Draft.TheVariants as drafts
 use Rattle.mz_match.specs.declared.matching.Matching.{Matching}
-use Rattle.mz_verdicts.specs.declared.verdict.Verdict.{Verdict}
-use Rattle.mz_verdicts.specs.declared.verdict.Verdict.TheVariants as verdicts
+use Rattle.mz_match_theory.specs.declared.verdict.Verdict.{Verdict}
+use Rattle.mz_match_theory.specs.declared.verdict.Verdict.TheVariants as verdicts
 use Rattle.mz_match.specs.Drafts.{IsGapOf, IsGapHere, ListsGaps, ListsGapsOf, IsDraft, IsDraftSound, IsDraftSoundIfAccepted, IsJudged, verdict_of, places_past}
-use Rattle.mz_verdicts.specs.Match.{publics}
+use Rattle.mz_match_theory.specs.Match.{publics}
 use Rattle.mz_match.specs.Told.{IsMatched}
-use Rattle.mz_verdicts.specs.Verdict.{AcceptsBy, IsDifference, IsVerdictBy}
-use Rattle.mz_files.specs.declared.standard.Standard.{Standard}
-use Rattle.mz_files.specs.Standards.{lets_gaps, draft_standard}
+use Rattle.mz_match_theory.specs.Verdict.{AcceptsBy, IsDifference, IsVerdictBy}
+use Rattle.mz_binary_theory.specs.declared.standard.Standard.{Standard}
+use Rattle.mz_binary_theory.specs.Standards.{lets_gaps, draft_standard}
 
 -- ---- one statement more at the end
 

@@ -2,7 +2,7 @@
 use Rattle.std.proofs.Common.{◌≡◌, ◌<◌, ◌≤◌, ◌+◌, ◌^◌, ◌∙◌, ℕ, zero, suc, Bool, true, false, List, [], ◌∷◌, ◌++◌, length, drop, Ok, refl, sym, ap, subst, inl, inr, arith, length-append}
 use Rattle.std.specs.Prelude.{if◌then◌else◌}
 use Rattle.std.proofs.lemmas.List.{append-nil}
-use Rattle.mz_checks.specs.Checks.{AllHold, FailsFirst}
+use Rattle.mz_base_theory.specs.Checks.{AllHold, FailsFirst}
 use Rattle.mz_cmd.specs.declared.rule.Refusal.{Refusal}
 use Rattle.mz_cmd.specs.declared.statement.StmtAt.TheVariants.{End}
 use Rattle.mz_logic.specs.Declaration.{Declaration, sort_decl, term_decl, assertion_decl, terms}
@@ -10,30 +10,30 @@ use Rattle.mz_logic.specs.LegalLists.{Statement, declarations}
 use Rattle.mz_layout.specs.Layout.{Layout}
 use Rattle.mz_layout.specs.Tables.{list_at}
 use Rattle.mz_layout.proofs.Offered.{parts-of_layout}
-use Rattle.mz_soundness.specs.FileRows.{taken_by}
+use Rattle.mz_machine_theory.specs.FileRows.{taken_by}
 use Rattle.mz_layout.specs.Heads.{AllTaken}
-use Rattle.mz_files.specs.Checking.{counts, checks_of}
-use Rattle.mz_files.specs.Chains.{IsGoodStatement, GoodTo}
-use Rattle.mz_files.specs.Good.{Good, FailsAfter}
-use Rattle.mz_files.specs.declared.statement.Statement.{Statement as Told}
+use Rattle.mz_binary_theory.specs.Checking.{counts, checks_of}
+use Rattle.mz_binary_theory.specs.Chains.{IsGoodStatement, GoodTo}
+use Rattle.mz_binary_theory.specs.Good.{Good, FailsAfter}
+use Rattle.mz_binary_theory.specs.declared.statement.Statement.{Statement as Told}
 use Rattle.mz_binary.specs.Progress.{Progress, HasPassed, Tells, kind_code, row_after}
 use Rattle.mz_binary.specs.Judging.{Passes}
-use Rattle.mz_files.specs.FileRun.{file_steps}
-use Rattle.mz_files.proofs.Offered.{chain-declares}
+use Rattle.mz_binary_theory.specs.FileRun.{file_steps}
+use Rattle.mz_binary_theory.proofs.Offered.{chain-declares}
 use Rattle.mz_spec.specs.Spec.{SpecMakes}
 use Rattle.mz_spec.specs.State.{Entry, env_of}
 use Rattle.mz_match.specs.declared.matching.Matching.{Matching}
-use Rattle.mz_verdicts.specs.declared.rule.M.{M}
-use Rattle.mz_verdicts.specs.declared.rule.M.TheVariants as rules
-use Rattle.mz_verdicts.specs.declared.verdict.Verdict.{Verdict}
-use Rattle.mz_verdicts.specs.declared.verdict.Verdict.TheVariants as verdicts
-use Rattle.mz_verdicts.specs.Match.{partner_of, publics_after, publics, term_row_of, term_rows, Agrees, Leaves, partner_checks}
+use Rattle.mz_match_theory.specs.declared.rule.M.{M}
+use Rattle.mz_match_theory.specs.declared.rule.M.TheVariants as rules
+use Rattle.mz_match_theory.specs.declared.verdict.Verdict.{Verdict}
+use Rattle.mz_match_theory.specs.declared.verdict.Verdict.TheVariants as verdicts
+use Rattle.mz_match_theory.specs.Match.{partner_of, publics_after, publics, term_row_of, term_rows, Agrees, Leaves, partner_checks}
 use Rattle.mz_match.specs.Drafts.{ListsGapsOf, IsJudged}
 use Rattle.mz_match.specs.Told.{IsTold, IsMatched}
-use Rattle.mz_verdicts.specs.Verdict.{IsDifference, TicksBy, counts_of, IsSoundIfAccepted, IsVerdict, IsVerdictBy}
-use Rattle.mz_verdicts.proofs.Offered.{publics-append, publics-local, publics-public, term_rows-append, drop-further, drop-past, kinds-total, length-declarations, length-env, leaves-nothing, leaves-local, leaves-public, partner-there, accepted-sound}
-use Rattle.mz_files.specs.declared.standard.Standard.{Standard}
-use Rattle.mz_files.specs.Standards.{lets_gaps}
+use Rattle.mz_match_theory.specs.Verdict.{IsDifference, TicksBy, counts_of, IsSoundIfAccepted, IsVerdict, IsVerdictBy}
+use Rattle.mz_match_theory.proofs.Offered.{publics-append, publics-local, publics-public, term_rows-append, drop-further, drop-past, kinds-total, length-declarations, length-env, leaves-nothing, leaves-local, leaves-public, partner-there, accepted-sound}
+use Rattle.mz_binary_theory.specs.declared.standard.Standard.{Standard}
+use Rattle.mz_binary_theory.specs.Standards.{lets_gaps}
 
 abbrev assertion_code : Bool → ℕ
 assertion_code b = if b then 0x02 else 0x06

@@ -8,13 +8,13 @@ use Rattle.mz_cmd.specs.declared.code.UnifyCode.TheVariants as codes
 use Rattle.mz_logic.specs.Tree.{Tree, Trees, var, app, none, more}
 use Rattle.mz_logic.specs.View.{tree, trees}
 use Rattle.mz_logic.specs.declared.expr.Expr.{Expr}
-use Rattle.mz_unification.specs.Spells.{Marks, dummy_of, trees_of}
+use Rattle.mz_unify_theory.specs.Spells.{Marks, dummy_of, trees_of}
 use Rattle.mz_match.specs.declared.stream.Cursor.{Cursor}
 use Rattle.mz_match.specs.Streams.{step_at, Says, Passes, IsSaid, AreSaid, IsMade, AreMarks, HypsAreSaid}
-use Rattle.mz_verdicts.specs.Trees.{SameOver, AllSameOver, SameTree, SameTrees, Pairs, IsPaired}
-use Rattle.mz_verdicts.specs.Comparing.{Beside, compared}
+use Rattle.mz_match_theory.specs.Trees.{SameOver, AllSameOver, SameTree, SameTrees, Pairs, IsPaired}
+use Rattle.mz_match_theory.specs.Comparing.{Beside, compared}
 use Rattle.mz_match.specs.Comparison.{Answers}
-use Rattle.mz_verdicts.proofs.Offered.{SaysNothing, weaker, no-pairs, no-dummy, sound, complete}
+use Rattle.mz_match_theory.proofs.Offered.{SaysNothing, weaker, no-pairs, no-dummy, sound, complete}
 
 -- ---- over parameters alone
 

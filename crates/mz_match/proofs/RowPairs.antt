@@ -2,8 +2,8 @@
 use Rattle.std.proofs.Common.{◌≡◌, ◌<◌, ◌∙◌, ℕ, Bool, true, false, List, [], ◌∷◌, length, Ok, Err, refl, sym, ap, subst, inl, inr, arith, Result}
 use Rattle.std.specs.Prelude.{if◌then◌else◌, OnErr}
 use Rattle.std.proofs.lemmas.Bool.{true≢false, false≢true}
-use Rattle.mz_checks.specs.Checks.{Checks, AllHold, FailsFirst, Judges, demand, ◌>>◌}
-use Rattle.mz_checks.proofs.Offered.{judges-after, fails-before}
+use Rattle.mz_base_theory.specs.Checks.{Checks, AllHold, FailsFirst, Judges, demand, ◌>>◌}
+use Rattle.mz_base_theory.proofs.Offered.{judges-after, fails-before}
 use Rattle.mz_cmd.specs.Codes.{statement_byte}
 use Rattle.mz_cmd.specs.declared.code.StatementCode.TheVariants as codes
 use Rattle.mz_logic.specs.Signature.{Signature}
@@ -12,12 +12,12 @@ use Rattle.mz_logic.specs.Declaration.{Declaration, sort_decl, term_decl, assert
 use Rattle.mz_logic.specs.Words.{signature_of}
 use Rattle.mz_logic.proofs.Offered.{length-binders}
 use Rattle.mz_layout.specs.Tables.{sort_count, mods_of, term_row}
-use Rattle.mz_files.specs.declared.statement.Statement.{Statement as Told}
-use Rattle.mz_verdicts.specs.declared.kind.Kind.{Kind}
-use Rattle.mz_verdicts.specs.declared.kind.Kind.TheVariants as kinds
-use Rattle.mz_verdicts.specs.declared.rule.M.{M}
-use Rattle.mz_verdicts.specs.declared.rule.M.TheVariants as rules
-use Rattle.mz_verdicts.specs.Match.{Partner, kind_of_form, is_plain, match_checks, partner_checks, signature_checks, form_checks, assertion_checks}
+use Rattle.mz_binary_theory.specs.declared.statement.Statement.{Statement as Told}
+use Rattle.mz_match_theory.specs.declared.kind.Kind.{Kind}
+use Rattle.mz_match_theory.specs.declared.kind.Kind.TheVariants as kinds
+use Rattle.mz_match_theory.specs.declared.rule.M.{M}
+use Rattle.mz_match_theory.specs.declared.rule.M.TheVariants as rules
+use Rattle.mz_match_theory.specs.Match.{Partner, kind_of_form, is_plain, match_checks, partner_checks, signature_checks, form_checks, assertion_checks}
 use Rattle.mz_match.specs.TellsRow.{SaysForm, IsTermRow, IsThmRow, IsRowOf, assertion_code}
 
 -- the declaration at hand is the partner's

@@ -1,7 +1,7 @@
 -- What a stream spells, it says at places of the file.
 use Rattle.std.proofs.Common.{◌≡◌, ◌<◌, ◌+◌, ◌-◌, ℕ, zero, suc, Bool, true, false, cond, ltb, eqb, List, [], ◌∷◌, ◌++◌, length, drop, Option, Some, None, slice_get, refl, ap, sym, ◌∙◌, subst, arith, inl, inr, append_assoc, length-append}
 use Rattle.std.proofs.lemmas.Bool.{ltb-true, ltb-false, eqb-true}
-use Rattle.mz_general.proofs.Offered.{slice_get-last, slice_get-append}
+use Rattle.mz_base_theory.proofs.Offered.{slice_get-last, slice_get-append}
 use Rattle.mz_cmd.specs.declared.code.UnifyCode.{UnifyCode}
 use Rattle.mz_cmd.specs.declared.code.UnifyCode.TheVariants as codes
 use Rattle.mz_cmd.specs.Codes.{unify_code}
@@ -9,8 +9,8 @@ use Rattle.mz_logic.specs.Tree.{Tree, Trees, var, app, none, more}
 use Rattle.mz_logic.specs.Signature.{Signature}
 use Rattle.mz_logic.specs.declared.binder.Binder.{Binder}
 use Rattle.mz_layout.specs.Tables.{term_count, term_row}
-use Rattle.mz_unification.specs.Streams.{StreamKind, of_assertion, of_definition, UnifyCommand, u_term, u_term_save, u_ref, u_dummy, u_hyp, u_end, command_in, IsEnd, StreamIs}
-use Rattle.mz_unification.specs.Spells.{Marks, marked, with_dummy, dummy_of, HasOperands, Spells, SpellsAll, SpellsHyps}
+use Rattle.mz_unify_theory.specs.Streams.{StreamKind, of_assertion, of_definition, UnifyCommand, u_term, u_term_save, u_ref, u_dummy, u_hyp, u_end, command_in, IsEnd, StreamIs}
+use Rattle.mz_unify_theory.specs.Spells.{Marks, marked, with_dummy, dummy_of, HasOperands, Spells, SpellsAll, SpellsHyps}
 use Rattle.mz_match.specs.declared.stream.Cursor.{Cursor}
 use Rattle.mz_match.specs.Streams.{step_of, step_by, step_at, Says, makes_mark, dummies_in, mark_by, mark_here, mark_from, HasArity, IsSaid, AreSaid, IsMade, HypsAreSaid}
 

@@ -3,11 +3,11 @@ use Rattle.std.proofs.Common.{◌≡◌, ◌≤◌, ℕ, Bool, List, length, Opt
 use Rattle.std.specs.Prelude.{IsTrue, ◌↔◌, is_some}
 use Rattle.std.proofs.lemmas.Bool.{true≢false}
 use Rattle.mz_logic.specs.Tree.{Tree}
-use Rattle.mz_verdicts.specs.Trees.{SameBody}
+use Rattle.mz_match_theory.specs.Trees.{SameBody}
 use Rattle.mz_match.specs.declared.stream.Cursor.{Cursor}
 use Rattle.mz_match.specs.Comparison.{Answers}
-use Rattle.mz_verdicts.specs.Comparing.{Beside, compared}
-use Rattle.mz_verdicts.proofs.Offered.{SaysNothing, no-pairs, sound, complete}
+use Rattle.mz_match_theory.specs.Comparing.{Beside, compared}
+use Rattle.mz_match_theory.proofs.Offered.{SaysNothing, no-pairs, sound, complete}
 
 pub same-body : (b : Beside) (ps qs : List (Option ℕ)) (e f : Tree) (o : Option Cursor) (to : Cursor) (r : Bool)
     → SaysNothing ps → length b.es ≤ length ps → r ≡ is_some o → Answers o qs (compared b ps e f) to → IsTrue r ↔ SameBody b.rows b.params b.ds b.es e f

@@ -1,7 +1,7 @@
 -- What the row of a good statement says.
 use Rattle.std.proofs.Common.{◌≡◌, ◌≤◌, ◌<◌, ◌+◌, ◌∙◌, ◌⊎◌, ℕ, zero, suc, Bool, true, false, List, [], ◌∷◌, ◌++◌, length, drop, reverse, Option, Some, None, slice_get, refl, sym, ap, subst, inl, inr, arith, append_assoc}
 use Rattle.std.specs.Prelude.{if◌then◌else◌}
-use Rattle.mz_general.proofs.Offered.{slice_get-within, slice_get-append_add}
+use Rattle.mz_base_theory.proofs.Offered.{slice_get-within, slice_get-append_add}
 use Rattle.mz_cmd.specs.Codes.{statement_byte}
 use Rattle.mz_logic.specs.Tree.{Tree, Trees, var, none, listed}
 use Rattle.mz_logic.specs.Signature.{Signature}
@@ -11,24 +11,24 @@ use Rattle.mz_logic.specs.Words.{binders_of}
 use Rattle.mz_logic.specs.declared.binder.Binder.{Binder}
 use Rattle.mz_logic.proofs.Offered.{signatures-append, length-binders, length-signatures}
 use Rattle.mz_layout.specs.Tables.{list_at, term_count, mods_of, term_row, thm_row}
-use Rattle.mz_unification.specs.Streams.{StreamKind, of_assertion, of_definition, UnifyCommand, StreamIs}
-use Rattle.mz_unification.specs.Spells.{Marks, SpellsText, Text, SpellsForm, at_first, variables_from}
-use Rattle.mz_words.proofs.Offered.{right-words}
-use Rattle.mz_unification.proofs.Offered.{length-params}
-use Rattle.mz_soundness.specs.FileRows.{stream_of, term_of_file}
-use Rattle.mz_files.specs.declared.statement.Statement.{Statement as Told}
-use Rattle.mz_files.specs.Chains.{GoodTo}
-use Rattle.mz_files.specs.Laws.{HasRow, SaysTerm}
+use Rattle.mz_unify_theory.specs.Streams.{StreamKind, of_assertion, of_definition, UnifyCommand, StreamIs}
+use Rattle.mz_unify_theory.specs.Spells.{Marks, SpellsText, Text, SpellsForm, at_first, variables_from}
+use Rattle.mz_layout_words.proofs.Offered.{right-words}
+use Rattle.mz_unify_theory.proofs.Offered.{length-params}
+use Rattle.mz_machine_theory.specs.FileRows.{stream_of, term_of_file}
+use Rattle.mz_binary_theory.specs.declared.statement.Statement.{Statement as Told}
+use Rattle.mz_binary_theory.specs.Chains.{GoodTo}
+use Rattle.mz_binary_theory.specs.Laws.{HasRow, SaysTerm}
 use Rattle.mz_binary.specs.Progress.{kind_code, row_after}
-use Rattle.mz_files.specs.Spelling.{SpellsRow}
-use Rattle.mz_files.proofs.Offered.{good-rows}
+use Rattle.mz_binary_theory.specs.Spelling.{SpellsRow}
+use Rattle.mz_binary_theory.proofs.Offered.{good-rows}
 use Rattle.mz_match.specs.Streams.{AreMarks, HypsAreSaid}
 use Rattle.mz_match.specs.TellsRow.{SaysFirst, SaysForm, SaysClaims, IsTermRow, IsThmRow, IsRowOf, assertion_code}
 use Rattle.mz_match.specs.Told.{IsTold}
 use Rattle.mz_match.proofs.Steps.{command-takes}
 use Rattle.mz_match.proofs.FewDummies.{few-dummies}
 use Rattle.mz_match.proofs.SaidStreams.{joined, Grows, Segment, append-none, grows-not, hyps-grow, spelled-said, hyps-said}
-use Rattle.mz_files.specs.declared.standard.Standard.{Standard}
+use Rattle.mz_binary_theory.specs.declared.standard.Standard.{Standard}
 
 -- ---- the signatures of what was declared are those of the rows
 

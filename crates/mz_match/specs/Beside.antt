@@ -1,13 +1,13 @@
 -- A unify stream of a binary beside expressions of a specification.
 use Rattle.std.specs.Prelude.{◌≡◌, ◌≤◌, ℕ, List, [], length, Some, slice_get}
 use Rattle.mz_logic.specs.Tree.{Tree, Trees, listed}
-use Rattle.mz_unification.specs.Spells.{Marks}
+use Rattle.mz_unify_theory.specs.Spells.{Marks}
 use Rattle.mz_match.specs.declared.compare.Sides.{Sides}
 use Rattle.mz_match.specs.declared.stream.Cursor.{Cursor}
 use Rattle.mz_match.specs.Marks.{AreKept}
 use Rattle.mz_match.specs.Streams.{IsSaid, AreSaid, IsMade, AreMarks, HypsAreSaid}
-use Rattle.mz_verdicts.specs.Comparing.{Beside}
-use Rattle.mz_verdicts.specs.Trees.{SameTree}
+use Rattle.mz_match_theory.specs.Comparing.{Beside}
+use Rattle.mz_match_theory.specs.Trees.{SameTree}
 
 -- what is compared, where the stream has these marks
 abbrev pub beside : Sides → Marks → Beside

@@ -2,18 +2,18 @@
 use Rattle.std.specs.Prelude.{◌≡◌, ◌⊎◌, ⊤, ℕ, Bool, true, not, ◌&&◌, if◌then◌else◌, MatchBool, List, [], ◌∷◌, ◌++◌, length}
 use Rattle.mz_logic.specs.Declaration.{Declaration, sort_decl, term_decl, assertion_decl, assertions}
 use Rattle.mz_logic.specs.LegalLists.{Statement, DraftLegal, declarations}
-use Rattle.mz_files.specs.Chains.{Statements}
-use Rattle.mz_files.specs.Gapped.{GappedIn, AreFreeUnlessGapped}
+use Rattle.mz_binary_theory.specs.Chains.{Statements}
+use Rattle.mz_binary_theory.specs.Gapped.{GappedIn, AreFreeUnlessGapped}
 use Rattle.mz_spec.specs.Spec.{SpecOf}
 use Rattle.mz_match.specs.declared.draft.Draft.{Draft}
 use Rattle.mz_match.specs.declared.draft.Draft.TheVariants as drafts
-use Rattle.mz_verdicts.specs.declared.verdict.Counts.{Counts}
-use Rattle.mz_verdicts.specs.declared.verdict.Verdict.{Verdict}
-use Rattle.mz_verdicts.specs.declared.verdict.Verdict.TheVariants as verdicts
-use Rattle.mz_verdicts.specs.Match.{publics, Agrees}
-use Rattle.mz_verdicts.specs.Verdict.{AcceptsBy, IsVerdictBy, counts_of}
-use Rattle.mz_files.specs.declared.standard.Standard.{Standard}
-use Rattle.mz_files.specs.Standards.{lets_gaps, draft_standard}
+use Rattle.mz_match_theory.specs.declared.verdict.Counts.{Counts}
+use Rattle.mz_match_theory.specs.declared.verdict.Verdict.{Verdict}
+use Rattle.mz_match_theory.specs.declared.verdict.Verdict.TheVariants as verdicts
+use Rattle.mz_match_theory.specs.Match.{publics, Agrees}
+use Rattle.mz_match_theory.specs.Verdict.{AcceptsBy, IsVerdictBy, counts_of}
+use Rattle.mz_binary_theory.specs.declared.standard.Standard.{Standard}
+use Rattle.mz_binary_theory.specs.Standards.{lets_gaps, draft_standard}
 
 -- ---- which theorems rest on a gap
 

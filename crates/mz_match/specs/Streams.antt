@@ -8,7 +8,7 @@ use Rattle.mz_cmd.specs.Codes.{unify_code}
 use Rattle.mz_cmd.specs.Reading.{command_at}
 use Rattle.mz_logic.specs.Tree.{Tree, Trees, var, app, none, more, listed}
 use Rattle.mz_layout.specs.Tables.{term_count, term_row}
-use Rattle.mz_unification.specs.Spells.{Marks, dummy_of}
+use Rattle.mz_unify_theory.specs.Spells.{Marks, dummy_of}
 use Rattle.mz_match.specs.declared.stream.Step.{Step}
 use Rattle.mz_match.specs.declared.stream.Cursor.{Cursor}
 

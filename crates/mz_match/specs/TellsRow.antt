@@ -7,9 +7,9 @@ use Rattle.mz_logic.specs.Tree.{Tree, listed}
 use Rattle.mz_logic.specs.Declaration.{Declaration, sort_decl, term_decl, assertion_decl, Term, Assertion, Form, plain_form, abstract_form, defined, is_defined}
 use Rattle.mz_logic.specs.Words.{binders_of, signature_of}
 use Rattle.mz_layout.specs.Tables.{sort_count, term_count, thm_count, mods_of, term_row, thm_row}
-use Rattle.mz_unification.specs.Spells.{Marks}
-use Rattle.mz_words.specs.RowWords.{bound_count}
-use Rattle.mz_files.specs.declared.statement.Statement.{Statement as Told}
+use Rattle.mz_unify_theory.specs.Spells.{Marks}
+use Rattle.mz_layout_words.specs.RowWords.{bound_count}
+use Rattle.mz_binary_theory.specs.declared.statement.Statement.{Statement as Told}
 use Rattle.mz_match.specs.declared.stream.Cursor.{Cursor}
 use Rattle.mz_match.specs.Streams.{AreMarks, IsSaid, HypsAreSaid}
 

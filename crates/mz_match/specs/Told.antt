@@ -3,14 +3,14 @@ use Rattle.std.specs.Prelude.{◌≡◌, ◌≤◌, ◌+◌, ℕ, List, [], leng
 use Rattle.mz_logic.specs.Declaration.{Declaration}
 use Rattle.mz_logic.specs.LegalLists.{Statement}
 use Rattle.mz_layout.specs.Tables.{list_at}
-use Rattle.mz_files.specs.declared.statement.Statement.{Statement as Told}
-use Rattle.mz_files.specs.Chains.{IsGoodStatement, GoodTo}
+use Rattle.mz_binary_theory.specs.declared.statement.Statement.{Statement as Told}
+use Rattle.mz_binary_theory.specs.Chains.{IsGoodStatement, GoodTo}
 use Rattle.mz_binary.specs.Progress.{Progress, HasPassed, Tells}
 use Rattle.mz_binary.specs.Judging.{Passes}
 use Rattle.mz_layout.specs.Layout.{Layout}
 use Rattle.mz_match.specs.declared.matching.Matching.{Matching}
-use Rattle.mz_verdicts.specs.Match.{Leaves, publics, term_rows}
-use Rattle.mz_files.specs.declared.standard.Standard.{Standard}
+use Rattle.mz_match_theory.specs.Match.{Leaves, publics, term_rows}
+use Rattle.mz_binary_theory.specs.declared.standard.Standard.{Standard}
 
 -- after these good statements, whose public terms have these rows, it is this one
 pub record IsTold (standard : Standard) (bin rows : List ℕ) (told : Told) (ss : List Statement) (env : List Declaration) (s : Statement) (next : ℕ) : Type 0 where

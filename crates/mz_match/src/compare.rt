@@ -4,10 +4,10 @@ ghost use Rattle.std.specs.Prelude.{◌≡◌, ◌≤◌, ◌<◌, ◌-◌, ◌^
 ghost use Rattle.mz_logic.specs.Tree.{Tree, Trees, listed, var};
 ghost use Rattle.mz_logic.specs.View.{tree};
 ghost use Rattle.mz_layout.specs.Tables.{term_count, term_row};
-ghost use Rattle.mz_unification.specs.Spells.{Marks, trees_of};
+ghost use Rattle.mz_unify_theory.specs.Spells.{Marks, trees_of};
 ghost use Rattle.mz_match.specs.Streams.{mark_from, step_at as step_lem};
-ghost use Rattle.mz_verdicts.specs.Trees.{SameBody, SameTree, SameTrees};
-ghost use Rattle.mz_verdicts.specs.Comparing.{all_none, all_compared, compared, dummy_compared, has_sort as sort_lem, is_taken as taken_lem, is_number as number_lem, makes_term as term_lem, paired};
+ghost use Rattle.mz_match_theory.specs.Trees.{SameBody, SameTree, SameTrees};
+ghost use Rattle.mz_match_theory.specs.Comparing.{all_none, all_compared, compared, dummy_compared, has_sort as sort_lem, is_taken as taken_lem, is_number as number_lem, makes_term as term_lem, paired};
 ghost use Rattle.mz_match.specs.Comparison.{Answers};
 ghost use Rattle.mz_match.specs.Beside.{AllSaidAt, at_start, HypsSaidAt, IsHypAt, IsPlainStream, IsStream, MadeAt, SaidAt, beside};
 

@@ -1,10 +1,10 @@
 // How many declarations a specification has of each kind.
 ghost use Rattle.std.specs.Prelude.{◌≡◌, ◌≤◌, length};
 ghost use Rattle.mz_spec.specs.State.{env_of};
-ghost use Rattle.mz_verdicts.specs.Verdict.{count as count_lem, counts_of};
+ghost use Rattle.mz_match_theory.specs.Verdict.{count as count_lem, counts_of};
 
+use mz_match_theory::{Counts, Kind, kind_of};
 use mz_spec::Spec;
-use mz_verdicts::{Counts, Kind, kind_of};
 
 /// How many declarations there are of each kind.
 pub fn count_all(spec: &Spec) -> Counts

@@ -1,18 +1,18 @@
 // A specification and a binary whose proofs may have gaps.
 ghost use Rattle.std.specs.Prelude.{◌≡◌, ◌⊎◌, ◌<◌, ◌≤◌, ◌+◌, ◌*◌, ◌^◌, ℕ, length};
-ghost use Rattle.mz_files.specs.Standards.{draft_standard};
-ghost use Rattle.mz_verdicts.specs.declared.verdict.Verdict.{Verdict as TheVerdict};
-ghost use Rattle.mz_verdicts.specs.declared.verdict.Verdict.TheVariants as verdicts;
+ghost use Rattle.mz_binary_theory.specs.Standards.{draft_standard};
+ghost use Rattle.mz_match_theory.specs.declared.verdict.Verdict.{Verdict as TheVerdict};
+ghost use Rattle.mz_match_theory.specs.declared.verdict.Verdict.TheVariants as verdicts;
 ghost use Rattle.mz_match.specs.Drafts.{IsDraft, IsDraftSoundIfAccepted, verdict_of};
-ghost use Rattle.mz_verdicts.specs.Verdict.{AcceptsWithBy, FirstRefusalBy, TicksBy};
+ghost use Rattle.mz_match_theory.specs.Verdict.{AcceptsWithBy, FirstRefusalBy, TicksBy};
 
 use crate::verify::judge;
+use mz_base::Mode;
+use mz_binary_theory::Standard;
 use mz_cmd::{Refusal, Steps};
-use mz_files::Standard;
-use mz_mode::Mode;
+use mz_match_theory::{Counts, M, Verdict};
 use mz_spec::SpecRefusal;
 use mz_store::Seed;
-use mz_verdicts::{Counts, M, Verdict};
 use std::alloc::Global;
 use std::marker::Model;
 use std::sync::ledger::Ledger;

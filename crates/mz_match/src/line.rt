@@ -1,12 +1,12 @@
 // The line that tells a verdict.
 ghost use Rattle.std.specs.Prelude.{◌≡◌, IfOk};
-ghost use Rattle.mz_verdicts.specs.Lines.{accepted_line as accepted_lem, match_line as match_lem, spec_line as spec_lem};
-ghost use Rattle.mz_verdicts.specs.Verdict.{line_of};
+ghost use Rattle.mz_match_theory.specs.Lines.{accepted_line as accepted_lem, match_line as match_lem, spec_line as spec_lem};
+ghost use Rattle.mz_match_theory.specs.Verdict.{line_of};
 
 use mz_binary::refusal_line;
 use mz_cmd::Mem;
+use mz_match_theory::{Counts, M, Verdict};
 use mz_spec::SpecRefusal;
-use mz_verdicts::{Counts, M, Verdict};
 use std::alloc::Global;
 
 /// The line that tells a verdict, with its newline.

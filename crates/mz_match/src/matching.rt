@@ -8,7 +8,7 @@ ghost use Rattle.mz_binary.specs.Progress.{HasPassed, Progress};
 ghost use Rattle.mz_spec.specs.Spec.{SpecMakes};
 ghost use Rattle.mz_spec.specs.State.{Entry, env_of};
 ghost use Rattle.mz_match.specs.Told.{IsMatched, IsNextTold};
-ghost use Rattle.mz_verdicts.specs.Verdict.{IsDifference, IsVerdictBy, counts_of};
+ghost use Rattle.mz_match_theory.specs.Verdict.{IsDifference, IsVerdictBy, counts_of};
 
 use crate::count::count_all;
 use crate::pair::{has_kind, match_statement};
@@ -16,8 +16,8 @@ use crate::publics::Publics;
 use mz_binary::Statement;
 use mz_cmd::StatementCode;
 use mz_layout::Mmb;
+use mz_match_theory::{M, Verdict};
 use mz_spec::Spec;
-use mz_verdicts::{M, Verdict};
 use std::alloc::Global;
 
 /// How many declarations have their partner, how many statements have passed, and the public terms

@@ -1,14 +1,14 @@
 // A declaration and its partner.
 ghost use Rattle.std.specs.Prelude.{◌≡◌, ◌≤◌, ◌↔◌, ℕ, Bool, IsTrue, List, OnErr, drop, length, false, true};
-ghost use Rattle.mz_checks.specs.Checks.{Judges};
+ghost use Rattle.mz_base_theory.specs.Checks.{Judges};
 ghost use Rattle.mz_logic.specs.Declaration.{Assertion, Declaration, Term, is_defined, sort_decl};
 ghost use Rattle.mz_cmd.specs.Codes.{statement_byte};
 ghost use Rattle.mz_logic.specs.DeclView.{assertion_of, assertion_view, declaration, form as form_lem, is_axiom, term_of};
 ghost use Rattle.mz_logic.specs.LegalLists.{Statement as Declared};
 ghost use Rattle.mz_spec.specs.State.{env_of};
 ghost use Rattle.mz_layout.specs.Tables.{term_row};
-ghost use Rattle.mz_files.specs.declared.standard.Standard.{Standard};
-ghost use Rattle.mz_verdicts.specs.Match.{assertion_checks, form_checks, is_plain as plain_lem, match_checks, partner_checks, partner_of};
+ghost use Rattle.mz_binary_theory.specs.declared.standard.Standard.{Standard};
+ghost use Rattle.mz_match_theory.specs.Match.{assertion_checks, form_checks, is_plain as plain_lem, match_checks, partner_checks, partner_of};
 ghost use Rattle.mz_match.specs.TellsRow.{IsRowOf, IsTermRow, IsThmRow, assertion_code};
 ghost use Rattle.mz_match.specs.Told.{IsTold};
 
@@ -20,8 +20,8 @@ use mz_binary::Statement;
 use mz_cmd::StatementCode;
 use mz_layout::{Mmb, Row};
 use mz_logic::{Decl, SortMods, TermDecl, TermForm, Terms, ThmDecl, ThmForm};
+use mz_match_theory::M;
 use mz_spec::Spec;
-use mz_verdicts::M;
 use std::alloc::Global;
 
 /// Compares a public statement, which a checker of the binary told, with the i-th declaration, its

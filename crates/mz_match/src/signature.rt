@@ -1,16 +1,16 @@
 // The words of a row beside a declaration's parameters and result.
 ghost use Rattle.std.specs.Prelude.{◌≡◌, ◌<◌, ◌≤◌, ◌↔◌, ◌++◌, ◌∷◌, [], IsTrue, if◌then◌else◌, length, true};
-ghost use Rattle.mz_checks.specs.Checks.{Judges};
+ghost use Rattle.mz_base_theory.specs.Checks.{Judges};
 ghost use Rattle.mz_logic.specs.Words.{binder_of, binders_of, bound_places, places_set, result_of, signature_of, word_bound};
 ghost use Rattle.mz_layout.specs.Rows.{IsRow, params_of};
 ghost use Rattle.mz_layout.specs.Tables.{term_count, term_row};
-ghost use Rattle.mz_words.specs.RowWords.{bound_count};
-ghost use Rattle.mz_verdicts.specs.Match.{signature_checks};
+ghost use Rattle.mz_layout_words.specs.RowWords.{bound_count};
+ghost use Rattle.mz_match_theory.specs.Match.{signature_checks};
 
 use arrayvec::ArrayVec;
 use mz_layout::{Mmb, Row};
 use mz_logic::{Binder, ResultType, Terms, Word};
-use mz_verdicts::M;
+use mz_match_theory::M;
 
 /// The places of bound parameters, of which a row has at most 55.
 type Places = ArrayVec<u32, 55>;

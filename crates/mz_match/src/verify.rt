@@ -3,18 +3,18 @@ ghost use Rattle.std.specs.Prelude.{◌≡◌, ◌⊎◌, ◌<◌, ◌≤◌, �
 ghost use Rattle.mz_layout.specs.Layout.{Layout};
 ghost use Rattle.mz_spec.specs.Spec.{SpecMakes};
 ghost use Rattle.mz_match.specs.Drafts.{IsJudged, places_past};
-ghost use Rattle.mz_verdicts.specs.Headline.{Proves};
-ghost use Rattle.mz_verdicts.specs.Verdict.{AcceptsWith, AcceptsWithBy, FirstRefusal, FirstRefusalBy, IsSoundIfAccepted, IsVerdict, IsVerdictBy, Ticks, TicksBy};
+ghost use Rattle.mz_match_theory.specs.Headline.{Proves};
+ghost use Rattle.mz_match_theory.specs.Verdict.{AcceptsWith, AcceptsWithBy, FirstRefusal, FirstRefusalBy, IsSoundIfAccepted, IsVerdict, IsVerdictBy, Ticks, TicksBy};
 
 use crate::matching::Matching;
+use mz_base::Mode;
 use mz_binary::{Checker, Next, Statement};
+use mz_binary_theory::Standard;
 use mz_cmd::{Mem, Steps};
-use mz_files::Standard;
 use mz_layout::Mmb;
-use mz_mode::Mode;
+use mz_match_theory::{Counts, Verdict};
 use mz_spec::{Hashing, Spec, SpecRead, read_spec};
 use mz_store::Seed;
-use mz_verdicts::{Counts, Verdict};
 use std::alloc::Global;
 use std::sync::ledger::Ledger;
 

@@ -3,10 +3,10 @@ use Rattle.std.proofs.Common.{◌≡◌, ◌≤◌, ◌<◌, ◌+◌, ◌++◌, 
 use Rattle.std.specs.Prelude.{◌==◌}
 use Rattle.std.proofs.lemmas.Bool.{cond-true, cond-false, eq-eqb}
 use Rattle.mz_logic.specs.Tree.{Tree, Trees, none, more, listed}
-use Rattle.mz_notation.specs.Notation.{slots, places}
-use Rattle.mz_notation.specs.declared.notation.Element.{Element}
-use Rattle.mz_notation.specs.declared.notation.Element.TheVariants.{Fixed as fixed, Slot as slot}
-use Rattle.mz_notation.proofs.Offered.{apart as unequal}
+use Rattle.mz_math_notation.specs.Notation.{slots, places}
+use Rattle.mz_math_notation.specs.declared.notation.Element.{Element}
+use Rattle.mz_math_notation.specs.declared.notation.Element.TheVariants.{Fixed as fixed, Slot as slot}
+use Rattle.mz_math_notation.proofs.Offered.{apart as unequal}
 use Rattle.mz_math.specs.Grammar.{operand_for, arranged}
 
 other : (j i : ℕ) → j < i → (j == i) ≡ false

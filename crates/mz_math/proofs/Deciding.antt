@@ -1,15 +1,14 @@
 -- A list of tokens has a tree or none.
 use Rattle.std.proofs.Common.{◌≡◌, ◌≢◌, ◌≤◌, ◌⊎◌, ◌++◌, ◌∙◌, ℕ, zero, suc, List, [], ◌∷◌, length, Bool, true, false, not, Some, slice_get, drop, ap, ap₂, sym, refl, subst, inl, inr, arith, Contains, length-append}
 use Rattle.std.specs.Prelude.{codes}
-use Rattle.mz_general.proofs.Offered.{same-head, same-tail, nil-cons, either-decided, three-decided, some-decided, Decided}
-use Rattle.mz_checks.proofs.Offered.{at_most-decided, both-decided, bytes-decided}
+use Rattle.mz_base_theory.proofs.Offered.{same-head, same-tail, nil-cons, either-decided, three-decided, some-decided, Decided, at_most-decided, both-decided, bytes-decided}
 use Rattle.mz_logic.specs.Tree.{Tree, Trees, var, app, none, more, followed_by}
 use Rattle.mz_logic.specs.Signature.{Signature}
-use Rattle.mz_notation.specs.Notation.{max_level, above, TermName}
-use Rattle.mz_notation.specs.declared.notation.Element.{Element}
-use Rattle.mz_notation.specs.declared.notation.Element.TheVariants.{Fixed as fixed, Slot as slot}
-use Rattle.mz_notation.specs.declared.notation.Notation.{Notation}
-use Rattle.mz_notation.specs.Clear.{LedBy, JoinedBy}
+use Rattle.mz_math_notation.specs.Notation.{max_level, above, TermName}
+use Rattle.mz_math_notation.specs.declared.notation.Element.{Element}
+use Rattle.mz_math_notation.specs.declared.notation.Element.TheVariants.{Fixed as fixed, Slot as slot}
+use Rattle.mz_math_notation.specs.declared.notation.Notation.{Notation}
+use Rattle.mz_math_notation.specs.Clear.{LedBy, JoinedBy}
 use Rattle.mz_math.specs.Lookups.{NoVariable, NoLeading, NoTermName}
 use Rattle.mz_math.specs.Answers.{MayLead}
 use Rattle.mz_math.specs.Grammar.{Item, token, expr, items, level_before, operands_at_max, variable, applied, end, word, head_level, Words, Exp, IsTermName, last_level, notated_tree, tokens_of, part_tokens}

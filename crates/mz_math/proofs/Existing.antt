@@ -2,29 +2,28 @@
 use Rattle.std.proofs.Common.{Some, slice_get, ◌≡◌, ◌≢◌, ◌≤◌, ◌<◌, ◌+◌, ◌-◌, ◌⊎◌, ◌∙◌, ℕ, zero, suc, List, [], ◌∷◌, length, Bool, true, false, IsTrue, ap, sym, refl, subst, inl, inr, arith, Contains, eq-or-lt_of_le}
 use Rattle.std.specs.Prelude.{codes, slice_index}
 use Rattle.std.proofs.lemmas.Option.{slice_get_within, get_or_from_slice_get}
-use Rattle.mz_general.proofs.Offered.{either-decided, Decided, contains-decided}
-use Rattle.mz_checks.specs.Checks.{AreDecided, AllHold, FailsFirst}
-use Rattle.mz_checks.proofs.Offered.{all_hold-or_fails, at_most-decided, bytes-decided, both-decided, are_decided-both, are_decided-rows, all_hold-rest}
+use Rattle.mz_base_theory.proofs.Offered.{either-decided, Decided, contains-decided, all_hold-or_fails, at_most-decided, bytes-decided, both-decided, are_decided-both, are_decided-rows, all_hold-rest}
+use Rattle.mz_base_theory.specs.Checks.{AreDecided, AllHold, FailsFirst}
 use Rattle.mz_lex.specs.Kinds.{is_space}
 use Rattle.mz_logic.specs.Tree.{Tree}
 use Rattle.mz_logic.specs.Declaration.{signatures}
-use Rattle.mz_tokens.specs.Pieces.{IsSpaces, IsPiece, PiecesFrom, Pieces, piece_texts, piece_text}
-use Rattle.mz_tokens.specs.declared.pieces.Delimiters.{Delimiters}
-use Rattle.mz_tokens.specs.declared.pieces.Piece.{Piece}
-use Rattle.mz_notation.specs.declared.notation.Element.{Element}
-use Rattle.mz_notation.specs.declared.notation.Element.TheVariants.{Fixed as fixed, Slot as slot}
-use Rattle.mz_notation.specs.declared.notation.Notation.{Notation}
-use Rattle.mz_notation.specs.Notation.{TermName}
-use Rattle.mz_notation.specs.Clear.{HasConstant}
+use Rattle.mz_math_tokens.specs.Pieces.{IsSpaces, IsPiece, PiecesFrom, Pieces, piece_texts, piece_text}
+use Rattle.mz_math_tokens.specs.declared.pieces.Delimiters.{Delimiters}
+use Rattle.mz_math_tokens.specs.declared.pieces.Piece.{Piece}
+use Rattle.mz_math_notation.specs.declared.notation.Element.{Element}
+use Rattle.mz_math_notation.specs.declared.notation.Element.TheVariants.{Fixed as fixed, Slot as slot}
+use Rattle.mz_math_notation.specs.declared.notation.Notation.{Notation}
+use Rattle.mz_math_notation.specs.Notation.{TermName}
+use Rattle.mz_math_notation.specs.Clear.{HasConstant}
 use Rattle.mz_math.specs.Grammar.{Words, Exp, IsVariable, IsNamed, IsSomeConstant, IsKnown}
-use Rattle.mz_notation.specs.Kept.{IsTable, AreVariables}
+use Rattle.mz_math_notation.specs.Kept.{IsTable, AreVariables}
 use Rattle.mz_math.specs.Meaning.{Wanted, Coerced, IsClaimed, height}
-use Rattle.mz_coercions.specs.Coercions.{IsPath, wrapped}
+use Rattle.mz_math_coercions.specs.Coercions.{IsPath, wrapped}
 use Rattle.mz_math.specs.Formula.{Reader, words, most, StandsFor, Means, Misreading, is_known, known_checks, token_checks, formula_checks, IsFormula, Misreads}
-use Rattle.mz_tokens.specs.Answers.{EndsAt, IsWhole}
+use Rattle.mz_math_tokens.specs.Answers.{EndsAt, IsWhole}
 use Rattle.mz_math.specs.Answers.{settled}
 use Rattle.mz_math.proofs.Readable.{table-readable}
-use Rattle.mz_tokens.proofs.Offered.{next-first, whole-first, whole-more, whole-piece}
+use Rattle.mz_math_tokens.proofs.Offered.{next-first, whole-first, whole-more, whole-piece}
 use Rattle.mz_math.proofs.Judging.{parts, stands, same}
 use Rattle.mz_math.proofs.Deciding.{found, placed, equal-decided, tree-decided}
 use Rattle.mz_math.proofs.Standing.{path-decided, coerced-decided, claimed-decided}

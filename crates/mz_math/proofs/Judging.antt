@@ -1,7 +1,7 @@
 -- The first rule that a math string breaks.
 use Rattle.std.proofs.Common.{◌≡◌, ◌<◌, ◌≤◌, ◌+◌, ◌∙◌, ℕ, List, [], length, Some, None, Option, ap, sym, refl, subst, inl, inr, arith}
-use Rattle.mz_checks.specs.Checks.{AllHold, FailsFirst}
-use Rattle.mz_checks.proofs.Offered.{all_hold-both, fails-before, fails-after}
+use Rattle.mz_base_theory.specs.Checks.{AllHold, FailsFirst}
+use Rattle.mz_base_theory.proofs.Offered.{all_hold-both, fails-before, fails-after}
 use Rattle.mz_lex.specs.declared.rule.S.TheVariants as rules
 use Rattle.mz_logic.specs.Tree.{Tree}
 use Rattle.mz_logic.specs.View.{tree}
@@ -9,15 +9,15 @@ use Rattle.mz_logic.specs.Declaration.{Declaration, signatures, sorts}
 use Rattle.mz_logic.specs.Modifiers.{MayBeClaimSort}
 use Rattle.std.specs.Prelude.{IfSome, MatchOption, slice_get}
 use Rattle.mz_logic.specs.declared.binder.Binder.{Binder}
-use Rattle.mz_tokens.specs.Pieces.{Pieces, piece_texts}
-use Rattle.mz_tokens.specs.declared.pieces.Piece.{Piece}
-use Rattle.mz_coercions.specs.declared.coercion.Coercion.{Coercion}
-use Rattle.mz_coercions.specs.Coercions.{IsPath, OnePath, Reaches, wrapped}
+use Rattle.mz_math_tokens.specs.Pieces.{Pieces, piece_texts}
+use Rattle.mz_math_tokens.specs.declared.pieces.Piece.{Piece}
+use Rattle.mz_math_coercions.specs.declared.coercion.Coercion.{Coercion}
+use Rattle.mz_math_coercions.specs.Coercions.{IsPath, OnePath, Reaches, wrapped}
 use Rattle.mz_math.specs.Grammar.{Exp, tree_of}
 use Rattle.mz_math.specs.Meaning.{Wanted, provable, of_sort, Coerced, IsSettled, IsClaimed, IsGoal, height}
-use Rattle.mz_notation.specs.Kept.{IsTable, AreVariables}
+use Rattle.mz_math_notation.specs.Kept.{IsTable, AreVariables}
 use Rattle.mz_math.specs.Formula.{Reader, words, most, StandsFor, Means, Misreading, breaks, token_checks, known_checks, Misreads, IsParsed}
-use Rattle.mz_coercions.specs.Answers.{HasLength}
+use Rattle.mz_math_coercions.specs.Answers.{HasLength}
 use Rattle.mz_math.specs.Answers.{settled, IsMeant, IsJudged, IsFirstUnknown, IsClaimRead}
 use Rattle.mz_math.specs.declared.formula.Parsed.{Parsed}
 use Rattle.mz_math.specs.declared.formula.Parsed.TheVariants as parsed
@@ -25,7 +25,7 @@ use Rattle.mz_math.proofs.Unique.{one-expression}
 use Rattle.mz_math.proofs.Readable.{table-readable}
 use Rattle.mz_math.proofs.OneMeaning.{coerced-one}
 use Rattle.mz_math.proofs.Meanings.{wrapped-height}
-use Rattle.mz_coercions.proofs.Offered.{length-one, path-reaches, last-end}
+use Rattle.mz_math_coercions.proofs.Offered.{length-one, path-reaches, last-end}
 
 -- ---- before the whole's own rule
 

@@ -1,7 +1,7 @@
 -- Which tokens are known.
 use Rattle.std.proofs.Common.{◌≡◌, ◌⊎◌, ℕ, List, inl, inr}
 use Rattle.std.specs.Prelude.{codes}
-use Rattle.mz_notation.specs.Clear.{HasConstant}
+use Rattle.mz_math_notation.specs.Clear.{HasConstant}
 use Rattle.mz_math.specs.Grammar.{Words, IsVariable, IsNamed, IsKnown}
 
 pub known-last : (ws : Words) (w : List ℕ) → (IsVariable ws w → ⊥) → ((w ≡ codes "(") ⊎ (w ≡ codes ")") → ⊥) → ((q : ℕ) × (HasConstant ws.leading w q ⊎ HasConstant ws.infixes w q) → ⊥)

@@ -1,14 +1,14 @@
 -- Tokens that make a tree are known.
 use Rattle.std.proofs.Common.{◌++◌, ℕ, zero, suc, List, [], ◌∷◌, inl, inr, refl, sym, subst, Contains}
 use Rattle.std.specs.Prelude.{⊤}
-use Rattle.mz_general.proofs.Offered.{contains_at, contains_head, contains_tail}
-use Rattle.mz_checks.specs.Checks.{AllHold}
+use Rattle.mz_base_theory.proofs.Offered.{contains_at, contains_head, contains_tail}
+use Rattle.mz_base_theory.specs.Checks.{AllHold}
 use Rattle.mz_logic.specs.Tree.{Tree}
-use Rattle.mz_notation.specs.declared.notation.Element.{Element}
-use Rattle.mz_notation.specs.declared.notation.Element.TheVariants.{Fixed as fixed, Slot as slot}
-use Rattle.mz_notation.specs.declared.notation.Notation.{Notation}
-use Rattle.mz_tokens.specs.Pieces.{piece_texts}
-use Rattle.mz_tokens.specs.declared.pieces.Piece.{Piece}
+use Rattle.mz_math_notation.specs.declared.notation.Element.{Element}
+use Rattle.mz_math_notation.specs.declared.notation.Element.TheVariants.{Fixed as fixed, Slot as slot}
+use Rattle.mz_math_notation.specs.declared.notation.Notation.{Notation}
+use Rattle.mz_math_tokens.specs.Pieces.{piece_texts}
+use Rattle.mz_math_tokens.specs.declared.pieces.Piece.{Piece}
 use Rattle.mz_math.specs.Formula.{known_checks}
 use Rattle.mz_math.specs.Grammar.{Item, token, expr, items, operands_at_max, Head, variable, parens, applied, notated, head_items, behind_first, last_level, infix_items, Parse, Parts, headed, joined, end, word, part, tokens_of, part_tokens, Words, IsHead, IsExp, AreParts, Exp, IsKnown}
 use Rattle.mz_math.proofs.Knowing.{known-constant, known-name}

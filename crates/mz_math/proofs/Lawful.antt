@@ -1,27 +1,27 @@
 -- The laws.
 use Rattle.std.proofs.Common.{◌≡◌, ◌∙◌, ℕ, List, Bool, true, false, ap, sym, refl, subst, inl, inr}
-use Rattle.mz_checks.specs.Checks.{FailsFirst}
-use Rattle.mz_checks.proofs.Offered.{fails_first-unique, all_hold-excludes}
+use Rattle.mz_base_theory.specs.Checks.{FailsFirst}
+use Rattle.mz_base_theory.proofs.Offered.{fails_first-unique, all_hold-excludes}
 use Rattle.mz_logic.specs.Tree.{Tree}
 use Rattle.mz_logic.specs.Signature.{Signature}
 use Rattle.mz_logic.specs.Declaration.{signatures}
-use Rattle.mz_tokens.specs.Pieces.{piece_texts}
-use Rattle.mz_tokens.specs.declared.pieces.Delimiters.{Delimiters}
-use Rattle.mz_tokens.specs.declared.pieces.Piece.{Piece}
-use Rattle.mz_notation.specs.Notation.{begins_with_slot, with_notation}
-use Rattle.mz_notation.specs.declared.notation.Notation.{Notation}
+use Rattle.mz_math_tokens.specs.Pieces.{piece_texts}
+use Rattle.mz_math_tokens.specs.declared.pieces.Delimiters.{Delimiters}
+use Rattle.mz_math_tokens.specs.declared.pieces.Piece.{Piece}
+use Rattle.mz_math_notation.specs.Notation.{begins_with_slot, with_notation}
+use Rattle.mz_math_notation.specs.declared.notation.Notation.{Notation}
 use Rattle.mz_math.specs.Grammar.{words_of, tree_of}
-use Rattle.mz_notation.specs.Kept.{IsTable, AreVariables}
+use Rattle.mz_math_notation.specs.Kept.{IsTable, AreVariables}
 use Rattle.mz_math.specs.Meaning.{Wanted, Coerced, IsSettled, IsClaimed}
 use Rattle.mz_math.specs.Formula.{Reader, Means, formula_checks}
-use Rattle.mz_notation.specs.Answers.{IsShaped, IsClearTable}
+use Rattle.mz_math_notation.specs.Answers.{IsShaped, IsClearTable}
 use Rattle.mz_math.specs.Laws.{IsNoted, NotationsKeepTables, OneTree, OneTokens, OneMeaning, OneMisreading, OneReading}
 use Rattle.mz_math.proofs.Unique.{one-expression}
-use Rattle.mz_tokens.proofs.Offered.{pieces-one}
+use Rattle.mz_math_tokens.proofs.Offered.{pieces-one}
 use Rattle.mz_math.proofs.OneMeaning.{coerced-one, settled-one, claimed-one}
 use Rattle.mz_math.proofs.Judging.{exp-one}
 use Rattle.mz_math.proofs.Readable.{table-readable}
-use Rattle.mz_notation.proofs.Offered.{leading-is, infix-is, shaped-slot, shaped-constant, with-slot, with-constant, infix-shaped, prefix-shaped, general-shaped}
+use Rattle.mz_math_notation.proofs.Offered.{leading-is, infix-is, shaped-slot, shaped-constant, with-slot, with-constant, infix-shaped, prefix-shaped, general-shaped}
 
 noted-shaped : (sigs : List Signature) (d : Delimiters) (k : Notation) → IsNoted sigs d k → IsShaped k
 noted-shaped sigs d k (inl (term, text, level, right, is)) = infix-shaped sigs d term text level right k is

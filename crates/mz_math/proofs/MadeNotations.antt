@@ -3,29 +3,27 @@ use Rattle.std.proofs.Common.{◌≡◌, ◌≢◌, ◌<◌, ◌⊎◌, ◌∙�
 use Rattle.std.specs.Prelude.{⊤, ◌==◌, codes, slice_range}
 use Rattle.std.specs.List.{count_by}
 use Rattle.std.proofs.lemmas.Option.{slice_get_within, same_Some, none-some}
-use Rattle.mz_general.proofs.Offered.{same-head as heads, same-tail as tails, nil-cons, not-decided, three-decided, some-decided, Decided}
-use Rattle.mz_checks.specs.Checks.{AllHold, FailsFirst}
-use Rattle.mz_checks.proofs.Offered.{all_hold-or_fails, at_most-decided, both-decided, bytes-decided}
+use Rattle.mz_base_theory.proofs.Offered.{same-head as heads, same-tail as tails, nil-cons, not-decided, three-decided, some-decided, Decided, all_hold-or_fails, at_most-decided, both-decided, bytes-decided}
+use Rattle.mz_base_theory.specs.Checks.{AllHold, FailsFirst}
 use Rattle.mz_logic.specs.Signature.{Signature}
 use Rattle.mz_logic.specs.declared.binder.Binder.{Binder}
 use Rattle.mz_logic.specs.declared.binder.ResultType.{ResultType}
-use Rattle.mz_tokens.specs.Pieces.{Pieces, piece_text}
-use Rattle.mz_tokens.specs.declared.pieces.Delimiters.{Delimiters}
-use Rattle.mz_tokens.specs.declared.pieces.Piece.{Piece}
-use Rattle.mz_notation.specs.Notation.{level_of, places, infixed, prefixed, Table, with_notation}
-use Rattle.mz_notation.specs.declared.notation.Element.{Element}
-use Rattle.mz_notation.specs.declared.notation.Element.TheVariants.{Fixed as fixed, Slot as slot}
-use Rattle.mz_notation.specs.declared.notation.Notation.{Notation}
-use Rattle.mz_notation.specs.Kept.{IsTable}
-use Rattle.mz_tokens.specs.Pieces.{IsConstant}
-use Rattle.mz_notation.specs.Forms.{IsInfix, IsPrefix, IsSpan, IsElement, AreElements, EachOnce, Begins, General, IsGeneral, notation_checks}
-use Rattle.mz_notation.specs.declared.form.Literal.{Literal}
-use Rattle.mz_notation.specs.declared.form.Literal.TheVariants.{Constant as constant, Name as name}
-use Rattle.mz_notation.specs.declared.form.Tail.{Tail}
-use Rattle.mz_notation.specs.declared.table.NoteFault.{NoteFault}
-use Rattle.mz_notation.specs.Answers.{IsClearTable}
-use Rattle.mz_tokens.proofs.Offered.{pieces-one}
-use Rattle.mz_notation.proofs.Offered.{constant-one, infix-one, prefix-one, begins-one}
+use Rattle.mz_math_tokens.specs.Pieces.{Pieces, piece_text, IsConstant}
+use Rattle.mz_math_tokens.specs.declared.pieces.Delimiters.{Delimiters}
+use Rattle.mz_math_tokens.specs.declared.pieces.Piece.{Piece}
+use Rattle.mz_math_notation.specs.Notation.{level_of, places, infixed, prefixed, Table, with_notation}
+use Rattle.mz_math_notation.specs.declared.notation.Element.{Element}
+use Rattle.mz_math_notation.specs.declared.notation.Element.TheVariants.{Fixed as fixed, Slot as slot}
+use Rattle.mz_math_notation.specs.declared.notation.Notation.{Notation}
+use Rattle.mz_math_notation.specs.Kept.{IsTable}
+use Rattle.mz_math_notation.specs.Forms.{IsInfix, IsPrefix, IsSpan, IsElement, AreElements, EachOnce, Begins, General, IsGeneral, notation_checks}
+use Rattle.mz_math_notation.specs.declared.form.Literal.{Literal}
+use Rattle.mz_math_notation.specs.declared.form.Literal.TheVariants.{Constant as constant, Name as name}
+use Rattle.mz_math_notation.specs.declared.form.Tail.{Tail}
+use Rattle.mz_math_notation.specs.declared.table.NoteFault.{NoteFault}
+use Rattle.mz_math_notation.specs.Answers.{IsClearTable}
+use Rattle.mz_math_tokens.proofs.Offered.{pieces-one}
+use Rattle.mz_math_notation.proofs.Offered.{constant-one, infix-one, prefix-one, begins-one}
 use Rattle.mz_math.proofs.Deciding.{equal-decided, true-decided}
 use Rattle.mz_math.proofs.Existing.{some-pieces}
 use Rattle.mz_math.proofs.StayingClear.{clear-decided}

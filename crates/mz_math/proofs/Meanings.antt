@@ -11,15 +11,15 @@ use Rattle.mz_logic.specs.Sorts.{IsBoundVar}
 use Rattle.mz_logic.specs.declared.binder.Binder.{Binder}
 use Rattle.mz_logic.specs.declared.expr.Expr.{Expr}
 use Rattle.mz_logic.proofs.Offered.{followed_by_push}
-use Rattle.mz_coercions.specs.declared.coercion.Coercion.{Coercion}
-use Rattle.mz_coercions.specs.Coercions.{IsPath, OnePath, wrapped}
+use Rattle.mz_math_coercions.specs.declared.coercion.Coercion.{Coercion}
+use Rattle.mz_math_coercions.specs.Coercions.{IsPath, OnePath, wrapped}
 use Rattle.mz_math.specs.Meaning.{Coerced, CoercedAll, height, trees_height}
 use Rattle.mz_math.specs.Answers.{FitsParam, IsAdded, AddsWrapped}
 use Rattle.mz_math.specs.declared.meaning.Added.{Added}
 use Rattle.mz_math.specs.declared.meaning.Added.TheVariants as added
-use Rattle.mz_coercions.specs.Answers.{HasLength}
+use Rattle.mz_math_coercions.specs.Answers.{HasLength}
 use Rattle.mz_math.proofs.OneMeaning.{coerced-one, coerced-all}
-use Rattle.mz_coercions.proofs.Offered.{length-one}
+use Rattle.mz_math_coercions.proofs.Offered.{length-one}
 
 app-var : {t x : ℕ} {es : Trees} → app t es ≡ var x → ⊥
 app-var e = cc

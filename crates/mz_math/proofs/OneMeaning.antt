@@ -5,8 +5,8 @@ use Rattle.mz_logic.specs.Tree.{Tree, Trees, var, app, none, more}
 use Rattle.mz_logic.specs.Signature.{Signature}
 use Rattle.mz_logic.specs.Declaration.{Declaration}
 use Rattle.mz_logic.specs.declared.binder.Binder.{Binder}
-use Rattle.mz_coercions.specs.declared.coercion.Coercion.{Coercion}
-use Rattle.mz_coercions.specs.Coercions.{IsPath, OnePath, wrapped}
+use Rattle.mz_math_coercions.specs.declared.coercion.Coercion.{Coercion}
+use Rattle.mz_math_coercions.specs.Coercions.{IsPath, OnePath, wrapped}
 use Rattle.mz_math.specs.Meaning.{Coerced, CoercedAll, Wanted, of_sort, provable, IsSettled, IsGoal, IsClaimed}
 
 -- ---- coercions

@@ -2,11 +2,11 @@
 use Rattle.std.proofs.Common.{List, ℕ, inl, inr, subst, sym, refl, arith, Contains}
 use Rattle.std.specs.Prelude.{codes, IsTrue}
 use Rattle.std.proofs.lemmas.Bool.{false≢true}
-use Rattle.mz_names.specs.Identifiers.{is_name}
+use Rattle.mz_base.specs.Identifiers.{is_name}
 use Rattle.mz_logic.specs.Signature.{Signature}
-use Rattle.mz_notation.specs.Notation.{Table}
-use Rattle.mz_notation.specs.declared.notation.Element.TheVariants.{Fixed as fixed}
-use Rattle.mz_notation.specs.Kept.{IsTable, AreVariables}
+use Rattle.mz_math_notation.specs.Notation.{Table}
+use Rattle.mz_math_notation.specs.declared.notation.Element.TheVariants.{Fixed as fixed}
+use Rattle.mz_math_notation.specs.Kept.{IsTable, AreVariables}
 use Rattle.mz_math.specs.Grammar.{words_of}
 use Rattle.mz_math.specs.Readable.{IsReadable}
 

@@ -6,15 +6,15 @@ use Rattle.std.proofs.lemmas.List.{append-nil}
 use Rattle.mz_logic.specs.Tree.{Tree, Trees, var, app, none, more, followed_by}
 use Rattle.std.proofs.lemmas.Option.{slice_get_within, get_or_from_slice_get}
 use Rattle.mz_logic.proofs.Offered.{followed_by_none, followed_by_push}
-use Rattle.mz_general.proofs.Offered.{same-head as cons_head, same-tail, nil-cons}
+use Rattle.mz_base_theory.proofs.Offered.{same-head as cons_head, same-tail, nil-cons}
 use Rattle.mz_math.specs.Lookups.{NoVariable, NoLeading, NoTermName, NoInfix}
 use Rattle.mz_math.specs.Answers.{MayLead}
 use Rattle.mz_math.specs.Steps.{IsMaxBefore}
-use Rattle.mz_notation.specs.Notation.{max_level, above}
-use Rattle.mz_notation.specs.declared.notation.Element.{Element}
-use Rattle.mz_notation.specs.declared.notation.Element.TheVariants.{Fixed as fixed, Slot as slot}
-use Rattle.mz_notation.specs.declared.notation.Notation.{Notation}
-use Rattle.mz_notation.specs.Clear.{LedBy, JoinedBy}
+use Rattle.mz_math_notation.specs.Notation.{max_level, above}
+use Rattle.mz_math_notation.specs.declared.notation.Element.{Element}
+use Rattle.mz_math_notation.specs.declared.notation.Element.TheVariants.{Fixed as fixed, Slot as slot}
+use Rattle.mz_math_notation.specs.declared.notation.Notation.{Notation}
+use Rattle.mz_math_notation.specs.Clear.{LedBy, JoinedBy}
 use Rattle.mz_math.specs.Grammar.{Item, token, expr, items, level_before, operands_at_max, Head, variable, parens, applied, notated, Parse, Parts, headed, joined, end, word, part, level_of, head_level, head_items, infix_items, tokens_of, part_tokens, tree_of, part_trees, Words, Exp, IsTermName, IsVariable, last_level, behind_first, IsHead, IsExp, AreParts, CanLead, notated_tree}
 use Rattle.mz_math.specs.Readable.{IsReadable}
 use Rattle.mz_math.specs.Reading.{NotJoined, Before, Spaced, Step, build, step_tokens, Reads, NoReading, GoesOn, IsBegun, ArePartsRead, NoParts, IsRead}

@@ -2,8 +2,7 @@
 use Rattle.std.proofs.Common.{◌≡◌, ◌↔◌, ◌⊎◌, ◌∙◌, ℕ, zero, suc, List, [], ◌∷◌, length, Bool, true, false, IsTrue, Some, slice_get, ap, sym, refl, subst, inl, inr, arith, Contains}
 use Rattle.std.proofs.lemmas.Bool.{cases_eq, false≢true}
 use Rattle.std.proofs.lemmas.Option.{slice_get_within, slice_get-get_or, get_or_from_slice_get}
-use Rattle.mz_general.proofs.Offered.{not-decided, some-decided, Decided}
-use Rattle.mz_checks.proofs.Offered.{both-decided}
+use Rattle.mz_base_theory.proofs.Offered.{not-decided, some-decided, Decided, both-decided}
 use Rattle.mz_logic.specs.Tree.{Tree, Trees, var, app, none, more}
 use Rattle.mz_logic.specs.Signature.{Signature}
 use Rattle.mz_logic.specs.Declaration.{Declaration, sorts}
@@ -11,11 +10,11 @@ use Rattle.mz_logic.specs.Modifiers.{MayBeClaimSort, IsProvable}
 use Rattle.mz_logic.specs.Sorts.{IsBoundVar}
 use Rattle.mz_logic.specs.declared.binder.Binder.{Binder}
 use Rattle.mz_logic.specs.declared.binder.SortMods.{SortMods}
-use Rattle.mz_coercions.specs.declared.coercion.Coercion.{Coercion}
-use Rattle.mz_coercions.specs.Coercions.{IsPath, OnePath, Reaches, wrapped}
+use Rattle.mz_math_coercions.specs.declared.coercion.Coercion.{Coercion}
+use Rattle.mz_math_coercions.specs.Coercions.{IsPath, OnePath, Reaches, wrapped}
 use Rattle.mz_math.specs.Meaning.{Wanted, provable, of_sort, Coerced, CoercedAll, IsClaimed, IsGoal}
 use Rattle.mz_math.specs.Answers.{FitsParam}
-use Rattle.mz_coercions.proofs.Offered.{never-reach, path-reaches, last-end}
+use Rattle.mz_math_coercions.proofs.Offered.{never-reach, path-reaches, last-end}
 use Rattle.mz_math.proofs.Meanings.{fits-regular, fits-never, fits-other, fits-bound, all-cons, cons-all, app-coerced, coerced-app}
 use Rattle.mz_math.proofs.Deciding.{found, equal-decided, true-decided}
 

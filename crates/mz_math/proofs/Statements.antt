@@ -1,23 +1,22 @@
 -- Each statement on delimiters and each on coercions is of its form or not, and leaves one path or not.
 use Rattle.std.proofs.Common.{◌≡◌, ◌⊎◌, ◌++◌, ◌∙◌, ℕ, List, [], ◌∷◌, Option, Some, None, false, ap, sym, refl, subst, inl, inr, map, slice_get, Contains}
 use Rattle.std.proofs.lemmas.Option.{slice_get_within, get_or_from_slice_get}
-use Rattle.mz_general.proofs.Offered.{some-decided, Decided}
-use Rattle.mz_checks.specs.Checks.{AllHold, FailsFirst}
-use Rattle.mz_checks.proofs.Offered.{all_hold-or_fails, both-decided}
+use Rattle.mz_base_theory.proofs.Offered.{some-decided, Decided, all_hold-or_fails, both-decided}
+use Rattle.mz_base_theory.specs.Checks.{AllHold, FailsFirst}
 use Rattle.mz_logic.specs.Signature.{Signature}
 use Rattle.mz_logic.specs.declared.binder.Binder.{Binder}
-use Rattle.mz_tokens.specs.Pieces.{no_delimiters, Pieces, piece_texts, AreCharacters, AreDelimiters}
-use Rattle.mz_tokens.specs.declared.pieces.Delimiters.{Delimiters}
-use Rattle.mz_tokens.specs.declared.pieces.Piece.{Piece}
-use Rattle.mz_notation.specs.Notation.{Table}
-use Rattle.mz_coercions.specs.declared.coercion.Coercion.{Coercion}
-use Rattle.mz_coercions.specs.Coercions.{IsPath, OnePath}
-use Rattle.mz_notation.specs.Kept.{IsTable}
-use Rattle.mz_notation.specs.Forms.{IsCoercion, coercion_checks, delimiter_checks}
-use Rattle.mz_notation.specs.declared.table.NoteFault.{NoteFault}
-use Rattle.mz_coercions.specs.Answers.{MayStart, MayEnd, IsClashAt}
-use Rattle.mz_tokens.proofs.Offered.{pieces-one}
-use Rattle.mz_coercions.proofs.Offered.{stays-one, clash-two, clash-parts, clash-made}
+use Rattle.mz_math_tokens.specs.Pieces.{no_delimiters, Pieces, piece_texts, AreCharacters, AreDelimiters}
+use Rattle.mz_math_tokens.specs.declared.pieces.Delimiters.{Delimiters}
+use Rattle.mz_math_tokens.specs.declared.pieces.Piece.{Piece}
+use Rattle.mz_math_notation.specs.Notation.{Table}
+use Rattle.mz_math_coercions.specs.declared.coercion.Coercion.{Coercion}
+use Rattle.mz_math_coercions.specs.Coercions.{IsPath, OnePath}
+use Rattle.mz_math_notation.specs.Kept.{IsTable}
+use Rattle.mz_math_notation.specs.Forms.{IsCoercion, coercion_checks, delimiter_checks}
+use Rattle.mz_math_notation.specs.declared.table.NoteFault.{NoteFault}
+use Rattle.mz_math_coercions.specs.Answers.{MayStart, MayEnd, IsClashAt}
+use Rattle.mz_math_tokens.proofs.Offered.{pieces-one}
+use Rattle.mz_math_coercions.proofs.Offered.{stays-one, clash-two, clash-parts, clash-made}
 use Rattle.mz_math.proofs.Deciding.{found, equal-decided, true-decided}
 use Rattle.mz_math.proofs.Standing.{path-decided}
 use Rattle.mz_math.proofs.Existing.{some-pieces}

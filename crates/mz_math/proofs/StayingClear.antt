@@ -1,15 +1,14 @@
 -- Whether a table stays clear with one more notation is decided.
 use Rattle.std.proofs.Common.{◌≡◌, ◌<◌, ◌++◌, ℕ, List, [], ◌∷◌, Bool, true, false, sym, refl, subst, inl, inr, arith, Contains}
 use Rattle.std.specs.Prelude.{⊤, if◌then◌else◌}
-use Rattle.mz_general.proofs.Offered.{not-decided, three-decided, Decided}
-use Rattle.mz_checks.proofs.Offered.{at_most-decided, implied-decided, bytes-decided}
-use Rattle.mz_notation.specs.Notation.{max_level, Table, begins_with_slot, with_leading, with_infix, with_notation}
-use Rattle.mz_notation.specs.declared.notation.Element.{Element}
-use Rattle.mz_notation.specs.declared.notation.Element.TheVariants.{Fixed as fixed, Slot as slot}
-use Rattle.mz_notation.specs.declared.notation.Notation.{Notation}
-use Rattle.mz_notation.specs.Clear.{LedBy, JoinedBy, IsClear}
-use Rattle.mz_notation.specs.Answers.{IsClearTable, KeepsLevels, KeepsOwnLevels, GroupsWith}
-use Rattle.mz_notation.proofs.Offered.{with-leading-clear, with-infix-clear, leading-kept, leading-other, infix-kept, infix-other, infix-groups, infix-level}
+use Rattle.mz_base_theory.proofs.Offered.{not-decided, three-decided, Decided, at_most-decided, implied-decided, bytes-decided}
+use Rattle.mz_math_notation.specs.Notation.{max_level, Table, begins_with_slot, with_leading, with_infix, with_notation}
+use Rattle.mz_math_notation.specs.declared.notation.Element.{Element}
+use Rattle.mz_math_notation.specs.declared.notation.Element.TheVariants.{Fixed as fixed, Slot as slot}
+use Rattle.mz_math_notation.specs.declared.notation.Notation.{Notation}
+use Rattle.mz_math_notation.specs.Clear.{LedBy, JoinedBy, IsClear}
+use Rattle.mz_math_notation.specs.Answers.{IsClearTable, KeepsLevels, KeepsOwnLevels, GroupsWith}
+use Rattle.mz_math_notation.proofs.Offered.{with-leading-clear, with-infix-clear, leading-kept, leading-other, infix-kept, infix-other, infix-groups, infix-level}
 use Rattle.mz_math.proofs.Deciding.{found, equal-decided, true-decided, led-decided, joined-decided}
 
 -- a fact that is decided of each element is decided of all

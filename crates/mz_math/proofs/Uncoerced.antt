@@ -5,8 +5,8 @@ use Rattle.std.proofs.lemmas.Option.{none-some}
 use Rattle.mz_logic.specs.Signature.{Signature}
 use Rattle.mz_logic.specs.Tree.{Tree, Trees, var, app, none, more}
 use Rattle.mz_logic.specs.declared.binder.Binder.{Binder}
-use Rattle.mz_coercions.specs.declared.coercion.Coercion.{Coercion}
-use Rattle.mz_coercions.specs.Coercions.{IsPath, wrapped}
+use Rattle.mz_math_coercions.specs.declared.coercion.Coercion.{Coercion}
+use Rattle.mz_math_coercions.specs.Coercions.{IsPath, wrapped}
 use Rattle.mz_math.specs.Meaning.{Coerced, CoercedAll, height}
 
 nowhere : (s to : ℕ) (path : List ℕ) (e : Tree) → IsPath [] s path to → wrapped [] path e ≡ e

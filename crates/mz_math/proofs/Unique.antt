@@ -2,12 +2,12 @@
 use Rattle.std.proofs.Common.{◌≡◌, ◌≤◌, ◌<◌, ◌⊎◌, ◌++◌, ◌∙◌, ℕ, zero, suc, List, [], ◌∷◌, Some, ap, ap₂, sym, refl, subst, inl, inr, arith, append_assoc, Contains, slice_get, length}
 use Rattle.std.specs.Prelude.{codes, ⊤}
 use Rattle.std.proofs.lemmas.Option.{slice_get_within, get_or_from_slice_get, same_Some}
-use Rattle.mz_general.proofs.Offered.{same-head as cons_head, same-tail, place-of}
-use Rattle.mz_notation.specs.Notation.{max_level}
-use Rattle.mz_notation.specs.declared.notation.Element.{Element}
-use Rattle.mz_notation.specs.declared.notation.Element.TheVariants.{Fixed as fixed, Slot as slot}
-use Rattle.mz_notation.specs.declared.notation.Notation.{Notation}
-use Rattle.mz_notation.specs.Clear.{IsOne, LedBy, JoinedBy, HasConstant}
+use Rattle.mz_base_theory.proofs.Offered.{same-head as cons_head, same-tail, place-of}
+use Rattle.mz_math_notation.specs.Notation.{max_level}
+use Rattle.mz_math_notation.specs.declared.notation.Element.{Element}
+use Rattle.mz_math_notation.specs.declared.notation.Element.TheVariants.{Fixed as fixed, Slot as slot}
+use Rattle.mz_math_notation.specs.declared.notation.Notation.{Notation}
+use Rattle.mz_math_notation.specs.Clear.{IsOne, LedBy, JoinedBy, HasConstant}
 use Rattle.mz_math.specs.Grammar.{Item, token, expr, items, level_before, operands_at_max, Head, variable, parens, applied, notated, Parse, Parts, headed, joined, end, word, part, level_of, head_level, head_items, infix_items, behind_first, last_level, tokens_of, part_tokens, Words, IsHead, IsTermName, IsNamed, IsVariable, IsExp, AreParts, CanLead}
 use Rattle.mz_math.specs.Readable.{IsReadable}
 use Rattle.mz_math.specs.Reading as Reading

@@ -1,11 +1,11 @@
 -- Expressions within one another, and what a step makes of one.
 use Rattle.std.proofs.Common.{◌≡◌, ◌≤◌, ◌<◌, ◌+◌, ◌-◌, ◌*◌, ◌++◌, ◌∙◌, ℕ, List, [], ◌∷◌, Bool, false, not, length, drop, length-append, sym, refl, subst, ap, arith}
 use Rattle.std.specs.Prelude.{Contains}
-use Rattle.mz_general.proofs.Offered.{same-tail}
+use Rattle.mz_base_theory.proofs.Offered.{same-tail}
 use Rattle.mz_logic.specs.Tree.{Tree, Trees, app, none, more, followed_by}
 use Rattle.mz_logic.specs.View.{tree}
-use Rattle.mz_notation.specs.declared.notation.Notation.{Notation}
-use Rattle.mz_notation.specs.Clear.{LedBy, JoinedBy}
+use Rattle.mz_math_notation.specs.declared.notation.Notation.{Notation}
+use Rattle.mz_math_notation.specs.Clear.{LedBy, JoinedBy}
 use Rattle.mz_math.specs.Answers.{MayLead}
 use Rattle.mz_math.specs.Lookups.{NoVariable, NoLeading}
 use Rattle.mz_math.specs.Grammar.{Words, Item, token, expr, items, operands_at_max, last_level, notated_tree, head_level, applied, IsTermName}
@@ -17,8 +17,7 @@ use Rattle.mz_math.specs.declared.parser.Step.{Step}
 use Rattle.mz_math.specs.declared.parser.Step.TheVariants as steps
 use Rattle.mz_math.specs.declared.parser.Outer.{Outer}
 use Rattle.mz_math.specs.declared.parser.Outer.TheVariants as outers
-use Rattle.mz_math.proofs.Readings.{no-items, no-expr, no-rest, one-part, one-token, no-token, parens-never}
-use Rattle.mz_math.proofs.Readings.{leading-never, leading-begun, leading-low, applied-never, applied-begun, applied-low, joined-never, joined-more}
+use Rattle.mz_math.proofs.Readings.{no-items, no-expr, no-rest, one-part, one-token, no-token, parens-never, leading-never, leading-begun, leading-low, applied-never, applied-begun, applied-low, joined-never, joined-more}
 
 -- in an expression of a level that begins at `from`, these stand around one of the level l that begins here
 abbrev pub Nested : Words → List (List ℕ) → ℕ → List Outer → List (List ℕ) → ℕ → Type 0

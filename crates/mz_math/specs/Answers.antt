@@ -1,6 +1,6 @@
 -- What the calls within the crate answer.
 use Rattle.std.specs.Prelude.{◌≡◌, ◌≤◌, ◌<◌, ◌⊎◌, true, false, ⊤, ℕ, List, Bool, Some, None, Option, length}
-use Rattle.mz_checks.specs.Checks.{AllHold, FailsFirst}
+use Rattle.mz_base_theory.specs.Checks.{AllHold, FailsFirst}
 use Rattle.mz_lex.specs.declared.rule.S.TheVariants as rules
 use Rattle.mz_logic.specs.Tree.{Tree, Trees, none, more, followed_by}
 use Rattle.mz_logic.specs.View.{tree}
@@ -8,11 +8,11 @@ use Rattle.mz_logic.specs.Signature.{Signature}
 use Rattle.mz_logic.specs.Declaration.{Declaration}
 use Rattle.mz_logic.specs.Sorts.{IsBoundVar}
 use Rattle.mz_logic.specs.declared.binder.Binder.{Binder}
-use Rattle.mz_tokens.specs.declared.pieces.Piece.{Piece}
-use Rattle.mz_notation.specs.Notation.{above}
-use Rattle.mz_notation.specs.declared.notation.Notation.{Notation}
-use Rattle.mz_coercions.specs.declared.coercion.Coercion.{Coercion}
-use Rattle.mz_coercions.specs.Coercions.{IsPath, wrapped}
+use Rattle.mz_math_tokens.specs.declared.pieces.Piece.{Piece}
+use Rattle.mz_math_notation.specs.Notation.{above}
+use Rattle.mz_math_notation.specs.declared.notation.Notation.{Notation}
+use Rattle.mz_math_coercions.specs.declared.coercion.Coercion.{Coercion}
+use Rattle.mz_math_coercions.specs.Coercions.{IsPath, wrapped}
 use Rattle.mz_math.specs.Grammar.{Words, Exp}
 use Rattle.mz_math.specs.Meaning.{Wanted, provable, of_sort, Coerced, CoercedAll, IsClaimed, height, trees_height}
 use Rattle.mz_math.specs.Formula.{Reader, words, known_checks, token_checks, Means, most}

@@ -1,15 +1,15 @@
 -- What a math string stands for, and the first rule that it breaks (mm0.md, sections on math strings, notations and
 -- coercions; the order of rules and the limits are this project's own).
 use Rattle.std.specs.Prelude.{◌≤◌, ⊤, ℕ, List, length}
-use Rattle.mz_checks.specs.Checks.{Checks, demand, ◌>>◌, each_in_order, AllHold, FailsFirst}
+use Rattle.mz_base_theory.specs.Checks.{Checks, demand, ◌>>◌, each_in_order, AllHold, FailsFirst}
 use Rattle.mz_lex.specs.declared.rule.S.{S}
 use Rattle.mz_lex.specs.declared.rule.S.TheVariants as rules
 use Rattle.mz_logic.specs.Tree.{Tree}
 use Rattle.mz_logic.specs.View.{tree}
 use Rattle.mz_logic.specs.Declaration.{Declaration, signatures}
-use Rattle.mz_notation.specs.Notation.{Table, Variables}
-use Rattle.mz_tokens.specs.Pieces.{Pieces, piece_text, piece_texts}
-use Rattle.mz_tokens.specs.declared.pieces.Piece.{Piece}
+use Rattle.mz_math_notation.specs.Notation.{Table, Variables}
+use Rattle.mz_math_tokens.specs.Pieces.{Pieces, piece_text, piece_texts}
+use Rattle.mz_math_tokens.specs.declared.pieces.Piece.{Piece}
 use Rattle.mz_math.specs.Grammar.{Words, words_of, Exp, IsKnown}
 use Rattle.mz_math.specs.Meaning.{Wanted, Coerced, IsSettled, IsClaimed, height}
 use Rattle.mz_math.specs.declared.formula.Parsed.{Parsed}

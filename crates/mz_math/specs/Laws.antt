@@ -1,23 +1,23 @@
 -- What holds of every table that the calls make.
 use Rattle.std.specs.Prelude.{◌≡◌, ◌≢◌, ◌⊎◌, ℕ, List, [], ◌∷◌, ◌++◌, Option, Bool, Contains, IsTrue}
-use Rattle.mz_checks.specs.Checks.{AllHold, FailsFirst}
-use Rattle.mz_names.specs.Identifiers.{is_name}
+use Rattle.mz_base_theory.specs.Checks.{AllHold, FailsFirst}
+use Rattle.mz_base.specs.Identifiers.{is_name}
 use Rattle.mz_logic.specs.Tree.{Tree}
 use Rattle.mz_logic.specs.Signature.{Signature}
-use Rattle.mz_tokens.specs.Pieces.{Pieces}
-use Rattle.mz_tokens.specs.declared.pieces.Delimiters.{Delimiters}
-use Rattle.mz_tokens.specs.declared.pieces.Piece.{Piece}
-use Rattle.mz_notation.specs.Notation.{Table, empty_table, with_notation, with_name, with_coercion, with_delimiters, TermName}
-use Rattle.mz_notation.specs.declared.notation.Notation.{Notation}
-use Rattle.mz_coercions.specs.declared.coercion.Coercion.{Coercion}
-use Rattle.mz_notation.specs.Clear.{IsClear}
-use Rattle.mz_coercions.specs.Coercions.{OnePath}
+use Rattle.mz_math_tokens.specs.Pieces.{Pieces}
+use Rattle.mz_math_tokens.specs.declared.pieces.Delimiters.{Delimiters}
+use Rattle.mz_math_tokens.specs.declared.pieces.Piece.{Piece}
+use Rattle.mz_math_notation.specs.Notation.{Table, empty_table, with_notation, with_name, with_coercion, with_delimiters, TermName}
+use Rattle.mz_math_notation.specs.declared.notation.Notation.{Notation}
+use Rattle.mz_math_coercions.specs.declared.coercion.Coercion.{Coercion}
+use Rattle.mz_math_notation.specs.Clear.{IsClear}
+use Rattle.mz_math_coercions.specs.Coercions.{OnePath}
 use Rattle.mz_math.specs.Grammar.{words_of, Exp}
-use Rattle.mz_notation.specs.Kept.{IsTable, AreVariables}
+use Rattle.mz_math_notation.specs.Kept.{IsTable, AreVariables}
 use Rattle.mz_math.specs.Meaning.{Wanted}
 use Rattle.mz_math.specs.Formula.{Reader, Misreading, IsFormula, Misreads}
-use Rattle.mz_notation.specs.Forms.{notation_checks, coercion_checks, delimiter_checks, IsInfix, IsPrefix, IsGeneral, General}
-use Rattle.mz_notation.specs.declared.table.NoteFault.{NoteFault}
+use Rattle.mz_math_notation.specs.Forms.{notation_checks, coercion_checks, delimiter_checks, IsInfix, IsPrefix, IsGeneral, General}
+use Rattle.mz_math_notation.specs.declared.table.NoteFault.{NoteFault}
 
 -- ---- tables
 

@@ -1,7 +1,7 @@
 -- What the look-ups of a token answer.
 use Rattle.std.specs.Prelude.{ℕ, List, Contains}
-use Rattle.mz_notation.specs.declared.notation.Notation.{Notation}
-use Rattle.mz_notation.specs.Clear.{JoinedBy}
+use Rattle.mz_math_notation.specs.declared.notation.Notation.{Notation}
+use Rattle.mz_math_notation.specs.Clear.{JoinedBy}
 use Rattle.mz_math.specs.Grammar.{Words, IsVariable, IsLeading, IsTermName}
 
 abbrev pub NoTermName : Words → List ℕ → Type 0

@@ -6,8 +6,8 @@ use Rattle.mz_logic.specs.Declaration.{Declaration, sorts}
 use Rattle.mz_logic.specs.Sorts.{IsBoundVar}
 use Rattle.mz_logic.specs.Modifiers.{MayBeClaimSort}
 use Rattle.mz_logic.specs.declared.binder.Binder.{Binder}
-use Rattle.mz_coercions.specs.declared.coercion.Coercion.{Coercion}
-use Rattle.mz_coercions.specs.Coercions.{IsPath, wrapped}
+use Rattle.mz_math_coercions.specs.declared.coercion.Coercion.{Coercion}
+use Rattle.mz_math_coercions.specs.Coercions.{IsPath, wrapped}
 pub use Rattle.mz_math.specs.declared.formula.Wanted.{Wanted}
 pub use Rattle.mz_math.specs.declared.formula.Wanted.TheVariants.{Provable as provable, Sort as of_sort}
 

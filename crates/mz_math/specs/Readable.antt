@@ -1,8 +1,8 @@
 -- The conditions on names, constants and levels by which each list of tokens has at most one tree.
 use Rattle.std.specs.Prelude.{List, Contains, codes, ℕ}
-use Rattle.mz_notation.specs.declared.notation.Notation.{Notation}
-use Rattle.mz_notation.specs.Clear.{IsClear, LedBy, JoinedBy}
-use Rattle.mz_notation.specs.Kept.{AreDistinct, OneTermEach}
+use Rattle.mz_math_notation.specs.declared.notation.Notation.{Notation}
+use Rattle.mz_math_notation.specs.Clear.{IsClear, LedBy, JoinedBy}
+use Rattle.mz_math_notation.specs.Kept.{AreDistinct, OneTermEach}
 use Rattle.mz_math.specs.Grammar.{Words, IsVariable, IsNamed}
 
 pub record IsReadable (ws : Words) : Type 0 where

@@ -1,9 +1,9 @@
 -- What a parser finds: readings of the first tokens of a list.
 use Rattle.std.specs.Prelude.{◌≡◌, ◌≤◌, ◌<◌, ◌++◌, ◌↔◌, ⊤, ℕ, List, [], ◌∷◌, Bool, IsTrue, Contains}
 use Rattle.mz_logic.specs.Tree.{Tree, Trees, followed_by}
-use Rattle.mz_notation.specs.Notation.{max_level}
-use Rattle.mz_notation.specs.declared.notation.Notation.{Notation}
-use Rattle.mz_notation.specs.Clear.{JoinedBy}
+use Rattle.mz_math_notation.specs.Notation.{max_level}
+use Rattle.mz_math_notation.specs.declared.notation.Notation.{Notation}
+use Rattle.mz_math_notation.specs.Clear.{JoinedBy}
 use Rattle.mz_math.specs.Grammar.{Item, token, expr, Parse, Parts, joined, level_of, tokens_of, part_tokens, tree_of, part_trees, Words, IsExp, AreParts, IsLeftForm}
 
 -- no infix constant of the level or above stands first

@@ -2,7 +2,7 @@
 use Rattle.std.specs.Prelude.{◌≡◌, ◌≤◌, ◌<◌, ◌+◌, ◌-◌, ◌*◌, ◌^◌, ⊤, ℕ, List, [], ◌∷◌, Bool, false, not, drop, codes}
 use Rattle.mz_logic.specs.Tree.{Tree, Trees, app}
 use Rattle.mz_logic.specs.View.{tree}
-use Rattle.mz_notation.specs.Notation.{max_level}
+use Rattle.mz_math_notation.specs.Notation.{max_level}
 use Rattle.mz_math.specs.Grammar.{Words, Item, token, expr, items, operands_at_max, last_level, notated_tree, head_level, applied}
 use Rattle.mz_math.specs.Reading.{IsRead, NoReading, IsBegun, ArePartsRead, NoParts}
 use Rattle.mz_math.specs.declared.form.Form.{Form}

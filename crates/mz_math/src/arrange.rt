@@ -4,10 +4,10 @@ ghost use Rattle.mz_logic.specs.Tree.{app, none, operand as operand_at};
 ghost use Rattle.mz_logic.specs.View.{tree, trees};
 ghost use Rattle.mz_math.specs.Arrange.{AreDistinct, earlier_or, first_of, picked, picked_one};
 ghost use Rattle.mz_math.specs.Grammar.{arranged as in_order};
-ghost use Rattle.mz_notation.specs.Notation.{places};
+ghost use Rattle.mz_math_notation.specs.Notation.{places};
 
 use mz_logic::{Expr, Exprs};
-use mz_notation::Element;
+use mz_math_notation::Element;
 use std::alloc::{AllocError, Global};
 use std::mem;
 

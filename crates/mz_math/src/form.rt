@@ -1,15 +1,15 @@
 // Forms: what they ask for, and the expressions that they make of their operands.
 ghost use Rattle.std.specs.Prelude.{◌≡◌, ◌↔◌, ◌≤◌, ◌<◌, ◌+◌, ◌∷◌, [], IsTrue, MatchOption, IfSome, length, drop};
 ghost use Rattle.mz_logic.specs.View.{tree};
-ghost use Rattle.mz_notation.specs.Notation.{above, places, slots as in_places};
+ghost use Rattle.mz_math_notation.specs.Notation.{above, places, slots as in_places};
 ghost use Rattle.mz_math.specs.Grammar.{items, level_before, last_level, notated_tree, head_level, applied};
 ghost use Rattle.mz_math.specs.Answers.{MayLead};
 ghost use Rattle.mz_math.specs.Steps.{IsNextPart, asked, tree_made, level_made, is_left_made};
 
 use crate::arrange::arranged;
 use mz_logic::{Expr, Exprs};
-use mz_notation::{Element, MAX, Notation};
-use mz_tokens::Bytes;
+use mz_math_notation::{Element, MAX, Notation};
+use mz_math_tokens::Bytes;
 use std::alloc::Global;
 
 /// A form that makes an expression of operands.

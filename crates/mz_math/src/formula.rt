@@ -4,22 +4,22 @@ ghost use Rattle.mz_logic.specs.Declaration.{sorts};
 ghost use Rattle.mz_logic.specs.Modifiers.{MayBeClaimSort};
 ghost use Rattle.mz_logic.specs.View.{tree};
 ghost use Rattle.mz_math.specs.Answers.{IsClaimRead, IsFirstUnknown, IsJudged, IsTreeOfFew, settled};
-ghost use Rattle.mz_coercions.specs.Coercions.{IsPath, OnePath, Reaches};
+ghost use Rattle.mz_math_coercions.specs.Coercions.{IsPath, OnePath, Reaches};
 ghost use Rattle.mz_math.specs.Formula.{IsParsed, Reader, words as words_lem};
 ghost use Rattle.mz_math.specs.Meaning.{IsGoal};
 ghost use Rattle.mz_math.specs.declared.formula.Wanted.{Wanted};
 ghost use Rattle.mz_math.specs.Readable.{IsReadable};
-ghost use Rattle.mz_notation.specs.Kept.{AreVariables};
-ghost use Rattle.mz_tokens.specs.Pieces.{Pieces, piece_texts};
+ghost use Rattle.mz_math_notation.specs.Kept.{AreVariables};
+ghost use Rattle.mz_math_tokens.specs.Pieces.{Pieces, piece_texts};
 
 use crate::meaning::{Built, coerced, sort_of};
 use crate::parser::{Syntax, parse};
 use crate::words::Vocabulary;
-use mz_coercions::{Coercions, distance, reaches, wrap};
 use mz_lex::S;
 use mz_logic::{Context, Env, Expr};
-use mz_notation::{Notations, Scope};
-use mz_tokens::{Piece, Tokens};
+use mz_math_coercions::{Coercions, distance, reaches, wrap};
+use mz_math_notation::{Notations, Scope};
+use mz_math_tokens::{Piece, Tokens};
 use std::alloc::Global;
 
 /// At most so many tokens, and at most so high a tree.

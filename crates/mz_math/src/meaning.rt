@@ -4,12 +4,12 @@ ghost use Rattle.mz_logic.specs.Declaration.{signatures};
 ghost use Rattle.mz_logic.specs.Tree.{Tree, Trees, none, var};
 ghost use Rattle.mz_logic.specs.View.{tree as tree_lem};
 ghost use Rattle.mz_math.specs.Answers.{FitsParam, IsBuilt, IsAdded, AreAdded, AddsWrapped};
-ghost use Rattle.mz_coercions.specs.Coercions.{OnePath, Reaches};
+ghost use Rattle.mz_math_coercions.specs.Coercions.{OnePath, Reaches};
 ghost use Rattle.mz_math.specs.Meaning.{Coerced, CoercedAll};
 
 use crate::height::is_low;
-use mz_coercions::{Coercions, distance, reaches, wrap};
 use mz_logic::{Binder, Context, Env, Expr, Exprs, is_bound_var};
+use mz_math_coercions::{Coercions, distance, reaches, wrap};
 use std::alloc::Global;
 
 /// An expression, where it isn't too high.

@@ -11,8 +11,8 @@ ghost use Rattle.mz_math.specs.Steps.{IsBegunAs, IsPending, Waits, Says, outer_l
 use crate::form::{Form, Part, can_lead};
 use crate::words::Vocabulary;
 use mz_logic::{Expr, Exprs};
-use mz_notation::{MAX, Notation};
-use mz_tokens::Tokens;
+use mz_math_notation::{MAX, Notation};
+use mz_math_tokens::Tokens;
 use std::alloc::Global;
 
 /// An expression at the front of the tokens.

@@ -1,13 +1,13 @@
 // What the tokens of a math string are read with.
 ghost use Rattle.std.specs.Prelude.{◌≡◌, ◌≢◌, ◌↔◌, IsTrue, MatchOption, [], Contains, Some, slice_get};
 ghost use Rattle.mz_logic.specs.Declaration.{signatures};
-ghost use Rattle.mz_notation.specs.Clear.{JoinedBy, LedBy};
+ghost use Rattle.mz_math_notation.specs.Clear.{JoinedBy, LedBy};
 ghost use Rattle.mz_math.specs.Grammar.{IsKnown, IsTermName, words_of};
 ghost use Rattle.mz_math.specs.Lookups.{NoInfix, NoLeading, NoTermName, NoVariable};
 
 use mz_logic::Env;
-use mz_notation::{Notation, Notations, Scope};
-use mz_tokens::is_parenthesis;
+use mz_math_notation::{Notation, Notations, Scope};
+use mz_math_tokens::is_parenthesis;
 use std::marker::Model;
 
 /// The notations and names so far, the declarations, and the statement's variables.

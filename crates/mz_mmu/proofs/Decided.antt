@@ -1,22 +1,21 @@
 -- Each fact that is asked of a text's forms and names holds or fails.
 use Rattle.std.proofs.Common.{ℕ, suc, ◌≡◌, inl, inr, Bool, true, false, true≢false, List, [], ◌∷◌, ◌++◌, Option, Some, None, refl, sym}
 use Rattle.std.specs.Prelude.{⊤, IsTrue, unwrap_or}
-use Rattle.mz_general.proofs.Offered.{either-decided, some-decided, Decided}
-use Rattle.mz_checks.specs.Checks.{Checks, ◌>>◌, retold, AreDecided}
-use Rattle.mz_checks.proofs.Offered.{are_decided-both, bytes-decided, retold-decided}
+use Rattle.mz_base_theory.proofs.Offered.{either-decided, some-decided, Decided, are_decided-both, bytes-decided, retold-decided}
+use Rattle.mz_base_theory.specs.Checks.{Checks, ◌>>◌, retold, AreDecided}
 use Rattle.mz_sexpr.specs.Node.{Node, Nodes, atom, list, no_nodes, node, word, parts}
-use Rattle.mz_forms.specs.declared.fault.Fault.{Fault}
-use Rattle.mz_names.specs.Names.{number_of}
-use Rattle.mz_names.specs.Identifiers.{is_name}
-use Rattle.mz_forms.specs.Name.{Names, Scope, hidden, scope_of}
-use Rattle.mz_forms.specs.declared.keyword.Keyword.{Keyword}
-use Rattle.mz_forms.specs.declared.keyword.Keyword.TheVariants.{Conv as conv_word, Let as let_word, Refl as refl_word, Sym as sym_word, Unfold as unfold_word, Sorry as sorry_word, Other as no_word}
-use Rattle.mz_forms.specs.Proofs.{conv_keyword, proof_keyword}
-use Rattle.mz_statements.specs.declared.kind.Kind.{Kind}
-use Rattle.mz_statements.specs.declared.kind.Kind.TheVariants.{Sort as sort_kind, Term as term_kind, Axiom as axiom_kind, Def as def_kind, Theorem as theorem_kind, Other as no_kind}
-use Rattle.mz_statements.specs.Statements.{kind_of, is_local_word, Modifiers, no_modifiers, with_modifier}
-use Rattle.mz_forms.specs.Order.{known_asked, new_asked, param_name_asked, expr_asked, exprs_asked, expr_list_asked, variables_asked, variable_list_asked, param_asked, dummy_asked, names_of, first_word, binders_asked, params_asked, dummies_asked, result_asked, conv_asked, conv_asked_by, convs_asked, proof_asked, proof_asked_by, proofs_asked}
-use Rattle.mz_statements.specs.Order.{modifiers_asked, hyp_asked, hyps_asked, declared_asked, local_asked, marked_asked, statement_asked, in_statement, names_after, statements_asked}
+use Rattle.mz_mmu_forms.specs.declared.fault.Fault.{Fault}
+use Rattle.mz_base.specs.Names.{number_of}
+use Rattle.mz_base.specs.Identifiers.{is_name}
+use Rattle.mz_mmu_forms.specs.Name.{Names, Scope, hidden, scope_of}
+use Rattle.mz_mmu_forms.specs.declared.keyword.Keyword.{Keyword}
+use Rattle.mz_mmu_forms.specs.declared.keyword.Keyword.TheVariants.{Conv as conv_word, Let as let_word, Refl as refl_word, Sym as sym_word, Unfold as unfold_word, Sorry as sorry_word, Other as no_word}
+use Rattle.mz_mmu_forms.specs.Proofs.{conv_keyword, proof_keyword}
+use Rattle.mz_mmu_statements.specs.declared.kind.Kind.{Kind}
+use Rattle.mz_mmu_statements.specs.declared.kind.Kind.TheVariants.{Sort as sort_kind, Term as term_kind, Axiom as axiom_kind, Def as def_kind, Theorem as theorem_kind, Other as no_kind}
+use Rattle.mz_mmu_statements.specs.Statements.{kind_of, is_local_word, Modifiers, no_modifiers, with_modifier}
+use Rattle.mz_mmu_forms.specs.Order.{known_asked, new_asked, param_name_asked, expr_asked, exprs_asked, expr_list_asked, variables_asked, variable_list_asked, param_asked, dummy_asked, names_of, first_word, binders_asked, params_asked, dummies_asked, result_asked, conv_asked, conv_asked_by, convs_asked, proof_asked, proof_asked_by, proofs_asked}
+use Rattle.mz_mmu_statements.specs.Order.{modifiers_asked, hyp_asked, hyps_asked, declared_asked, local_asked, marked_asked, statement_asked, in_statement, names_after, statements_asked}
 
 -- ---- facts
 

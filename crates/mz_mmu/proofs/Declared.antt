@@ -1,20 +1,20 @@
 -- What a statement's reading says of what is asked of it, and of the names that it adds.
 use Rattle.std.proofs.Common.{ℕ, ◌≡◌, Bool, true, false, List, [], ◌∷◌, ◌++◌, sym, ap, ◌∙◌, subst}
-use Rattle.mz_checks.specs.Checks.{◌>>◌, AllHold}
-use Rattle.mz_checks.proofs.Offered.{all_hold-both}
+use Rattle.mz_base_theory.specs.Checks.{◌>>◌, AllHold}
+use Rattle.mz_base_theory.proofs.Offered.{all_hold-both}
 use Rattle.mz_sexpr.specs.Node.{Node, Nodes, atom, list, no_nodes, node, parts}
 use Rattle.mz_logic.specs.declared.binder.Binder.{Binder}
-use Rattle.mz_names.specs.Names.{IsNew}
-use Rattle.mz_forms.specs.Name.{Names, IsName, scope_of, names_with, constant_name}
-use Rattle.mz_forms.specs.NamesMore.{IsUnused}
-use Rattle.mz_forms.specs.Expressions.{AreParams}
-use Rattle.mz_statements.specs.Statements.{Statement, kind_of, is_local_word, no_modifiers, IsDeclared, IsLocal, IsMarked, IsStatement}
-use Rattle.mz_statements.specs.declared.kind.Kind.{Kind}
-use Rattle.mz_statements.specs.declared.kind.Kind.TheVariants.{Sort as sort_kind, Term as term_kind, Axiom as axiom_kind, Def as def_kind, Theorem as theorem_kind, Other as no_kind}
-use Rattle.mz_forms.specs.Order.{new_asked, expr_asked, expr_list_asked, names_of, params_asked, dummies_asked, result_asked, proof_asked}
-use Rattle.mz_statements.specs.Order.{modifiers_asked, hyps_asked, declared_asked, local_asked, marked_asked, statement_asked, name_of_constant, named_by, marked_names, names_after, with_term}
-use Rattle.mz_forms.proofs.Offered.{dummies_hold, expr_holds, expr_list_holds, new_holds, new_name_is, new_name_word, params_hold, proof_holds, result_holds}
-use Rattle.mz_statements.proofs.Offered.{hyps_hold, modifiers_hold}
+use Rattle.mz_base.specs.Names.{IsNew}
+use Rattle.mz_mmu_forms.specs.Name.{Names, IsName, scope_of, names_with, constant_name}
+use Rattle.mz_mmu_forms.specs.NamesMore.{IsUnused}
+use Rattle.mz_mmu_forms.specs.Expressions.{AreParams}
+use Rattle.mz_mmu_statements.specs.Statements.{Statement, kind_of, is_local_word, no_modifiers, IsDeclared, IsLocal, IsMarked, IsStatement}
+use Rattle.mz_mmu_statements.specs.declared.kind.Kind.{Kind}
+use Rattle.mz_mmu_statements.specs.declared.kind.Kind.TheVariants.{Sort as sort_kind, Term as term_kind, Axiom as axiom_kind, Def as def_kind, Theorem as theorem_kind, Other as no_kind}
+use Rattle.mz_mmu_forms.specs.Order.{new_asked, expr_asked, expr_list_asked, names_of, params_asked, dummies_asked, result_asked, proof_asked}
+use Rattle.mz_mmu_statements.specs.Order.{modifiers_asked, hyps_asked, declared_asked, local_asked, marked_asked, statement_asked, name_of_constant, named_by, marked_names, names_after, with_term}
+use Rattle.mz_mmu_forms.proofs.Offered.{dummies_hold, expr_holds, expr_list_holds, new_holds, new_name_is, new_name_word, params_hold, proof_holds, result_holds}
+use Rattle.mz_mmu_statements.proofs.Offered.{hyps_hold, modifiers_hold}
 
 pub declared_holds : (names : Names) (k : Kind) (at : ℕ) (ns : Nodes) (s : Statement) → IsDeclared names k ns s → AllHold (declared_asked k at names ns)
 declared_holds names sort_kind at no_nodes s h = absurd h

@@ -1,22 +1,22 @@
 -- Where all that is asked of a node holds, it is an expression, a list of variables, a binder, a
 -- conversion, a proof.
 use Rattle.std.proofs.Common.{ℕ, ◌≡◌, ◌⊎◌, inl, inr, true, false, List, [], ◌∷◌, ◌++◌, Option, Some, None, refl, sym, ◌∙◌, subst, append_assoc, append-nil}
-use Rattle.mz_checks.specs.Checks.{Checks, ◌>>◌, AllHold}
-use Rattle.mz_checks.proofs.Offered.{all_hold-first, all_hold-rest}
+use Rattle.mz_base_theory.specs.Checks.{Checks, ◌>>◌, AllHold}
+use Rattle.mz_base_theory.proofs.Offered.{all_hold-first, all_hold-rest}
 use Rattle.mz_sexpr.specs.Node.{Node, Nodes, atom, list, no_nodes, node, word, parts}
 use Rattle.mz_logic.specs.Tree.{Tree, Trees, var, app, none, more}
 use Rattle.mz_logic.specs.Conversions.{Conversion, Conversions, refl_conv, sym_conv, cong_conv, unfold_conv, gap_conv, no_convs, more_convs}
 use Rattle.mz_logic.specs.declared.binder.Binder.{Binder}
 use Rattle.mz_logic.specs.declared.binder.ResultType.{ResultType}
-use Rattle.mz_forms.specs.declared.fault.Fault.{Fault}
-use Rattle.mz_names.specs.Names.{number_of, IsNew, IsKnown}
-use Rattle.mz_forms.specs.Name.{Names, Scope, hidden, IsName, HasNumber, IsNewName, IsParamName}
-use Rattle.mz_forms.specs.Expressions.{IsVariable, IsConstant, IsExpr, AreExprs, IsExprList, AreVariables, IsVariableList, AreDeps, IsParam, IsDummy, AreBinders, AreParams, AreDummies, IsResult}
-use Rattle.mz_forms.specs.Proof.{Proof, Proofs, by_hyp, by_name, by_citation, by_conv, by_let, by_gap, no_proofs, more_proofs}
-use Rattle.mz_forms.specs.declared.keyword.Keyword.{Keyword}
-use Rattle.mz_forms.specs.declared.keyword.Keyword.TheVariants.{Conv as conv_word, Let as let_word, Refl as refl_word, Sym as sym_word, Unfold as unfold_word, Sorry as sorry_word, Other as no_word}
-use Rattle.mz_forms.specs.Proofs.{conv_keyword, proof_keyword, IsConv, IsConvBy, AreConvs, IsFact, IsProof, IsProofBy, AreProofs}
-use Rattle.mz_forms.specs.Order.{known_asked, new_asked, param_name_asked, expr_asked, exprs_asked, expr_list_asked, variables_asked, variable_list_asked, param_asked, dummy_asked, names_of, first_word, binders_asked, params_asked, dummies_asked, result_asked, conv_asked, conv_asked_by, convs_asked, proof_asked, proof_asked_by, proofs_asked}
+use Rattle.mz_mmu_forms.specs.declared.fault.Fault.{Fault}
+use Rattle.mz_base.specs.Names.{number_of, IsNew, IsKnown}
+use Rattle.mz_mmu_forms.specs.Name.{Names, Scope, hidden, IsName, HasNumber, IsNewName, IsParamName}
+use Rattle.mz_mmu_forms.specs.Expressions.{IsVariable, IsConstant, IsExpr, AreExprs, IsExprList, AreVariables, IsVariableList, AreDeps, IsParam, IsDummy, AreBinders, AreParams, AreDummies, IsResult}
+use Rattle.mz_mmu_forms.specs.Proof.{Proof, Proofs, by_hyp, by_name, by_citation, by_conv, by_let, by_gap, no_proofs, more_proofs}
+use Rattle.mz_mmu_forms.specs.declared.keyword.Keyword.{Keyword}
+use Rattle.mz_mmu_forms.specs.declared.keyword.Keyword.TheVariants.{Conv as conv_word, Let as let_word, Refl as refl_word, Sym as sym_word, Unfold as unfold_word, Sorry as sorry_word, Other as no_word}
+use Rattle.mz_mmu_forms.specs.Proofs.{conv_keyword, proof_keyword, IsConv, IsConvBy, AreConvs, IsFact, IsProof, IsProofBy, AreProofs}
+use Rattle.mz_mmu_forms.specs.Order.{known_asked, new_asked, param_name_asked, expr_asked, exprs_asked, expr_list_asked, variables_asked, variable_list_asked, param_asked, dummy_asked, names_of, first_word, binders_asked, params_asked, dummies_asked, result_asked, conv_asked, conv_asked_by, convs_asked, proof_asked, proof_asked_by, proofs_asked}
 use Rattle.mz_mmu.proofs.Ascending.{ascending_found}
 
 -- ---- names

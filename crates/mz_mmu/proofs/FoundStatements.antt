@@ -1,22 +1,22 @@
 -- Where all that is asked of a text's nodes holds, they are a list of statements.
 use Rattle.std.proofs.Common.{ℕ, suc, ◌≡◌, Bool, true, false, List, [], ◌∷◌, ◌++◌, Some, None, refl, ap, subst, append_assoc, append-nil}
 use Rattle.std.specs.Prelude.{unwrap_or}
-use Rattle.mz_checks.specs.Checks.{◌>>◌, retold, AllHold}
-use Rattle.mz_checks.proofs.Offered.{all_hold-first, all_hold-rest, retold-held}
+use Rattle.mz_base_theory.specs.Checks.{◌>>◌, retold, AllHold}
+use Rattle.mz_base_theory.proofs.Offered.{all_hold-first, all_hold-rest, retold-held}
 use Rattle.mz_sexpr.specs.Node.{Node, Nodes, atom, list, no_nodes, node, word, parts}
 use Rattle.mz_logic.specs.Tree.{Tree, Trees, none, more}
 use Rattle.mz_logic.specs.Declaration.{sort_decl, term_decl, assertion_decl, plain_form, defined}
 use Rattle.mz_logic.specs.declared.binder.Binder.{Binder}
 use Rattle.mz_logic.specs.declared.binder.ResultType.{ResultType}
-use Rattle.mz_forms.specs.Name.{Names, Scope, IsNewName, scope_of, names_with}
-use Rattle.mz_forms.specs.Expressions.{IsExpr, AreParams, AreDummies, IsResult}
-use Rattle.mz_forms.specs.Proof.{Proof}
-use Rattle.mz_statements.specs.Statements.{Statement, kind_of, is_local_word, Modifiers, no_modifiers, modifier_bits, with_modifier, AreModifiers, IsHyp, AreHyps, AreNamedHyps, IsDeclared, IsLocal, IsMarked, IsStatement, AreStatements}
-use Rattle.mz_forms.specs.Proofs.{IsProof}
-use Rattle.mz_statements.specs.declared.kind.Kind.{Kind}
-use Rattle.mz_statements.specs.declared.kind.Kind.TheVariants.{Sort as sort_kind, Term as term_kind, Axiom as axiom_kind, Def as def_kind, Theorem as theorem_kind, Other as no_kind}
-use Rattle.mz_forms.specs.Order.{new_asked, expr_asked, expr_list_asked, first_word, names_of, binders_asked, params_asked, dummies_asked, result_asked, proof_asked}
-use Rattle.mz_statements.specs.Order.{modifiers_asked, hyp_asked, hyps_asked, declared_asked, local_asked, marked_asked, statement_asked, in_statement, names_after, statements_asked}
+use Rattle.mz_mmu_forms.specs.Name.{Names, Scope, IsNewName, scope_of, names_with}
+use Rattle.mz_mmu_forms.specs.Expressions.{IsExpr, AreParams, AreDummies, IsResult}
+use Rattle.mz_mmu_forms.specs.Proof.{Proof}
+use Rattle.mz_mmu_statements.specs.Statements.{Statement, kind_of, is_local_word, Modifiers, no_modifiers, modifier_bits, with_modifier, AreModifiers, IsHyp, AreHyps, AreNamedHyps, IsDeclared, IsLocal, IsMarked, IsStatement, AreStatements}
+use Rattle.mz_mmu_forms.specs.Proofs.{IsProof}
+use Rattle.mz_mmu_statements.specs.declared.kind.Kind.{Kind}
+use Rattle.mz_mmu_statements.specs.declared.kind.Kind.TheVariants.{Sort as sort_kind, Term as term_kind, Axiom as axiom_kind, Def as def_kind, Theorem as theorem_kind, Other as no_kind}
+use Rattle.mz_mmu_forms.specs.Order.{new_asked, expr_asked, expr_list_asked, first_word, names_of, binders_asked, params_asked, dummies_asked, result_asked, proof_asked}
+use Rattle.mz_mmu_statements.specs.Order.{modifiers_asked, hyp_asked, hyps_asked, declared_asked, local_asked, marked_asked, statement_asked, in_statement, names_after, statements_asked}
 use Rattle.mz_mmu.proofs.Declared.{statement_says}
 use Rattle.mz_mmu.proofs.Found.{new_found, expr_found, expr_list_found, params_found, dummies_found, result_found, proof_found}
 

@@ -1,14 +1,14 @@
 -- A text has one answer.
 use Rattle.std.proofs.Common.{ℕ, suc, ◌≡◌, ◌⊎◌, inl, inr, Bool, List, sym, subst}
-use Rattle.mz_checks.specs.Checks.{AllHold, FailsFirst, retold}
-use Rattle.mz_checks.proofs.Offered.{all_hold-both, fails_first-unique, all_hold-excludes, all_hold-or_fails, retold-holds}
+use Rattle.mz_base_theory.specs.Checks.{AllHold, FailsFirst, retold}
+use Rattle.mz_base_theory.proofs.Offered.{all_hold-both, fails_first-unique, all_hold-excludes, all_hold-or_fails, retold-holds}
 use Rattle.mz_sexpr.specs.declared.rule.TextRefusal.{TextRefusal}
 use Rattle.mz_sexpr.specs.Grammar.{Reads as Spells}
 use Rattle.mz_sexpr.specs.Node.{Nodes, no_nodes, node}
 use Rattle.mz_sexpr.proofs.Offered.{one_reading_only, is_read_or_refused}
-use Rattle.mz_forms.specs.Name.{Names, no_names, names_with}
-use Rattle.mz_statements.specs.Statements.{Statement, AreStatements, Reads}
-use Rattle.mz_statements.specs.Order.{statement_asked, statements_asked, in_statement, names_after, Refuses}
+use Rattle.mz_mmu_forms.specs.Name.{Names, no_names, names_with}
+use Rattle.mz_mmu_statements.specs.Statements.{Statement, AreStatements, Reads}
+use Rattle.mz_mmu_statements.specs.Order.{statement_asked, statements_asked, in_statement, names_after, Refuses}
 use Rattle.mz_mmu.specs.Laws.{IsReadOrRefusedOnce, IsReadOrRefused, HasOneReading}
 use Rattle.mz_mmu.proofs.Declared.{statement_says}
 use Rattle.mz_mmu.proofs.Decided.{statements-decided}

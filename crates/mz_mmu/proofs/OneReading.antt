@@ -6,13 +6,13 @@ use Rattle.mz_logic.specs.Tree.{Tree, Trees, var, app, none, more}
 use Rattle.mz_logic.specs.Conversions.{Conversion, Conversions, refl_conv, sym_conv, cong_conv, unfold_conv, gap_conv, no_convs, more_convs}
 use Rattle.mz_logic.specs.declared.binder.Binder.{Binder}
 use Rattle.mz_logic.specs.declared.binder.ResultType.{ResultType}
-use Rattle.mz_names.specs.Names.{number_of, IsNew}
-use Rattle.mz_forms.specs.Name.{Names, Scope, HasNumber, IsNewName, IsParamName}
-use Rattle.mz_forms.specs.Expressions.{IsVariable, IsConstant, IsExpr, AreExprs, IsExprList, AreVariables, IsVariableList, IsAscending, AreDeps, IsParam, IsDummy, AreBinders, AreParams, AreDummies, IsResult}
-use Rattle.mz_forms.specs.Proof.{Proof, Proofs, by_hyp, by_name, by_citation, by_conv, by_let, by_gap, more_proofs}
-use Rattle.mz_forms.specs.declared.keyword.Keyword.{Keyword}
-use Rattle.mz_forms.specs.declared.keyword.Keyword.TheVariants.{Conv as conv_word, Let as let_word, Refl as refl_word, Sym as sym_word, Unfold as unfold_word, Sorry as sorry_word, Other as no_word}
-use Rattle.mz_forms.specs.Proofs.{conv_keyword, proof_keyword, IsConv, IsConvBy, AreConvs, IsFact, IsProof, IsProofBy, AreProofs}
+use Rattle.mz_base.specs.Names.{number_of, IsNew}
+use Rattle.mz_mmu_forms.specs.Name.{Names, Scope, HasNumber, IsNewName, IsParamName}
+use Rattle.mz_mmu_forms.specs.Expressions.{IsVariable, IsConstant, IsExpr, AreExprs, IsExprList, AreVariables, IsVariableList, IsAscending, AreDeps, IsParam, IsDummy, AreBinders, AreParams, AreDummies, IsResult}
+use Rattle.mz_mmu_forms.specs.Proof.{Proof, Proofs, by_hyp, by_name, by_citation, by_conv, by_let, by_gap, more_proofs}
+use Rattle.mz_mmu_forms.specs.declared.keyword.Keyword.{Keyword}
+use Rattle.mz_mmu_forms.specs.declared.keyword.Keyword.TheVariants.{Conv as conv_word, Let as let_word, Refl as refl_word, Sym as sym_word, Unfold as unfold_word, Sorry as sorry_word, Other as no_word}
+use Rattle.mz_mmu_forms.specs.Proofs.{conv_keyword, proof_keyword, IsConv, IsConvBy, AreConvs, IsFact, IsProof, IsProofBy, AreProofs}
 use Rattle.mz_mmu.proofs.Ascending.{ascending_once}
 
 -- ---- names

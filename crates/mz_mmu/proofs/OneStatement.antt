@@ -5,12 +5,12 @@ use Rattle.mz_logic.specs.Tree.{Tree, Trees, more}
 use Rattle.mz_logic.specs.Declaration.{sort_decl, term_decl, assertion_decl, plain_form, defined}
 use Rattle.mz_logic.specs.declared.binder.Binder.{Binder}
 use Rattle.mz_logic.specs.declared.binder.ResultType.{ResultType}
-use Rattle.mz_forms.specs.Name.{Names, Scope, scope_of, names_with}
-use Rattle.mz_forms.specs.Expressions.{IsExpr, IsExprList, AreDummies, IsResult}
-use Rattle.mz_statements.specs.Statements.{Statement, kind_of, is_local_word, Modifiers, no_modifiers, modifier_bits, with_modifier, AreModifiers, IsHyp, AreHyps, AreNamedHyps, IsDeclared, IsLocal, IsMarked, IsStatement, AreStatements}
-use Rattle.mz_forms.specs.Proofs.{IsProof}
-use Rattle.mz_statements.specs.declared.kind.Kind.{Kind}
-use Rattle.mz_statements.specs.declared.kind.Kind.TheVariants.{Sort as sort_kind, Term as term_kind, Axiom as axiom_kind, Def as def_kind, Theorem as theorem_kind, Other as no_kind}
+use Rattle.mz_mmu_forms.specs.Name.{Names, Scope, scope_of, names_with}
+use Rattle.mz_mmu_forms.specs.Expressions.{IsExpr, IsExprList, AreDummies, IsResult}
+use Rattle.mz_mmu_statements.specs.Statements.{Statement, kind_of, is_local_word, Modifiers, no_modifiers, modifier_bits, with_modifier, AreModifiers, IsHyp, AreHyps, AreNamedHyps, IsDeclared, IsLocal, IsMarked, IsStatement, AreStatements}
+use Rattle.mz_mmu_forms.specs.Proofs.{IsProof}
+use Rattle.mz_mmu_statements.specs.declared.kind.Kind.{Kind}
+use Rattle.mz_mmu_statements.specs.declared.kind.Kind.TheVariants.{Sort as sort_kind, Term as term_kind, Axiom as axiom_kind, Def as def_kind, Theorem as theorem_kind, Other as no_kind}
 use Rattle.mz_mmu.proofs.OneReading.{some_once, new_name_once, expr_once, expr_list_once, params_once, dummies_once, result_once, proof_once}
 
 -- ---- modifiers and hypotheses

@@ -4,15 +4,15 @@ use Rattle.std.proofs.lemmas.List.Elements.{All-nil, All-cons}
 use Rattle.mz_sexpr.specs.Node.{Node, Nodes, atom, list, no_nodes, node}
 use Rattle.mz_logic.specs.Conversions.{Conversion, Conversions, GapsOnly, AllGapsOnly}
 use Rattle.mz_logic.specs.Declaration.{Declaration, sort_decl, term_decl, assertion_decl}
-use Rattle.mz_forms.specs.Name.{Names, Scope, scope_of, names_with}
-use Rattle.mz_forms.specs.Gaps.{LeavesOnly, AllLeaveOnly, SomeLeavesOnly}
-use Rattle.mz_statements.specs.Statements.{HasGapsOnly, Statement, kind_of, is_local_word, IsDeclared, IsLocal, IsMarked, IsStatement}
-use Rattle.mz_forms.specs.Proof.{Proof, Proofs}
-use Rattle.mz_forms.specs.declared.keyword.Keyword.{Keyword}
-use Rattle.mz_forms.specs.declared.keyword.Keyword.TheVariants.{Conv as conv_word, Let as let_word, Refl as refl_word, Sym as sym_word, Unfold as unfold_word, Sorry as sorry_word, Other as no_word}
-use Rattle.mz_forms.specs.Proofs.{conv_keyword, proof_keyword, IsConv, IsConvBy, AreConvs, IsProof, IsProofBy, AreProofs}
-use Rattle.mz_statements.specs.declared.kind.Kind.{Kind}
-use Rattle.mz_statements.specs.declared.kind.Kind.TheVariants.{Sort as sort_kind, Term as term_kind, Axiom as axiom_kind, Def as def_kind, Theorem as theorem_kind, Other as no_kind}
+use Rattle.mz_mmu_forms.specs.Name.{Names, Scope, scope_of, names_with}
+use Rattle.mz_mmu_forms.specs.Gaps.{LeavesOnly, AllLeaveOnly, SomeLeavesOnly}
+use Rattle.mz_mmu_statements.specs.Statements.{HasGapsOnly, Statement, kind_of, is_local_word, IsDeclared, IsLocal, IsMarked, IsStatement}
+use Rattle.mz_mmu_forms.specs.Proof.{Proof, Proofs}
+use Rattle.mz_mmu_forms.specs.declared.keyword.Keyword.{Keyword}
+use Rattle.mz_mmu_forms.specs.declared.keyword.Keyword.TheVariants.{Conv as conv_word, Let as let_word, Refl as refl_word, Sym as sym_word, Unfold as unfold_word, Sorry as sorry_word, Other as no_word}
+use Rattle.mz_mmu_forms.specs.Proofs.{conv_keyword, proof_keyword, IsConv, IsConvBy, AreConvs, IsProof, IsProofBy, AreProofs}
+use Rattle.mz_mmu_statements.specs.declared.kind.Kind.{Kind}
+use Rattle.mz_mmu_statements.specs.declared.kind.Kind.TheVariants.{Sort as sort_kind, Term as term_kind, Axiom as axiom_kind, Def as def_kind, Theorem as theorem_kind, Other as no_kind}
 use Rattle.mz_mmu.specs.Laws.{OnlyDraftsHaveGaps}
 
 abbrev Allowed : Scope → Type 0

@@ -1,9 +1,8 @@
 -- Statements, one after another.
 use Rattle.std.proofs.Common.{ℕ, suc, ◌≡◌, ◌≤◌, ◌<◌, ◌+◌, ◌-◌, ◌∙◌, Bool, true, false, List, [], ◌∷◌, ◌++◌, length, Some, None, sym, ap, refl, subst, arith, append_assoc, append-nil}
 use Rattle.std.specs.Prelude.{bytes_eq, if◌then◌else◌}
-use Rattle.mz_general.proofs.Offered.{length-push}
-use Rattle.mz_checks.specs.Checks.{Checks, retold, FailsFirst}
-use Rattle.mz_checks.proofs.Offered.{Decides, decides-after, fails-before, retold-fails, retold-holds}
+use Rattle.mz_base_theory.proofs.Offered.{length-push, Decides, decides-after, fails-before, retold-fails, retold-holds}
+use Rattle.mz_base_theory.specs.Checks.{Checks, retold, FailsFirst}
 use Rattle.mz_sexpr.specs.Node.{Node, Nodes, no_nodes, node, atom, list}
 use Rattle.mz_sexpr.specs.Number.{node_count, node_at}
 use Rattle.mz_sexpr.specs.declared.rule.TextRefusal.{TextRefusal}
@@ -13,20 +12,20 @@ use Rattle.mz_sexpr.specs.Grammar.{Reads as Spells}
 use Rattle.mz_sexpr.specs.Rows.{entries}
 use Rattle.mz_sexpr.specs.Token.{Token, close, spelled, spelled_node}
 use Rattle.mz_sexpr.proofs.Offered.{few_rows, tokens_when_read}
-use Rattle.mz_forms.specs.Cursor.{node_size, nodes_size}
-use Rattle.mz_forms.specs.Stops.{Stops}
+use Rattle.mz_mmu_forms.specs.Cursor.{node_size, nodes_size}
+use Rattle.mz_mmu_forms.specs.Stops.{Stops}
 use Rattle.mz_mmu.specs.TextStops.{IsStopped, TextStops}
-use Rattle.mz_forms.specs.declared.fault.Stop.{Stop}
-use Rattle.mz_forms.specs.declared.fault.Stop.TheVariants as stop
+use Rattle.mz_mmu_forms.specs.declared.fault.Stop.{Stop}
+use Rattle.mz_mmu_forms.specs.declared.fault.Stop.TheVariants as stop
 use Rattle.mz_mmu.specs.declared.text.TextStop.{TextStop}
-use Rattle.mz_forms.specs.declared.fault.Fault.{Fault}
-use Rattle.mz_names.specs.Names.{IsNew}
-use Rattle.mz_names.proofs.Offered.{new-both, new-parts}
-use Rattle.mz_forms.specs.Name.{Names, IsName, no_names, names_with, constant_name}
-use Rattle.mz_forms.specs.NamesMore.{AreFew}
+use Rattle.mz_mmu_forms.specs.declared.fault.Fault.{Fault}
+use Rattle.mz_base.specs.Names.{IsNew}
+use Rattle.mz_base.proofs.Offered.{new-both, new-parts}
+use Rattle.mz_mmu_forms.specs.Name.{Names, IsName, no_names, names_with, constant_name}
+use Rattle.mz_mmu_forms.specs.NamesMore.{AreFew}
 use Rattle.mz_mmu.specs.EntryView.{AreNumbers}
-use Rattle.mz_statements.specs.Statements.{Statement, IsStatement, AreStatements}
-use Rattle.mz_statements.specs.Order.{statement_asked, statements_asked, in_statement, names_after}
+use Rattle.mz_mmu_statements.specs.Statements.{Statement, IsStatement, AreStatements}
+use Rattle.mz_mmu_statements.specs.Order.{statement_asked, statements_asked, in_statement, names_after}
 use Rattle.mz_mmu.proofs.Declared.{Agrees, statement_says}
 
 module _ (names later : Names) (left ns : Nodes) (n : Node) (is : left ≡ node n ns) (s : Statement) (h : IsStatement names n s) (after : later ≡ names_with names s.name s.decl) where

@@ -8,11 +8,11 @@ use Rattle.mz_logic.specs.Declaration.{DepsAscend}
 use Rattle.mz_logic.specs.LegalLists.{MayBeLocal}
 use Rattle.mz_logic.specs.declared.binder.Binder.{Binder}
 use Rattle.mz_logic.specs.declared.binder.ResultType.{ResultType}
-use Rattle.mz_forms.specs.Name.{Names, names_with}
-use Rattle.mz_forms.specs.Expressions.{AreDeps, IsParam, IsDummy, AreBinders, AreParams, AreDummies, IsResult}
-use Rattle.mz_statements.specs.Statements.{Statement, kind_of, is_local_word, IsDeclared, IsLocal, IsMarked, IsStatement}
-use Rattle.mz_statements.specs.declared.kind.Kind.{Kind}
-use Rattle.mz_statements.specs.declared.kind.Kind.TheVariants.{Sort as sort_kind, Term as term_kind, Axiom as axiom_kind, Def as def_kind, Theorem as theorem_kind, Other as no_kind}
+use Rattle.mz_mmu_forms.specs.Name.{Names, names_with}
+use Rattle.mz_mmu_forms.specs.Expressions.{AreDeps, IsParam, IsDummy, AreBinders, AreParams, AreDummies, IsResult}
+use Rattle.mz_mmu_statements.specs.Statements.{Statement, kind_of, is_local_word, IsDeclared, IsLocal, IsMarked, IsStatement}
+use Rattle.mz_mmu_statements.specs.declared.kind.Kind.{Kind}
+use Rattle.mz_mmu_statements.specs.declared.kind.Kind.TheVariants.{Sort as sort_kind, Term as term_kind, Axiom as axiom_kind, Def as def_kind, Theorem as theorem_kind, Other as no_kind}
 use Rattle.mz_mmu.specs.Laws.{Ascends, HasItsProof, IsWhole, AreWhole}
 
 -- ---- dependencies

@@ -5,10 +5,10 @@ use Rattle.mz_logic.specs.Declaration.{Declaration, sort_decl, term_decl, assert
 use Rattle.mz_logic.specs.LegalLists.{MayBeLocal}
 use Rattle.mz_sexpr.specs.declared.rule.TextRefusal.{TextRefusal}
 use Rattle.mz_sexpr.specs.Node.{Nodes}
-use Rattle.mz_statements.specs.Statements.{HasGapsOnly, Statement, AreStatements, Reads}
-use Rattle.mz_forms.specs.Proof.{Proof}
-use Rattle.mz_forms.specs.Name.{Names}
-use Rattle.mz_statements.specs.Order.{Refuses}
+use Rattle.mz_mmu_statements.specs.Statements.{HasGapsOnly, Statement, AreStatements, Reads}
+use Rattle.mz_mmu_forms.specs.Proof.{Proof}
+use Rattle.mz_mmu_forms.specs.Name.{Names}
+use Rattle.mz_mmu_statements.specs.Order.{Refuses}
 
 -- a text that is read isn't refused, and no text is refused in two ways, where proofs may have gaps and
 -- where none may

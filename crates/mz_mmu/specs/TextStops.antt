@@ -1,10 +1,10 @@
 -- Why reading or checking a text stops.
 use Rattle.std.specs.Prelude.{ℕ, ◌≡◌, ⊤}
-use Rattle.mz_checks.specs.Checks.{Checks, FailsFirst}
+use Rattle.mz_base_theory.specs.Checks.{Checks, FailsFirst}
 use Rattle.mz_sexpr.specs.declared.rule.TextRefusal.{TextRefusal}
-use Rattle.mz_statements.specs.Order.{in_statement}
-use Rattle.mz_forms.specs.declared.fault.Stop.{Stop}
-use Rattle.mz_forms.specs.declared.fault.Stop.TheVariants as stop
+use Rattle.mz_mmu_statements.specs.Order.{in_statement}
+use Rattle.mz_mmu_forms.specs.declared.fault.Stop.{Stop}
+use Rattle.mz_mmu_forms.specs.declared.fault.Stop.TheVariants as stop
 use Rattle.mz_mmu.specs.declared.text.TextStop.{TextStop}
 use Rattle.mz_mmu.specs.declared.text.TextStop.TheVariants as text_stop
 use Rattle.mz_mmu.specs.declared.text.TextRead.{TextRead}

@@ -7,9 +7,9 @@ use Rattle.mz_logic.specs.Declaration.{Declaration}
 use Rattle.mz_logic.specs.declared.binder.Binder.{Binder}
 use Rattle.mz_sexpr.specs.Node.{Nodes}
 use Rattle.mz_sexpr.specs.NodesCode.{nodes_code}
-use Rattle.mz_forms.specs.Proof.{Proof}
-use Rattle.mz_statements.specs.Statements.{Statement}
-use Rattle.mz_forms.specs.ProofCode.{proof_code}
+use Rattle.mz_mmu_forms.specs.Proof.{Proof}
+use Rattle.mz_mmu_statements.specs.Statements.{Statement}
+use Rattle.mz_mmu_forms.specs.ProofCode.{proof_code}
 
 pub record Forms : Type 0 where
   pub gaps : Bool

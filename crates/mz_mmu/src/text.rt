@@ -1,21 +1,21 @@
 //! Reading a whole text.
 ghost use Rattle.std.specs.Prelude.{◌≡◌, ◌<◌, ◌^◌, ◌-◌, ◌++◌, ◌∷◌, [], length, IfOk, IfErr, OnOk};
 ghost use Rattle.mz_logic.specs.DeclView.{declaration};
-ghost use Rattle.mz_mode.specs.Gaps.{gaps_of};
-ghost use Rattle.mz_forms.specs.Name.{IsName, no_names, names_with};
-ghost use Rattle.mz_forms.specs.NamesMore.{IsUnused, AreFew};
+ghost use Rattle.mz_base.specs.Gaps.{gaps_of};
+ghost use Rattle.mz_mmu_forms.specs.Name.{IsName, no_names, names_with};
+ghost use Rattle.mz_mmu_forms.specs.NamesMore.{IsUnused, AreFew};
 ghost use Rattle.mz_mmu.specs.EntryView.{IsRooted};
-ghost use Rattle.mz_statements.specs.Order.{statements_asked};
-ghost use Rattle.mz_forms.specs.ScopeView.{names as names_view};
+ghost use Rattle.mz_mmu_statements.specs.Order.{statements_asked};
+ghost use Rattle.mz_mmu_forms.specs.ScopeView.{names as names_view};
 ghost use Rattle.mz_mmu.specs.TextRead.{IsReading};
 ghost use Rattle.mz_mmu.specs.TextStops.{IsStopped, TextStops, IsRefusal};
-ghost use Rattle.mz_forms.specs.Cursor.{nodes_size};
+ghost use Rattle.mz_mmu_forms.specs.Cursor.{nodes_size};
 
-use mz_forms::{Fault, Hashing, Names, Proof, Reader, Stop};
+use mz_base::Mode;
 use mz_logic::{Binders, Decl};
-use mz_mode::Mode;
+use mz_mmu_forms::{Fault, Hashing, Names, Proof, Reader, Stop};
+use mz_mmu_statements::{Declared, statement};
 use mz_sexpr::{SexprRead, Sexprs, TextRefusal, read_sexprs};
-use mz_statements::{Declared, statement};
 use std::alloc::{AllocError, Global};
 use std::marker::Model;
 
@@ -46,7 +46,7 @@ impl<'a> Model for Text<'a> {
     ghost coded = { forms_code };
 
     ghost use Rattle.mz_mmu.specs.EntryView.{forms, IsRooted};
-    ghost use Rattle.mz_mode.specs.Gaps.{gaps_of};
+    ghost use Rattle.mz_base.specs.Gaps.{gaps_of};
 
     ghost view = { λ a. forms a.mode a.nodes a.entries.items };
 
@@ -204,11 +204,11 @@ impl<'a> Text<'a> {
     ghost use Rattle.mz_logic.specs.DeclView.{declaration};
     ghost use Rattle.mz_sexpr.specs.Number.{node_count, node_at};
     ghost use Rattle.mz_mmu.specs.EntryView.{entry, IsRooted};
-    ghost use Rattle.mz_forms.specs.ProofView.{proof_view};
-    ghost use Rattle.mz_forms.specs.Name.{no_names};
-    ghost use Rattle.mz_statements.specs.Statements.{AreStatements};
+    ghost use Rattle.mz_mmu_forms.specs.ProofView.{proof_view};
+    ghost use Rattle.mz_mmu_forms.specs.Name.{no_names};
+    ghost use Rattle.mz_mmu_statements.specs.Statements.{AreStatements};
     ghost use Rattle.mz_mmu.specs.TextRead.{listed};
-    ghost use Rattle.mz_mode.specs.Gaps.{gaps_of};
+    ghost use Rattle.mz_base.specs.Gaps.{gaps_of};
 
     /// Whether its proofs may have gaps.
     pub fn mode(&self) -> Mode

@@ -3,11 +3,11 @@ use Rattle.std.specs.Prelude.{OnOk}
 use Rattle.std.proofs.Common.{◌≡◌, ◌≤◌, ◌+◌, ◌<◌, ◌^◌, ℕ, length, Result, Ok, Err, refl, sym, ◌∙◌, subst}
 use Rattle.mz_cmd.specs.declared.command.Cmd.{Cmd}
 use Rattle.mz_cmd.specs.declared.rule.K.{K}
-use Rattle.mz_numbered.specs.Numbered.{Numbered, portable}
-use Rattle.mz_soundness.specs.MachineState.{Kind, State}
-use Rattle.mz_soundness.specs.Bodies.{body_command}
-use Rattle.mz_earlier.specs.Before.{signatures_of, tables_of}
-use Rattle.mz_earlier.specs.OwnRow.{byte_of, kind_at, kind_of, heading_of}
+use Rattle.mz_pmachine_theory.specs.Numbered.{Numbered, portable}
+use Rattle.mz_machine_theory.specs.MachineState.{Kind, State}
+use Rattle.mz_machine_theory.specs.Bodies.{body_command}
+use Rattle.mz_machine_env.specs.Before.{signatures_of, tables_of}
+use Rattle.mz_machine_env.specs.OwnRow.{byte_of, kind_at, kind_of, heading_of}
 use Rattle.mz_unify.specs.declared.stop.Stop.{Stop}
 use Rattle.mz_unify.specs.declared.stop.Stop.TheVariants.{Rule, Mem}
 use Rattle.mz_pmachine.specs.OverNodes.{Grows}
@@ -17,9 +17,9 @@ use Rattle.mz_pmachine.specs.Stepping.{IsStepped}
 use Rattle.mz_pmachine.specs.Steps.{row_by, steps_by, steps_for, heading_for}
 use Rattle.mz_pmachine.specs.declared.machine.Parts.{Parts}
 use Rattle.mz_pmachine.specs.declared.machine.Setting.{Setting}
-use Rattle.mz_punify.specs.Numbering.{AreIn}
-use Rattle.mz_punify.specs.Stored.{AreItemsIn}
-use Rattle.mz_earlier.proofs.Offered.{kind-byte, kind-is}
+use Rattle.mz_pmachine_unify.specs.Numbering.{AreIn}
+use Rattle.mz_pmachine_unify.specs.Stored.{AreItemsIn}
+use Rattle.mz_machine_env.proofs.Offered.{kind-byte, kind-is}
 use Rattle.mz_pmachine.proofs.Machines.{goes-on}
 
 module _ (t : Setting) (p q : Parts) where

@@ -4,17 +4,17 @@ use Rattle.std.specs.List.{range_with_len}
 use Rattle.mz_logic.specs.Words.{binders_of}
 use Rattle.mz_logic.specs.declared.word.Word.{Word}
 use Rattle.mz_store.specs.declared.item.Item.TheVariants.{Expr}
-use Rattle.mz_unification.specs.Profile.{Item, expr}
-use Rattle.mz_soundness.specs.MachineState.{signatures_in}
-use Rattle.mz_soundness.specs.Bodies.{body_start}
-use Rattle.mz_earlier.specs.OwnRow.{kind_at, heading_of, MayRun, mode_for, own_words, first_items}
-use Rattle.mz_earlier.specs.Before.{tables_before}
+use Rattle.mz_unify_theory.specs.Profile.{Item, expr}
+use Rattle.mz_machine_theory.specs.MachineState.{signatures_in}
+use Rattle.mz_machine_theory.specs.Bodies.{body_start}
+use Rattle.mz_machine_env.specs.OwnRow.{kind_at, heading_of, MayRun, mode_for, own_words, first_items}
+use Rattle.mz_machine_env.specs.Before.{tables_before}
 use Rattle.mz_layout.specs.declared.taken.Rows.{Rows}
-use Rattle.mz_earlier.proofs.Offered.{binders_many, own-binders}
+use Rattle.mz_machine_env.proofs.Offered.{binders_many, own-binders}
 use Rattle.mz_machine.proofs.Offered.{no-dummies, own-are}
-use Rattle.mz_numbered.specs.Numbered.{Numbered, a_variable, portable}
-use Rattle.mz_punify.specs.Numbering.{Numbering, expr_of, IsIn, IsOver}
-use Rattle.mz_punify.specs.Stored.{AreItemsIn}
+use Rattle.mz_pmachine_theory.specs.Numbered.{Numbered, a_variable, portable}
+use Rattle.mz_pmachine_unify.specs.Numbering.{Numbering, expr_of, IsIn, IsOver}
+use Rattle.mz_pmachine_unify.specs.Stored.{AreItemsIn}
 use Rattle.mz_pmachine.specs.OverNodes.{heap_at, state_at, AreFirst, IsUnderway}
 
 -- ---- the first ids

@@ -1,9 +1,9 @@
 -- The loop over a body: what the machine keeps, and how many steps it counts at the most.
 use Rattle.std.proofs.Common.{◌≡◌, ◌≤◌, ◌+◌, ℕ, List, length, Result, Ok, Err, refl, ◌∙◌, subst}
 use Rattle.mz_cmd.specs.declared.rule.K.{K}
-use Rattle.mz_numbered.specs.Numbered.{Numbered, portable}
-use Rattle.mz_soundness.specs.MachineState.{State}
-use Rattle.mz_soundness.specs.ProofMachine.{proof_end}
+use Rattle.mz_pmachine_theory.specs.Numbered.{Numbered, portable}
+use Rattle.mz_machine_theory.specs.MachineState.{State}
+use Rattle.mz_machine_theory.specs.ProofMachine.{proof_end}
 use Rattle.mz_pmachine.specs.BodyAnswers.{IsBodyRun}
 use Rattle.mz_machine.specs.BodyAnswers.{UnlessMem as UnlessBodyMem}
 use Rattle.mz_pmachine.specs.Steps.{Underway, tables_for, heading_for, row_of, steps_for, end_steps}

@@ -2,18 +2,18 @@
 use Rattle.std.proofs.Common.{◌≡◌, ℕ, List, length, drop, refl, ◌∙◌}
 use Rattle.std.specs.Prelude.{reverse}
 use Rattle.std.proofs.lemmas.List.{length-map, length-reverse}
-use Rattle.mz_numbered.specs.Numbered.{Numbered, portable}
+use Rattle.mz_pmachine_theory.specs.Numbered.{Numbered, portable}
 use Rattle.mz_logic.specs.Words.{signatures_of as signatures_by}
 use Rattle.mz_layout.specs.Tables.{thm_row}
-use Rattle.mz_punify.specs.Numbering.{Numbering}
+use Rattle.mz_pmachine_unify.specs.Numbering.{Numbering}
 use Rattle.mz_store.specs.declared.item.Id.{Id}
 use Rattle.mz_store.specs.declared.item.Item.{Item as Kept}
-use Rattle.mz_unification.specs.UnifyMachine.{unify, unify_steps}
-use Rattle.mz_punify.specs.Stored.{item_at, items_at, matching_at}
+use Rattle.mz_unify_theory.specs.UnifyMachine.{unify, unify_steps}
+use Rattle.mz_pmachine_unify.specs.Stored.{item_at, items_at, matching_at}
 use Rattle.mz_unify.specs.declared.unified.UnifyMode.TheVariants.{Use}
-use Rattle.mz_soundness.specs.MachineState.{State}
-use Rattle.mz_earlier.specs.Before.{Before, signatures_of, words_before}
-use Rattle.mz_earlier.proofs.Offered.{signatures-before}
+use Rattle.mz_machine_theory.specs.MachineState.{State}
+use Rattle.mz_machine_env.specs.Before.{Before, signatures_of, words_before}
+use Rattle.mz_machine_env.proofs.Offered.{signatures-before}
 
 pub items-many : (s : Numbering) (xs : List Kept) → length (items_at s xs) ≡ length xs
 items-many s xs = length-map (reverse xs) (item_at s) ∙ length-reverse xs

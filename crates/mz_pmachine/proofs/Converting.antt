@@ -2,16 +2,16 @@
 use Rattle.std.proofs.Common.{◌≡◌, true, false, List, [], ◌∷◌, ◌++◌, Result, Ok, Err, refl, sym, ap, ◌∙◌, subst}
 use Rattle.mz_cmd.specs.declared.rule.K.{K}
 use Rattle.mz_cmd.specs.declared.rule.K.TheVariants as k
-use Rattle.mz_punify.specs.Numbering.{Numbering, exprs_of, operands_of}
+use Rattle.mz_pmachine_unify.specs.Numbering.{Numbering, exprs_of, operands_of}
 use Rattle.mz_store.specs.declared.item.Id.{Id}
 use Rattle.mz_store.specs.declared.item.Item.{Item as Kept}
-use Rattle.mz_unification.specs.Steps.{◌>>=◌, ◌>>◌, need}
-use Rattle.mz_numbered.specs.Numbered.{Numbered, operand_list, equal, portable}
-use Rattle.mz_unification.specs.Profile.{Item, expr, proof, obligation, conversion}
-use Rattle.mz_punify.specs.Stored.{IsItemIn, AreItemsIn, exprs_at}
-use Rattle.mz_unification.proofs.Offered.{taken-is}
-use Rattle.mz_punify.proofs.Offered.{items-in-both, listed-exprs, of-numbered}
-use Rattle.mz_soundness.specs.Premises.{pop_expr, pop_obligation, pop_sides}
+use Rattle.mz_unify_theory.specs.Steps.{◌>>=◌, ◌>>◌, need}
+use Rattle.mz_pmachine_theory.specs.Numbered.{Numbered, operand_list, equal, portable}
+use Rattle.mz_unify_theory.specs.Profile.{Item, expr, proof, obligation, conversion}
+use Rattle.mz_pmachine_unify.specs.Stored.{IsItemIn, AreItemsIn, exprs_at}
+use Rattle.mz_unify_theory.proofs.Offered.{taken-is}
+use Rattle.mz_pmachine_unify.proofs.Offered.{items-in-both, listed-exprs, of-numbered}
+use Rattle.mz_machine_theory.specs.Premises.{pop_expr, pop_obligation, pop_sides}
 use Rattle.mz_machine.proofs.Offered.{same}
 use Rattle.mz_pmachine.specs.OverNodes.{pop_unfolding}
 use Rattle.mz_unify.proofs.Offered.{differ}

@@ -2,17 +2,17 @@
 use Rattle.std.proofs.Common.{◌≡◌, ◌≤◌, ◌<◌, ◌+◌, ℕ, zero, suc, List, [], ◌∷◌, length, map, refl, sym, ap, ◌∙◌, arith}
 use Rattle.std.specs.Prelude.{reverse}
 use Rattle.std.specs.List.{range_with_len}
-use Rattle.mz_punify.specs.Numbering.{Numbering, expr_of, IsIn, AreIn}
+use Rattle.mz_pmachine_unify.specs.Numbering.{Numbering, expr_of, IsIn, AreIn}
 use Rattle.mz_store.specs.declared.item.Id.{Id}
 use Rattle.mz_store.specs.declared.item.Item.{Item as Kept}
 use Rattle.mz_store.specs.declared.item.Item.TheVariants.{Proof}
-use Rattle.mz_numbered.specs.Numbered.{Numbered, a_variable, portable}
-use Rattle.mz_unification.specs.Profile.{Item, proof}
-use Rattle.mz_punify.specs.Stored.{item_at, items_at, exprs_at, matching_at, AreItemsIn}
-use Rattle.mz_unification.proofs.Offered.{map-reverse}
-use Rattle.mz_soundness.specs.MachineState.{State, Kind, is_axiom, is_theorem, is_definition, Heading}
-use Rattle.mz_soundness.specs.ProofMachine.{as_proofs}
-use Rattle.mz_earlier.specs.OwnRow.{id_at, first_ids, own_proofs}
+use Rattle.mz_pmachine_theory.specs.Numbered.{Numbered, a_variable, portable}
+use Rattle.mz_unify_theory.specs.Profile.{Item, proof}
+use Rattle.mz_pmachine_unify.specs.Stored.{item_at, items_at, exprs_at, matching_at, AreItemsIn}
+use Rattle.mz_unify_theory.proofs.Offered.{map-reverse}
+use Rattle.mz_machine_theory.specs.MachineState.{State, Kind, is_axiom, is_theorem, is_definition, Heading}
+use Rattle.mz_machine_theory.specs.ProofMachine.{as_proofs}
+use Rattle.mz_machine_env.specs.OwnRow.{id_at, first_ids, own_proofs}
 use Rattle.mz_pmachine.specs.OverNodes.{AreFirst}
 use Rattle.mz_machine.specs.Endings.{mode_at, items_of}
 use Rattle.mz_pmachine.specs.Endings.{ended}

@@ -4,13 +4,13 @@ use Rattle.std.proofs.lemmas.List.Elements.{All-append}
 use Rattle.mz_logic.specs.Legality.{IsDummy}
 use Rattle.mz_store.specs.declared.item.Id.{Id}
 use Rattle.mz_store.specs.declared.item.Item.{Item as Kept}
-use Rattle.mz_soundness.specs.MachineState.{signatures_in}
-use Rattle.mz_earlier.specs.OwnRow.{heading_of}
-use Rattle.mz_earlier.specs.Before.{tables_before}
+use Rattle.mz_machine_theory.specs.MachineState.{signatures_in}
+use Rattle.mz_machine_env.specs.OwnRow.{heading_of}
+use Rattle.mz_machine_env.specs.Before.{tables_before}
 use Rattle.mz_layout.specs.declared.taken.Rows.{Rows}
-use Rattle.mz_punify.specs.Numbering.{Numbering, AreIn}
-use Rattle.mz_punify.specs.Stored.{AreItemsIn}
-use Rattle.mz_punify.proofs.Offered.{still-in}
+use Rattle.mz_pmachine_unify.specs.Numbering.{Numbering, AreIn}
+use Rattle.mz_pmachine_unify.specs.Stored.{AreItemsIn}
+use Rattle.mz_pmachine_unify.proofs.Offered.{still-in}
 use Rattle.mz_pmachine.specs.OverNodes.{Grows, IsUnderway}
 use Rattle.mz_pmachine.proofs.TermResults.{expr-kept}
 

@@ -1,12 +1,12 @@
 -- Items over nodes, as expressions.
 use Rattle.std.proofs.Common.{◌≡◌, List, [], ◌∷◌, Ok, refl, subst}
 use Rattle.std.specs.Prelude.{map}
-use Rattle.mz_numbered.specs.Numbered.{Numbered}
-use Rattle.mz_punify.specs.Numbering.{Numbering, AreIn, expr_of}
+use Rattle.mz_pmachine_theory.specs.Numbered.{Numbered}
+use Rattle.mz_pmachine_unify.specs.Numbering.{Numbering, AreIn, expr_of}
 use Rattle.mz_store.specs.declared.item.Id.{Id}
 use Rattle.mz_store.specs.declared.item.Item.{Item as Kept}
 use Rattle.mz_store.specs.declared.item.Item.TheVariants.{Expr}
-use Rattle.mz_punify.specs.Stored.{item_at, AreItemsIn}
+use Rattle.mz_pmachine_unify.specs.Stored.{item_at, AreItemsIn}
 use Rattle.mz_machine.specs.OverStore.{exprs_of}
 use Rattle.mz_machine.proofs.Offered.{ItemsOf, exprs-are}
 

@@ -4,17 +4,17 @@ use Rattle.std.specs.Prelude.{slice_get, ◌-◌}
 use Rattle.std.specs.Option.{option_map}
 use Rattle.std.proofs.lemmas.Option.{slice_get-map}
 use Rattle.std.proofs.lemmas.List.{map-append}
-use Rattle.mz_numbered.specs.Numbered.{Numbered}
-use Rattle.mz_punify.specs.Numbering.{Numbering, expr_of}
+use Rattle.mz_pmachine_theory.specs.Numbered.{Numbered}
+use Rattle.mz_pmachine_unify.specs.Numbering.{Numbering, expr_of}
 use Rattle.mz_store.specs.declared.item.Id.{Id}
 use Rattle.mz_store.specs.declared.item.Item.{Item as Kept}
-use Rattle.mz_unification.specs.Profile.{Item, proof}
-use Rattle.mz_punify.specs.Stored.{exprs_at, item_at, items_at, IsItemIn, AreItemsIn}
-use Rattle.mz_punify.proofs.Offered.{items-in-left, items-in-right, items-push}
+use Rattle.mz_unify_theory.specs.Profile.{Item, proof}
+use Rattle.mz_pmachine_unify.specs.Stored.{exprs_at, item_at, items_at, IsItemIn, AreItemsIn}
+use Rattle.mz_pmachine_unify.proofs.Offered.{items-in-left, items-in-right, items-push}
 use Rattle.mz_pmachine.specs.OverNodes.{heap_at, state_at}
 use Rattle.mz_machine.proofs.Offered.{last-splits, no-last}
-use Rattle.mz_soundness.specs.Premises.{is_obligation}
-use Rattle.mz_earlier.specs.Items.{is_owed}
+use Rattle.mz_machine_theory.specs.Premises.{is_obligation}
+use Rattle.mz_machine_env.specs.Items.{is_owed}
 use Rattle.mz_store.specs.declared.item.Item.TheVariants.{Expr, Proof, Obligation, Conversion}
 
 pub popped : (s : Numbering) (old new : List Kept) (x : Kept) → old ≡ new ++ x ∷ [] → AreItemsIn s old → IsItemIn s x × AreItemsIn s new

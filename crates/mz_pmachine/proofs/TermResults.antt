@@ -1,28 +1,25 @@
 -- Operands of terms over nodes, and nodes that grow.
 use Rattle.std.proofs.Common.{◌≡◌, ◌<◌, ℕ, List, [], ◌∷◌, ◌++◌, Ok, length, map, refl, sym, ap, ◌∙◌, subst, arith}
 use Rattle.mz_logic.specs.Signature.{Signature}
-use Rattle.mz_logic.specs.Words.{binders_of}
-use Rattle.mz_logic.specs.Words.{signatures_of as signatures_by}
+use Rattle.mz_logic.specs.Words.{binders_of, signatures_of as signatures_by}
 use Rattle.mz_layout.specs.Tables.{term_row}
 use Rattle.mz_store.specs.Sharing.{CanTake}
-use Rattle.mz_punify.specs.Numbering.{Numbering, Entry, expr_of, IsIn, AreIn, IsOver, KeepsIds}
-use Rattle.mz_punify.specs.Numbering.{trees_of as trees_in}
+use Rattle.mz_pmachine_unify.specs.Numbering.{Numbering, Entry, expr_of, IsIn, AreIn, IsOver, KeepsIds, trees_of as trees_in}
 use Rattle.mz_store.specs.declared.item.Id.{Id}
 use Rattle.mz_store.specs.declared.item.Item.{Item as Kept}
 use Rattle.mz_store.specs.declared.item.Item.TheVariants.{Expr, Proof, Obligation, Conversion}
-use Rattle.mz_unification.specs.Sorted.{AllSorted}
-use Rattle.mz_unification.specs.Profile.{expr, proof}
-use Rattle.mz_punify.specs.Stored.{exprs_at, trees_at, item_at, items_at, IsItemIn, AreItemsIn}
+use Rattle.mz_unify_theory.specs.Sorted.{AllSorted}
+use Rattle.mz_unify_theory.specs.Profile.{expr, proof}
+use Rattle.mz_pmachine_unify.specs.Stored.{exprs_at, trees_at, item_at, items_at, IsItemIn, AreItemsIn}
 use Rattle.std.specs.Prelude.{reverse}
 use Rattle.std.proofs.lemmas.List.{append-nil, reverse-append}
-use Rattle.mz_punify.proofs.Offered.{items-in-both, still-in, length-trees, trees-of}
-use Rattle.mz_soundness.specs.Premises.{operands_fit}
-use Rattle.mz_earlier.specs.Before.{Before, signatures_of, words_before}
+use Rattle.mz_pmachine_unify.proofs.Offered.{items-in-both, still-in, length-trees, trees-of, entry-kept}
+use Rattle.mz_machine_theory.specs.Premises.{operands_fit}
+use Rattle.mz_machine_env.specs.Before.{Before, signatures_of, words_before}
 use Rattle.mz_machine.proofs.Offered.{can-stand, no-dummies}
 use Rattle.mz_pmachine.specs.OverNodes.{heap_at, state_at, Grows}
 use Rattle.mz_pmachine.proofs.Popping.{heap-push}
-use Rattle.mz_earlier.proofs.Offered.{signatures-before}
-use Rattle.mz_punify.proofs.Offered.{entry-kept}
+use Rattle.mz_machine_env.proofs.Offered.{signatures-before}
 
 -- ---- trees of nodes
 

@@ -7,16 +7,16 @@ use Rattle.mz_logic.specs.Sorts.{HasSort}
 use Rattle.mz_logic.specs.Words.{signatures_of as signatures_by}
 use Rattle.mz_logic.specs.declared.binder.Binder.{Binder}
 use Rattle.mz_layout.specs.Tables.{term_row}
-use Rattle.mz_punify.specs.Numbering.{Numbering, IsIn, IsOver, expr_of, head_of, operands_of}
+use Rattle.mz_pmachine_unify.specs.Numbering.{Numbering, IsIn, IsOver, expr_of, head_of, operands_of}
 use Rattle.mz_store.specs.declared.item.Id.{Id}
 use Rattle.mz_store.specs.declared.item.Item.{Item as Kept}
-use Rattle.mz_numbered.specs.Numbered.{Numbered, a_variable, an_application, operand_list, tree_of, portable}
-use Rattle.mz_unification.specs.UnifyMachine.{in_definition, Matching, unify, unify_steps}
-use Rattle.mz_punify.specs.Stored.{IsItemIn, AreItemsIn, item_at, items_at, exprs_at, matching_at}
-use Rattle.mz_punify.proofs.Offered.{items-push}
+use Rattle.mz_pmachine_theory.specs.Numbered.{Numbered, a_variable, an_application, operand_list, tree_of, portable}
+use Rattle.mz_unify_theory.specs.UnifyMachine.{in_definition, Matching, unify, unify_steps}
+use Rattle.mz_pmachine_unify.specs.Stored.{IsItemIn, AreItemsIn, item_at, items_at, exprs_at, matching_at}
+use Rattle.mz_pmachine_unify.proofs.Offered.{items-push}
 use Rattle.mz_unify.specs.declared.unified.UnifyMode.TheVariants.{Body}
-use Rattle.mz_earlier.specs.Before.{Before, signatures_of, words_before}
-use Rattle.mz_earlier.proofs.Offered.{signatures-before}
+use Rattle.mz_machine_env.specs.Before.{Before, signatures_of, words_before}
+use Rattle.mz_machine_env.proofs.Offered.{signatures-before}
 use Rattle.mz_machine.proofs.Offered.{as-many}
 use Rattle.mz_pmachine.proofs.Converting.{put_in}
 

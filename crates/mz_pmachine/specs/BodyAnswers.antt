@@ -1,11 +1,11 @@
 -- What is answered where a body has run by address.
 use Rattle.std.specs.Prelude.{◌≡◌, ℕ, ⊤, ◌+◌, false, length, Result, Ok, Err}
 use Rattle.mz_cmd.specs.declared.rule.K.{K}
-use Rattle.mz_soundness.specs.MachineState.{State, Heading}
+use Rattle.mz_machine_theory.specs.MachineState.{State, Heading}
 use Rattle.mz_machine.specs.declared.body.BodyEnd.{BodyEnd}
 use Rattle.mz_machine.specs.declared.body.BodyChecked.{BodyChecked}
 use Rattle.mz_machine.specs.declared.body.BodyChecked.TheVariants.{Good, Refused, Mem}
-use Rattle.mz_numbered.specs.Numbered.{Numbered}
+use Rattle.mz_pmachine_theory.specs.Numbered.{Numbered}
 
 -- the hypotheses of a state and its dummies, which are the variables after the parameters; and no gap
 pub record CountsOf (h : Heading) (last : State Numbered) (end : BodyEnd) : Type 0 where

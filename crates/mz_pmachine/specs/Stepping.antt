@@ -1,12 +1,12 @@
 -- What a machine answers to a command, and to the END.
 use Rattle.std.specs.Prelude.{◌≡◌, ℕ, ⊤, ◌+◌, ◌≤◌, List, Result, Ok, Err}
 use Rattle.mz_cmd.specs.declared.command.Cmd.{Cmd}
-use Rattle.mz_soundness.specs.MachineState.{State}
-use Rattle.mz_soundness.specs.ProofMachine.{proof_end}
-use Rattle.mz_soundness.specs.Bodies.{body_start}
-use Rattle.mz_earlier.specs.OwnRow.{heading_of}
+use Rattle.mz_machine_theory.specs.MachineState.{State}
+use Rattle.mz_machine_theory.specs.ProofMachine.{proof_end}
+use Rattle.mz_machine_theory.specs.Bodies.{body_start}
+use Rattle.mz_machine_env.specs.OwnRow.{heading_of}
 use Rattle.mz_layout.specs.declared.taken.Rows.{Rows}
-use Rattle.mz_numbered.specs.Numbered.{Numbered, portable}
+use Rattle.mz_pmachine_theory.specs.Numbered.{Numbered, portable}
 use Rattle.mz_pmachine.specs.Steps.{Underway, tables_for, heading_for, row_of}
 use Rattle.mz_pmachine.specs.BodyAnswers.{CountsOf}
 use Rattle.mz_unify.specs.declared.stop.Stop.{Stop}

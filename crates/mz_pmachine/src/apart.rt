@@ -6,16 +6,16 @@ ghost use Rattle.mz_logic.specs.Signature.{Signature};
 ghost use Rattle.mz_logic.specs.Words.{binders_of, bound_places};
 ghost use Rattle.mz_logic.specs.declared.binder.Binder.{Binder};
 ghost use Rattle.mz_layout.specs.Rows.{params_of};
-ghost use Rattle.mz_punify.specs.Numbering.{IsIn, AreIn, IsOver, tree_of, vars_of};
-ghost use Rattle.mz_punify.specs.Stored.{trees_at};
-ghost use Rattle.mz_unification.specs.Tests.{is_bound_var, var_within};
-ghost use Rattle.mz_soundness.specs.Premises.{operands_fit, apart_from, are_apart};
-ghost use Rattle.mz_earlier.specs.Before.{signatures_of};
-ghost use Rattle.mz_earlier.specs.OperandRows.{IsBefore, AreAmong};
+ghost use Rattle.mz_pmachine_unify.specs.Numbering.{IsIn, AreIn, IsOver, tree_of, vars_of};
+ghost use Rattle.mz_pmachine_unify.specs.Stored.{trees_at};
+ghost use Rattle.mz_unify_theory.specs.Tests.{is_bound_var, var_within};
+ghost use Rattle.mz_machine_theory.specs.Premises.{operands_fit, apart_from, are_apart};
+ghost use Rattle.mz_machine_env.specs.Before.{signatures_of};
+ghost use Rattle.mz_machine_env.specs.OperandRows.{IsBefore, AreAmong};
 
-use mz_earlier::{Earlier, dependencies, may_meet};
 use mz_layout::Row;
-use mz_punify::Nodes;
+use mz_machine_env::{Earlier, dependencies, may_meet};
+use mz_pmachine_unify::Nodes;
 use mz_store::Id;
 
 /// Whether each two operands of a row are apart, whichever of them comes first. They fit, and the bound

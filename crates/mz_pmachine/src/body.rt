@@ -1,11 +1,11 @@
 //! A whole body, read in place.
 ghost use Rattle.std.specs.Prelude.{◌≡◌, ◌≤◌, ◌<◌, ◌^◌, ◌+◌, ◌-◌, ◌*◌, false, length};
-ghost use Rattle.mz_numbered.specs.Numbered.{portable};
-ghost use Rattle.mz_soundness.specs.Bodies.{body_run, body_steps, body_from, body_steps_from};
+ghost use Rattle.mz_pmachine_theory.specs.Numbered.{portable};
+ghost use Rattle.mz_machine_theory.specs.Bodies.{body_run, body_steps, body_from, body_steps_from};
 ghost use Rattle.mz_pmachine.specs.Steps.{heading_for, tables_for};
 ghost use Rattle.mz_layout.specs.Heads.{body_bytes};
-ghost use Rattle.mz_earlier.specs.OwnRow.{MayRun, byte_of, heading_of};
-ghost use Rattle.mz_earlier.specs.Before.{tables_before};
+ghost use Rattle.mz_machine_env.specs.OwnRow.{MayRun, byte_of, heading_of};
+ghost use Rattle.mz_machine_env.specs.Before.{tables_before};
 ghost use Rattle.mz_machine.specs.BodyAnswers.{UnlessMem};
 ghost use Rattle.mz_pmachine.specs.BodyAnswers.{IsBodyRun};
 ghost use Rattle.mz_pmachine.specs.Running.{IsRunning, machine_of};
@@ -13,9 +13,9 @@ ghost use Rattle.mz_pmachine.specs.Running.{IsRunning, machine_of};
 use crate::machine::{Parts, Setting};
 use crate::room::{Desk, PortableRoom};
 use mz_cmd::{END, K, Steps, cmd_at};
-use mz_earlier::{BodyKind, kind_by};
 use mz_layout::{Mmb, Rows};
 use mz_machine::BodyChecked;
+use mz_machine_env::{BodyKind, kind_by};
 use std::alloc::Global;
 use std::sync::ledger::Ledger;
 

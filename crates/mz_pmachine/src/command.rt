@@ -1,13 +1,13 @@
 //! The commands of a body.
 ghost use Rattle.std.specs.Prelude.{ℕ, ◌≡◌, IfSome, IfNone, Some, None};
 ghost use Rattle.mz_cmd.specs.declared.code.ProofCode.TheVariants.{ConvRef};
-ghost use Rattle.mz_soundness.specs.Bodies.{stands_in, body_command, proves};
-ghost use Rattle.mz_earlier.specs.OwnRow.{kind_of};
+ghost use Rattle.mz_machine_theory.specs.Bodies.{stands_in, body_command, proves};
+ghost use Rattle.mz_machine_env.specs.OwnRow.{kind_of};
 ghost use Rattle.mz_pmachine.specs.OverNodes.{code_of};
-ghost use Rattle.mz_numbered.specs.Numbered.{portable};
+ghost use Rattle.mz_pmachine_theory.specs.Numbered.{portable};
 
 use mz_cmd::ProofCode;
-use mz_earlier::{BodyKind, Converting, Making};
+use mz_machine_env::{BodyKind, Converting, Making};
 
 /// A command over the heap.
 #[derive(Clone, Copy)]

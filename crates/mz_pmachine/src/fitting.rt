@@ -4,19 +4,19 @@ ghost use Rattle.mz_logic.specs.Signature.{Signature};
 ghost use Rattle.mz_logic.specs.Words.{binders_of, bound_places, word_bound, word_sort};
 ghost use Rattle.mz_logic.specs.declared.binder.Binder.{Binder};
 ghost use Rattle.mz_layout.specs.Rows.{params_of};
-ghost use Rattle.mz_punify.specs.Numbering.{IsIn, AreIn, IsOver, tree_of};
-ghost use Rattle.mz_punify.specs.Stored.{items_at, exprs_at, trees_at, AreItemsIn};
-ghost use Rattle.mz_soundness.specs.Premises.{pop_operands, operands_fit};
-ghost use Rattle.mz_earlier.specs.Before.{signatures_of};
-ghost use Rattle.mz_earlier.specs.OperandRows.{IsBefore};
+ghost use Rattle.mz_pmachine_unify.specs.Numbering.{IsIn, AreIn, IsOver, tree_of};
+ghost use Rattle.mz_pmachine_unify.specs.Stored.{items_at, exprs_at, trees_at, AreItemsIn};
+ghost use Rattle.mz_machine_theory.specs.Premises.{pop_operands, operands_fit};
+ghost use Rattle.mz_machine_env.specs.Before.{signatures_of};
+ghost use Rattle.mz_machine_env.specs.OperandRows.{IsBefore};
 ghost use Rattle.mz_machine.specs.OverStore.{GivesRule, Gives};
 
 use mz_cmd::K;
-use mz_earlier::Earlier;
 use mz_layout::Row;
 use mz_logic::Word;
 use mz_machine::read_exprs;
-use mz_punify::Nodes;
+use mz_machine_env::Earlier;
+use mz_pmachine_unify::Nodes;
 use mz_store::{Id, Item};
 use mz_unify::{Stop, push};
 

@@ -1,13 +1,13 @@
 //! What a command takes from the stack, whose top is its last item.
 ghost use Rattle.std.specs.Prelude.{◌≡◌, ◌≤◌, ◌<◌, ◌-◌, ◌+◌, false, IfOk, OnOk, IfSome, IfNone, vec_len, vec_capacity};
-ghost use Rattle.mz_punify.specs.Numbering.{Numbering, IsIn, expr_of};
+ghost use Rattle.mz_pmachine_unify.specs.Numbering.{Numbering, IsIn, expr_of};
 ghost use Rattle.mz_store.specs.declared.item.Item.TheVariants.{Conversion};
-ghost use Rattle.mz_punify.specs.Stored.{items_at, item_at, AreItemsIn, IsItemIn};
-ghost use Rattle.mz_soundness.specs.Premises.{pop_expr, pop_proof, pop_obligation, pop_conversion, is_conversion};
+ghost use Rattle.mz_pmachine_unify.specs.Stored.{items_at, item_at, AreItemsIn, IsItemIn};
+ghost use Rattle.mz_machine_theory.specs.Premises.{pop_expr, pop_proof, pop_obligation, pop_conversion, is_conversion};
 ghost use Rattle.mz_machine.specs.OverStore.{GivesRule};
 
 use mz_cmd::K;
-use mz_punify::Nodes;
+use mz_pmachine_unify::Nodes;
 use mz_store::{Id, Item};
 
 /// Takes an expression from the top.

@@ -1,11 +1,11 @@
 -- What is accepted by address is accepted by the published table.
 use Rattle.std.proofs.Common.{ℕ, List}
-use Rattle.mz_files.proofs.Offered.{good-by-table}
-use Rattle.mz_verdicts.specs.declared.verdict.Counts.{Counts}
-use Rattle.mz_verdicts.specs.declared.verdict.Verdict.{Verdict}
-use Rattle.mz_verdicts.specs.declared.verdict.Verdict.TheVariants as verdicts
-use Rattle.mz_verdicts.specs.Verdict.{AcceptsWith, IsSoundIfAccepted}
-use Rattle.mz_verdicts.proofs.Offered.{accepted-sound}
+use Rattle.mz_binary_theory.proofs.Offered.{good-by-table}
+use Rattle.mz_match_theory.specs.declared.verdict.Counts.{Counts}
+use Rattle.mz_match_theory.specs.declared.verdict.Verdict.{Verdict}
+use Rattle.mz_match_theory.specs.declared.verdict.Verdict.TheVariants as verdicts
+use Rattle.mz_match_theory.specs.Verdict.{AcceptsWith, IsSoundIfAccepted}
+use Rattle.mz_match_theory.proofs.Offered.{accepted-sound}
 use Rattle.mz_portable.specs.Portable.{PortablyAccepts, IsPortableVerdict, IsAcceptedByTable}
 
 pub by-table : (spec bin : List ℕ) (counts : Counts) → PortablyAccepts spec bin counts → AcceptsWith spec bin counts

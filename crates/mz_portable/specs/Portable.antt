@@ -1,11 +1,11 @@
 -- What is said of a specification and a binary by verifiers that compare addresses (mm0.md's and the .mmb format's parts;
 -- the order of refusals is this project's own).
 use Rattle.std.specs.Prelude.{⊤, ℕ, List}
-use Rattle.mz_files.specs.declared.standard.Standard.TheVariants.{Portable}
-use Rattle.mz_verdicts.specs.declared.verdict.Counts.{Counts}
-use Rattle.mz_verdicts.specs.declared.verdict.Verdict.{Verdict}
-use Rattle.mz_verdicts.specs.declared.verdict.Verdict.TheVariants as verdicts
-use Rattle.mz_verdicts.specs.Verdict.{AcceptsWith, AcceptsWithBy, FirstRefusalBy, IsVerdictBy, TicksBy}
+use Rattle.mz_binary_theory.specs.declared.standard.Standard.TheVariants.{Portable}
+use Rattle.mz_match_theory.specs.declared.verdict.Counts.{Counts}
+use Rattle.mz_match_theory.specs.declared.verdict.Verdict.{Verdict}
+use Rattle.mz_match_theory.specs.declared.verdict.Verdict.TheVariants as verdicts
+use Rattle.mz_match_theory.specs.Verdict.{AcceptsWith, AcceptsWithBy, FirstRefusalBy, IsVerdictBy, TicksBy}
 
 -- the specification declares so many of each kind, the binary is good by address, and its public statements agree
 abbrev pub PortablyAccepts : List ℕ → List ℕ → Counts → Type 0

@@ -1,8 +1,8 @@
 // Laws on the definitions: the contract of each function is one, and its body is empty.
 ghost use Rattle.std.specs.Prelude.{◌≡◌, ◌⊎◌, ℕ, List};
-ghost use Rattle.mz_verdicts.specs.declared.verdict.Counts.{Counts};
-ghost use Rattle.mz_verdicts.specs.declared.verdict.Verdict.{Verdict};
-ghost use Rattle.mz_verdicts.specs.Verdict.{AcceptsWith, IsSound};
+ghost use Rattle.mz_match_theory.specs.declared.verdict.Counts.{Counts};
+ghost use Rattle.mz_match_theory.specs.declared.verdict.Verdict.{Verdict};
+ghost use Rattle.mz_match_theory.specs.Verdict.{AcceptsWith, IsSound};
 ghost use Rattle.mz_portable.specs.Portable.{FirstPortableRefusal, PortablyAccepts};
 
 /// Each specification and binary are accepted by address, with one number of declarations of each kind, or

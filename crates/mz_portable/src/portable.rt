@@ -1,13 +1,13 @@
 // A specification and a binary together, by address.
 ghost use Rattle.std.specs.Prelude.{◌≡◌, ◌⊎◌, ◌<◌, ◌≤◌, ◌+◌, ◌*◌, ◌^◌, length};
-ghost use Rattle.mz_verdicts.specs.Verdict.{IsSoundIfAccepted};
+ghost use Rattle.mz_match_theory.specs.Verdict.{IsSoundIfAccepted};
 ghost use Rattle.mz_portable.specs.Portable.{FirstPortableRefusal, IsAcceptedByTable, IsPortableVerdict, PortableTicks, PortablyAccepts};
 
+use mz_binary_theory::Standard;
 use mz_cmd::Steps;
-use mz_files::Standard;
 use mz_match::verify_by;
+use mz_match_theory::{Counts, Verdict};
 use mz_store::Seed;
-use mz_verdicts::{Counts, Verdict};
 use std::alloc::Global;
 use std::sync::ledger::Ledger;
 

@@ -2,18 +2,18 @@
 use Rattle.std.proofs.Common.{◌≡◌, ◌≤◌, ◌<◌, ◌+◌, ◌++◌, ◌∙◌, ℕ, suc, true, false, List, [], ◌∷◌, length, get_or, drop, map, refl, sym, ap, append_assoc, append-nil, add-one, arith}
 use Rattle.std.specs.Prelude.{codes}
 use Rattle.std.proofs.lemmas.List.{drop_more, drop_all}
-use Rattle.mz_general.proofs.Offered.{one-further}
+use Rattle.mz_base_theory.proofs.Offered.{one-further}
 use Rattle.mz_logic.specs.Tree.{Tree, var, app, none, more}
 use Rattle.mz_logic.specs.View.{tree, trees}
 use Rattle.mz_logic.specs.declared.expr.Expr.{Expr}
 use Rattle.mz_logic.specs.declared.binder.Binder.{Binder}
-use Rattle.mz_grammar.specs.Statement.{opening_of, closing_of}
-use Rattle.mz_printing.specs.Words.{written}
-use Rattle.mz_printing.specs.Lines.{Tokens, spaced, mark, spaced_mark, dep_words, type_words, binder_words, binders_words, hyp_words, hyps_words, math_word}
-use Rattle.mz_printing.specs.Prefix.{enclosed, operand_tokens}
-use Rattle.mz_printing.proofs.Offered.{written-append}
+use Rattle.mz_spec_grammar.specs.Statement.{opening_of, closing_of}
+use Rattle.mz_prefix_theory.specs.Words.{written}
+use Rattle.mz_prefix_theory.specs.Lines.{Tokens, spaced, mark, spaced_mark, dep_words, type_words, binder_words, binders_words, hyp_words, hyps_words, math_word}
+use Rattle.mz_prefix_theory.specs.Prefix.{enclosed, operand_tokens}
+use Rattle.mz_prefix_theory.proofs.Offered.{written-append}
 use Rattle.mz_prefix.specs.Measures.{has_operands}
-use Rattle.mz_readback.specs.Declared.{Vocabulary, formula_of, formulas_of, plain_type, plain_param, plain_dummy, plain_binders, plain_dummies}
+use Rattle.mz_prefix_theory.specs.Declared.{Vocabulary, formula_of, formulas_of, plain_type, plain_param, plain_dummy, plain_binders, plain_dummies}
 
 -- where the text of a list from its i-th part on is that part and the text of the rest
 module _ {A : Type 0} (text : ℕ → List A → List ℕ) (part : ℕ → A → List ℕ) (cut : (i : ℕ) (x : A) (xs : List A) → text i (x ∷ xs) ≡ part i x ++ text (i + 1) xs) where

@@ -4,9 +4,9 @@ use Rattle.mz_logic.specs.Tree.{Tree, Trees, none, more, followed_by, copies}
 use Rattle.mz_logic.specs.Groups.{Repeats}
 use Rattle.mz_logic.specs.Legality.{EachTree}
 use Rattle.mz_logic.proofs.Offered.{each_repeated}
-use Rattle.mz_publics.specs.PublicPart.{mentions_local, any_mentions_local}
-use Rattle.mz_printing.specs.Prefix.{IsShort}
-use Rattle.mz_readback.specs.Declared.{Vocabulary, AreShort, formula_of}
+use Rattle.mz_prefix_theory.specs.PublicPart.{mentions_local, any_mentions_local}
+use Rattle.mz_prefix_theory.specs.Prefix.{IsShort}
+use Rattle.mz_prefix_theory.specs.Declared.{Vocabulary, AreShort, formula_of}
 
 or_twice : (a b : Bool) → (a || (a || b)) ≡ (a || b)
 or_twice true b = refl

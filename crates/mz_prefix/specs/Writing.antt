@@ -2,12 +2,12 @@
 use Rattle.std.specs.Prelude.{◌++◌, ℕ, List, [], Bool, true, false, if◌then◌else◌, codes}
 use Rattle.mz_logic.specs.Signature.{Signature}
 use Rattle.mz_logic.specs.Declaration.{Declaration}
-use Rattle.mz_statements.specs.Statements.{Statement}
-use Rattle.mz_printing.specs.Words.{written}
-use Rattle.mz_printing.specs.Lines.{PlainBinder, binders_words, type_words, line_text}
-use Rattle.mz_publics.specs.PublicPart.{public_decl}
-use Rattle.mz_readback.specs.Declared.{Vocabulary, plain_type, plain_binders, line_of_decl}
-use Rattle.mz_wording.specs.Wording.{is_hidden}
+use Rattle.mz_mmu_statements.specs.Statements.{Statement}
+use Rattle.mz_prefix_theory.specs.Words.{written}
+use Rattle.mz_prefix_theory.specs.Lines.{PlainBinder, binders_words, type_words, line_text}
+use Rattle.mz_prefix_theory.specs.PublicPart.{public_decl}
+use Rattle.mz_prefix_theory.specs.Declared.{Vocabulary, plain_type, plain_binders, line_of_decl}
+use Rattle.mz_prefix_theory.specs.Wording.{is_hidden}
 use Rattle.mz_prefix.specs.declared.names.Names.{Names}
 use Rattle.mz_prefix.specs.Names.{spoken}
 

@@ -1,10 +1,10 @@
 // What stands first against a specification.
 ghost use Rattle.std.specs.Prelude.{◌≡◌, ◌<◌, ◌↔◌, IsTrue, false, length, option_map};
-ghost use Rattle.mz_checks.specs.Checks.{Answers};
-ghost use Rattle.mz_publics.specs.PublicPart.{IsSayable};
-ghost use Rattle.mz_readback.specs.Declared.{Vocabulary};
+ghost use Rattle.mz_base_theory.specs.Checks.{Answers};
+ghost use Rattle.mz_prefix_theory.specs.PublicPart.{IsSayable};
+ghost use Rattle.mz_prefix_theory.specs.Declared.{Vocabulary};
 ghost use Rattle.mz_type.specs.TypedText.{statement_at};
-ghost use Rattle.mz_wording.specs.Wording.{IsBrief, local_checks, local_in, long_checks, long_in};
+ghost use Rattle.mz_prefix_theory.specs.Wording.{IsBrief, local_checks, local_in, long_checks, long_in};
 
 use crate::hidden::is_brief;
 use crate::names::Names;

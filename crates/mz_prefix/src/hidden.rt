@@ -2,10 +2,10 @@
 ghost use Rattle.std.specs.Prelude.{◌≡◌, ◌↔◌, IsTrue};
 ghost use Rattle.mz_logic.specs.DeclView.{declaration};
 ghost use Rattle.mz_logic.specs.View.{tree};
-ghost use Rattle.mz_publics.specs.PublicPart.{any_mentions_local, IsSayable, mentions_local};
-ghost use Rattle.mz_readback.specs.Declared.{AreShort, Vocabulary};
-ghost use Rattle.mz_wording.specs.Wording;
-ghost use Rattle.mz_wording.specs.Wording.{IsBrief};
+ghost use Rattle.mz_prefix_theory.specs.PublicPart.{any_mentions_local, IsSayable, mentions_local};
+ghost use Rattle.mz_prefix_theory.specs.Declared.{AreShort, Vocabulary};
+ghost use Rattle.mz_prefix_theory.specs.Wording;
+ghost use Rattle.mz_prefix_theory.specs.Wording.{IsBrief};
 ghost use Rattle.mz_prefix.specs.Names.{spoken};
 
 use crate::measure::is_short;

@@ -1,12 +1,12 @@
 // The line of a statement.
 ghost use Rattle.std.specs.Prelude.{◌≡◌, ◌++◌, [], OnOk};
-ghost use Rattle.mz_grammar.specs.Statement.{keyword_of};
-ghost use Rattle.mz_grammar.specs.declared.kind.Kind.TheVariants.{Assert};
+ghost use Rattle.mz_spec_grammar.specs.Statement.{keyword_of};
+ghost use Rattle.mz_spec_grammar.specs.declared.kind.Kind.TheVariants.{Assert};
 ghost use Rattle.mz_logic.specs.DeclView.{assertion_of, declaration, is_axiom, signature, term_of};
 ghost use Rattle.mz_logic.specs.Declaration.{defined, sort_decl};
 ghost use Rattle.mz_logic.specs.View.{tree};
-ghost use Rattle.mz_printing.specs.Lines.{line_text};
-ghost use Rattle.mz_readback.specs.Declared.{Vocabulary, kind_of, line_of_decl, plain_binders, term_line_of};
+ghost use Rattle.mz_prefix_theory.specs.Lines.{line_text};
+ghost use Rattle.mz_prefix_theory.specs.Declared.{Vocabulary, kind_of, line_of_decl, plain_binders, term_line_of};
 ghost use Rattle.mz_prefix.specs.Names.{spoken};
 ghost use Rattle.mz_prefix.specs.Writing.{bare_text, head_text, modifier_text, told};
 

@@ -2,8 +2,8 @@
 ghost use Rattle.std.specs.Prelude.{◌≡◌, ◌<◌, ◌≤◌, ◌+◌, ◌↔◌, IsTrue, MatchOption};
 ghost use Rattle.mz_logic.specs.View.{tree};
 ghost use Rattle.mz_math.specs.Meaning.{height, trees_height};
-ghost use Rattle.mz_readback.specs.Declared.{Vocabulary};
-ghost use Rattle.mz_wording.specs.Wording;
+ghost use Rattle.mz_prefix_theory.specs.Declared.{Vocabulary};
+ghost use Rattle.mz_prefix_theory.specs.Wording;
 ghost use Rattle.mz_prefix.specs.Measures.{operand_count, parentheses, token_count};
 
 use crate::tokens::has_operands;

@@ -4,9 +4,9 @@
 // text may be.
 ghost use Rattle.std.specs.Prelude.{◌≡◌, ◌++◌, OnOk, codes};
 ghost use Rattle.mz_logic.specs.View.{tree};
-ghost use Rattle.mz_printing.specs.Lines.{spaced};
-ghost use Rattle.mz_printing.specs.Prefix.{enclosed, operand_tokens};
-ghost use Rattle.mz_readback.specs.Declared.{formula_of};
+ghost use Rattle.mz_prefix_theory.specs.Lines.{spaced};
+ghost use Rattle.mz_prefix_theory.specs.Prefix.{enclosed, operand_tokens};
+ghost use Rattle.mz_prefix_theory.specs.Declared.{formula_of};
 ghost use Rattle.mz_prefix.specs.Measures;
 ghost use Rattle.mz_prefix.specs.Names.{spoken};
 

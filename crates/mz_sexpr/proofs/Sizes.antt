@@ -3,9 +3,8 @@ use Rattle.std.proofs.Common.{ℕ, zero, suc, ◌≡◌, ◌<◌, ◌≤◌, ◌
 use Rattle.std.specs.Prelude.{◌⊎◌, ◌==◌, ◌^◌, true, false}
 use Rattle.std.proofs.lemmas.Bool.{false≢true}
 use Rattle.std.proofs.lemmas.Bool.Decides.{nat_tests}
-use Rattle.std.proofs.lemmas.List.{get_or-set_same, get_or-set_other, length-set}
+use Rattle.std.proofs.lemmas.List.{get_or-set_same, get_or-set_other, length-set, length-map}
 use Rattle.mz_sexpr.specs.declared.sexprs.Row.{Row}
-use Rattle.std.proofs.lemmas.List.{length-map}
 use Rattle.mz_sexpr.specs.Rows.{Entry, entry, sized, all_ends, Steps, EndsAt, EndFrom, IsLinked}
 
 pub sized_length : (k : ℕ) (rows : List Row) → length (sized k rows) ≡ length rows

@@ -1,7 +1,7 @@
 -- What has been written of a listing so far.
 use Rattle.std.proofs.Common.{◌≡◌, ◌≤◌, ◌<◌, ◌+◌, ◌++◌, ◌∙◌, ℕ, List, [], ◌∷◌, length, take, drop, codes, refl, sym, ap, subst, inl, inr, arith, append_assoc, append-nil, length-append}
 use Rattle.std.proofs.lemmas.List.{take_at, take-append-drop}
-use Rattle.mz_checks.specs.Checks.{AllHold}
+use Rattle.mz_base_theory.specs.Checks.{AllHold}
 use Rattle.mz_cmd.specs.Codes.{statement_byte}
 use Rattle.mz_io.specs.Calls.{Call, Grows, IsWritten, IsCut}
 use Rattle.mz_io.proofs.Logs.{grows-both, written-both, cut-after}

@@ -1,17 +1,17 @@
 -- Parameters, one after another, each behind those before it.
 use Rattle.std.proofs.Common.{◌≡◌, ◌∙◌, ◌++◌, ◌<◌, ◌+◌, ◌↔◌, ℕ, zero, suc, List, [], ◌∷◌, length, map, take, drop, get_or, Option, Some, ap, sym, subst, inl, inr, arith}
 use Rattle.mz_lex.specs.Lexemes.{Lexeme}
-use Rattle.mz_grammar.specs.Code.{type_text}
-use Rattle.mz_grammar.specs.Statement.{TypeText}
+use Rattle.mz_spec_grammar.specs.Code.{type_text}
+use Rattle.mz_spec_grammar.specs.Statement.{TypeText}
 use Rattle.mz_logic.proofs.Offered.{one_at}
-use Rattle.mz_variables.specs.Code.{IsOfTypes, IsTypedBy, typed, variable}
-use Rattle.mz_variables.specs.declared.variables.Variable.{Variable as VariableRead}
-use Rattle.mz_variables.specs.Dependencies.{Every, IsBoundAmong}
-use Rattle.mz_variables.specs.View.{Variable}
+use Rattle.mz_spec_variables.specs.Code.{IsOfTypes, IsTypedBy, typed, variable}
+use Rattle.mz_spec_variables.specs.declared.variables.Variable.{Variable as VariableRead}
+use Rattle.mz_spec_variables.specs.Dependencies.{Every, IsBoundAmong}
+use Rattle.mz_spec_variables.specs.View.{Variable}
 use Rattle.mz_spec.specs.Rules.{IsBinder, AreBinders}
 use Rattle.mz_spec.specs.State.{State}
 use Rattle.std.proofs.lemmas.List.{map-append}
-use Rattle.mz_general.proofs.Offered.{drop-item}
+use Rattle.mz_base_theory.proofs.Offered.{drop-item}
 
 take-next : {X : Type 0} → (xs : List X) (i : ℕ) (x : X) → i < length xs → x ≡ get_or xs i x → take (suc i) xs ≡ take i xs ++ x ∷ []
 take-next [] i x below is = absurd (omega (arith, below))

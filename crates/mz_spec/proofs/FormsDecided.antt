@@ -2,19 +2,19 @@
 use Rattle.std.proofs.Common.{◌≡◌, ◌⊎◌, ◌∙◌, ◌++◌, ◌+◌, ◌-◌, ◌≤◌, ℕ, zero, suc, List, [], ◌∷◌, length, take, drop, true, false, Option, ap, refl, subst, inl, inr, append_assoc, arith, length-append}
 use Rattle.std.specs.Prelude.{slice_range, option_map}
 use Rattle.mz_lex.specs.Lexemes.{Lexeme}
-use Rattle.mz_checks.specs.Checks.{Checks, retold, AllHold, FailsFirst}
-use Rattle.mz_checks.proofs.Offered.{retold-fails, retold-holds}
+use Rattle.mz_base_theory.specs.Checks.{Checks, retold, AllHold, FailsFirst}
+use Rattle.mz_base_theory.proofs.Offered.{retold-fails, retold-holds}
 use Rattle.mz_logic.specs.Declaration.{signatures}
-use Rattle.mz_notation.specs.declared.form.Literal.{Literal}
-use Rattle.mz_notation.specs.declared.form.Literal.TheVariants.{Constant as constant, Name as name}
-use Rattle.mz_notation.specs.declared.notation.Notation.{Notation}
-use Rattle.mz_notation.specs.Notation.{Table}
-use Rattle.mz_notation.specs.Forms.{General, IsGeneral, notation_checks, coercion_checks, delimiter_checks}
+use Rattle.mz_math_notation.specs.declared.form.Literal.{Literal}
+use Rattle.mz_math_notation.specs.declared.form.Literal.TheVariants.{Constant as constant, Name as name}
+use Rattle.mz_math_notation.specs.declared.notation.Notation.{Notation}
+use Rattle.mz_math_notation.specs.Notation.{Table}
+use Rattle.mz_math_notation.specs.Forms.{General, IsGeneral, notation_checks, coercion_checks, delimiter_checks}
 use Rattle.mz_math.proofs.Offered.{delimiters-judged, coercions-judged, infix-judged, prefix-judged, general-judged}
-use Rattle.mz_grammar.specs.declared.kind.Fixity.{Fixity}
-use Rattle.mz_grammar.specs.declared.kind.Fixity.TheVariants as fixities
-use Rattle.mz_grammar.specs.Statement.{TypeText, Head, Level, LiteralText, constant_literal, name_literal, TailText, Statement, sort_statement, term_statement, assert_statement, definition_statement, operator_statement, coercion_statement, delimiter_statement, notation_statement}
-use Rattle.mz_variables.specs.View.{variables_of}
+use Rattle.mz_spec_grammar.specs.declared.kind.Fixity.{Fixity}
+use Rattle.mz_spec_grammar.specs.declared.kind.Fixity.TheVariants as fixities
+use Rattle.mz_spec_grammar.specs.Statement.{TypeText, Head, Level, LiteralText, constant_literal, name_literal, TailText, Statement, sort_statement, term_statement, assert_statement, definition_statement, operator_statement, coercion_statement, delimiter_statement, notation_statement}
+use Rattle.mz_spec_variables.specs.View.{variables_of}
 use Rattle.mz_spec.specs.State.{State, term_number, scope_of, signature_of}
 use Rattle.mz_spec.specs.Formulas.{inner}
 use Rattle.mz_spec.specs.Forms.{IsLiteral, AreLiterals, ArePartsOf, MakesNotation, coercion_of, level_of, tail_of, at_statement, form_checks}

@@ -1,13 +1,12 @@
 -- Whether a result depends on each free variable of a body is decided.
 use Rattle.std.proofs.Common.{◌≡◌, ◌⊎◌, ◌++◌, ℕ, zero, suc, List, [], ◌∷◌, true, false, Option, Some, None, slice_get, Contains, ap, sym, subst, inl, inr, arith}
-use Rattle.mz_general.proofs.Offered.{contains-decided, either-decided, not-decided, three-decided, Decided, true-decided, false-decided}
-use Rattle.mz_checks.proofs.Offered.{both-decided, implied-decided}
+use Rattle.mz_base_theory.proofs.Offered.{contains-decided, either-decided, not-decided, three-decided, Decided, true-decided, false-decided, both-decided, implied-decided}
 use Rattle.mz_logic.specs.Tree.{Tree, Trees, var, app, none, more, operand}
 use Rattle.mz_logic.specs.Signature.{Signature}
 use Rattle.mz_logic.specs.Variables.{InV, InFV, InSomeFV, IsBoundAt, IsOperandAt}
 use Rattle.mz_logic.specs.declared.binder.Binder.{Binder}
 use Rattle.mz_math.proofs.Offered.{found, equal-decided, some-with}
-use Rattle.mz_variables.specs.Dependencies.{Every}
+use Rattle.mz_spec_variables.specs.Dependencies.{Every}
 use Rattle.mz_spec.proofs.Naming.{every-front}
 
 -- ---- facts

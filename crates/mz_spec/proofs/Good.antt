@@ -1,14 +1,14 @@
 -- What a good statement's rules say, one by one.
 use Rattle.std.proofs.Common.{List, [], ℕ}
-use Rattle.mz_checks.specs.Checks.{each_in_order, ◌>>◌, AllHold}
-use Rattle.mz_checks.proofs.Offered.{all_hold-first, all_hold-rest}
-use Rattle.mz_tokens.specs.declared.pieces.Piece.{Piece}
-use Rattle.mz_grammar.specs.Statement.{Statement}
-use Rattle.mz_variables.specs.View.{view, names_of, dummies_of}
+use Rattle.mz_base_theory.specs.Checks.{each_in_order, ◌>>◌, AllHold}
+use Rattle.mz_base_theory.proofs.Offered.{all_hold-first, all_hold-rest}
+use Rattle.mz_math_tokens.specs.declared.pieces.Piece.{Piece}
+use Rattle.mz_spec_grammar.specs.Statement.{Statement}
+use Rattle.mz_spec_variables.specs.View.{view, names_of, dummies_of}
 use Rattle.mz_spec.specs.State.{State}
 use Rattle.mz_spec.specs.Formulas.{strings_checks, free_checks}
 use Rattle.mz_spec.specs.Forms.{form_checks}
-use Rattle.mz_variables.specs.Dependencies.{Every}
+use Rattle.mz_spec_variables.specs.Dependencies.{Every}
 use Rattle.mz_spec.specs.Rules.{is_level, is_new, are_others, is_known, type_checks, name_rules, use_rules, HaveBinders, binder_rules, body_rules, statement_checks, IsDummySort, IsNotPure}
 
 module _ (σ : State) (place : ℕ) (s : Statement) (tokens : List (List Piece)) (good : AllHold (statement_checks σ place s tokens)) where

@@ -3,33 +3,33 @@ use Rattle.std.proofs.Common.{◌≡◌, ◌≢◌, ◌∙◌, ◌++◌, ◌+◌
 use Rattle.std.specs.Prelude.{IsTrue, if◌then◌else◌}
 use Rattle.std.proofs.lemmas.List.Elements.{Contains-push_cases}
 use Rattle.std.proofs.lemmas.List.{length_push}
-use Rattle.mz_general.proofs.Offered.{slice_get-append}
-use Rattle.mz_names.specs.Identifiers.{is_name}
+use Rattle.mz_base_theory.proofs.Offered.{slice_get-append}
+use Rattle.mz_base.specs.Identifiers.{is_name}
 use Rattle.mz_lex.specs.Lexemes.{Lexeme}
 use Rattle.mz_logic.specs.Declaration.{Declaration, sorts, signatures}
 use Rattle.mz_logic.specs.Legality.{IsLegalDecl}
 use Rattle.mz_logic.proofs.Offered.{legal_push, sorts-append, signatures-append}
-use Rattle.mz_tokens.specs.declared.pieces.Delimiters.{Delimiters}
-use Rattle.mz_notation.specs.declared.notation.Element.{Element}
-use Rattle.mz_notation.specs.declared.notation.Notation.{Notation}
-use Rattle.mz_coercions.specs.declared.coercion.Coercion.{Coercion}
-use Rattle.mz_notation.specs.declared.form.Literal.{Literal}
-use Rattle.mz_notation.specs.declared.form.Literal.TheVariants.{Constant as constant, Name as name}
-use Rattle.mz_notation.specs.declared.notation.Element.TheVariants.{Fixed as fixed}
-use Rattle.mz_notation.specs.Notation.{Table, level_of as math_level, begins_with_slot, with_notation, with_coercion, with_delimiters, TermName}
-use Rattle.mz_notation.specs.Clear.{IsClear}
-use Rattle.mz_coercions.specs.Coercions.{OnePath}
-use Rattle.mz_notation.specs.Forms.{IsGeneral, General, IsElement, AreElements, IsCoercion, EachOnce, Begins}
-use Rattle.mz_tokens.specs.Pieces.{IsConstant}
+use Rattle.mz_math_tokens.specs.declared.pieces.Delimiters.{Delimiters}
+use Rattle.mz_math_notation.specs.declared.notation.Element.{Element}
+use Rattle.mz_math_notation.specs.declared.notation.Notation.{Notation}
+use Rattle.mz_math_coercions.specs.declared.coercion.Coercion.{Coercion}
+use Rattle.mz_math_notation.specs.declared.form.Literal.{Literal}
+use Rattle.mz_math_notation.specs.declared.form.Literal.TheVariants.{Constant as constant, Name as name}
+use Rattle.mz_math_notation.specs.declared.notation.Element.TheVariants.{Fixed as fixed}
+use Rattle.mz_math_notation.specs.Notation.{Table, level_of as math_level, begins_with_slot, with_notation, with_coercion, with_delimiters, TermName}
+use Rattle.mz_math_notation.specs.Clear.{IsClear}
+use Rattle.mz_math_coercions.specs.Coercions.{OnePath}
+use Rattle.mz_math_notation.specs.Forms.{IsGeneral, General, IsElement, AreElements, IsCoercion, EachOnce, Begins}
+use Rattle.mz_math_tokens.specs.Pieces.{IsConstant}
 use Rattle.mz_math.specs.Laws.{IsNoted}
-use Rattle.mz_notation.specs.Kept.{IsTable, AreVariables}
+use Rattle.mz_math_notation.specs.Kept.{IsTable, AreVariables}
 use Rattle.mz_math.proofs.Offered.{notations-keep}
-use Rattle.mz_notation.proofs.Offered.{empty-is, name-is, coercion-is, delimiters-is, infix-one, prefix-one, general-one}
-use Rattle.mz_grammar.specs.declared.kind.Fixity.TheVariants as fixities
-use Rattle.mz_grammar.specs.Statement.{TypeText, Head, LiteralText, constant_literal, name_literal, TailText, Statement, sort_statement, term_statement, assert_statement, definition_statement, operator_statement, coercion_statement, delimiter_statement, notation_statement}
-use Rattle.mz_names.specs.Names.{IsNew}
-use Rattle.mz_names.proofs.Offered.{new-first}
-use Rattle.mz_variables.specs.View.{view}
+use Rattle.mz_math_notation.proofs.Offered.{empty-is, name-is, coercion-is, delimiters-is, infix-one, prefix-one, general-one}
+use Rattle.mz_spec_grammar.specs.declared.kind.Fixity.TheVariants as fixities
+use Rattle.mz_spec_grammar.specs.Statement.{TypeText, Head, LiteralText, constant_literal, name_literal, TailText, Statement, sort_statement, term_statement, assert_statement, definition_statement, operator_statement, coercion_statement, delimiter_statement, notation_statement}
+use Rattle.mz_base.specs.Names.{IsNew}
+use Rattle.mz_base.proofs.Offered.{new-first}
+use Rattle.mz_spec_variables.specs.View.{view}
 use Rattle.mz_spec.specs.State.{State, nothing, with_sort, with_term, with_assertion, with_table, scope_of, mark_at, term_number}
 use Rattle.mz_spec.specs.Forms.{IsLiteral, AreLiterals, ArePartsOf, MakesNotation, coercion_of, level_of}
 use Rattle.mz_spec.specs.Formulas.{inner}

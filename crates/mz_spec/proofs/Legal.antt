@@ -4,10 +4,9 @@ use Rattle.std.proofs.lemmas.List.{append-nil}
 use Rattle.std.proofs.lemmas.List.Elements.{All-nil}
 use Rattle.std.proofs.lemmas.Option.{slice_get_within}
 use Rattle.std.specs.Prelude.{◌||◌, unwrap_or, option_and_then}
-use Rattle.mz_general.proofs.Offered.{slice_get-some, slice_get-map_at}
+use Rattle.mz_base_theory.proofs.Offered.{slice_get-some, slice_get-map_at, all_hold-rest}
 use Rattle.mz_lex.specs.Lexemes.{Lexeme}
-use Rattle.mz_checks.specs.Checks.{AllHold, each_in_order}
-use Rattle.mz_checks.proofs.Offered.{all_hold-rest}
+use Rattle.mz_base_theory.specs.Checks.{AllHold, each_in_order}
 use Rattle.mz_logic.specs.Tree.{Tree, Trees, none, more, followed_by}
 use Rattle.mz_logic.specs.Declaration.{Declaration, term_decl, Form, plain_form, abstract_form, defined, dummies_of as form_dummies, body_of, sorts, signatures}
 use Rattle.mz_logic.specs.Legality.{IsLegalDecl, IsParam, AreParams, IsDummy, EachTree}
@@ -18,24 +17,24 @@ use Rattle.mz_logic.specs.Variables.{InFV, IsBoundAt}
 use Rattle.mz_logic.specs.declared.binder.Binder.{Binder}
 use Rattle.mz_logic.specs.declared.binder.SortMods.{SortMods}
 use Rattle.mz_logic.proofs.Offered.{all_from_each, terms_are_sorted, assertions_are_sorted}
-use Rattle.mz_tokens.specs.declared.pieces.Piece.{Piece}
+use Rattle.mz_math_tokens.specs.declared.pieces.Piece.{Piece}
 use Rattle.mz_math.specs.declared.formula.Wanted.TheVariants.{Sort as of_sort}
-use Rattle.mz_notation.specs.Kept.{IsTable, AreVariables}
+use Rattle.mz_math_notation.specs.Kept.{IsTable, AreVariables}
 use Rattle.mz_math.proofs.Offered.{one-meaning}
-use Rattle.mz_grammar.specs.Statement.{TypeText, Source, type_source, formula_source, NameText, Group, Head, Statement, sort_statement, term_statement, assert_statement, definition_statement, operator_statement, coercion_statement, delimiter_statement, notation_statement}
-use Rattle.mz_grammar.specs.declared.kind.AssertKind.{AssertKind}
-use Rattle.mz_names.specs.Names.{IsKnown}
-use Rattle.mz_names.proofs.Offered.{number-within}
-use Rattle.mz_variables.specs.View.{Variable, Stated, claim, body, view, variable_of, source_variables, group_variables, variables_of, unnamed, source_types, types_of, group_types, stated_of, names_of, params_of, dummies_of, is_among}
+use Rattle.mz_spec_grammar.specs.Statement.{TypeText, Source, type_source, formula_source, NameText, Group, Head, Statement, sort_statement, term_statement, assert_statement, definition_statement, operator_statement, coercion_statement, delimiter_statement, notation_statement}
+use Rattle.mz_spec_grammar.specs.declared.kind.AssertKind.{AssertKind}
+use Rattle.mz_base.specs.Names.{IsKnown}
+use Rattle.mz_base.proofs.Offered.{number-within}
+use Rattle.mz_spec_variables.specs.View.{Variable, Stated, claim, body, view, variable_of, source_variables, group_variables, variables_of, unnamed, source_types, types_of, group_types, stated_of, names_of, params_of, dummies_of, is_among}
 use Rattle.mz_spec.specs.Rules.{are_others, type_checks, mods_of, HasSortThat, IsBinder, HaveBinders, DependsOnNothing, IsResult, IsDummySort, IsNotPure, statement_checks}
-use Rattle.mz_variables.specs.Dependencies.{Every, IsCalled, IsBoundAmong, dep_places}
+use Rattle.mz_spec_variables.specs.Dependencies.{Every, IsCalled, IsBoundAmong, dep_places}
 use Rattle.mz_spec.specs.State.{State, sort_number, binder_of, param_binders, dummy_binders, result_of, signature_of, scope_of, reader_of}
 use Rattle.mz_spec.specs.Formulas.{IsMeant, AreHyps, CoversFreeVariables, copies}
 use Rattle.mz_spec.specs.Declaring.{Declares, IsForm, is_axiom}
 use Rattle.mz_spec.specs.Kept.{IsKept, IsSpelled}
 use Rattle.mz_spec.proofs.Naming.{every-front, every-join, IsWritten, spelled-written, plain-written, variables-written}
 use Rattle.mz_spec.proofs.Places.{one-param, param-at, dummy-at, binder-at, split-variables}
-use Rattle.mz_variables.proofs.Offered.{every-text, among, all-places, no-deps, get-back, get-take}
+use Rattle.mz_spec_variables.proofs.Offered.{every-text, among, all-places, no-deps, get-back, get-take}
 use Rattle.mz_spec.proofs.Sorted.{claim-sorted, body-sorted}
 use Rattle.mz_spec.proofs.Good.{good-others, good-types, good-binders, good-dummies, good-results, good-free}
 

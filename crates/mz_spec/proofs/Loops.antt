@@ -3,14 +3,13 @@ use Rattle.std.proofs.Common.{◌≡◌, ◌∙◌, ◌<◌, ◌≤◌, ◌+◌,
 use Rattle.std.specs.Prelude.{◌↔◌, ◌||◌, IsTrue, refl}
 use Rattle.std.specs.List.{list_any}
 use Rattle.std.proofs.lemmas.List.{append-nil}
-use Rattle.mz_general.proofs.Offered.{drop-item, drop-past}
-use Rattle.mz_checks.specs.Checks.{Checks, nothing, ask, each_in_order, ◌>>◌, AllHold, FailsFirst, Judges}
-use Rattle.mz_checks.proofs.Offered.{Decides, decides-after, fails-before, fails-after, judges-after, all_hold-first, all_hold-rest, all_hold-both}
-use Rattle.mz_grammar.specs.declared.refusal.Fault.{Fault}
-use Rattle.mz_grammar.specs.declared.refusal.Halt.{Halt}
-use Rattle.mz_grammar.specs.declared.refusal.Halt.TheVariants as halts
-use Rattle.mz_grammar.specs.Reading.{OnFault}
-use Rattle.mz_variables.specs.Dependencies.{Every}
+use Rattle.mz_base_theory.proofs.Offered.{drop-item, drop-past, Decides, decides-after, fails-before, fails-after, judges-after, all_hold-first, all_hold-rest, all_hold-both}
+use Rattle.mz_base_theory.specs.Checks.{Checks, nothing, ask, each_in_order, ◌>>◌, AllHold, FailsFirst, Judges}
+use Rattle.mz_spec_grammar.specs.declared.refusal.Fault.{Fault}
+use Rattle.mz_spec_grammar.specs.declared.refusal.Halt.{Halt}
+use Rattle.mz_spec_grammar.specs.declared.refusal.Halt.TheVariants as halts
+use Rattle.mz_spec_grammar.specs.Reading.{OnFault}
+use Rattle.mz_spec_variables.specs.Dependencies.{Every}
 
 -- whatever stands for a missing one
 pub item-is : {X : Type 0} → (xs : List X) (i : ℕ) (d : X) → i < length xs → get_or xs i d ≡ get_or xs i (get_or xs i d)

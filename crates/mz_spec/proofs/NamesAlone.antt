@@ -6,12 +6,12 @@ use Rattle.std.proofs.lemmas.List.{length-map, map-append}
 use Rattle.std.proofs.lemmas.Slice.Eq.{bytes_eq-Decides}
 use Rattle.mz_lex.specs.Lexemes.{Lexeme}
 use Rattle.mz_logic.specs.Declaration.{Declaration}
-use Rattle.mz_names.specs.Names.{number_of, IsNew, IsKnown}
-use Rattle.mz_names.proofs.Offered.{all-others, known-first, known-later, new-both}
-use Rattle.mz_notation.specs.declared.notation.Notation.{Notation}
-use Rattle.mz_notation.specs.Forms.{AddsNotation, AddsDelimiters}
-use Rattle.mz_notation.specs.Names.{IsFoundAs}
-use Rattle.mz_notation.specs.Notation.{Table, begins_with_slot, with_infix, with_leading, with_name, TermName}
+use Rattle.mz_base.specs.Names.{number_of, IsNew, IsKnown}
+use Rattle.mz_base.proofs.Offered.{all-others, known-first, known-later, new-both}
+use Rattle.mz_math_notation.specs.declared.notation.Notation.{Notation}
+use Rattle.mz_math_notation.specs.Forms.{AddsNotation, AddsDelimiters}
+use Rattle.mz_math_notation.specs.Names.{IsFoundAs}
+use Rattle.mz_math_notation.specs.Notation.{Table, begins_with_slot, with_infix, with_leading, with_name, TermName}
 use Rattle.mz_spec.specs.Entries.{names_alone}
 use Rattle.mz_spec.specs.Kept.{numbered}
 use Rattle.mz_spec.specs.State.{State, mark_at, with_table, with_term}

@@ -4,20 +4,20 @@ use Rattle.std.proofs.lemmas.List.{length-map}
 use Rattle.std.proofs.lemmas.Slice.Eq.{bytes_eq-Decides}
 use Rattle.std.specs.Bool.{Decides}
 use Rattle.std.specs.Prelude.{⊤, IsTrue, codes, if◌then◌else◌, bytes_eq}
-use Rattle.mz_names.specs.Identifiers.{is_name}
+use Rattle.mz_base.specs.Identifiers.{is_name}
 use Rattle.mz_lex.specs.Kinds.{is_of_kind}
 use Rattle.mz_lex.specs.Lexemes.{Lexeme}
 use Rattle.mz_lex.specs.declared.token.TokenKind.TheVariants as kinds
-use Rattle.mz_grammar.specs.declared.kind.Kind.{Kind}
-use Rattle.mz_grammar.specs.declared.kind.Kind.TheVariants.{Term, Assert, Definition, Notation}
-use Rattle.mz_grammar.specs.declared.kind.AssertKind.{AssertKind}
-use Rattle.mz_grammar.specs.Statement.{TypeText, Source, type_source, formula_source, NameText, Group, Head, Statement, sort_statement, term_statement, assert_statement, definition_statement, operator_statement, coercion_statement, delimiter_statement, notation_statement, Spells, Sign, keyword, symbol, name, name_or_blank, formula, number, only_if, IsSign, AreSigns, each, end_signs, modifier_signs, type_signs, takes_dummies, closing_of, dot_signs, name_signs, group_source_signs, group_signs, argument_signs, premise_signs, body_signs, literal_signs, tail_signs, statement_signs}
-use Rattle.mz_grammar.proofs.Offered.{signs-long}
+use Rattle.mz_spec_grammar.specs.declared.kind.Kind.{Kind}
+use Rattle.mz_spec_grammar.specs.declared.kind.Kind.TheVariants.{Term, Assert, Definition, Notation}
+use Rattle.mz_spec_grammar.specs.declared.kind.AssertKind.{AssertKind}
+use Rattle.mz_spec_grammar.specs.Statement.{TypeText, Source, type_source, formula_source, NameText, Group, Head, Statement, sort_statement, term_statement, assert_statement, definition_statement, operator_statement, coercion_statement, delimiter_statement, notation_statement, Spells, Sign, keyword, symbol, name, name_or_blank, formula, number, only_if, IsSign, AreSigns, each, end_signs, modifier_signs, type_signs, takes_dummies, closing_of, dot_signs, name_signs, group_source_signs, group_signs, argument_signs, premise_signs, body_signs, literal_signs, tail_signs, statement_signs}
+use Rattle.mz_spec_grammar.proofs.Offered.{signs-long}
 use Rattle.mz_spec.specs.Code.{EndsSmall}
 use Rattle.mz_spec.specs.Kept.{AreOfText, IsSpelled, bytes_of}
-pub use Rattle.mz_variables.proofs.Offered.{every-join}
-use Rattle.mz_variables.specs.Dependencies.{Every}
-use Rattle.mz_variables.specs.View.{Variable, view, name_of, variable_of, source_variables, group_variables, variables_of, unnamed, types_of, group_stated, premise_stated, stated_of, source_stated, params_of, dummies_of}
+pub use Rattle.mz_spec_variables.proofs.Offered.{every-join}
+use Rattle.mz_spec_variables.specs.Dependencies.{Every}
+use Rattle.mz_spec_variables.specs.View.{Variable, view, name_of, variable_of, source_variables, group_variables, variables_of, unnamed, types_of, group_stated, premise_stated, stated_of, source_stated, params_of, dummies_of}
 
 -- ---- lists of facts
 

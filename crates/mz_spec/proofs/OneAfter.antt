@@ -3,14 +3,14 @@ use Rattle.std.proofs.Common.{◌≡◌, ◌∙◌, ℕ, List, [], ◌∷◌, ma
 use Rattle.mz_lex.specs.Lexemes.{Lexeme}
 use Rattle.mz_logic.specs.Tree.{Tree, Trees, followed_by}
 use Rattle.mz_logic.specs.Declaration.{assertion_decl, term_decl, Form, defined}
-use Rattle.mz_tokens.specs.declared.pieces.Delimiters.{Delimiters}
-use Rattle.mz_tokens.specs.Pieces.{no_delimiters, piece_texts, AreCharacters, AreDelimiters}
-use Rattle.mz_notation.specs.Notation.{with_notation, with_delimiters}
-use Rattle.mz_notation.specs.Kept.{AreVariables}
+use Rattle.mz_math_tokens.specs.declared.pieces.Delimiters.{Delimiters}
+use Rattle.mz_math_tokens.specs.Pieces.{no_delimiters, piece_texts, AreCharacters, AreDelimiters}
+use Rattle.mz_math_notation.specs.Notation.{with_notation, with_delimiters}
+use Rattle.mz_math_notation.specs.Kept.{AreVariables}
 use Rattle.mz_math.proofs.Offered.{one-meaning}
-use Rattle.mz_tokens.proofs.Offered.{pieces-one}
-use Rattle.mz_grammar.specs.Statement.{TypeText, Statement, sort_statement, term_statement, assert_statement, definition_statement, operator_statement, coercion_statement, delimiter_statement, notation_statement}
-use Rattle.mz_variables.specs.View.{Variable, Formula, claim, body, Stated, view, stated_of}
+use Rattle.mz_math_tokens.proofs.Offered.{pieces-one}
+use Rattle.mz_spec_grammar.specs.Statement.{TypeText, Statement, sort_statement, term_statement, assert_statement, definition_statement, operator_statement, coercion_statement, delimiter_statement, notation_statement}
+use Rattle.mz_spec_variables.specs.View.{Variable, Formula, claim, body, Stated, view, stated_of}
 use Rattle.mz_spec.specs.State.{State, with_sort, with_term, with_assertion, with_table, param_binders, dummy_binders, signature_of, scope_of, reader_of}
 use Rattle.mz_spec.specs.Formulas.{IsMeant, AreHyps, copies, inner, math_of, wanted_of}
 use Rattle.mz_spec.specs.Declaring.{IsForm, is_axiom, After}

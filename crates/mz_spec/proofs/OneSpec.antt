@@ -4,18 +4,18 @@ use Rattle.mz_lex.specs.declared.token.LexFault.{LexFault}
 use Rattle.mz_lex.specs.Lexemes.{Lexeme, IsNext, LexesFrom}
 use Rattle.mz_lex.proofs.Offered.{one-lexing}
 use Rattle.mz_logic.specs.Legality.{IsLegalEnv}
-use Rattle.mz_checks.specs.Checks.{FailsFirst}
-use Rattle.mz_checks.proofs.Offered.{fails_first-unique, all_hold-excludes}
-use Rattle.mz_tokens.specs.declared.pieces.Piece.{Piece}
-use Rattle.mz_grammar.specs.declared.refusal.Fault.{Fault}
-use Rattle.mz_grammar.specs.Statement.{Statement, Spells}
-use Rattle.mz_grammar.specs.Stops.{Stops, StopsBy}
-use Rattle.mz_grammar.specs.Reading.{place_of_first}
-use Rattle.mz_grammar.proofs.Offered.{statements-one, no-empty, front-none, back-none, stops-one, stands-stops}
+use Rattle.mz_base_theory.specs.Checks.{FailsFirst}
+use Rattle.mz_base_theory.proofs.Offered.{fails_first-unique, all_hold-excludes}
+use Rattle.mz_math_tokens.specs.declared.pieces.Piece.{Piece}
+use Rattle.mz_spec_grammar.specs.declared.refusal.Fault.{Fault}
+use Rattle.mz_spec_grammar.specs.Statement.{Statement, Spells}
+use Rattle.mz_spec_grammar.specs.Stops.{Stops, StopsBy}
+use Rattle.mz_spec_grammar.specs.Reading.{place_of_first}
+use Rattle.mz_spec_grammar.proofs.Offered.{statements-one, no-empty, front-none, back-none, stops-one, stands-stops}
 use Rattle.mz_spec.specs.declared.refusal.SpecRefusal.{SpecRefusal}
-use Rattle.mz_variables.specs.View.{view}
+use Rattle.mz_spec_variables.specs.View.{view}
 use Rattle.mz_spec.specs.State.{State, nothing, entries_of, env_of}
-use Rattle.mz_variables.specs.Dependencies.{Every}
+use Rattle.mz_spec_variables.specs.Dependencies.{Every}
 use Rattle.mz_spec.specs.Rules.{statement_checks}
 use Rattle.mz_spec.specs.Declaring.{After}
 use Rattle.mz_spec.specs.Kept.{IsKept}

@@ -3,19 +3,18 @@ use Rattle.std.proofs.Common.{◌≡◌, ◌≢◌, ◌∙◌, ◌++◌, ◌<◌
 use Rattle.std.proofs.lemmas.List.{append-nil, length-map}
 use Rattle.std.specs.Prelude.{◌-◌, IsTrue, if◌then◌else◌}
 use Rattle.std.proofs.lemmas.List.Elements.{Contains-append_left}
-use Rattle.mz_general.proofs.Offered.{slice_get-append, place-of, contains_at}
-use Rattle.mz_names.specs.Identifiers.{is_name}
+use Rattle.mz_base_theory.proofs.Offered.{slice_get-append, place-of, contains_at, all_hold-first, all_hold-rest}
+use Rattle.mz_base.specs.Identifiers.{is_name}
 use Rattle.mz_lex.specs.Lexemes.{Lexeme}
-use Rattle.mz_checks.specs.Checks.{AllHold}
-use Rattle.mz_checks.proofs.Offered.{all_hold-first, all_hold-rest}
-use Rattle.mz_notation.specs.Kept.{AreVariables}
-use Rattle.mz_names.specs.Names.{IsNew}
-use Rattle.mz_names.proofs.Offered.{new-last, new-parts}
-use Rattle.mz_variables.specs.View.{Variable, name_texts, params_of, dummies_of}
+use Rattle.mz_base_theory.specs.Checks.{AllHold}
+use Rattle.mz_math_notation.specs.Kept.{AreVariables}
+use Rattle.mz_base.specs.Names.{IsNew}
+use Rattle.mz_base.proofs.Offered.{new-last, new-parts}
+use Rattle.mz_spec_variables.specs.View.{Variable, name_texts, params_of, dummies_of}
 use Rattle.mz_spec.specs.Rules.{are_others, is_other, IsBinder, AreBinders}
-use Rattle.mz_variables.specs.Dependencies.{Every, IsCalled}
+use Rattle.mz_spec_variables.specs.Dependencies.{Every, IsCalled}
 use Rattle.mz_spec.specs.State.{State, bytes_of, variable_bytes}
-use Rattle.mz_variables.proofs.Offered.{get-back}
+use Rattle.mz_spec_variables.proofs.Offered.{get-back}
 use Rattle.mz_spec.proofs.Naming.{IsNamed}
 
 -- ---- names

@@ -1,20 +1,19 @@
 -- Each rule on names, levels and binders holds or fails.
 use Rattle.std.proofs.Common.{◌≡◌, ◌⊎◌, ◌++◌, ℕ, zero, suc, List, [], ◌∷◌, Option, Some, None, refl, inl, inr, arith}
 use Rattle.std.specs.Prelude.{IsBitSet, bit_and, ◌^◌, ◌≢◌}
-use Rattle.mz_general.proofs.Offered.{either-decided, not-decided, three-decided, Decided, true-decided}
+use Rattle.mz_base_theory.proofs.Offered.{either-decided, not-decided, three-decided, Decided, true-decided, are_decided-both, are_decided-rows, both-decided, implied-decided, bytes-decided, at_most-decided}
 use Rattle.mz_lex.specs.Lexemes.{Lexeme}
-use Rattle.mz_checks.specs.Checks.{AreDecided, each_in_order}
-use Rattle.mz_checks.proofs.Offered.{are_decided-both, are_decided-rows, both-decided, implied-decided, bytes-decided, at_most-decided}
+use Rattle.mz_base_theory.specs.Checks.{AreDecided, each_in_order}
 use Rattle.mz_logic.specs.Modifiers.{IsPure, IsStrict, IsFree}
 use Rattle.mz_logic.specs.declared.binder.SortMods.{SortMods}
-use Rattle.mz_grammar.specs.Statement.{TypeText, Level, number_level, max_level}
-use Rattle.mz_names.specs.Names.{number_of}
+use Rattle.mz_spec_grammar.specs.Statement.{TypeText, Level, number_level, max_level}
+use Rattle.mz_base.specs.Names.{number_of}
 use Rattle.mz_math.proofs.Offered.{some-with}
-use Rattle.mz_variables.specs.View.{Variable, View, names_of, name_texts, params_of, dummies_of}
+use Rattle.mz_spec_variables.specs.View.{Variable, View, names_of, name_texts, params_of, dummies_of}
 use Rattle.mz_spec.specs.State.{State, names_in}
 use Rattle.mz_spec.specs.Forms.{number_in, highest_level}
 use Rattle.mz_spec.specs.Rules.{is_level, is_new, is_other, are_others, is_known, type_checks, mods_of, HasSortThat, IsBinder, AreBinders, DependsOnNothing, IsResult, IsDummySort, IsNotPure, name_rules, use_rules, binder_rules}
-use Rattle.mz_variables.specs.Dependencies.{IsCalled, IsBoundAmong}
+use Rattle.mz_spec_variables.specs.Dependencies.{IsCalled, IsBoundAmong}
 use Rattle.mz_spec.proofs.FreeDecided.{every-decided}
 
 new-decided : (o : Option ℕ) → Decided (o ≡ None)

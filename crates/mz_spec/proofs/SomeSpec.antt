@@ -1,33 +1,32 @@
 -- Each text has a reading or a first fault.
 use Rattle.std.proofs.Common.{◌≡◌, ◌⊎◌, ◌++◌, ◌+◌, ◌≤◌, ℕ, zero, suc, List, [], ◌∷◌, length, map, Option, Some, None, sym, refl, subst, inl, inr, Contains, arith, length-append}
-use Rattle.mz_general.proofs.Offered.{Decided}
+use Rattle.mz_base_theory.proofs.Offered.{Decided, all_hold-or_fails, all_hold-excludes, all_hold-both, all_hold-first, all_hold-rest, fails-before, fails-after, are_decided-rows, retold-fails}
 use Rattle.mz_lex.specs.declared.token.LexFault.{LexFault}
 use Rattle.mz_lex.specs.Lexemes.{Lexeme, LexesFrom}
 use Rattle.mz_lex.proofs.Offered.{some-lexing}
 use Rattle.mz_logic.specs.Tree.{Tree, Trees, none, followed_by}
 use Rattle.mz_logic.specs.Declaration.{sort_decl, term_decl, assertion_decl, plain_form, abstract_form, defined, signatures}
 use Rattle.mz_logic.specs.Variables.{InFV}
-use Rattle.mz_checks.specs.Checks.{Checks, each_in_order, ◌>>◌, AllHold, FailsFirst, AreDecided}
-use Rattle.mz_checks.proofs.Offered.{all_hold-or_fails, all_hold-excludes, all_hold-both, all_hold-first, all_hold-rest, fails-before, fails-after, are_decided-rows, retold-fails}
-use Rattle.mz_tokens.specs.declared.pieces.Piece.{Piece}
-use Rattle.mz_tokens.specs.Pieces.{Pieces}
-use Rattle.mz_notation.specs.Notation.{with_notation, with_coercion, with_delimiters}
+use Rattle.mz_base_theory.specs.Checks.{Checks, each_in_order, ◌>>◌, AllHold, FailsFirst, AreDecided}
+use Rattle.mz_math_tokens.specs.declared.pieces.Piece.{Piece}
+use Rattle.mz_math_tokens.specs.Pieces.{Pieces}
+use Rattle.mz_math_notation.specs.Notation.{with_notation, with_coercion, with_delimiters}
 use Rattle.mz_math.specs.Formula.{Misreading, IsFormula, Misreads, formula_checks}
-use Rattle.mz_notation.specs.Kept.{AreVariables}
+use Rattle.mz_math_notation.specs.Kept.{AreVariables}
 use Rattle.mz_math.proofs.Offered.{some-reading, one-meaning, one-reading as one-string}
-use Rattle.mz_tokens.proofs.Offered.{pieces-one}
-use Rattle.mz_grammar.specs.declared.refusal.Fault.{Fault}
-use Rattle.mz_grammar.specs.Statement.{TypeText, Statement, sort_statement, term_statement, assert_statement, definition_statement, operator_statement, coercion_statement, delimiter_statement, notation_statement, Spells}
-use Rattle.mz_grammar.specs.Stops.{Stops}
-use Rattle.mz_grammar.specs.Laws.{Begins}
-use Rattle.mz_grammar.specs.Reading.{place_of_first}
-use Rattle.mz_grammar.proofs.Offered.{no-empty, one-of-all}
+use Rattle.mz_math_tokens.proofs.Offered.{pieces-one}
+use Rattle.mz_spec_grammar.specs.declared.refusal.Fault.{Fault}
+use Rattle.mz_spec_grammar.specs.Statement.{TypeText, Statement, sort_statement, term_statement, assert_statement, definition_statement, operator_statement, coercion_statement, delimiter_statement, notation_statement, Spells}
+use Rattle.mz_spec_grammar.specs.Stops.{Stops}
+use Rattle.mz_spec_grammar.specs.Laws.{Begins}
+use Rattle.mz_spec_grammar.specs.Reading.{place_of_first}
+use Rattle.mz_spec_grammar.proofs.Offered.{no-empty, one-of-all}
 use Rattle.mz_spec.specs.declared.refusal.SpecRefusal.{SpecRefusal}
-use Rattle.mz_variables.specs.View.{Variable, Formula, claim, body, Stated, stated_claim, stated_of, view}
+use Rattle.mz_spec_variables.specs.View.{Variable, Formula, claim, body, Stated, stated_claim, stated_of, view}
 use Rattle.mz_spec.specs.State.{State, Entry, nothing as no_state, with_sort, with_term, with_assertion, with_table, entries_of, param_binders, dummy_binders, signature_of, scope_of, reader_of, result_of}
 use Rattle.mz_spec.specs.Formulas.{IsMeant, AreHyps, AreTokens, copies, inner, math_of, wanted_of, told, string_checks, strings_checks, free_checks}
 use Rattle.mz_spec.specs.Forms.{form_checks, coercion_of}
-use Rattle.mz_variables.specs.Dependencies.{Every}
+use Rattle.mz_spec_variables.specs.Dependencies.{Every}
 use Rattle.mz_spec.specs.Rules.{is_level, name_rules, use_rules, binder_rules, body_rules, are_others, is_new, statement_checks}
 use Rattle.mz_spec.specs.Declaring.{sort_bits, is_axiom, After}
 use Rattle.mz_spec.specs.Kept.{IsKept}

@@ -1,17 +1,17 @@
 -- An expression for which a formula stands has its sort.
 use Rattle.std.proofs.Common.{◌≡◌, ◌∙◌, ℕ, List, [], ◌∷◌, true, false, Some, slice_get, Contains, ap, sym, subst, inl, inr}
 use Rattle.std.proofs.lemmas.Option.{get_or_from_slice_get}
-use Rattle.mz_general.proofs.Offered.{contains_at}
+use Rattle.mz_base_theory.proofs.Offered.{contains_at}
 use Rattle.mz_logic.specs.Tree.{Tree, Trees, var, app, none, more}
 use Rattle.mz_logic.specs.Signature.{Signature}
 use Rattle.mz_logic.specs.Declaration.{signatures, sorts}
 use Rattle.mz_logic.specs.Modifiers.{MayBeClaimSort}
 use Rattle.mz_logic.specs.Sorts.{HasSort, Fits, HasProvable}
 use Rattle.mz_logic.specs.declared.binder.Binder.{Binder}
-use Rattle.mz_coercions.specs.declared.coercion.Coercion.{Coercion}
+use Rattle.mz_math_coercions.specs.declared.coercion.Coercion.{Coercion}
 use Rattle.mz_math.specs.declared.formula.Wanted.TheVariants.{Provable as provable, Sort as of_sort}
-use Rattle.mz_coercions.specs.Coercions.{IsPath, coercion_term, wrapped}
-use Rattle.mz_notation.specs.Forms.{IsCoercion}
+use Rattle.mz_math_coercions.specs.Coercions.{IsPath, coercion_term, wrapped}
+use Rattle.mz_math_notation.specs.Forms.{IsCoercion}
 use Rattle.mz_math.specs.Formula.{Reader, IsFormula}
 use Rattle.mz_math.specs.Meaning.{Coerced, CoercedAll, IsGoal}
 

@@ -1,18 +1,18 @@
 -- The formulas of an axiom or a theorem: those before the conclusion, then the conclusion.
 use Rattle.std.proofs.Common.{◌≡◌, ◌++◌, ℕ, List, [], ◌∷◌, map, refl, sym, subst}
-use Rattle.mz_checks.specs.Checks.{Checks, nothing, ◌>>◌, AllHold, FailsFirst, each_in_order}
-use Rattle.mz_checks.proofs.Offered.{all_hold-both}
-use Rattle.mz_tokens.specs.declared.pieces.Piece.{Piece}
-use Rattle.mz_tokens.specs.Pieces.{Pieces}
-use Rattle.mz_grammar.specs.Reading.{OnFault}
-use Rattle.mz_grammar.specs.declared.refusal.Fault.{Fault}
-use Rattle.mz_grammar.specs.declared.refusal.Halt.{Halt}
+use Rattle.mz_base_theory.specs.Checks.{Checks, nothing, ◌>>◌, AllHold, FailsFirst, each_in_order}
+use Rattle.mz_base_theory.proofs.Offered.{all_hold-both}
+use Rattle.mz_math_tokens.specs.declared.pieces.Piece.{Piece}
+use Rattle.mz_math_tokens.specs.Pieces.{Pieces}
+use Rattle.mz_spec_grammar.specs.Reading.{OnFault}
+use Rattle.mz_spec_grammar.specs.declared.refusal.Fault.{Fault}
+use Rattle.mz_spec_grammar.specs.declared.refusal.Halt.{Halt}
 use Rattle.mz_lex.specs.Lexemes.{Lexeme}
 use Rattle.mz_spec.specs.Code.{EndsSmall}
 use Rattle.mz_spec.specs.Formulas.{AreTokens, inner, math_of, string_checks, strings_checks, free_checks}
-use Rattle.mz_variables.specs.Dependencies.{Every}
+use Rattle.mz_spec_variables.specs.Dependencies.{Every}
 use Rattle.mz_spec.specs.State.{State}
-use Rattle.mz_variables.specs.View.{Variable, Formula, claim, Stated, stated_claim}
+use Rattle.mz_spec_variables.specs.View.{Variable, Formula, claim, Stated, stated_claim}
 use Rattle.mz_spec.proofs.Loops.{assoc, mem-before, mem-after}
 
 module _ (σ : State) (vs : List Variable) where

@@ -2,14 +2,14 @@
 use Rattle.std.proofs.Common.{◌≡◌, ◌<◌, ◌≤◌, ◌+◌, ◌-◌, ◌⊎◌, ℕ, zero, suc, List, [], ◌∷◌, length, Bool, true, false, ap₂, sym, refl, subst, inl, inr, arith, Contains}
 use Rattle.std.specs.Prelude.{slice_index, IsTrue}
 use Rattle.std.proofs.lemmas.Bool.{cases_lt}
-use Rattle.mz_general.proofs.Offered.{contains-decided}
+use Rattle.mz_base_theory.proofs.Offered.{contains-decided}
 use Rattle.mz_lex.specs.Kinds.{is_space}
-use Rattle.mz_tokens.specs.declared.pieces.Delimiters.{Delimiters}
-use Rattle.mz_tokens.specs.declared.pieces.Piece.{Piece}
-use Rattle.mz_tokens.specs.Pieces.{IsSpaces, IsPiece, PiecesFrom, Pieces}
-use Rattle.mz_tokens.specs.Answers.{EndsAt, IsWhole}
-use Rattle.mz_tokens.proofs.Offered.{pieces-one, whole-first, whole-more, whole-piece}
-use Rattle.mz_variables.specs.View.{Formula}
+use Rattle.mz_math_tokens.specs.declared.pieces.Delimiters.{Delimiters}
+use Rattle.mz_math_tokens.specs.declared.pieces.Piece.{Piece}
+use Rattle.mz_math_tokens.specs.Pieces.{IsSpaces, IsPiece, PiecesFrom, Pieces}
+use Rattle.mz_math_tokens.specs.Answers.{EndsAt, IsWhole}
+use Rattle.mz_math_tokens.proofs.Offered.{pieces-one, whole-first, whole-more, whole-piece}
+use Rattle.mz_spec_variables.specs.View.{Formula}
 use Rattle.mz_spec.specs.State.{State}
 use Rattle.mz_spec.specs.Formulas.{AreTokens, inner, math_of}
 

@@ -1,8 +1,8 @@
 -- What the code's formulas stand for, and which lexemes end where the code can count.
 use Rattle.std.specs.Prelude.{◌<◌, ◌+◌, ◌^◌, length}
 use Rattle.mz_lex.specs.Lexemes.{Lexeme}
-use Rattle.mz_grammar.specs.Code.{lexeme}
-use Rattle.mz_variables.specs.View.{Stated}
+use Rattle.mz_spec_grammar.specs.Code.{lexeme}
+use Rattle.mz_spec_variables.specs.View.{Stated}
 use Rattle.mz_spec.specs.declared.formulas.Stated.{Stated as StatedRead}
 
 abbrev pub stated : StatedRead → Stated

@@ -4,11 +4,11 @@ use Rattle.std.specs.Prelude.{◌≡◌, ◌+◌, ◌*◌, ℕ, List, Bool, true
 use Rattle.mz_lex.specs.Lexemes.{Lexeme}
 use Rattle.mz_logic.specs.Tree.{Tree, Trees}
 use Rattle.mz_logic.specs.Declaration.{Declaration, sort_decl, term_decl, assertion_decl, Form, plain_form, abstract_form, defined}
-use Rattle.mz_notation.specs.Notation.{Table}
-use Rattle.mz_grammar.specs.declared.kind.AssertKind.{AssertKind}
-use Rattle.mz_grammar.specs.declared.kind.AssertKind.TheVariants as kinds
-use Rattle.mz_grammar.specs.Statement.{Modifiers, TypeText, Statement, sort_statement, term_statement, assert_statement, definition_statement}
-use Rattle.mz_variables.specs.View.{Variable, view, claim, body, stated_of}
+use Rattle.mz_math_notation.specs.Notation.{Table}
+use Rattle.mz_spec_grammar.specs.declared.kind.AssertKind.{AssertKind}
+use Rattle.mz_spec_grammar.specs.declared.kind.AssertKind.TheVariants as kinds
+use Rattle.mz_spec_grammar.specs.Statement.{Modifiers, TypeText, Statement, sort_statement, term_statement, assert_statement, definition_statement}
+use Rattle.mz_spec_variables.specs.View.{Variable, view, claim, body, stated_of}
 use Rattle.mz_spec.specs.State.{State, with_sort, with_term, with_assertion, with_table, param_binders, dummy_binders, signature_of}
 use Rattle.mz_spec.specs.Formulas.{IsMeant, AreHyps}
 use Rattle.mz_spec.specs.Forms.{ChangesTable}

@@ -1,6 +1,6 @@
 -- What the code's states stand for.
 use Rattle.std.specs.Prelude.{ℕ, List, map}
-use Rattle.mz_notation.specs.Notation.{TermName}
+use Rattle.mz_math_notation.specs.Notation.{TermName}
 use Rattle.mz_spec.specs.declared.state.State.{State as StateRead}
 use Rattle.mz_spec.specs.State.{State}
 

@@ -5,22 +5,22 @@ use Rattle.std.specs.Str.Parse.{digits_value}
 use Rattle.mz_lex.specs.Lexemes.{Lexeme}
 use Rattle.mz_lex.specs.declared.rule.S.{S}
 use Rattle.mz_lex.specs.declared.rule.S.TheVariants as rules
-use Rattle.mz_checks.specs.Checks.{Checks, nothing, retold}
+use Rattle.mz_base_theory.specs.Checks.{Checks, nothing, retold}
 use Rattle.mz_logic.specs.Declaration.{signatures}
-use Rattle.mz_notation.specs.declared.notation.Notation.{Notation}
-use Rattle.mz_coercions.specs.declared.coercion.Coercion.{Coercion}
-use Rattle.mz_notation.specs.declared.form.Literal.{Literal}
-use Rattle.mz_notation.specs.declared.form.Literal.TheVariants.{Constant as constant, Name as name}
-use Rattle.mz_notation.specs.declared.form.Tail.{Tail}
-use Rattle.mz_notation.specs.declared.table.NoteFault.{NoteFault}
-use Rattle.mz_notation.specs.Notation.{Table, with_coercion}
-use Rattle.mz_notation.specs.Forms.{IsInfix, IsPrefix, IsGeneral, General, IsSpan, notation_checks, coercion_checks, delimiter_checks, AddsNotation, AddsDelimiters}
-use Rattle.mz_notation.specs.declared.table.NoteFault.TheVariants as faults
-use Rattle.mz_grammar.specs.declared.kind.Fixity.{Fixity}
-use Rattle.mz_grammar.specs.declared.kind.Fixity.TheVariants as fixities
-use Rattle.mz_grammar.specs.declared.refusal.Fault.{Fault}
-use Rattle.mz_grammar.specs.Statement.{TypeText, Head, Level, number_level, max_level, LiteralText, constant_literal, name_literal, TailText, Statement, operator_statement, coercion_statement, delimiter_statement, notation_statement}
-use Rattle.mz_variables.specs.View.{variables_of, alone}
+use Rattle.mz_math_notation.specs.declared.notation.Notation.{Notation}
+use Rattle.mz_math_coercions.specs.declared.coercion.Coercion.{Coercion}
+use Rattle.mz_math_notation.specs.declared.form.Literal.{Literal}
+use Rattle.mz_math_notation.specs.declared.form.Literal.TheVariants.{Constant as constant, Name as name}
+use Rattle.mz_math_notation.specs.declared.form.Tail.{Tail}
+use Rattle.mz_math_notation.specs.declared.table.NoteFault.{NoteFault}
+use Rattle.mz_math_notation.specs.Notation.{Table, with_coercion}
+use Rattle.mz_math_notation.specs.Forms.{IsInfix, IsPrefix, IsGeneral, General, IsSpan, notation_checks, coercion_checks, delimiter_checks, AddsNotation, AddsDelimiters}
+use Rattle.mz_math_notation.specs.declared.table.NoteFault.TheVariants as faults
+use Rattle.mz_spec_grammar.specs.declared.kind.Fixity.{Fixity}
+use Rattle.mz_spec_grammar.specs.declared.kind.Fixity.TheVariants as fixities
+use Rattle.mz_spec_grammar.specs.declared.refusal.Fault.{Fault}
+use Rattle.mz_spec_grammar.specs.Statement.{TypeText, Head, Level, number_level, max_level, LiteralText, constant_literal, name_literal, TailText, Statement, operator_statement, coercion_statement, delimiter_statement, notation_statement}
+use Rattle.mz_spec_variables.specs.View.{variables_of, alone}
 use Rattle.mz_spec.specs.State.{State, sort_number, term_number, signature_of, scope_of}
 use Rattle.mz_spec.specs.Formulas.{inner}
 

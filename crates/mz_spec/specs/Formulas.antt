@@ -5,19 +5,19 @@ use Rattle.mz_lex.specs.Kinds.{inside_of}
 use Rattle.mz_lex.specs.Lexemes.{Lexeme}
 use Rattle.mz_lex.specs.declared.rule.S.{S}
 use Rattle.mz_lex.specs.declared.rule.S.TheVariants as rules
-use Rattle.mz_checks.specs.Checks.{Checks, nothing, demand, retold, ◌>>◌}
+use Rattle.mz_base_theory.specs.Checks.{Checks, nothing, demand, retold, ◌>>◌}
 use Rattle.mz_logic.specs.Tree.{Tree, Trees, none, followed_by}
 pub use Rattle.mz_logic.specs.Tree.{copies}
 use Rattle.mz_logic.specs.Declaration.{signatures}
 use Rattle.mz_logic.specs.Variables.{InFV}
-use Rattle.mz_tokens.specs.declared.pieces.Piece.{Piece}
-use Rattle.mz_tokens.specs.Pieces.{Pieces}
+use Rattle.mz_math_tokens.specs.declared.pieces.Piece.{Piece}
+use Rattle.mz_math_tokens.specs.Pieces.{Pieces}
 use Rattle.mz_math.specs.declared.formula.Wanted.{Wanted}
 use Rattle.mz_math.specs.declared.formula.Wanted.TheVariants.{Provable as provable, Sort as of_sort}
 use Rattle.mz_math.specs.Formula.{Misreading, formula_checks, IsFormula}
-use Rattle.mz_grammar.specs.declared.refusal.Fault.{Fault}
-use Rattle.mz_grammar.specs.Statement.{TypeText}
-use Rattle.mz_variables.specs.View.{Variable, Formula, claim, body, Stated}
+use Rattle.mz_spec_grammar.specs.declared.refusal.Fault.{Fault}
+use Rattle.mz_spec_grammar.specs.Statement.{TypeText}
+use Rattle.mz_spec_variables.specs.View.{Variable, Formula, claim, body, Stated}
 use Rattle.mz_spec.specs.State.{State, sort_number, result_of, scope_of, reader_of}
 
 -- the text between the two `$` of a math string

@@ -4,11 +4,11 @@ use Rattle.mz_lex.specs.Kinds.{is_of_kind}
 use Rattle.mz_lex.specs.Lexemes.{Lexeme}
 use Rattle.mz_logic.specs.Declaration.{sorts, signatures}
 use Rattle.mz_logic.specs.Legality.{IsLegalEnv}
-use Rattle.mz_coercions.specs.declared.coercion.Coercion.{Coercion}
-use Rattle.mz_notation.specs.Notation.{TermName}
-use Rattle.mz_notation.specs.Forms.{IsCoercion}
-use Rattle.mz_notation.specs.Kept.{IsTable}
-use Rattle.mz_grammar.specs.Statement.{Statement, Spells}
+use Rattle.mz_math_coercions.specs.declared.coercion.Coercion.{Coercion}
+use Rattle.mz_math_notation.specs.Notation.{TermName}
+use Rattle.mz_math_notation.specs.Forms.{IsCoercion}
+use Rattle.mz_math_notation.specs.Kept.{IsTable}
+use Rattle.mz_spec_grammar.specs.Statement.{Statement, Spells}
 use Rattle.mz_spec.specs.Code.{EndsSmall}
 use Rattle.mz_spec.specs.State.{State}
 

@@ -1,16 +1,16 @@
 -- What the code of the statements on notations, coercions and delimiters answers.
 use Rattle.std.specs.Prelude.{⊤, ℕ, ◌+◌, List, [], ◌∷◌, length, IsTrue}
 use Rattle.std.specs.List.{list_all}
-use Rattle.mz_names.specs.Identifiers.{is_digit}
+use Rattle.mz_base.specs.Identifiers.{is_digit}
 use Rattle.mz_lex.specs.Lexemes.{Lexeme}
-use Rattle.mz_checks.specs.Checks.{Checks, each_in_order, ◌>>◌}
-use Rattle.mz_notation.specs.declared.table.NoteFault.{NoteFault}
-use Rattle.mz_notation.specs.declared.table.NoteFault.TheVariants as faults
-use Rattle.mz_grammar.specs.declared.refusal.Halt.{Halt}
-use Rattle.mz_grammar.specs.declared.refusal.Halt.TheVariants as halts
-use Rattle.mz_grammar.specs.Statement.{TypeText, Level, number_level, max_level, LiteralText, constant_literal, name_literal}
-use Rattle.mz_grammar.specs.declared.refusal.Fault.{Fault}
-use Rattle.mz_variables.specs.View.{Variable, names_of}
+use Rattle.mz_base_theory.specs.Checks.{Checks, each_in_order, ◌>>◌}
+use Rattle.mz_math_notation.specs.declared.table.NoteFault.{NoteFault}
+use Rattle.mz_math_notation.specs.declared.table.NoteFault.TheVariants as faults
+use Rattle.mz_spec_grammar.specs.declared.refusal.Halt.{Halt}
+use Rattle.mz_spec_grammar.specs.declared.refusal.Halt.TheVariants as halts
+use Rattle.mz_spec_grammar.specs.Statement.{TypeText, Level, number_level, max_level, LiteralText, constant_literal, name_literal}
+use Rattle.mz_spec_grammar.specs.declared.refusal.Fault.{Fault}
+use Rattle.mz_spec_variables.specs.View.{Variable, names_of}
 use Rattle.mz_spec.specs.State.{State}
 use Rattle.mz_spec.specs.Rules.{are_others, is_known, type_checks, binder_rules}
 use Rattle.mz_spec.specs.Formulas.{inner}

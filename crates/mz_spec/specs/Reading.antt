@@ -1,7 +1,7 @@
 -- How far a text has been read.
 use Rattle.std.specs.Prelude.{◌≡◌, ℕ, List, [], length}
 use Rattle.mz_lex.specs.Lexemes.{Lexeme, LexemesTo}
-use Rattle.mz_grammar.specs.Statement.{Statement}
+use Rattle.mz_spec_grammar.specs.Statement.{Statement}
 use Rattle.mz_spec.specs.State.{State, nothing}
 use Rattle.mz_spec.specs.Spec.{Stand}
 

@@ -3,16 +3,16 @@
 use Rattle.std.specs.Prelude.{◌≡◌, ◌⊎◌, ◌≤◌, ⊤, ℕ, List, [], ◌∷◌, ◌++◌, true, Option, Some, None, option_and_then, slice_get}
 use Rattle.mz_lex.specs.Lexemes.{Lexeme}
 use Rattle.mz_lex.specs.declared.rule.S.TheVariants as rules
-use Rattle.mz_checks.specs.Checks.{Checks, nothing, demand, each_in_order, ◌>>◌}
+use Rattle.mz_base_theory.specs.Checks.{Checks, nothing, demand, each_in_order, ◌>>◌}
 use Rattle.mz_logic.specs.Declaration.{sorts as sorts_in}
 use Rattle.mz_logic.specs.Modifiers.{IsPure, IsStrict, IsFree}
 use Rattle.mz_logic.specs.declared.binder.SortMods.{SortMods}
-use Rattle.mz_tokens.specs.declared.pieces.Piece.{Piece}
-use Rattle.mz_grammar.specs.declared.refusal.Fault.{Fault}
-use Rattle.mz_names.specs.Names.{number_of, IsNew, IsKnown}
-use Rattle.mz_variables.specs.Dependencies.{Every, IsBoundAmong}
-use Rattle.mz_grammar.specs.Statement.{TypeText, Level, number_level, max_level, Statement}
-use Rattle.mz_variables.specs.View.{Named, Variable, Formula, View, view, params_of, dummies_of, names_of, name_texts}
+use Rattle.mz_math_tokens.specs.declared.pieces.Piece.{Piece}
+use Rattle.mz_spec_grammar.specs.declared.refusal.Fault.{Fault}
+use Rattle.mz_base.specs.Names.{number_of, IsNew, IsKnown}
+use Rattle.mz_spec_variables.specs.Dependencies.{Every, IsBoundAmong}
+use Rattle.mz_spec_grammar.specs.Statement.{TypeText, Level, number_level, max_level, Statement}
+use Rattle.mz_spec_variables.specs.View.{Named, Variable, Formula, View, view, params_of, dummies_of, names_of, name_texts}
 use Rattle.mz_spec.specs.State.{State, names_in}
 use Rattle.mz_spec.specs.Formulas.{strings_checks, free_checks}
 use Rattle.mz_spec.specs.Forms.{number_in, highest_level, form_checks}

@@ -4,14 +4,14 @@ use Rattle.std.specs.Prelude.{◌≡◌, ◌⊎◌, ◌+◌, ◌++◌, ℕ, List
 use Rattle.mz_lex.specs.Lexemes.{Lexeme, LexesFrom, Lexes}
 use Rattle.mz_lex.specs.declared.token.LexFault.{LexFault}
 use Rattle.mz_logic.specs.Declaration.{Declaration}
-use Rattle.mz_checks.specs.Checks.{AllHold, FailsFirst}
-use Rattle.mz_tokens.specs.declared.pieces.Piece.{Piece}
-use Rattle.mz_grammar.specs.declared.refusal.Fault.{Fault}
-use Rattle.mz_grammar.specs.Statement.{Statement, Spells}
-use Rattle.mz_grammar.specs.Stops.{Stops}
-use Rattle.mz_grammar.specs.Reading.{place_of_first}
+use Rattle.mz_base_theory.specs.Checks.{AllHold, FailsFirst}
+use Rattle.mz_math_tokens.specs.declared.pieces.Piece.{Piece}
+use Rattle.mz_spec_grammar.specs.declared.refusal.Fault.{Fault}
+use Rattle.mz_spec_grammar.specs.Statement.{Statement, Spells}
+use Rattle.mz_spec_grammar.specs.Stops.{Stops}
+use Rattle.mz_spec_grammar.specs.Reading.{place_of_first}
 use Rattle.mz_spec.specs.declared.refusal.SpecRefusal.{SpecRefusal}
-use Rattle.mz_variables.specs.View.{view}
+use Rattle.mz_spec_variables.specs.View.{view}
 use Rattle.mz_spec.specs.State.{State, Entry, nothing, entries_of, env_of}
 use Rattle.mz_spec.specs.Formulas.{AreTokens}
 use Rattle.mz_spec.specs.Rules.{statement_checks}

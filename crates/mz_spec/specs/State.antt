@@ -8,14 +8,13 @@ use Rattle.mz_logic.specs.Codes.{declaration_code}
 use Rattle.mz_logic.specs.Signature.{Signature}
 use Rattle.mz_logic.specs.declared.binder.Binder.{Binder}
 use Rattle.mz_logic.specs.declared.binder.ResultType.{ResultType}
-use Rattle.mz_notation.specs.Notation.{Table, empty_table, with_name}
-use Rattle.mz_notation.specs.Notation.{Variables}
+use Rattle.mz_math_notation.specs.Notation.{Table, empty_table, with_name, Variables}
 use Rattle.mz_math.specs.Formula.{Reader}
 use Rattle.mz_spec.specs.declared.spec.Mark.{Mark}
-use Rattle.mz_names.specs.Names.{number_of}
-use Rattle.mz_variables.specs.Dependencies.{dep_places}
-use Rattle.mz_grammar.specs.Statement.{TypeText}
-use Rattle.mz_variables.specs.View.{Space, sorts, terms, assertions, Variable, params_of, dummies_of}
+use Rattle.mz_base.specs.Names.{number_of}
+use Rattle.mz_spec_variables.specs.Dependencies.{dep_places}
+use Rattle.mz_spec_grammar.specs.Statement.{TypeText}
+use Rattle.mz_spec_variables.specs.View.{Space, sorts, terms, assertions, Variable, params_of, dummies_of}
 
 -- ---- declarations with their places
 

@@ -2,7 +2,7 @@
 //! (mm0.md, sections on sorts, terms, definitions, axioms and theorems, notations and coercions).
 //!
 //! `specs/Rules.antt` has the rules of a statement in their order, over what they see of it
-//! (`mz_variables`), `specs/Declaring.antt` what a good one declares, and `specs/Spec.antt` says what a text
+//! (`mz_spec_variables`), `specs/Declaring.antt` what a good one declares, and `specs/Spec.antt` says what a text
 //! declares and where it breaks its first rule.
 #![tactic(auto)]
 
@@ -20,7 +20,7 @@ mod spec;
 mod state;
 
 pub use laws::{readings_are_one, specifications_are_legal};
-pub use mz_names::Hashing;
+pub use mz_base::Hashing;
 pub use reader::{SpecRead, read_spec};
 pub use refusal::SpecRefusal;
 pub use spec::Spec;

@@ -1,11 +1,11 @@
 // Statements for math strings: operators, coercions, delimiters and general notations.
 ghost use Rattle.std.specs.Prelude.{◌≡◌, ◌+◌, ◌<◌, ◌^◌, ◌++◌, ◌∷◌, ⊤, [], List, MatchOption, OnOk, length, map, option_map};
-ghost use Rattle.mz_checks.specs.Checks.{AllHold, each_in_order};
-ghost use Rattle.mz_grammar.specs.Statement.{TypeText};
-ghost use Rattle.mz_grammar.specs.Code.{coercion as coercion_lem, delimiter as delimiter_lem, lexeme, level as level_lem, literal as literal_lem, notation as notation_lem, operator as operator_lem, tail as tail_lem, type_text};
-ghost use Rattle.mz_notation.specs.Forms.{IsAnswer, notation_checks};
+ghost use Rattle.mz_base_theory.specs.Checks.{AllHold, each_in_order};
+ghost use Rattle.mz_spec_grammar.specs.Statement.{TypeText};
+ghost use Rattle.mz_spec_grammar.specs.Code.{coercion as coercion_lem, delimiter as delimiter_lem, lexeme, level as level_lem, literal as literal_lem, notation as notation_lem, operator as operator_lem, tail as tail_lem, type_text};
+ghost use Rattle.mz_math_notation.specs.Forms.{IsAnswer, notation_checks};
 ghost use Rattle.mz_spec.specs.Answers.{JudgesOrMem, JudgesStatement};
-ghost use Rattle.mz_variables.specs.Code.{AreGrouped, AreParts, variable};
+ghost use Rattle.mz_spec_variables.specs.Code.{AreGrouped, AreParts, variable};
 ghost use Rattle.mz_spec.specs.Declaring.{After};
 ghost use Rattle.mz_spec.specs.Entries.{state};
 ghost use Rattle.mz_spec.specs.Formulas.{inner as inner_lem};
@@ -13,20 +13,20 @@ ghost use Rattle.mz_spec.specs.Forms.{AreLiterals, MakesNotation, level_of as le
 ghost use Rattle.mz_spec.specs.Kept.{IsKept, IsSpelled};
 ghost use Rattle.mz_spec.specs.Noting.{halt_of as halt_of_lem, named_rules, noting_rules};
 ghost use Rattle.mz_spec.specs.Rules.{are_others, is_level};
-ghost use Rattle.mz_variables.specs.Index.{IsIndexOf};
-ghost use Rattle.mz_variables.specs.View.{Variable as VariableLem, literal_levels, tail_levels, view};
+ghost use Rattle.mz_spec_variables.specs.Index.{IsIndexOf};
+ghost use Rattle.mz_spec_variables.specs.View.{Variable as VariableLem, literal_levels, tail_levels, view};
 
 use crate::formulas::inner;
 use crate::levels::{level_of, tail_of};
 use crate::literals::Literals;
 use crate::rules::{check_known, index_of, push_names};
 use crate::state::State;
-use mz_grammar::{
-    CoercionText, DelimiterText, Fault, Fixity, Halt, Lexeme, NotationText, OperatorText,
-};
 use mz_lex::S;
 use mz_math::{NoteFault, Tail};
-use mz_variables::{NameIndex, Names, Parts, TypeAt, Variable};
+use mz_spec_grammar::{
+    CoercionText, DelimiterText, Fault, Fixity, Halt, Lexeme, NotationText, OperatorText,
+};
+use mz_spec_variables::{NameIndex, Names, Parts, TypeAt, Variable};
 use std::alloc::Global;
 
 impl<'a> State<'a> {

@@ -9,8 +9,8 @@ ghost use Rattle.mz_spec.specs.State.{entries_of, nothing};
 use crate::refusal::SpecRefusal;
 use crate::spec::Spec;
 use crate::state::State;
-use mz_grammar::{Halt, read_statement};
-use mz_names::Hashing;
+use mz_base::Hashing;
+use mz_spec_grammar::{Halt, read_statement};
 use std::alloc::Global;
 
 /// What reading a specification comes to.

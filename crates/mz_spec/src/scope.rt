@@ -1,22 +1,22 @@
 // The variables of a statement over what is declared.
 ghost use Rattle.std.specs.Prelude.{◌≡◌, ◌+◌, ◌<◌, ◌^◌, ◌++◌, ⊤, [], ℕ, List, Option, IfOk, MatchOption, OnOk, length, map, option_map};
-ghost use Rattle.mz_grammar.specs.Code.{lexeme, type_text};
-ghost use Rattle.mz_grammar.specs.Statement.{TypeText as TypeLem};
-ghost use Rattle.mz_notation.specs.Kept.{AreVariables};
-ghost use Rattle.mz_variables.specs.Code.{AreGrouped, AreParts, IsOfTypes, typed, variable as variable_lem};
-ghost use Rattle.mz_variables.specs.Dependencies.{dep_places};
+ghost use Rattle.mz_spec_grammar.specs.Code.{lexeme, type_text};
+ghost use Rattle.mz_spec_grammar.specs.Statement.{TypeText as TypeLem};
+ghost use Rattle.mz_math_notation.specs.Kept.{AreVariables};
+ghost use Rattle.mz_spec_variables.specs.Code.{AreGrouped, AreParts, IsOfTypes, typed, variable as variable_lem};
+ghost use Rattle.mz_spec_variables.specs.Dependencies.{dep_places};
 ghost use Rattle.mz_spec.specs.Entries.{state};
 ghost use Rattle.mz_spec.specs.Found.{IsFound};
-ghost use Rattle.mz_variables.specs.Index.{IsIndexOf};
+ghost use Rattle.mz_spec_variables.specs.Index.{IsIndexOf};
 ghost use Rattle.mz_spec.specs.Kept.{IsKept};
 ghost use Rattle.mz_spec.specs.State.{binder_of as binder_of_lem, bytes_of as bytes_of_lem, result_of, scope_of as scope_of_lem, sort_number as sort_number_lem, term_number as term_number_lem, variable_bytes};
-ghost use Rattle.mz_variables.specs.View.{Variable as VariableLem, alone};
+ghost use Rattle.mz_spec_variables.specs.View.{Variable as VariableLem, alone};
 
 use crate::state::State;
-use mz_grammar::{Lexeme, TypeText};
 use mz_logic::{Binder, Binders, Deps, ResultType};
 use mz_math::Scope;
-use mz_variables::{NameIndex, Parts, Variable, places_among};
+use mz_spec_grammar::{Lexeme, TypeText};
+use mz_spec_variables::{NameIndex, Parts, Variable, places_among};
 use std::alloc::{AllocError, Global};
 
 impl<'a> State<'a> {

@@ -1,6 +1,6 @@
 // What the statements before declare.
 ghost use Rattle.std.specs.Prelude.{◌≡◌, ◌+◌, ◌<◌, ◌^◌, length, OnOk};
-ghost use Rattle.mz_grammar.specs.Code.{statement as statement_lem};
+ghost use Rattle.mz_spec_grammar.specs.Code.{statement as statement_lem};
 ghost use Rattle.mz_spec.specs.Answers.{JudgesStatement};
 ghost use Rattle.mz_spec.specs.Declaring.{After};
 ghost use Rattle.mz_spec.specs.Entries.{state};
@@ -8,11 +8,11 @@ ghost use Rattle.mz_spec.specs.Kept.{IsKept, IsSpelled};
 ghost use Rattle.mz_spec.specs.State.{nothing};
 
 use crate::spec::Mark;
-use mz_grammar::{Halt, Statement};
+use mz_base::Hashing;
 use mz_logic::Env;
 use mz_math::Notations;
-use mz_names::Hashing;
-use mz_variables::Names;
+use mz_spec_grammar::{Halt, Statement};
+use mz_spec_variables::Names;
 use std::alloc::Global;
 
 /// The names of sorts and of axioms and theorems, the declarations, the mark of each, and what has been

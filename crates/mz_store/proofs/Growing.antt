@@ -3,7 +3,7 @@ use Rattle.std.proofs.Common.{ℕ, suc, ◌≡◌, ◌≤◌, ◌+◌, ◌⊎◌
 use Rattle.std.proofs.lemmas.List.{get_or_append_left, length-append}
 use Rattle.std.proofs.lemmas.Option.{slice_get_within, none-some}
 use Rattle.std.proofs.Math.Seq.{get_or-append_seam}
-use Rattle.mz_general.proofs.Offered.{length-push}
+use Rattle.mz_base_theory.proofs.Offered.{length-push}
 use Rattle.mz_logic.specs.Tree.{app, none, more}
 use Rattle.mz_logic.specs.declared.binder.Binder.{Binder}
 use Rattle.mz_logic.proofs.Offered.{extends_append, split_at, DepsInside}

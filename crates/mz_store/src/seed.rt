@@ -1,4 +1,4 @@
-use mz_names::Hashing;
+use mz_base::Hashing;
 
 /// What the numbers are made with by which a store's terms are looked up. It is drawn by chance, so that
 /// a file can't be chosen for terms that share them, which take long to be told apart. No answer

@@ -1,12 +1,12 @@
 -- What is answered over the contents of files is the answer over the folder.
 use Rattle.std.proofs.Common.{false, Bool, ◌≡◌, ◌∙◌, ◌≤◌, ℕ, List, [], ◌∷◌, length, Option, Some, None, sym, subst, inl, inr, refl, true, arith}
-use Rattle.mz_verdicts.specs.Verdict.{IsSound}
+use Rattle.mz_match_theory.specs.Verdict.{IsSound}
 use Rattle.std.specs.Prelude.{nat_le, bytes_eq}
 use Rattle.std.specs.List.{list_any}
 use Rattle.std.proofs.lemmas.Bool.{or_cases, or_left, or_right, and_parts, and_from, le-leb, leb-true}
 use Rattle.mz_io.specs.Outside.{SameFiles, Rooms, HasRoom, serves}
-use Rattle.mz_checks.proofs.Offered.{all_hold-rest}
-use Rattle.mz_statements.specs.Statements.{Statement}
+use Rattle.mz_base_theory.proofs.Offered.{all_hold-rest}
+use Rattle.mz_mmu_statements.specs.Statements.{Statement}
 use Rattle.mz_type.specs.TextOf.{TextOf}
 use Rattle.mz_type.specs.Weight.{byte_bound, each_within, bound_limit, bound_count, parameter_limit, parameter_count}
 use Rattle.mz_emit.specs.declared.compiled.Compiled.{Compiled}
@@ -15,7 +15,7 @@ use Rattle.mz_emit.specs.Lines.{line_of as line_of_compiled}
 use Rattle.mz_emit.specs.Limits.{limit, over}
 use Rattle.mz_emit.specs.Compiling.{IsCompilation, CompilesTo, IsCompilable, IsDecided}
 use Rattle.mz_tool.specs.declared.outcome.Outcome.TheVariants as outcomes
-use Rattle.mz_wording.specs.Wording.{longest}
+use Rattle.mz_prefix_theory.specs.Wording.{longest}
 use Rattle.mz_tool.specs.Request.{Request, verify, compile, Files, Hold, names_read, IsPut}
 use Rattle.mz_tool.specs.declared.outcome.Outcome.{Outcome}
 use Rattle.mz_tool.specs.Outcomes.{IfYes, IfNo, OnYes, OnNo}

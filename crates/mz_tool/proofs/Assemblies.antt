@@ -8,7 +8,7 @@ use Rattle.mz_asm.specs.Statements.{parts_of}
 use Rattle.mz_asm.specs.Spoken.{line_of}
 use Rattle.mz_asm.specs.Assembling.{IsAssembly, IsBinaryOf}
 use Rattle.mz_asm.specs.Laws.{HasOneAnswer}
-use Rattle.mz_wording.specs.Wording.{longest}
+use Rattle.mz_prefix_theory.specs.Wording.{longest}
 use Rattle.mz_tool.specs.Run.{IsAssembledTo, IsNotAssembled}
 
 -- a binary is no longer than a file that is read

@@ -4,7 +4,7 @@ use Rattle.std.proofs.lemmas.List.{append-nil}
 use Rattle.mz_io.specs.Calls.{Call, puts, Grows, IsRead, AreRead, AreReadAndPut, AreReadNotPut, IsPutting, IsWritten, IsCut}
 use Rattle.mz_io.proofs.Logs.{grows-both, written-both, cut-after}
 use Rattle.mz_cmd.specs.declared.rule.Refusal.{Refusal}
-use Rattle.mz_files.specs.RefusalLine.{refusal_line}
+use Rattle.mz_binary_theory.specs.RefusalLine.{refusal_line}
 use Rattle.mz_show.specs.Listing.{IsListed, IsListedUpTo}
 use Rattle.mz_tool.specs.Request.{Request, show, names_read, name_put}
 use Rattle.mz_tool.specs.Run.{IsYesOf, IsNoOf, IsProvedOf}

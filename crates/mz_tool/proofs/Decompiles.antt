@@ -1,15 +1,15 @@
 -- What comes of a pair: it has a text, or a first refusal, or something stands first against its text.
 use Rattle.std.proofs.Common.{◌≡◌, ◌≤◌, ℕ, List, Option, length, ap, subst, inl, inr, refl, arith}
-use Rattle.mz_checks.proofs.Offered.{all_hold-rest}
-use Rattle.mz_verdicts.specs.Verdict.{Accepts, IsSound}
-use Rattle.mz_phrasing.specs.Phrasing.{text_of}
-use Rattle.mz_naming.specs.Names.{vocabulary_of}
-use Rattle.mz_restating.specs.Restated.{deep, too_long, depth_checks, greater_length}
-use Rattle.mz_restating.specs.Texts.{IsPlainText}
+use Rattle.mz_base_theory.proofs.Offered.{all_hold-rest}
+use Rattle.mz_match_theory.specs.Verdict.{Accepts, IsSound}
+use Rattle.mz_decompile_text_theory.specs.Phrasing.{text_of}
+use Rattle.mz_decompile_names.specs.Names.{vocabulary_of}
+use Rattle.mz_decompile_theory.specs.Restated.{deep, too_long, depth_checks, greater_length}
+use Rattle.mz_decompile_theory.specs.Texts.{IsPlainText}
 use Rattle.mz_decompile.specs.declared.decompiled.Decompiled.{Decompiled}
 use Rattle.mz_decompile.specs.declared.decompiled.Decompiled.TheVariants as answers
 use Rattle.mz_decompile.specs.Decompiling.{IsDecompilation, IsTextFor, IsDecided}
-use Rattle.mz_wording.specs.Wording.{longest}
+use Rattle.mz_prefix_theory.specs.Wording.{longest}
 use Rattle.mz_tool.specs.Run.{AreItsTexts, IsDecompiledTo, IsNotDecompiled}
 use Rattle.mz_tool.specs.Decompiled.{text_line}
 

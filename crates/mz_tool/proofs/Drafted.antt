@@ -2,12 +2,12 @@
 use Rattle.std.proofs.Common.{◌≡◌, ◌⊎◌, ℕ, List, sym, subst, inl, inr, refl}
 use Rattle.mz_match.specs.declared.draft.Draft.{Draft}
 use Rattle.mz_match.specs.declared.draft.Draft.TheVariants as drafts
-use Rattle.mz_verdicts.specs.declared.verdict.Counts.{Counts}
-use Rattle.mz_verdicts.specs.declared.verdict.Verdict.{Verdict}
-use Rattle.mz_verdicts.specs.declared.verdict.Verdict.TheVariants as verdicts
+use Rattle.mz_match_theory.specs.declared.verdict.Counts.{Counts}
+use Rattle.mz_match_theory.specs.declared.verdict.Verdict.{Verdict}
+use Rattle.mz_match_theory.specs.declared.verdict.Verdict.TheVariants as verdicts
 use Rattle.mz_match.specs.Drafts.{IsDraft, verdict_of}
-use Rattle.mz_files.specs.Standards.{draft_standard}
-use Rattle.mz_verdicts.specs.Verdict.{AcceptsWithBy, FirstRefusalBy, line_of}
+use Rattle.mz_binary_theory.specs.Standards.{draft_standard}
+use Rattle.mz_match_theory.specs.Verdict.{AcceptsWithBy, FirstRefusalBy, line_of}
 use Rattle.mz_tool.specs.Run.{IsDraftTold, IsRefutedBy}
 
 accepted-apart : (d : Draft) → ((counts : Counts) (gaps : List ℕ) → d ≡ drafts.Accepted counts gaps → ⊥) → (counts : Counts) → verdict_of d ≡ verdicts.Accepted counts → ⊥

@@ -1,10 +1,10 @@
 -- What a verdict says is what is answered.
 use Rattle.std.proofs.Common.{◌≡◌, ◌⊎◌, ℕ, List, None, subst, inl, inr}
-use Rattle.mz_files.specs.declared.standard.Standard.{Standard}
-use Rattle.mz_verdicts.specs.declared.verdict.Counts.{Counts}
-use Rattle.mz_verdicts.specs.declared.verdict.Verdict.{Verdict}
-use Rattle.mz_verdicts.specs.declared.verdict.Verdict.TheVariants as verdicts
-use Rattle.mz_verdicts.specs.Verdict.{Accepts, AcceptsWithBy, FirstRefusalBy, IsVerdictBy, IsSound, IsSoundIfAccepted, line_of}
+use Rattle.mz_binary_theory.specs.declared.standard.Standard.{Standard}
+use Rattle.mz_match_theory.specs.declared.verdict.Counts.{Counts}
+use Rattle.mz_match_theory.specs.declared.verdict.Verdict.{Verdict}
+use Rattle.mz_match_theory.specs.declared.verdict.Verdict.TheVariants as verdicts
+use Rattle.mz_match_theory.specs.Verdict.{Accepts, AcceptsWithBy, FirstRefusalBy, IsVerdictBy, IsSound, IsSoundIfAccepted, line_of}
 use Rattle.mz_portable.specs.Portable.{IsAcceptedByTable}
 use Rattle.mz_tool.specs.declared.outcome.Outcome.{Outcome}
 use Rattle.mz_tool.specs.declared.outcome.Outcome.TheVariants as outcomes

@@ -4,7 +4,7 @@ use Rattle.std.proofs.lemmas.List.{take-append-le, take_min, length-append, appe
 use Rattle.std.proofs.Math.Seq.{take-append-add, take-length}
 use Rattle.mz_io.specs.Outside.{Rose, AppendsPrefix}
 use Rattle.mz_cmd.specs.declared.rule.Refusal.{Refusal}
-use Rattle.mz_files.specs.RefusalLine.{refusal_line as refusal_text}
+use Rattle.mz_binary_theory.specs.RefusalLine.{refusal_line as refusal_text}
 use Rattle.mz_show.specs.Listing.{IsListing, IsListedUpTo, IsListed}
 use Rattle.mz_tool.specs.Request.{Files, show}
 use Rattle.mz_tool.proofs.Answered.{yes-of, no-of}

@@ -1,6 +1,6 @@
 -- What is promised of the specification alone follows from what is proved of the pair.
 use Rattle.std.proofs.Common.{ℕ, List, [], ◌∷◌}
-use Rattle.mz_verdicts.proofs.Offered.{sound-proves}
+use Rattle.mz_match_theory.proofs.Offered.{sound-proves}
 use Rattle.mz_sample.specs.Samples.{sample_specification}
 use Rattle.mz_tool.specs.Request.{Request, verify, show, compile, assemble, axioms, draft, portable, specify, decompile, sample, Files}
 use Rattle.mz_tool.specs.Run.{IsProved}

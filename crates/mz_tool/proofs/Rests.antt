@@ -1,8 +1,8 @@
 -- What is told of the axioms on which theorems rest: where it is told the pair isn't refused.
 use Rattle.std.proofs.Common.{ℕ, List, refl}
-use Rattle.mz_verdicts.specs.declared.verdict.Counts.{Counts}
-use Rattle.mz_verdicts.specs.declared.verdict.Verdict.{Verdict}
-use Rattle.mz_verdicts.specs.Verdict.{AcceptsWith, FirstRefusal, counts_of}
+use Rattle.mz_match_theory.specs.declared.verdict.Counts.{Counts}
+use Rattle.mz_match_theory.specs.declared.verdict.Verdict.{Verdict}
+use Rattle.mz_match_theory.specs.Verdict.{AcceptsWith, FirstRefusal, counts_of}
 use Rattle.mz_axioms.specs.Lists.{TheoremSupport, AreSupports}
 use Rattle.mz_tool.specs.Run.{AreAxiomsTold, IsRefuted}
 

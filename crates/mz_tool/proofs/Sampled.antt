@@ -1,10 +1,10 @@
 -- What comes of a sample: its text is compiled, and the binary verified.
 use Rattle.std.proofs.Common.{◌≡◌, ◌∙◌, ◌++◌, ℕ, List, [], Option, Some, None, sym, subst, inl, inr, refl, ap, false}
 use Rattle.mz_logic.specs.LegalLists.{Statement}
-use Rattle.mz_files.proofs.Offered.{one-list, good-spelled}
-use Rattle.mz_verdicts.specs.Match.{publics, Agrees}
-use Rattle.mz_verdicts.specs.Verdict.{Accepts, IsSound, counts_of}
-use Rattle.mz_verdicts.proofs.Offered.{accepted-excludes}
+use Rattle.mz_binary_theory.proofs.Offered.{one-list, good-spelled}
+use Rattle.mz_match_theory.specs.Match.{publics, Agrees}
+use Rattle.mz_match_theory.specs.Verdict.{Accepts, IsSound, counts_of}
+use Rattle.mz_match_theory.proofs.Offered.{accepted-excludes}
 use Rattle.mz_type.specs.Laws.{IsTypedOrFaulty}
 use Rattle.mz_type.specs.Meaning.{marked}
 use Rattle.mz_emit.specs.Compiling.{CompilesTo, IsDecided}
@@ -16,7 +16,7 @@ use Rattle.mz_tool.specs.Outcomes.{IfYes, IfNo, OnYes, OnNo, IsAfter}
 use Rattle.mz_tool.specs.Run.{IsYesOf, IsNoOf, IsProvedOf, IsVerified, IsRefuted, IsCompiledTo, IsNotCompiled, IsUpheld, IsFaulted, IsProvedByText, sizes_line, IsSampleUpheld, IsSampleFaulted}
 use Rattle.mz_tool.proofs.Answered.{put-bytes, not-compiled-alone}
 use Rattle.mz_tool.proofs.StatedLists.{stated-agree}
-use Rattle.mz_files.specs.Standards.{strict_standard}
+use Rattle.mz_binary_theory.specs.Standards.{strict_standard}
 
 -- a text that is compiled is accepted or not whatever binary it is compiled to
 accepted-once : (spec text bin bin' : List ℕ) → IsTypedOrFaulty false text → CompilesTo false text bin → CompilesTo false text bin' → Accepts spec bin → Accepts spec bin'

@@ -7,12 +7,12 @@ use Rattle.mz_logic.specs.Tree.{Tree, Trees, var, app, none, more, operand, inst
 use Rattle.mz_logic.specs.Conversions.{AreFresh}
 use Rattle.mz_logic.specs.declared.binder.Binder.{Binder}
 use Rattle.mz_logic.proofs.Offered.{split_at}
-use Rattle.mz_unification.specs.Spells.{variables_from}
-use Rattle.mz_unification.proofs.Offered.{some_is, distinct, in-some, operand-trees_of, length-params}
-use Rattle.mz_steps.specs.Sameness.{own}
-use Rattle.mz_steps.proofs.Offered.{operand-front, operand-behind, operand-variables}
-use Rattle.mz_accepting.proofs.Offered.{fresh-back, own-of}
-use Rattle.mz_verdicts.specs.Trees.{SameOver, AllSameOver, Pairs, IsPaired, SameBody}
+use Rattle.mz_unify_theory.specs.Spells.{variables_from}
+use Rattle.mz_unify_theory.proofs.Offered.{some_is, distinct, in-some, operand-trees_of, length-params}
+use Rattle.mz_emit_theory.specs.Sameness.{own}
+use Rattle.mz_emit_theory.proofs.Offered.{operand-front, operand-behind, operand-variables}
+use Rattle.mz_emit_accepted_theory.proofs.Offered.{fresh-back, own-of}
+use Rattle.mz_match_theory.specs.Trees.{SameOver, AllSameOver, Pairs, IsPaired, SameBody}
 
 -- ---- fresh variables
 

@@ -1,5 +1,5 @@
 -- The request that a command stands for.
-use Rattle.mz_mode.specs.Gaps.{gaps_of}
+use Rattle.mz_base.specs.Gaps.{gaps_of}
 use Rattle.mz_tool.specs.Request.{Request, verify, show, compile, assemble, axioms, draft, portable, specify, decompile, sample}
 use Rattle.mz_tool.specs.declared.command.Command.{Command}
 use Rattle.mz_tool.specs.declared.command.Command.TheVariants.{Verify, Show, Compile, Assemble, Axioms, Draft, Portable, Specify, Decompile, Sample}

@@ -3,7 +3,7 @@ use Rattle.std.specs.Prelude.{◌≡◌, ◌⊎◌, ⊤, ℕ, List, [], ◌∷�
 use Rattle.mz_io.specs.Calls.{Call, IsOver, IsUnread, IsPartly, StopAt, AreRead, AreReadOrLeft, AreReadAndPut, AreReadNotPut, IsWritten, IsCut}
 use Rattle.mz_show.specs.Asked.{IsBegunText}
 use Rattle.mz_show.specs.Listing.{IsListed}
-use Rattle.mz_wording.specs.Wording.{longest}
+use Rattle.mz_prefix_theory.specs.Wording.{longest}
 use Rattle.mz_tool.specs.Request.{Request, verify, show, compile, assemble, axioms, draft, portable, specify, decompile, sample, Asks, names_read, name_put}
 use Rattle.mz_tool.specs.Inputs.{contents_of}
 use Rattle.mz_tool.specs.Run.{IsYesOf, IsNoOf, IsProvedOf}

@@ -1,7 +1,7 @@
 -- What is said of a verdict (this project's own).
 use Rattle.std.specs.Prelude.{⊤}
-use Rattle.mz_verdicts.specs.declared.verdict.Verdict.{Verdict}
-use Rattle.mz_verdicts.specs.declared.verdict.Verdict.TheVariants as verdicts
+use Rattle.mz_match_theory.specs.declared.verdict.Verdict.{Verdict}
+use Rattle.mz_match_theory.specs.declared.verdict.Verdict.TheVariants as verdicts
 
 -- the binary is accepted
 abbrev pub IsAccepted : Verdict → Type 0

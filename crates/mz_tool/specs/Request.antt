@@ -2,7 +2,7 @@
 use Rattle.std.specs.Prelude.{◌≡◌, ◌≤◌, ℕ, ⊤, Bool, true, false, List, [], ◌∷◌, length, Option, Some, None, codes, decimal, Any}
 use Rattle.mz_io.specs.Read.{IsLonger}
 use Rattle.mz_io.specs.Outside.{SameFiles, SameOthers}
-use Rattle.mz_wording.specs.Wording.{longest}
+use Rattle.mz_prefix_theory.specs.Wording.{longest}
 
 -- a command of the program, with the names of its files; or with how many definitions a sample has. A text is compiled
 -- with gaps let through, as a draft, or without

@@ -1,15 +1,15 @@
 -- How the program answers (this project's own).
 use Rattle.std.specs.Prelude.{◌≡◌, ◌⊎◌, ◌++◌, ℕ, Bool, false, List, [], ◌∷◌, length, Option, Some, None}
 use Rattle.mz_cmd.specs.declared.rule.Refusal.{Refusal}
-use Rattle.mz_verdicts.specs.declared.verdict.Counts.{Counts}
-use Rattle.mz_verdicts.specs.declared.verdict.Verdict.{Verdict}
-use Rattle.mz_verdicts.specs.declared.verdict.Verdict.TheVariants as verdicts
-use Rattle.mz_files.specs.declared.standard.Standard.{Standard}
-use Rattle.mz_files.specs.declared.standard.Standard.TheVariants.{Portable}
-use Rattle.mz_files.specs.Standards.{strict_standard, draft_standard}
-use Rattle.mz_verdicts.specs.Verdict.{Accepts, AcceptsWithBy, FirstRefusalBy, IsSound, line_of}
+use Rattle.mz_match_theory.specs.declared.verdict.Counts.{Counts}
+use Rattle.mz_match_theory.specs.declared.verdict.Verdict.{Verdict}
+use Rattle.mz_match_theory.specs.declared.verdict.Verdict.TheVariants as verdicts
+use Rattle.mz_binary_theory.specs.declared.standard.Standard.{Standard}
+use Rattle.mz_binary_theory.specs.declared.standard.Standard.TheVariants.{Portable}
+use Rattle.mz_binary_theory.specs.Standards.{strict_standard, draft_standard}
+use Rattle.mz_match_theory.specs.Verdict.{Accepts, AcceptsWithBy, FirstRefusalBy, IsSound, line_of}
 use Rattle.mz_match.specs.Drafts.{DraftAccepts, IsDraftSound}
-use Rattle.mz_files.specs.RefusalLine.{refusal_line}
+use Rattle.mz_binary_theory.specs.RefusalLine.{refusal_line}
 use Rattle.mz_show.specs.Listing.{IsListing, IsListedUpTo, IsListed}
 use Rattle.mz_sexpr.specs.declared.rule.TextRefusal.{TextRefusal}
 use Rattle.mz_type.specs.TextOf.{TextFault}
@@ -26,11 +26,11 @@ use Rattle.mz_axioms.specs.Text.{IsTextOf}
 use Rattle.mz_axioms.specs.Gaps.{IsGapsTextOf}
 use Rattle.mz_sample.specs.Samples.{sample_specification, sample_text, sample_line}
 use Rattle.mz_tool.specs.Request.{Request, verify, show, compile, assemble, axioms, draft, portable, specify, decompile, sample, Files, Hold, names_read}
-use Rattle.mz_wording.specs.Wording.{Unwritten, local_in, long_in, too_long, longest, IsWordedAs, IsUnwritten}
-use Rattle.mz_agreeing.specs.Laws.{DeclaresText}
+use Rattle.mz_prefix_theory.specs.Wording.{Unwritten, local_in, long_in, too_long, longest, IsWordedAs, IsUnwritten}
+use Rattle.mz_prefix_theory.specs.AgreeLaws.{DeclaresText}
 use Rattle.mz_prefix.specs.Told.{specified_line, local_line, long_line}
-use Rattle.mz_restating.specs.Restated.{Unstated}
-use Rattle.mz_restating.specs.Texts.{IsPlainText, IsUnstated}
+use Rattle.mz_decompile_theory.specs.Restated.{Unstated}
+use Rattle.mz_decompile_theory.specs.Texts.{IsPlainText, IsUnstated}
 use Rattle.mz_decompile.specs.Decompiling.{IsTextFor}
 use Rattle.mz_decompile.specs.Printed.{decompiled_line}
 use Rattle.mz_tool.specs.Decompiled.{unstated_line}

@@ -1,6 +1,6 @@
 // The command `axioms`.
 ghost use Rattle.std.specs.Prelude.{◌≡◌, ◌<◌, ◌^◌, ℕ, List, None, length};
-ghost use Rattle.mz_verdicts.specs.Verdict.{IsSound};
+ghost use Rattle.mz_match_theory.specs.Verdict.{IsSound};
 ghost use Rattle.mz_axioms.specs.Reading.{IsAxiomsRead};
 ghost use Rattle.mz_tool.specs.Run.{AreAxiomsTold, IsRefuted};
 ghost use Rattle.mz_tool.specs.Outcomes.{IfYes, IfNo, OnYes, OnNo};
@@ -10,8 +10,8 @@ use crate::output::Put;
 use mz_axioms::{AxiomsRead, axioms_of, axioms_text};
 use mz_cmd::Steps;
 use mz_match::verdict_line;
+use mz_match_theory::{accepted_pairs_are_sound, each_pair_has_one_verdict};
 use mz_store::Seed;
-use mz_verdicts::{accepted_pairs_are_sound, each_pair_has_one_verdict};
 use std::alloc::Global;
 use std::marker::Brand;
 use std::sync::ledger::{Blank, Ledger};

@@ -6,7 +6,7 @@ ghost use Rattle.mz_tool.specs.Inputs.{names_of, name_of};
 use crate::inputs::Inputs;
 use crate::output::Output;
 use crate::size::SampleSize;
-use mz_mode::Mode;
+use mz_base::Mode;
 
 /// A command of the program, with the names of its files, or the size of its sample.
 #[derive(Clone, Copy)]

@@ -1,15 +1,15 @@
 // The commands `compile` and `compile_draft`.
 ghost use Rattle.std.specs.Prelude.{◌≡◌, ◌≤◌, ◌<◌, ◌^◌, ℕ, List, Option, Some, length};
-ghost use Rattle.mz_mode.specs.Gaps.{gaps_of};
-ghost use Rattle.mz_wording.specs.Wording.{longest};
+ghost use Rattle.mz_base.specs.Gaps.{gaps_of};
+ghost use Rattle.mz_prefix_theory.specs.Wording.{longest};
 ghost use Rattle.mz_tool.specs.Run.{IsCompiledTo, IsNotCompiled};
 ghost use Rattle.mz_tool.specs.Outcomes.{IfYes, IfNo, OnYes, OnNo};
 
 use crate::outcome::Outcome;
 use crate::output::Put;
+use mz_base::Mode;
 use mz_emit::{Compiled, compilation_is_decided, compile_bytes, compiled_line};
-use mz_forms::Hashing;
-use mz_mode::Mode;
+use mz_mmu_forms::Hashing;
 use mz_store::Seed;
 use std::alloc::Global;
 

@@ -1,9 +1,9 @@
 // The command `decompile`.
 ghost use Rattle.std.specs.Prelude.{◌≡◌, ◌≤◌, ◌<◌, ◌^◌, IfOk, ℕ, List, Option, Some, length};
-ghost use Rattle.mz_verdicts.specs.Verdict.{IsSound};
+ghost use Rattle.mz_match_theory.specs.Verdict.{IsSound};
 ghost use Rattle.mz_decompile.specs.Decompiling.{IsDecompilation, IsTextForPair};
 ghost use Rattle.mz_tool.specs.Decompiled.{text_line, HasLine};
-ghost use Rattle.mz_wording.specs.Wording.{longest};
+ghost use Rattle.mz_prefix_theory.specs.Wording.{longest};
 ghost use Rattle.mz_tool.specs.Run.{AreItsTexts, IsDecompiledTo, IsNotDecompiled};
 ghost use Rattle.mz_tool.specs.Outcomes.{IfYes, IfNo, OnYes, OnNo};
 
@@ -15,8 +15,8 @@ use mz_decompile::{
 };
 use mz_emit::{Compiled, L, compiled_line};
 use mz_match::verdict_line;
+use mz_match_theory::accepted_pairs_are_sound;
 use mz_store::Seed;
-use mz_verdicts::accepted_pairs_are_sound;
 use std::alloc::Global;
 use std::marker::Brand;
 use std::sync::ledger::{Blank, Ledger};

@@ -1,10 +1,10 @@
 // The command `draft`.
 ghost use Rattle.std.specs.Prelude.{◌≡◌, ◌<◌, ◌⊎◌, ◌^◌, ℕ, List, None, length};
-ghost use Rattle.mz_files.specs.Standards.{draft_standard};
-ghost use Rattle.mz_verdicts.specs.declared.verdict.Verdict.{Verdict as TheVerdict};
-ghost use Rattle.mz_verdicts.specs.declared.verdict.Verdict.TheVariants as verdicts;
+ghost use Rattle.mz_binary_theory.specs.Standards.{draft_standard};
+ghost use Rattle.mz_match_theory.specs.declared.verdict.Verdict.{Verdict as TheVerdict};
+ghost use Rattle.mz_match_theory.specs.declared.verdict.Verdict.TheVariants as verdicts;
 ghost use Rattle.mz_match.specs.Drafts.{IsDraft, IsDraftSound, IsDraftSoundIfAccepted, verdict_of};
-ghost use Rattle.mz_verdicts.specs.Verdict.{AcceptsWithBy, FirstRefusalBy};
+ghost use Rattle.mz_match_theory.specs.Verdict.{AcceptsWithBy, FirstRefusalBy};
 ghost use Rattle.mz_tool.specs.Run.{IsDraftTold, IsRefutedBy};
 ghost use Rattle.mz_tool.specs.Outcomes.{IfYes, IfNo, OnYes, OnNo};
 
@@ -13,8 +13,8 @@ use crate::output::Put;
 use mz_axioms::gaps_text;
 use mz_cmd::Steps;
 use mz_match::{Draft, draft_bytes, verdict_line};
+use mz_match_theory::{Counts, Verdict};
 use mz_store::Seed;
-use mz_verdicts::{Counts, Verdict};
 use std::alloc::Global;
 use std::marker::Brand;
 use std::sync::ledger::{Blank, Ledger};

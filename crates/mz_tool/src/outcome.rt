@@ -2,7 +2,7 @@
 ghost use Rattle.std.specs.Prelude.{◌≡◌, ◌≤◌, ℕ, List, Option, Some, length};
 ghost use Rattle.mz_tool.specs.Asked.{request};
 ghost use Rattle.mz_tool.specs.Run.{IsYesOf, IsNoOf, IsProvedOf, IsShow};
-ghost use Rattle.mz_wording.specs.Wording.{longest};
+ghost use Rattle.mz_prefix_theory.specs.Wording.{longest};
 ghost use Rattle.mz_tool.specs.Request.{names_read};
 ghost use Rattle.mz_tool.specs.Inputs.{contents_of, AreWithin};
 ghost use Rattle.mz_tool.specs.Outcomes.{IfYes, IfNo, OnYes, OnNo};

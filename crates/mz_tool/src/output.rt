@@ -3,7 +3,7 @@ ghost use Rattle.std.specs.Prelude.{◌≡◌, ◌≤◌, ℕ, List, Some, None,
 ghost use Rattle.mz_io.specs.Calls.{Grows, IsPutting};
 ghost use Rattle.mz_tool.specs.Called.{IsPutFault};
 ghost use Rattle.mz_io.specs.Outside.{HasCause, HasRoom};
-ghost use Rattle.mz_wording.specs.Wording.{longest};
+ghost use Rattle.mz_prefix_theory.specs.Wording.{longest};
 ghost use Rattle.mz_tool.specs.Request.{IsPut, SameButPut};
 ghost use Rattle.mz_tool.specs.Inputs.{name_of, bytes_of};
 

@@ -1,7 +1,7 @@
 // The command `portable`.
 ghost use Rattle.std.specs.Prelude.{◌≡◌, ◌<◌, ◌⊎◌, ◌^◌, ℕ, List, None, length};
-ghost use Rattle.mz_files.specs.declared.standard.Standard.TheVariants.{Portable};
-ghost use Rattle.mz_verdicts.specs.Verdict.{Accepts, IsSoundIfAccepted, IsSound};
+ghost use Rattle.mz_binary_theory.specs.declared.standard.Standard.TheVariants.{Portable};
+ghost use Rattle.mz_match_theory.specs.Verdict.{Accepts, IsSoundIfAccepted, IsSound};
 ghost use Rattle.mz_portable.specs.Portable.{FirstPortableRefusal, IsAcceptedByTable, IsPortableVerdict, PortablyAccepts};
 ghost use Rattle.mz_tool.specs.Run.{IsVerifiedBy, IsRefutedBy};
 ghost use Rattle.mz_tool.specs.Outcomes.{IfYes, IfNo, OnYes, OnNo};
@@ -9,9 +9,9 @@ ghost use Rattle.mz_tool.specs.Outcomes.{IfYes, IfNo, OnYes, OnNo};
 use crate::outcome::Outcome;
 use crate::verdict::answered_by;
 use mz_cmd::Steps;
+use mz_match_theory::{Counts, Verdict};
 use mz_portable::portable_bytes;
 use mz_store::Seed;
-use mz_verdicts::{Counts, Verdict};
 use std::alloc::Global;
 use std::marker::Brand;
 use std::sync::ledger::{Blank, Ledger};

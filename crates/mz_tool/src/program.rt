@@ -3,7 +3,7 @@ ghost use Rattle.std.specs.Prelude.{◌≡◌, ◌≤◌, ◌<◌, ◌^◌, ◌+
 ghost use Rattle.mz_io.specs.Calls.{Call};
 ghost use Rattle.mz_io.specs.Outside.{Rose, HasRoom, SameFiles, AppendsPrefix};
 ghost use Rattle.mz_tool.specs.Called.{IsRun, IsRunOf};
-ghost use Rattle.mz_wording.specs.Wording.{longest};
+ghost use Rattle.mz_prefix_theory.specs.Wording.{longest};
 ghost use Rattle.mz_tool.specs.Request.{Request, Asks, names_read, name_put, IsPut, SameButPut, AreReadable, AreThere, BeginsLonger, HasLong, HasLonger};
 ghost use Rattle.mz_tool.specs.Promise.{IsPromised};
 ghost use Rattle.mz_tool.specs.Run.{IsYes, IsNo, IsAnswer, IsListedFor, IsProved, IsQuiet, IsShow, MayPut};

@@ -3,8 +3,8 @@ ghost use Rattle.std.specs.Prelude.{◌≡◌, ◌≤◌, ◌<◌, ◌++◌, ◌
 ghost use Rattle.mz_io.specs.Calls.{Call, Grows};
 ghost use Rattle.mz_io.specs.Outside.{Rose, HasRoom, SameFiles, AppendsPrefix};
 ghost use Rattle.mz_tool.specs.Called.{IsRunOf, IsReporting};
-ghost use Rattle.mz_files.specs.RefusalLine.{refusal_line as refusal_text};
-ghost use Rattle.mz_wording.specs.Wording.{longest};
+ghost use Rattle.mz_binary_theory.specs.RefusalLine.{refusal_line as refusal_text};
+ghost use Rattle.mz_prefix_theory.specs.Wording.{longest};
 ghost use Rattle.mz_tool.specs.Request.{show as show_file, AreThere, BeginsLonger, HasLonger, names_read, name_put, IsPut, SameButPut};
 ghost use Rattle.mz_tool.specs.Run.{IsYes, IsNo, IsAnswer, IsListedFor, IsProved, IsQuiet, MayPut};
 ghost use Rattle.mz_tool.specs.Reported.{IsReported};

@@ -1,6 +1,6 @@
 // The command `spec`.
 ghost use Rattle.std.specs.Prelude.{◌≡◌, ◌≤◌, ◌<◌, ◌^◌, IfOk, ℕ, List, Option, Some, length};
-ghost use Rattle.mz_wording.specs.Wording.{longest};
+ghost use Rattle.mz_prefix_theory.specs.Wording.{longest};
 ghost use Rattle.mz_tool.specs.Run.{AreItsSpecifications, IsNotSpecified, IsSpecifiedTo};
 ghost use Rattle.mz_tool.specs.Outcomes.{IfYes, IfNo, OnYes, OnNo};
 ghost use Rattle.mz_tool.specs.Specified;
@@ -9,7 +9,7 @@ use crate::outcome::Outcome;
 use crate::output::Put;
 use mz_cmd::Mem;
 use mz_emit::{Compiled, L, compiled_line};
-use mz_forms::Hashing;
+use mz_mmu_forms::Hashing;
 use mz_prefix::{
     SpecText, local_line, long_line, spec_of, specification_is_decided, specified_line,
 };

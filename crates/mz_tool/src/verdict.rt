@@ -1,13 +1,13 @@
 // What is answered by a verdict.
 ghost use Rattle.std.specs.Prelude.{◌≡◌, None};
-ghost use Rattle.mz_verdicts.specs.Verdict.{line_of};
+ghost use Rattle.mz_match_theory.specs.Verdict.{line_of};
 ghost use Rattle.mz_tool.specs.Judging.{IsAccepted, IsRefusal};
 ghost use Rattle.mz_tool.specs.Outcomes.{IfYes, IfNo};
 
 use crate::outcome::Outcome;
 use crate::output::Put;
 use mz_match::verdict_line;
-use mz_verdicts::Verdict;
+use mz_match_theory::Verdict;
 use std::alloc::Global;
 
 /// The verdict's line: yes where the binary is accepted, no where the pair is refused.

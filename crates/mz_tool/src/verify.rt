@@ -1,6 +1,6 @@
 // The command `verify`.
 ghost use Rattle.std.specs.Prelude.{◌≡◌, ◌<◌, ◌⊎◌, ◌^◌, ℕ, List, None, length};
-ghost use Rattle.mz_verdicts.specs.Verdict.{IsVerdict, IsSoundIfAccepted, IsSound, AcceptsWith, FirstRefusal};
+ghost use Rattle.mz_match_theory.specs.Verdict.{IsVerdict, IsSoundIfAccepted, IsSound, AcceptsWith, FirstRefusal};
 ghost use Rattle.mz_tool.specs.Run.{IsVerified, IsRefuted};
 ghost use Rattle.mz_tool.specs.Outcomes.{IfYes, IfNo, OnYes, OnNo};
 
@@ -8,8 +8,8 @@ use crate::outcome::Outcome;
 use crate::verdict::answered_by;
 use mz_cmd::Steps;
 use mz_match::verify_bytes;
+use mz_match_theory::{Counts, Verdict};
 use mz_store::Seed;
-use mz_verdicts::{Counts, Verdict};
 use std::alloc::Global;
 use std::marker::Brand;
 use std::sync::ledger::{Blank, Ledger};

@@ -3,7 +3,7 @@ ghost use Rattle.std.specs.Prelude.{◌≡◌, ◌≤◌, ◌<◌, ◌++◌, ◌
 ghost use Rattle.mz_io.specs.Calls.{Call, Grows};
 ghost use Rattle.mz_io.specs.Outside.{Rose, HasRoom, SameFiles, AppendsPrefix};
 ghost use Rattle.mz_tool.specs.Called.{IsRunOf, IsWritingAnswer};
-ghost use Rattle.mz_wording.specs.Wording.{longest};
+ghost use Rattle.mz_prefix_theory.specs.Wording.{longest};
 ghost use Rattle.mz_tool.specs.Request.{AreThere, BeginsLonger, HasLonger, names_read, name_put, IsPut, SameButPut};
 ghost use Rattle.mz_tool.specs.Run.{IsYes, IsNo, IsAnswer, IsProved, IsQuiet, IsShow, MayPut};
 ghost use Rattle.mz_tool.specs.Asked.{request};

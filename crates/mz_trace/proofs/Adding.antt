@@ -2,10 +2,10 @@
 use Rattle.std.proofs.Common.{◌≡◌, ℕ, zero, suc, ◌+◌, List, [], ◌∷◌, ◌++◌, Option, Some, length, refl, sym, ap, ◌∙◌, subst, arith, length-append}
 use Rattle.std.specs.Prelude.{slice_get}
 use Rattle.std.proofs.lemmas.List.{append-nil, append_assoc}
-use Rattle.mz_general.proofs.Offered.{slice_get-last, slice_get-append}
+use Rattle.mz_base_theory.proofs.Offered.{slice_get-last, slice_get-append}
 use Rattle.mz_logic.specs.Tree.{Trees, var, app}
-use Rattle.mz_unification.specs.Spells.{trees_of}
-use Rattle.mz_soundness.specs.MachineState.{RowsBefore}
+use Rattle.mz_unify_theory.specs.Spells.{trees_of}
+use Rattle.mz_machine_theory.specs.MachineState.{RowsBefore}
 use Rattle.mz_trace.specs.Nodes.{Value, an_expression, expressions_at, value_of, values_after, values, AreExpressions, HasArity, HasParts, HavePartsAfter, HaveParts, IsApplication, Applies}
 use Rattle.mz_trace.specs.declared.node.RunNode.{RunNode}
 use Rattle.mz_trace.specs.declared.node.RunNode.TheVariants as node

@@ -7,16 +7,16 @@ use Rattle.mz_logic.specs.Tree.{Tree, var, app, none, instance, followed_by, var
 use Rattle.mz_logic.specs.Signature.{Signature}
 use Rattle.mz_logic.specs.Declaration.{Form, plain_form, abstract_form, defined, Term, Declaration, terms, signatures, body_tree}
 use Rattle.mz_logic.specs.declared.binder.Binder.{Binder}
-use Rattle.mz_unification.specs.Streams.{of_definition}
-use Rattle.mz_unification.specs.Spells.{trees_of, Text, SpelledTerm, SpellsForm, SpellsTerm}
-use Rattle.mz_unification.specs.Profile.{strict}
-use Rattle.mz_unification.specs.Sorted.{Sorted}
-use Rattle.mz_unification.specs.UnifyMachine.{UnifyState, unify}
-use Rattle.mz_unification.proofs.Offered.{some_is, operands-sorted, unfolding-is}
-use Rattle.mz_soundness.specs.MachineState.{RowsBefore, Declares, signatures_in}
-use Rattle.mz_soundness.proofs.Offered.{pair-at, signatures-are, signature-at}
-use Rattle.mz_tracing.specs.Traces.{variables_in}
-use Rattle.mz_tracing.proofs.Offered.{variables-are}
+use Rattle.mz_unify_theory.specs.Streams.{of_definition}
+use Rattle.mz_unify_theory.specs.Spells.{trees_of, Text, SpelledTerm, SpellsForm, SpellsTerm}
+use Rattle.mz_unify_theory.specs.Profile.{strict}
+use Rattle.mz_unify_theory.specs.Sorted.{Sorted}
+use Rattle.mz_unify_theory.specs.UnifyMachine.{UnifyState, unify}
+use Rattle.mz_unify_theory.proofs.Offered.{some_is, operands-sorted, unfolding-is}
+use Rattle.mz_machine_theory.specs.MachineState.{RowsBefore, Declares, signatures_in}
+use Rattle.mz_machine_theory.proofs.Offered.{pair-at, signatures-are, signature-at}
+use Rattle.mz_trace_theory.specs.Traces.{variables_in}
+use Rattle.mz_trace_theory.proofs.Offered.{variables-are}
 use Rattle.mz_trace.specs.Nodes.{body_under}
 use Rattle.mz_trace.specs.Commands.{in_body}
 

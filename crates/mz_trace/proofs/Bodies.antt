@@ -12,15 +12,15 @@ use Rattle.mz_cmd.specs.declared.code.ProofCode.TheVariants as code
 use Rattle.mz_cmd.specs.Codes.{proof_code}
 use Rattle.mz_cmd.specs.Reading.{first_command}
 use Rattle.mz_logic.specs.Tree.{Tree}
-use Rattle.mz_unification.specs.Steps.{◌>>=◌, ◌>>◌, need, at_place, over, goes_on, follow}
-use Rattle.mz_unification.specs.Profile.{strict}
-use Rattle.mz_unification.specs.UnifyMachine.{is_empty}
-use Rattle.mz_soundness.specs.MachineState.{RowsBefore, State, is_theorem, Heading}
-use Rattle.mz_soundness.specs.ProofMachine.{proof_row, built, proof_end}
-use Rattle.mz_soundness.specs.Bodies.{BodyCommand, ends, proves, if_allowed, body_command, body_turn_by, body_turn, body_from}
+use Rattle.mz_unify_theory.specs.Steps.{◌>>=◌, ◌>>◌, need, at_place, over, goes_on, follow}
+use Rattle.mz_unify_theory.specs.Profile.{strict}
+use Rattle.mz_unify_theory.specs.UnifyMachine.{is_empty}
+use Rattle.mz_machine_theory.specs.MachineState.{RowsBefore, State, is_theorem, Heading}
+use Rattle.mz_machine_theory.specs.ProofMachine.{proof_row, built, proof_end}
+use Rattle.mz_machine_theory.specs.Bodies.{BodyCommand, ends, proves, if_allowed, body_command, body_turn_by, body_turn, body_from}
 use Rattle.mz_trace.specs.Commands.{Stage, IsRead, IsMade, state_of, trace_of, Goes, Leads}
 use Rattle.mz_trace.specs.Runs.{RunsFrom, LeadsToEnd}
-use Rattle.mz_tracing.specs.Traces.{Trace, traced, trace_from}
+use Rattle.mz_trace_theory.specs.Traces.{Trace, traced, trace_from}
 use Rattle.mz_trace.proofs.Known.{known-kept}
 
 abbrev read-is : Cmd → Result Cmd CmdFault

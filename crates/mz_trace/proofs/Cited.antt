@@ -6,16 +6,16 @@ use Rattle.mz_logic.specs.Tree.{Tree, instance}
 use Rattle.mz_logic.specs.Signature.{Signature}
 use Rattle.mz_logic.specs.Declaration.{Assertion, Declaration, signatures, assertions}
 use Rattle.mz_logic.specs.declared.binder.Binder.{Binder}
-use Rattle.mz_typing.specs.Sides.{assertion_at}
-use Rattle.mz_unification.specs.Laws.{citing}
-use Rattle.mz_unification.specs.Profile.{strict, Item}
-use Rattle.mz_unification.specs.Spells.{SpelledThm, SpellsThm, trees_of}
-use Rattle.mz_unification.specs.UnifyMachine.{UnifyState, unify}
-use Rattle.mz_unification.proofs.Offered.{citation-is}
-use Rattle.mz_soundness.specs.MachineState.{RowsBefore, State, Declares, signatures_in}
-use Rattle.mz_soundness.specs.Premises.{pop_expr, pop_operands}
-use Rattle.mz_soundness.specs.Facts.{Fact}
-use Rattle.mz_soundness.proofs.Offered.{pair-at, signatures-are, expr-top, operands-top}
+use Rattle.mz_type_rules.specs.Sides.{assertion_at}
+use Rattle.mz_unify_theory.specs.Laws.{citing}
+use Rattle.mz_unify_theory.specs.Profile.{strict, Item}
+use Rattle.mz_unify_theory.specs.Spells.{SpelledThm, SpellsThm, trees_of}
+use Rattle.mz_unify_theory.specs.UnifyMachine.{UnifyState, unify}
+use Rattle.mz_unify_theory.proofs.Offered.{citation-is}
+use Rattle.mz_machine_theory.specs.MachineState.{RowsBefore, State, Declares, signatures_in}
+use Rattle.mz_machine_theory.specs.Premises.{pop_expr, pop_operands}
+use Rattle.mz_machine_theory.specs.Facts.{Fact}
+use Rattle.mz_machine_theory.proofs.Offered.{pair-at, signatures-are, expr-top, operands-top}
 use Rattle.mz_trace.specs.Nodes.{conclusion_under}
 use Rattle.mz_trace.specs.Commands.{anything}
 

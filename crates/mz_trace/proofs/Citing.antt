@@ -10,23 +10,21 @@ use Rattle.mz_cmd.specs.declared.rule.K.TheVariants as k
 use Rattle.mz_cmd.specs.declared.code.ProofCode.TheVariants as code
 use Rattle.mz_logic.specs.Tree.{Tree}
 use Rattle.mz_logic.specs.declared.binder.Binder.{Binder}
-use Rattle.mz_forms.specs.Proof.{Proof, by_citation, no_proofs}
+use Rattle.mz_mmu_forms.specs.Proof.{Proof, by_citation, no_proofs}
 use Rattle.mz_layout.specs.Tables.{thm_row, thm_count}
-use Rattle.mz_unification.specs.Profile.{strict, proof}
-use Rattle.mz_unification.specs.Profile.{Item as MachineItem}
-use Rattle.mz_unification.specs.Laws.{citing}
-use Rattle.mz_unification.specs.Spells.{SpelledThm, trees_of}
-use Rattle.mz_unification.specs.UnifyMachine.{Matching, UnifyState, unify}
-use Rattle.mz_unification.proofs.Offered.{from_bind, from_then, from_need, from_want, rule_of-ok, taken, taken-is, some_is}
-use Rattle.mz_soundness.specs.MachineState.{RowsBefore, State, signatures_in}
-use Rattle.mz_soundness.specs.Premises.{pop_expr, pop_operands, pop_exprs, operands_fit, are_apart}
-use Rattle.mz_soundness.specs.ProofMachine.{proof_row, citation, matched_by, cited}
-use Rattle.mz_soundness.specs.FileRows.{thm_of_file}
-use Rattle.mz_earlier.specs.Before.{Before}
-use Rattle.mz_earlier.proofs.Offered.{thm-before, binders_many}
-use Rattle.mz_tracing.specs.Parts.{Part, proved, proofs_above}
-use Rattle.mz_tracing.specs.Traces.{Trace, stacked, named, traced}
-use Rattle.mz_tracing.specs.Traces.{cited as cited-beside}
+use Rattle.mz_unify_theory.specs.Profile.{strict, proof, Item as MachineItem}
+use Rattle.mz_unify_theory.specs.Laws.{citing}
+use Rattle.mz_unify_theory.specs.Spells.{SpelledThm, trees_of}
+use Rattle.mz_unify_theory.specs.UnifyMachine.{Matching, UnifyState, unify}
+use Rattle.mz_unify_theory.proofs.Offered.{from_bind, from_then, from_need, from_want, rule_of-ok, taken, taken-is, some_is}
+use Rattle.mz_machine_theory.specs.MachineState.{RowsBefore, State, signatures_in}
+use Rattle.mz_machine_theory.specs.Premises.{pop_expr, pop_operands, pop_exprs, operands_fit, are_apart}
+use Rattle.mz_machine_theory.specs.ProofMachine.{proof_row, citation, matched_by, cited}
+use Rattle.mz_machine_theory.specs.FileRows.{thm_of_file}
+use Rattle.mz_machine_env.specs.Before.{Before}
+use Rattle.mz_machine_env.proofs.Offered.{thm-before, binders_many}
+use Rattle.mz_trace_theory.specs.Parts.{Part, proved, proofs_above}
+use Rattle.mz_trace_theory.specs.Traces.{Trace, stacked, named, traced, cited as cited-beside}
 use Rattle.mz_trace.specs.Nodes.{Value, a_proof, expression_at, expressions_at, proof_at, proofs_at, value_of, HasParts, IsExpression, AreExpressions, IsProof, AreProofs, Uses, IsClaim, conclusion_under}
 use Rattle.mz_trace.specs.Entries.{item_at, items_at, parts_at, IsStack, exprs_onto, proofs_onto, HasProofs}
 use Rattle.mz_trace.specs.Commands.{Stage, with_node, with_stack, with_name, on_stack, values_in, context_of, state_of, trace_of, IsHeld, IsMade, IsOfFile, IsRead, Goes, Leads, IsCited, MayCite, TakesHyps}

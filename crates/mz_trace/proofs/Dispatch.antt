@@ -7,12 +7,12 @@ use Rattle.mz_cmd.specs.declared.code.ProofCode.{ProofCode}
 use Rattle.mz_cmd.specs.declared.code.ProofCode.TheVariants as code
 use Rattle.mz_logic.specs.Tree.{Tree}
 use Rattle.mz_logic.specs.declared.binder.Binder.{Binder}
-use Rattle.mz_unification.specs.Profile.{strict, Item}
-use Rattle.mz_unification.specs.Steps.{◌>>=◌, ◌>>◌, need, want}
-use Rattle.mz_soundness.specs.MachineState.{RowsBefore, State}
-use Rattle.mz_soundness.specs.Premises.{is_conversion}
-use Rattle.mz_soundness.specs.ProofMachine.{proof_row, referred}
-use Rattle.mz_tracing.specs.Traces.{Trace, traced}
+use Rattle.mz_unify_theory.specs.Profile.{strict, Item}
+use Rattle.mz_unify_theory.specs.Steps.{◌>>=◌, ◌>>◌, need, want}
+use Rattle.mz_machine_theory.specs.MachineState.{RowsBefore, State}
+use Rattle.mz_machine_theory.specs.Premises.{is_conversion}
+use Rattle.mz_machine_theory.specs.ProofMachine.{proof_row, referred}
+use Rattle.mz_trace_theory.specs.Traces.{Trace, traced}
 use Rattle.mz_trace.specs.Commands.{Stage, Known, IsRead, state_of, trace_of, Goes, Leads}
 
 -- c over n does what d over m does, wherever c goes through

@@ -11,19 +11,18 @@ use Rattle.mz_cmd.specs.declared.code.ProofCode.TheVariants as code
 use Rattle.mz_logic.specs.Tree.{Tree, app}
 use Rattle.mz_logic.specs.declared.binder.Binder.{Binder}
 use Rattle.mz_layout.specs.Tables.{term_row, term_count}
-use Rattle.mz_unification.specs.Profile.{strict, expr}
-use Rattle.mz_unification.specs.Profile.{Item as MachineItem}
-use Rattle.mz_unification.specs.Spells.{SpelledTerm, trees_of}
-use Rattle.mz_unification.specs.Steps.{◌>>=◌, want}
-use Rattle.mz_unification.proofs.Offered.{from_bind, from_then, from_need, from_want, taken-is, some_is}
-use Rattle.mz_soundness.specs.MachineState.{RowsBefore, State, signatures_in}
-use Rattle.mz_soundness.specs.Premises.{pop_operands, pop_exprs, operands_fit}
-use Rattle.mz_soundness.specs.ProofMachine.{proof_row, built}
-use Rattle.mz_soundness.specs.FileRows.{term_of_file}
-use Rattle.mz_earlier.specs.Before.{Before}
-use Rattle.mz_earlier.proofs.Offered.{term-before, binders_many}
-use Rattle.mz_tracing.specs.Parts.{Part, expression}
-use Rattle.mz_tracing.specs.Traces.{Trace, stacked, kept, traced}
+use Rattle.mz_unify_theory.specs.Profile.{strict, expr, Item as MachineItem}
+use Rattle.mz_unify_theory.specs.Spells.{SpelledTerm, trees_of}
+use Rattle.mz_unify_theory.specs.Steps.{◌>>=◌, want}
+use Rattle.mz_unify_theory.proofs.Offered.{from_bind, from_then, from_need, from_want, taken-is, some_is}
+use Rattle.mz_machine_theory.specs.MachineState.{RowsBefore, State, signatures_in}
+use Rattle.mz_machine_theory.specs.Premises.{pop_operands, pop_exprs, operands_fit}
+use Rattle.mz_machine_theory.specs.ProofMachine.{proof_row, built}
+use Rattle.mz_machine_theory.specs.FileRows.{term_of_file}
+use Rattle.mz_machine_env.specs.Before.{Before}
+use Rattle.mz_machine_env.proofs.Offered.{term-before, binders_many}
+use Rattle.mz_trace_theory.specs.Parts.{Part, expression}
+use Rattle.mz_trace_theory.specs.Traces.{Trace, stacked, kept, traced}
 use Rattle.mz_trace.specs.Nodes.{Value, an_expression, expression_at, expressions_at, value_of, HasParts, HasArity, IsExpression, AreExpressions, Applies}
 use Rattle.mz_trace.specs.Entries.{item_at, part_at, items_at, parts_at, AreItems, IsItem, IsStack, HasExprs}
 use Rattle.mz_trace.specs.Commands.{Stage, with_node, with_stack, on_stack, values_in, context_of, state_of, trace_of, IsHeld, IsMade, IsOfFile, IsRead, Goes, Leads, IsBuilt, MayBuild}

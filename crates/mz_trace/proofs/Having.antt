@@ -2,11 +2,11 @@
 use Rattle.std.proofs.Common.{◌≡◌, ℕ, List, ◌∷◌, Ok, ap, ◌∙◌, subst}
 use Rattle.mz_cmd.specs.declared.code.ProofCode.TheVariants as code
 use Rattle.mz_logic.specs.Tree.{Tree}
-use Rattle.mz_unification.specs.Profile.{Item as MachineItem}
-use Rattle.mz_unification.proofs.Offered.{from_bind}
-use Rattle.mz_soundness.specs.MachineState.{RowsBefore}
-use Rattle.mz_soundness.specs.Premises.{pop_expr, pop_proof, pop_obligation, pop_conversion}
-use Rattle.mz_soundness.specs.ProofMachine.{proof_row}
+use Rattle.mz_unify_theory.specs.Profile.{Item as MachineItem}
+use Rattle.mz_unify_theory.proofs.Offered.{from_bind}
+use Rattle.mz_machine_theory.specs.MachineState.{RowsBefore}
+use Rattle.mz_machine_theory.specs.Premises.{pop_expr, pop_proof, pop_obligation, pop_conversion}
+use Rattle.mz_machine_theory.specs.ProofMachine.{proof_row}
 use Rattle.mz_trace.specs.Entries.{items_at, IsStack, HasConversion, HasExpr, HasOwed}
 use Rattle.mz_trace.specs.Commands.{Stage, values_in, Known, Goes}
 use Rattle.mz_trace.specs.declared.entry.Item.TheVariants.{Expr, Proof}

@@ -2,25 +2,23 @@
 use Rattle.std.proofs.Common.{◌≡◌, ℕ, suc, zero, true, false, List, [], ◌∷◌, ◌++◌, Some, Ok, length, map, refl, sym, ap, ◌∙◌, subst, arith, length-append}
 use Rattle.std.specs.Prelude.{slice_get, drop, nat_lt, not, ◌&&◌}
 use Rattle.std.proofs.lemmas.List.{map-append, append_assoc, length-map}
-use Rattle.mz_general.proofs.Offered.{slice_get-map_at, not-true}
+use Rattle.mz_base_theory.proofs.Offered.{slice_get-map_at, not-true}
 use Rattle.mz_cmd.specs.declared.rule.K.TheVariants as k
 use Rattle.mz_cmd.specs.declared.code.ProofCode.TheVariants as code
 use Rattle.mz_logic.specs.Tree.{Tree, var}
 use Rattle.mz_logic.specs.declared.binder.Binder.{Binder}
-use Rattle.mz_forms.specs.Proof.{by_hyp, by_name}
-use Rattle.mz_unification.specs.Profile.{strict, expr, proof, obligation}
-use Rattle.mz_unification.specs.Profile.{Item as MachineItem}
-use Rattle.mz_unification.specs.Spells.{dummy_of}
-use Rattle.mz_unification.specs.Steps.{◌>>=◌}
-use Rattle.mz_unification.specs.Tests.{same_tree}
-use Rattle.mz_unification.proofs.Offered.{from_bind, from_need, from_want, taken-is}
-use Rattle.mz_soundness.specs.MachineState.{RowsBefore}
-use Rattle.mz_soundness.specs.Premises.{pop, pop_obligation, may_be_dummy_sort, bound_count, is_obligation}
-use Rattle.mz_soundness.specs.ProofMachine.{proof_row, has_provable_sort, referred}
-use Rattle.mz_tracing.specs.Parts.{expression, proved, paid}
-use Rattle.mz_tracing.specs.Traces.{stacked, kept, named, traced}
-use Rattle.mz_tracing.specs.Traces.{referred as referred-part}
-use Rattle.mz_tracing.proofs.Offered.{to_want}
+use Rattle.mz_mmu_forms.specs.Proof.{by_hyp, by_name}
+use Rattle.mz_unify_theory.specs.Profile.{strict, expr, proof, obligation, Item as MachineItem}
+use Rattle.mz_unify_theory.specs.Spells.{dummy_of}
+use Rattle.mz_unify_theory.specs.Steps.{◌>>=◌}
+use Rattle.mz_unify_theory.specs.Tests.{same_tree}
+use Rattle.mz_unify_theory.proofs.Offered.{from_bind, from_need, from_want, taken-is}
+use Rattle.mz_machine_theory.specs.MachineState.{RowsBefore}
+use Rattle.mz_machine_theory.specs.Premises.{pop, pop_obligation, may_be_dummy_sort, bound_count, is_obligation}
+use Rattle.mz_machine_theory.specs.ProofMachine.{proof_row, has_provable_sort, referred}
+use Rattle.mz_trace_theory.specs.Parts.{expression, proved, paid}
+use Rattle.mz_trace_theory.specs.Traces.{stacked, kept, named, traced, referred as referred-part}
+use Rattle.mz_trace_theory.proofs.Offered.{to_want}
 use Rattle.mz_trace.proofs.StreamsApart.{expressions-both}
 use Rattle.mz_trace.specs.Nodes.{Value, expression_at, expressions_at, conversion_at, proof_at, IsExpression, IsProof, AreProofs, IsConversion}
 use Rattle.mz_trace.specs.Entries.{item_at, part_at, items_at, parts_at, AreItems, IsItem, IsStack, HasHeld, HasOwed}

@@ -3,12 +3,12 @@ use Rattle.std.proofs.Common.{◌≡◌, ℕ, false, List, Ok, sym, subst}
 use Rattle.mz_cmd.specs.declared.code.ProofCode.{ProofCode}
 use Rattle.mz_logic.specs.Tree.{Tree}
 use Rattle.mz_logic.specs.declared.binder.Binder.{Binder}
-use Rattle.mz_unification.specs.Profile.{strict}
-use Rattle.mz_soundness.specs.MachineState.{RowsBefore, State, Heading}
-use Rattle.mz_soundness.specs.Bodies.{body_start}
-use Rattle.mz_soundness.specs.ProofMachine.{proof_row}
-use Rattle.mz_soundness.specs.Facts.{Fact}
-use Rattle.mz_soundness.proofs.Offered.{keeps, start-fact}
+use Rattle.mz_unify_theory.specs.Profile.{strict}
+use Rattle.mz_machine_theory.specs.MachineState.{RowsBefore, State, Heading}
+use Rattle.mz_machine_theory.specs.Bodies.{body_start}
+use Rattle.mz_machine_theory.specs.ProofMachine.{proof_row}
+use Rattle.mz_machine_theory.specs.Facts.{Fact}
+use Rattle.mz_machine_theory.proofs.Offered.{keeps, start-fact}
 use Rattle.mz_trace.specs.Commands.{Stage, state_of, anything, IsKnown}
 
 pub known-kept : (tables : RowsBefore) (params : List Binder) (c : ProofCode) (n : ℕ) (s s' : Stage) → IsKnown tables params s

@@ -8,13 +8,13 @@ use Rattle.mz_cmd.specs.declared.code.ProofCode.TheVariants as code
 use Rattle.mz_logic.specs.Tree.{Tree}
 use Rattle.mz_logic.specs.Conversions.{Conversion, refl_conv}
 use Rattle.mz_logic.specs.declared.binder.Binder.{Binder}
-use Rattle.mz_unification.specs.Profile.{strict}
-use Rattle.mz_unification.specs.Tests.{same_tree}
-use Rattle.mz_unification.proofs.Offered.{from_need, taken-is}
-use Rattle.mz_soundness.specs.MachineState.{RowsBefore, State}
-use Rattle.mz_soundness.specs.ProofMachine.{proof_row}
-use Rattle.mz_tracing.specs.Parts.{paid}
-use Rattle.mz_tracing.specs.Traces.{Trace, stacked, traced}
+use Rattle.mz_unify_theory.specs.Profile.{strict}
+use Rattle.mz_unify_theory.specs.Tests.{same_tree}
+use Rattle.mz_unify_theory.proofs.Offered.{from_need, taken-is}
+use Rattle.mz_machine_theory.specs.MachineState.{RowsBefore, State}
+use Rattle.mz_machine_theory.specs.ProofMachine.{proof_row}
+use Rattle.mz_trace_theory.specs.Parts.{paid}
+use Rattle.mz_trace_theory.specs.Traces.{Trace, stacked, traced}
 use Rattle.mz_trace.specs.Nodes.{Value, a_conversion, expression_at, conversion_at, value_of, HasParts, IsConversion}
 use Rattle.mz_trace.specs.Entries.{item_at, part_at, AreItems, parts_at, IsWaiting}
 use Rattle.mz_trace.specs.Commands.{Stage, with_node, with_stack, with_kept, values_in, state_of, trace_of, IsHeld, IsMade, IsMadeBelow, Known, IsAny, Goes, Leads, MayPay, Pays}

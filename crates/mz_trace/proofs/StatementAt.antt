@@ -3,7 +3,7 @@ use Rattle.std.proofs.Common.{◌≡◌, ◌≤◌, ℕ, List, Ok, length, refl,
 use Rattle.mz_cmd.specs.declared.statement.StmtAt.TheVariants.{Head}
 use Rattle.mz_cmd.specs.StatementList.{statement_at}
 use Rattle.mz_layout.specs.declared.taken.Rows.{Rows}
-use Rattle.mz_files.proofs.Offered.{head-at}
+use Rattle.mz_binary_theory.proofs.Offered.{head-at}
 use Rattle.mz_layout.specs.Heads.{body_bytes}
 use Rattle.mz_trace.specs.Runs.{RunsOver, IsTheoremAt}
 

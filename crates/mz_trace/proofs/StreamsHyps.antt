@@ -11,11 +11,11 @@ use Rattle.mz_cmd.specs.Reading.{first_command}
 use Rattle.mz_logic.specs.Tree.{Tree}
 use Rattle.mz_logic.specs.Signature.{Signature}
 use Rattle.mz_logic.specs.declared.binder.Binder.{Binder}
-use Rattle.mz_unification.specs.Streams.{of_assertion, UnifyCommand, u_term, u_term_save, u_ref, u_hyp, command_in}
-use Rattle.mz_unification.specs.Profile.{strict, tree_parts}
-use Rattle.mz_unification.specs.Tests.{same_tree}
-use Rattle.mz_unification.specs.UnifyMachine.{in_citation, Matching, UnifyState, at_start, top_target, is_empty, next_hypothesis, operands_of, unify_row, unify}
-use Rattle.mz_unification.proofs.Offered.{from_bind, from_need, from_want, taken-is, hypothesis-is}
+use Rattle.mz_unify_theory.specs.Streams.{of_assertion, UnifyCommand, u_term, u_term_save, u_ref, u_hyp, command_in}
+use Rattle.mz_unify_theory.specs.Profile.{strict, tree_parts}
+use Rattle.mz_unify_theory.specs.Tests.{same_tree}
+use Rattle.mz_unify_theory.specs.UnifyMachine.{in_citation, Matching, UnifyState, at_start, top_target, is_empty, next_hypothesis, operands_of, unify_row, unify}
+use Rattle.mz_unify_theory.proofs.Offered.{from_bind, from_need, from_want, taken-is, hypothesis-is}
 use Rattle.mz_trace.specs.Commands.{RunsInCitation, TakesHyps}
 use Rattle.mz_trace.specs.Streams.{hyps_of}
 use Rattle.mz_trace.proofs.StreamsLeft.{Left, is-read, ends, goes-on-at}

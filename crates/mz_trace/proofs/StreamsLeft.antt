@@ -14,10 +14,10 @@ use Rattle.mz_cmd.specs.Reading.{first_command}
 use Rattle.mz_logic.specs.Tree.{Tree}
 use Rattle.mz_logic.specs.Signature.{Signature}
 use Rattle.mz_logic.specs.declared.binder.Binder.{Binder}
-use Rattle.mz_unification.specs.Streams.{StreamKind, of_assertion, of_definition, UnifyCommand, u_term, u_term_save, u_ref, u_dummy, u_hyp, u_end, IsEnd, command_in, unify_command}
-use Rattle.mz_unification.specs.Profile.{strict}
-use Rattle.mz_unification.specs.UnifyMachine.{UnifyMode, kind_of, is_empty, nothing_left, UnifyState, unify_row}
-use Rattle.mz_unification.proofs.Offered.{from_need, taken-is}
+use Rattle.mz_unify_theory.specs.Streams.{StreamKind, of_assertion, of_definition, UnifyCommand, u_term, u_term_save, u_ref, u_dummy, u_hyp, u_end, IsEnd, command_in, unify_command}
+use Rattle.mz_unify_theory.specs.Profile.{strict}
+use Rattle.mz_unify_theory.specs.UnifyMachine.{UnifyMode, kind_of, is_empty, nothing_left, UnifyState, unify_row}
+use Rattle.mz_unify_theory.proofs.Offered.{from_need, taken-is}
 use Rattle.mz_unify.proofs.Offered.{run_left, cut-run, other-run, stopped-run, ended-run, went-run}
 
 -- ---- the command by its code

@@ -5,14 +5,13 @@ use Rattle.std.proofs.lemmas.List.{reverse-append, map-append, append_assoc, len
 use Rattle.mz_cmd.specs.declared.rule.K.{K}
 use Rattle.mz_cmd.specs.declared.rule.K.TheVariants as k
 use Rattle.mz_logic.specs.Tree.{Tree}
-use Rattle.mz_forms.specs.Proof.{Proofs, no_proofs, more_proofs}
-use Rattle.mz_unification.specs.Profile.{strict}
-use Rattle.mz_unification.specs.Profile.{Item as MachineItem}
-use Rattle.mz_unification.specs.Tests.{same_tree}
-use Rattle.mz_unification.proofs.Offered.{from_bind, from_need, taken-is}
-use Rattle.mz_soundness.specs.MachineState.{RowsBefore}
-use Rattle.mz_soundness.specs.Premises.{pop_expr, pop_proof, pop_obligation, pop_conversion, pop_sides, pop_exprs}
-use Rattle.mz_tracing.specs.Parts.{proofs_above}
+use Rattle.mz_mmu_forms.specs.Proof.{Proofs, no_proofs, more_proofs}
+use Rattle.mz_unify_theory.specs.Profile.{strict, Item as MachineItem}
+use Rattle.mz_unify_theory.specs.Tests.{same_tree}
+use Rattle.mz_unify_theory.proofs.Offered.{from_bind, from_need, taken-is}
+use Rattle.mz_machine_theory.specs.MachineState.{RowsBefore}
+use Rattle.mz_machine_theory.specs.Premises.{pop_expr, pop_proof, pop_obligation, pop_conversion, pop_sides, pop_exprs}
+use Rattle.mz_trace_theory.specs.Parts.{proofs_above}
 use Rattle.mz_trace.specs.Nodes.{Value, expression_at, expressions_at, proof_at, proofs_at, AreExpressions, AreProofs}
 use Rattle.mz_trace.specs.Entries.{items_at, parts_at, IsStack, exprs_onto, proofs_onto, HasExprs, TookSides}
 use Rattle.mz_trace.specs.declared.entry.Item.TheVariants.{Expr, Proof, Conversion}

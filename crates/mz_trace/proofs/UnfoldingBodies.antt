@@ -9,22 +9,21 @@ use Rattle.mz_logic.specs.Tree.{Tree, Trees, var, app, listed, instance, followe
 use Rattle.mz_logic.specs.Signature.{Signature}
 use Rattle.mz_logic.specs.Declaration.{signatures, body_tree}
 use Rattle.mz_logic.specs.declared.binder.Binder.{Binder}
-use Rattle.mz_typing.specs.Sides.{term_at}
-use Rattle.mz_unification.specs.Profile.{strict, tree_parts, obligation}
-use Rattle.mz_unification.specs.Profile.{Item as MachineItem}
-use Rattle.mz_unification.specs.Spells.{SpelledTerm, trees_of}
-use Rattle.mz_unification.specs.Steps.{◌>>=◌, want}
-use Rattle.mz_unification.specs.Sorted.{Sorted, ItemsSorted}
-use Rattle.mz_unification.specs.Tests.{same_tree}
-use Rattle.mz_unification.specs.UnifyMachine.{Matching, UnifyState, unify}
-use Rattle.mz_unification.proofs.Offered.{from_bind, from_need, from_want, taken-is, rule_of-ok, trees_of-listed}
-use Rattle.mz_soundness.specs.MachineState.{RowsBefore, State, signatures_in}
-use Rattle.mz_soundness.specs.Premises.{pop_expr, pop_sides}
-use Rattle.mz_soundness.specs.ProofMachine.{proof_row, unfolding_of, matched_by, stream_of}
-use Rattle.mz_soundness.proofs.Offered.{stream-row}
-use Rattle.mz_tracing.specs.Parts.{owed, for_unfolded}
-use Rattle.mz_tracing.specs.Traces.{stacked, traced, below_sides, variables_in}
-use Rattle.mz_tracing.proofs.Offered.{to_want, to_bind}
+use Rattle.mz_type_rules.specs.Sides.{term_at}
+use Rattle.mz_unify_theory.specs.Profile.{strict, tree_parts, obligation, Item as MachineItem}
+use Rattle.mz_unify_theory.specs.Spells.{SpelledTerm, trees_of}
+use Rattle.mz_unify_theory.specs.Steps.{◌>>=◌, want}
+use Rattle.mz_unify_theory.specs.Sorted.{Sorted, ItemsSorted}
+use Rattle.mz_unify_theory.specs.Tests.{same_tree}
+use Rattle.mz_unify_theory.specs.UnifyMachine.{Matching, UnifyState, unify}
+use Rattle.mz_unify_theory.proofs.Offered.{from_bind, from_need, from_want, taken-is, rule_of-ok, trees_of-listed}
+use Rattle.mz_machine_theory.specs.MachineState.{RowsBefore, State, signatures_in}
+use Rattle.mz_machine_theory.specs.Premises.{pop_expr, pop_sides}
+use Rattle.mz_machine_theory.specs.ProofMachine.{proof_row, unfolding_of, matched_by, stream_of}
+use Rattle.mz_machine_theory.proofs.Offered.{stream-row}
+use Rattle.mz_trace_theory.specs.Parts.{owed, for_unfolded}
+use Rattle.mz_trace_theory.specs.Traces.{stacked, traced, below_sides, variables_in}
+use Rattle.mz_trace_theory.proofs.Offered.{to_want, to_bind}
 use Rattle.mz_trace.specs.Nodes.{Value, an_expression, expression_of, expression_at, expressions_at, IsExpression, body_under, IsBody, IsApplication, Applies}
 use Rattle.mz_trace.specs.Entries.{items_at, parts_at, IsStack, IsWaiting, HasSides, TookSides}
 use Rattle.mz_trace.specs.Commands.{Stage, with_stack, values_in, context_of, state_of, trace_of, IsMade, Known, IsRead, Goes, Leads, in_body, MayMeet, Meets}

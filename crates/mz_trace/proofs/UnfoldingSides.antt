@@ -9,17 +9,16 @@ use Rattle.mz_cmd.specs.declared.code.ProofCode.TheVariants as code
 use Rattle.mz_logic.specs.Tree.{Tree, Trees, var, app, none, listed}
 use Rattle.mz_logic.specs.Conversions.{refl_conv}
 use Rattle.mz_logic.specs.declared.binder.Binder.{Binder}
-use Rattle.mz_unification.specs.Profile.{strict, tree_parts}
-use Rattle.mz_unification.specs.Profile.{Item as MachineItem}
-use Rattle.mz_unification.specs.Spells.{SpelledTerm, trees_of}
-use Rattle.mz_unification.specs.Steps.{◌>>=◌, ◌>>◌, need}
-use Rattle.mz_unification.specs.Tests.{same_tree}
-use Rattle.mz_unification.proofs.Offered.{from_want, taken-is, some_is, listed-trees_of, same_tree-refl}
-use Rattle.mz_soundness.specs.MachineState.{RowsBefore, State}
-use Rattle.mz_soundness.specs.ProofMachine.{proof_row, same_term, sides}
-use Rattle.mz_tracing.specs.Parts.{owed, for_operand, paid, by_operands}
-use Rattle.mz_tracing.specs.Traces.{stacked, traced}
-use Rattle.mz_tracing.proofs.Offered.{to_want}
+use Rattle.mz_unify_theory.specs.Profile.{strict, tree_parts, Item as MachineItem}
+use Rattle.mz_unify_theory.specs.Spells.{SpelledTerm, trees_of}
+use Rattle.mz_unify_theory.specs.Steps.{◌>>=◌, ◌>>◌, need}
+use Rattle.mz_unify_theory.specs.Tests.{same_tree}
+use Rattle.mz_unify_theory.proofs.Offered.{from_want, taken-is, some_is, listed-trees_of, same_tree-refl}
+use Rattle.mz_machine_theory.specs.MachineState.{RowsBefore, State}
+use Rattle.mz_machine_theory.specs.ProofMachine.{proof_row, same_term, sides}
+use Rattle.mz_trace_theory.specs.Parts.{owed, for_operand, paid, by_operands}
+use Rattle.mz_trace_theory.specs.Traces.{stacked, traced}
+use Rattle.mz_trace_theory.proofs.Offered.{to_want}
 use Rattle.mz_trace.specs.Nodes.{Value, an_expression, expression_of, expression_at, expressions_at, values, conversions_at, AreConversions, HaveParts, HasArity, IsExpression, AreExpressions, Applies}
 use Rattle.mz_trace.specs.Entries.{owed_at, items_at, parts_at, ArePairs, IsWaiting}
 use Rattle.mz_trace.specs.Commands.{Stage, with_stack, values_in, state_of, trace_of, IsMade, IsAny, Goes, Leads}

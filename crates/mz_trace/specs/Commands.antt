@@ -5,18 +5,18 @@ use Rattle.mz_logic.specs.Tree.{Tree}
 use Rattle.mz_logic.specs.Declaration.{Declaration}
 use Rattle.mz_logic.specs.Derivations.{Uses as MayUse}
 use Rattle.mz_logic.specs.declared.binder.Binder.{Binder}
-use Rattle.mz_unification.specs.Profile.{strict}
-use Rattle.mz_unification.specs.Spells.{dummy_of}
-use Rattle.mz_soundness.specs.MachineState.{RowsBefore, State, Declares}
-use Rattle.mz_soundness.specs.Facts.{IsFront, Fact}
-use Rattle.mz_soundness.specs.ProofMachine.{proof_row}
-use Rattle.mz_earlier.specs.Before.{AreWithin, tables_before}
+use Rattle.mz_unify_theory.specs.Profile.{strict}
+use Rattle.mz_unify_theory.specs.Spells.{dummy_of}
+use Rattle.mz_machine_theory.specs.MachineState.{RowsBefore, State, Declares}
+use Rattle.mz_machine_theory.specs.Facts.{IsFront, Fact}
+use Rattle.mz_machine_theory.specs.ProofMachine.{proof_row}
+use Rattle.mz_machine_env.specs.Before.{AreWithin, tables_before}
 use Rattle.mz_layout.specs.declared.taken.Rows.{Rows}
 use Rattle.mz_logic.specs.Signature.{Signature}
 use Rattle.mz_layout.specs.Tables.{term_row, thm_row, term_count, thm_count}
-use Rattle.mz_unification.specs.UnifyMachine.{in_citation, in_definition, Matching, UnifyState, unify}
-use Rattle.mz_tracing.specs.Parts.{paid}
-use Rattle.mz_tracing.specs.Traces.{Trace, stacked, traced, variables_in}
+use Rattle.mz_unify_theory.specs.UnifyMachine.{in_citation, in_definition, Matching, UnifyState, unify}
+use Rattle.mz_trace_theory.specs.Parts.{paid}
+use Rattle.mz_trace_theory.specs.Traces.{Trace, stacked, traced, variables_in}
 use Rattle.mz_trace.specs.Nodes.{Value, values, expressions_at, expression_at, conversion_at, proof_at, HaveParts, IsExpression, AreExpressions, AreProofs, IsConversion, Applies, Uses}
 use Rattle.mz_trace.specs.Entries.{item_at, part_at, items_at, parts_at, AreItems, IsStack, IsWaiting, exprs_onto, proofs_onto, HasExprs, HasProofs}
 use Rattle.mz_trace.specs.declared.node.RunNode.{RunNode}

@@ -2,20 +2,20 @@
 use Rattle.std.specs.Prelude.{◌≡◌, ⊤, ℕ, List, [], ◌∷◌, map, Ok}
 use Rattle.mz_logic.specs.Declaration.{Declaration}
 use Rattle.mz_logic.specs.declared.binder.Binder.{Binder}
-use Rattle.mz_forms.specs.Proof.{Proof}
-use Rattle.mz_unification.specs.Spells.{dummy_of}
-use Rattle.mz_soundness.specs.MachineState.{RowsBefore, State, is_theorem, Heading}
+use Rattle.mz_mmu_forms.specs.Proof.{Proof}
+use Rattle.mz_unify_theory.specs.Spells.{dummy_of}
+use Rattle.mz_machine_theory.specs.MachineState.{RowsBefore, State, is_theorem, Heading}
 use Rattle.mz_logic.specs.Tree.{Tree}
-use Rattle.mz_unification.specs.Profile.{strict}
-use Rattle.mz_soundness.specs.ProofMachine.{proof_end}
-use Rattle.mz_soundness.specs.Bodies.{body_from, Runs}
+use Rattle.mz_unify_theory.specs.Profile.{strict}
+use Rattle.mz_machine_theory.specs.ProofMachine.{proof_end}
+use Rattle.mz_machine_theory.specs.Bodies.{body_from, Runs}
 use Rattle.mz_layout.specs.Heads.{body_bytes}
-use Rattle.mz_earlier.specs.OwnRow.{MayRun, heading_of}
-use Rattle.mz_earlier.specs.Before.{tables_before}
+use Rattle.mz_machine_env.specs.OwnRow.{MayRun, heading_of}
+use Rattle.mz_machine_env.specs.Before.{tables_before}
 use Rattle.mz_layout.specs.declared.taken.Rows.{Rows}
 use Rattle.mz_cmd.specs.declared.statement.StmtAt.TheVariants.{Head}
 use Rattle.mz_cmd.specs.StatementList.{statement_at}
-use Rattle.mz_tracing.specs.Traces.{Made, trace_from}
+use Rattle.mz_trace_theory.specs.Traces.{Made, trace_from}
 use Rattle.mz_trace.specs.Commands.{Stage, IsRead, IsMade, state_of, trace_of}
 use Rattle.mz_trace.specs.Claims.{HasClaims}
 use Rattle.mz_trace.specs.Nodes.{Value, values, proof_at, HaveParts, AreProofs, IsProof}

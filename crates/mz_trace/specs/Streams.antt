@@ -5,11 +5,11 @@ use Rattle.mz_cmd.specs.declared.code.UnifyCode.TheVariants.{Term, TermSave, Ref
 use Rattle.mz_logic.specs.Tree.{Tree}
 use Rattle.mz_logic.specs.Signature.{Signature}
 use Rattle.mz_logic.specs.declared.binder.Binder.{Binder}
-use Rattle.mz_unification.specs.Profile.{strict}
-use Rattle.mz_unification.specs.Streams.{of_definition, UnifyCommand, command_in}
-use Rattle.mz_unification.specs.UnifyMachine.{in_definition, UnifyState, unify_row}
-use Rattle.mz_soundness.specs.MachineState.{RowsBefore}
-use Rattle.mz_tracing.specs.Traces.{variables_in}
+use Rattle.mz_unify_theory.specs.Profile.{strict}
+use Rattle.mz_unify_theory.specs.Streams.{of_definition, UnifyCommand, command_in}
+use Rattle.mz_unify_theory.specs.UnifyMachine.{in_definition, UnifyState, unify_row}
+use Rattle.mz_machine_theory.specs.MachineState.{RowsBefore}
+use Rattle.mz_trace_theory.specs.Traces.{variables_in}
 use Rattle.mz_trace.specs.Nodes.{values, expressions_at, HaveParts, AreExpressions}
 use Rattle.mz_trace.specs.declared.node.RunNode.{RunNode}
 

@@ -1,10 +1,10 @@
 -- The rules of a conversion hold exactly where it goes from its left side to its right one.
 use Rattle.std.proofs.Common.{ℕ, suc, ◌≡◌, ◌<◌, true≢false, IsTrue, List, [], ◌∷◌, slice_get, length, Some, refl, sym, ap, ◌∙◌, subst, arith}
 use Rattle.std.proofs.lemmas.Option.{slice_get-get_or, get_or_from_slice_get}
-use Rattle.mz_checks.specs.Checks.{AllHold}
+use Rattle.mz_base_theory.specs.Checks.{AllHold}
 use Rattle.mz_sexpr.specs.Node.{Node, Nodes, parts}
 use Rattle.mz_sexpr.specs.Number.{first, rest}
-use Rattle.mz_checks.proofs.Offered.{all_hold-first, all_hold-rest, all_hold-both}
+use Rattle.mz_base_theory.proofs.Offered.{all_hold-first, all_hold-rest, all_hold-both}
 use Rattle.mz_logic.specs.Tree.{Tree, Trees, app, none, more, listed, instance, followed_by, variables}
 use Rattle.mz_logic.specs.Signature.{Signature}
 use Rattle.mz_logic.specs.Declaration.{Form, plain_form, abstract_form, defined, Term, Declaration, dummies_of, terms, signatures, is_defined, body_tree}
@@ -13,11 +13,11 @@ use Rattle.mz_logic.specs.Legality.{signature_at, sort_of}
 use Rattle.mz_logic.specs.Conversions.{Conversion, Conversions, refl_conv, sym_conv, cong_conv, unfold_conv, gap_conv, no_convs, more_convs, AreFresh, Between, AllBetween}
 use Rattle.mz_logic.specs.declared.binder.Binder.{Binder}
 use Rattle.mz_logic.proofs.Offered.{sort_is, signature_is, many_of_fits, signature_of_term, length-signatures}
-use Rattle.mz_typing.specs.Parts.{part, is_list}
-use Rattle.mz_typing.specs.Sides.{left, right, lefts, rights, term_at}
-use Rattle.mz_typing.specs.Rules.{expr_rules, exprs_rules, operand_rules, conv_rules, convs_rules, unfold_rules, side_rules, variable_rules, conv_count, AreNew, refl_node}
-use Rattle.mz_typing.specs.Names.{ConvThere, ConvsThere}
-use Rattle.mz_typing.proofs.Offered.{checks_by_fits, checks_by_sort, fits_by_checks, operands_by_fits, sort_by_checks}
+use Rattle.mz_type_rules.specs.Parts.{part, is_list}
+use Rattle.mz_type_rules.specs.Sides.{left, right, lefts, rights, term_at}
+use Rattle.mz_type_rules.specs.Rules.{expr_rules, exprs_rules, operand_rules, conv_rules, convs_rules, unfold_rules, side_rules, variable_rules, conv_count, AreNew, refl_node}
+use Rattle.mz_type_rules.specs.Names.{ConvThere, ConvsThere}
+use Rattle.mz_type_rules.proofs.Offered.{checks_by_fits, checks_by_sort, fits_by_checks, operands_by_fits, sort_by_checks}
 
 pub sorted_sides : (env : List Declaration) (ctx : List Binder) (c : Conversion) (l r : Tree) → Between env ctx c l r → IsSorted env ctx l × IsSorted env ctx r
 sorted_sides env ctx (refl_conv e) l r h = (h.0, h.1)

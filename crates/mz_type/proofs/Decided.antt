@@ -3,8 +3,7 @@ use Rattle.std.proofs.Common.{ℕ, zero, suc, ◌≡◌, ◌<◌, ◌⊎◌, inl
 use Rattle.std.specs.Prelude.{IsBitSet}
 use Rattle.std.proofs.lemmas.Bool.{cases_eq}
 use Rattle.std.proofs.lemmas.Option.{none-some}
-use Rattle.mz_general.proofs.Offered.{contains_tail, contains_cases, either-decided, not-decided, three-decided, Decided, true-decided, false-decided, contains-decided, below-decided}
-use Rattle.mz_checks.proofs.Offered.{implied-decided, both-decided}
+use Rattle.mz_base_theory.proofs.Offered.{contains_tail, contains_cases, either-decided, not-decided, three-decided, Decided, true-decided, false-decided, contains-decided, below-decided, implied-decided, both-decided}
 use Rattle.mz_logic.specs.Tree.{Tree, Trees, var, app, none, more, operand}
 use Rattle.mz_logic.specs.Signature.{Signature}
 use Rattle.mz_logic.specs.Modifiers.{IsPure, IsStrict, IsProvable, IsFree, MayBeResultSort, MayBeBoundSort, MayBeDummySort, MayBeClaimSort}
@@ -15,7 +14,7 @@ use Rattle.mz_logic.specs.Conversions.{IsBoundOf}
 use Rattle.mz_logic.specs.declared.binder.Binder.{Binder}
 use Rattle.mz_logic.specs.declared.binder.SortMods.{SortMods}
 use Rattle.mz_logic.proofs.Offered.{one_at, each_from_all, all_from_each, DepsInside, free_below, same-variable, same-term, same-operands, same-first, same-rest}
-use Rattle.mz_typing.specs.Rules.{AreNew}
+use Rattle.mz_type_rules.specs.Rules.{AreNew}
 
 -- ---- of facts that are decided
 

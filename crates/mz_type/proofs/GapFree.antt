@@ -4,8 +4,8 @@ use Rattle.mz_logic.specs.Conversions.{Conversion, Conversions, refl_conv, sym_c
 use Rattle.mz_logic.specs.Declaration.{Declaration}
 use Rattle.mz_logic.specs.Derivations.{Derivation, Derivations, no_derivs, more_derivs, AllCiteOnly, without_gaps, IsGapFree, derivation_at}
 use Rattle.mz_logic.specs.LegalLists.{allowed_with}
-use Rattle.mz_forms.specs.Gaps.{LeavesOnly, AllLeaveOnly}
-use Rattle.mz_forms.specs.Proof.{Proof, Proofs, by_hyp, by_name, by_citation, by_conv, by_let, by_gap, no_proofs, more_proofs}
+use Rattle.mz_mmu_forms.specs.Gaps.{LeavesOnly, AllLeaveOnly}
+use Rattle.mz_mmu_forms.specs.Proof.{Proof, Proofs, by_hyp, by_name, by_citation, by_conv, by_let, by_gap, no_proofs, more_proofs}
 use Rattle.mz_type.specs.Meaning.{then_deriv, derivation, derivations}
 
 abbrev AllFree : Derivations → Type 0

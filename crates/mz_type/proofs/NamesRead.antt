@@ -3,14 +3,14 @@ use Rattle.std.proofs.Common.{ℕ, suc, ◌≡◌, ◌<◌, inl, inr, List, [], 
 use Rattle.mz_sexpr.specs.Node.{Node, Nodes, atom, list, no_nodes, node}
 use Rattle.mz_logic.specs.Tree.{Tree, Trees}
 use Rattle.mz_logic.specs.Conversions.{Conversion, Conversions}
-use Rattle.mz_names.proofs.Offered.{number-within}
-use Rattle.mz_forms.specs.Name.{Scope, HasNumber}
-use Rattle.mz_forms.specs.Expressions.{IsExpr, AreExprs, IsExprList}
-use Rattle.mz_forms.specs.Proof.{Proof, Proofs}
-use Rattle.mz_forms.specs.declared.keyword.Keyword.{Keyword}
-use Rattle.mz_forms.specs.declared.keyword.Keyword.TheVariants.{Conv as conv_word, Let as let_word, Refl as refl_word, Sym as sym_word, Unfold as unfold_word, Sorry as sorry_word, Other as no_word}
-use Rattle.mz_forms.specs.Proofs.{conv_keyword, proof_keyword, IsConv, IsConvBy, AreConvs, IsFact, IsProof, IsProofBy, AreProofs}
-use Rattle.mz_typing.specs.Names.{ExprThere, ExprsThere, ConvThere, ConvsThere, ProofThere, ProofsThere}
+use Rattle.mz_base.proofs.Offered.{number-within}
+use Rattle.mz_mmu_forms.specs.Name.{Scope, HasNumber}
+use Rattle.mz_mmu_forms.specs.Expressions.{IsExpr, AreExprs, IsExprList}
+use Rattle.mz_mmu_forms.specs.Proof.{Proof, Proofs}
+use Rattle.mz_mmu_forms.specs.declared.keyword.Keyword.{Keyword}
+use Rattle.mz_mmu_forms.specs.declared.keyword.Keyword.TheVariants.{Conv as conv_word, Let as let_word, Refl as refl_word, Sym as sym_word, Unfold as unfold_word, Sorry as sorry_word, Other as no_word}
+use Rattle.mz_mmu_forms.specs.Proofs.{conv_keyword, proof_keyword, IsConv, IsConvBy, AreConvs, IsFact, IsProof, IsProofBy, AreProofs}
+use Rattle.mz_type_rules.specs.Names.{ExprThere, ExprsThere, ConvThere, ConvsThere, ProofThere, ProofsThere}
 
 -- ---- numbers are in range
 

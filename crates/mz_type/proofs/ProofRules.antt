@@ -1,10 +1,10 @@
 -- The rules of a proof hold exactly where it derives what it proves, and each of its lets derives something.
 use Rattle.std.proofs.Common.{ℕ, zero, suc, ◌≡◌, ◌<◌, List, slice_get, length, Some, refl, sym, ap, ◌∙◌, subst, arith, not-suc-le-zero, le_of_suc-le-suc}
 use Rattle.std.proofs.lemmas.Option.{slice_get-get_or, get_or_from_slice_get}
-use Rattle.mz_checks.specs.Checks.{AllHold}
+use Rattle.mz_base_theory.specs.Checks.{AllHold}
 use Rattle.mz_sexpr.specs.Node.{Node, Nodes, parts}
 use Rattle.mz_sexpr.specs.Number.{first, rest}
-use Rattle.mz_checks.proofs.Offered.{all_hold-first, all_hold-rest, all_hold-both}
+use Rattle.mz_base_theory.proofs.Offered.{all_hold-first, all_hold-rest, all_hold-both}
 use Rattle.mz_logic.specs.Tree.{Tree, Trees, none, more, listed, operand, instance, instances}
 use Rattle.mz_logic.specs.Declaration.{Declaration, assertions, signatures}
 use Rattle.mz_logic.specs.Conversions.{Between}
@@ -12,12 +12,12 @@ use Rattle.mz_logic.specs.Sorts.{HasProvable}
 use Rattle.mz_logic.specs.Derivations.{Derivation, Derivations, hypothesis, cite, convert, gap, no_derivs, more_derivs, Derives, AllDerive, derivation_at}
 use Rattle.mz_logic.specs.declared.binder.Binder.{Binder}
 use Rattle.mz_logic.proofs.Offered.{one_at, many_of_fits}
-use Rattle.mz_forms.specs.Proof.{Proof, Proofs, by_hyp, by_name, by_citation, by_conv, by_let, by_gap, no_proofs, more_proofs}
-use Rattle.mz_typing.specs.Parts.{part, after}
-use Rattle.mz_typing.specs.Sides.{right, assertion_at, with_fact, proved, all_proved}
-use Rattle.mz_typing.specs.Rules.{expr_rules, exprs_rules, operand_rules, conv_rules, proof_rules, proofs_rules, citation_rules, subproof_rules}
-use Rattle.mz_typing.specs.Names.{ProofThere, ProofsThere}
-use Rattle.mz_typing.proofs.Offered.{checks_by_fits, checks_by_sort, claim_from, claim_to, fits_by_checks, operands_by_fits, instances_many}
+use Rattle.mz_mmu_forms.specs.Proof.{Proof, Proofs, by_hyp, by_name, by_citation, by_conv, by_let, by_gap, no_proofs, more_proofs}
+use Rattle.mz_type_rules.specs.Parts.{part, after}
+use Rattle.mz_type_rules.specs.Sides.{right, assertion_at, with_fact, proved, all_proved}
+use Rattle.mz_type_rules.specs.Rules.{expr_rules, exprs_rules, operand_rules, conv_rules, proof_rules, proofs_rules, citation_rules, subproof_rules}
+use Rattle.mz_type_rules.specs.Names.{ProofThere, ProofsThere}
+use Rattle.mz_type_rules.proofs.Offered.{checks_by_fits, checks_by_sort, claim_from, claim_to, fits_by_checks, operands_by_fits, instances_many}
 use Rattle.mz_type.specs.Meaning.{then_deriv, derivation, derivations, LetsDerive, AllLetsDerive}
 use Rattle.mz_type.proofs.ConvRules.{between_by_checks, checks_by_between, sides_are, sorted_sides}
 

@@ -4,9 +4,8 @@ use Rattle.std.proofs.Common.{ℕ, suc, ◌≡◌, ◌<◌, inl, inr, Bool, true
 use Rattle.std.proofs.lemmas.Bool.{cases_eq}
 use Rattle.std.proofs.lemmas.Option.{slice_get_within}
 use Rattle.std.proofs.lemmas.List.Elements.{All-contains}
-use Rattle.mz_general.proofs.Offered.{true-decided}
-use Rattle.mz_checks.specs.Checks.{retold, AreDecided}
-use Rattle.mz_checks.proofs.Offered.{are_decided-both, implied-decided, both-decided, retold-decided}
+use Rattle.mz_base_theory.proofs.Offered.{true-decided, are_decided-both, implied-decided, both-decided, retold-decided}
+use Rattle.mz_base_theory.specs.Checks.{retold, AreDecided}
 use Rattle.mz_sexpr.specs.Node.{Node, Nodes, parts}
 use Rattle.mz_sexpr.specs.Number.{first, rest}
 use Rattle.mz_logic.specs.Tree.{Tree, Trees, var, app, none, more, listed, instance, instances, followed_by, variables}
@@ -17,14 +16,14 @@ use Rattle.mz_logic.specs.Legality.{signature_at, sort_of, AreParams, IsDummy}
 use Rattle.mz_logic.specs.Conversions.{Conversion, Conversions, refl_conv, sym_conv, cong_conv, unfold_conv, gap_conv, no_convs, more_convs}
 use Rattle.mz_logic.specs.declared.binder.Binder.{Binder}
 use Rattle.mz_logic.proofs.Offered.{split_at, each_from_all, range_of_sort, DepsInside}
-use Rattle.mz_statements.specs.Order.{in_statement}
-use Rattle.mz_forms.specs.Proof.{Proof, Proofs, by_hyp, by_name, by_citation, by_conv, by_let, by_gap, no_proofs, more_proofs}
-use Rattle.mz_statements.specs.Statements.{Statement}
-use Rattle.mz_typing.specs.Parts.{is_list, after, part, declared_parts}
-use Rattle.mz_typing.specs.Sides.{left, right, assertion_at, term_at, with_fact, proved, all_proved}
-use Rattle.mz_typing.specs.Rules.{operand_rules, expr_rules, exprs_rules, conv_count, side_rules, variable_rules, refl_node, unfold_rules, conv_rules, convs_rules, subproof_rules, citation_rules, proof_rules, proofs_rules, param_rules, dummy_rules, claim_rules, hyp_node, claims_rules, body_rules, assertion_rules, theorem_rules, decl_rules, statement_rules}
-use Rattle.mz_typing.specs.Names.{ExprsThere, DeclThere, StatementsThere}
-use Rattle.mz_typing.proofs.Offered.{are_params, sort_by_checks}
+use Rattle.mz_mmu_statements.specs.Order.{in_statement}
+use Rattle.mz_mmu_forms.specs.Proof.{Proof, Proofs, by_hyp, by_name, by_citation, by_conv, by_let, by_gap, no_proofs, more_proofs}
+use Rattle.mz_mmu_statements.specs.Statements.{Statement}
+use Rattle.mz_type_rules.specs.Parts.{is_list, after, part, declared_parts}
+use Rattle.mz_type_rules.specs.Sides.{left, right, assertion_at, term_at, with_fact, proved, all_proved}
+use Rattle.mz_type_rules.specs.Rules.{operand_rules, expr_rules, exprs_rules, conv_count, side_rules, variable_rules, refl_node, unfold_rules, conv_rules, convs_rules, subproof_rules, citation_rules, proof_rules, proofs_rules, param_rules, dummy_rules, claim_rules, hyp_node, claims_rules, body_rules, assertion_rules, theorem_rules, decl_rules, statement_rules}
+use Rattle.mz_type_rules.specs.Names.{ExprsThere, DeclThere, StatementsThere}
+use Rattle.mz_type_rules.proofs.Offered.{are_params, sort_by_checks}
 use Rattle.mz_type.specs.TextRules.{rules_from}
 use Rattle.mz_type.proofs.Decided.{tree-decided, all-decided, claim_sort-decided, result_sort-decided, dummy_sort-decided, bound_at-decided, bound_of-decided, param-decided, bound_var-decided, new-decided, free_vars-decided, apart-decided}
 

@@ -10,8 +10,8 @@ use Rattle.mz_logic.specs.View.{tree, trees}
 use Rattle.mz_logic.specs.declared.binder.SortMods.{SortMods}
 use Rattle.mz_logic.specs.declared.expr.Expr.{Expr}
 use Rattle.mz_logic.proofs.Offered.{terms-append, assertions-append}
-use Rattle.mz_typing.specs.Sides.{assertion_at, term_at}
-use Rattle.mz_typing.proofs.Offered.{trees_cut}
+use Rattle.mz_type_rules.specs.Sides.{assertion_at, term_at}
+use Rattle.mz_type_rules.proofs.Offered.{trees_cut}
 use Rattle.mz_type.specs.Shapes.{one_more, counted, all_counted, beneath, put_on, IsShapeOf, AreShapes, bodies_of, conclusions_of}
 use Rattle.mz_type.specs.declared.shapes.Shape.{Shape}
 

@@ -1,15 +1,15 @@
 -- A text's statements are checked one after another; what each declares and what it says beside that are kept apart.
 use Rattle.std.proofs.Common.{ℕ, zero, suc, ◌≡◌, ◌<◌, ◌+◌, ◌^◌, List, [], ◌∷◌, ◌++◌, length, get_or, refl, sym, ap, ◌∙◌, subst, arith, Bool, Some, length-append, append-nil}
 use Rattle.std.specs.Prelude.{option_map, slice_get}
-use Rattle.mz_checks.specs.Checks.{AllHold}
-use Rattle.mz_checks.proofs.Offered.{Decides, decides-whole}
+use Rattle.mz_base_theory.specs.Checks.{AllHold}
+use Rattle.mz_base_theory.proofs.Offered.{Decides, decides-whole}
 use Rattle.mz_sexpr.specs.Node.{Nodes}
 use Rattle.mz_sexpr.specs.Number.{first, rest, node_count}
 use Rattle.mz_logic.specs.Declaration.{Declaration}
-use Rattle.mz_statements.specs.Statements.{Statement, AreStatements}
-use Rattle.mz_forms.specs.Name.{no_names}
-use Rattle.mz_typing.specs.Names.{StatementsThere}
-use Rattle.mz_typing.specs.Rules.{statement_rules}
+use Rattle.mz_mmu_statements.specs.Statements.{Statement, AreStatements}
+use Rattle.mz_mmu_forms.specs.Name.{no_names}
+use Rattle.mz_type_rules.specs.Names.{StatementsThere}
+use Rattle.mz_type_rules.specs.Rules.{statement_rules}
 use Rattle.mz_type.specs.Meaning.{LegalAsStated}
 use Rattle.mz_type.specs.TextRules.{rules_from, text_rules}
 use Rattle.mz_type.specs.StatedView.{Stated, with_decl, statements_of, IsTyped}

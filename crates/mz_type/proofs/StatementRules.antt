@@ -1,8 +1,8 @@
 -- The rules of a statement hold exactly where it is legal by its proof.
 use Rattle.std.proofs.Common.{ℕ, zero, suc, ◌≡◌, Bool, true, true≢false, List, [], ◌∷◌, ◌++◌, slice_get, length, All, Contains, Option, Some, None, refl, sym, ◌∙◌, subst}
 use Rattle.std.proofs.lemmas.Option.{none-some}
-use Rattle.mz_checks.specs.Checks.{AllHold}
-use Rattle.mz_checks.proofs.Offered.{all_hold-first, all_hold-rest, all_hold-both}
+use Rattle.mz_base_theory.specs.Checks.{AllHold}
+use Rattle.mz_base_theory.proofs.Offered.{all_hold-first, all_hold-rest, all_hold-both}
 use Rattle.mz_sexpr.specs.Node.{Node, Nodes, parts}
 use Rattle.mz_sexpr.specs.Number.{first, rest}
 use Rattle.mz_logic.specs.Tree.{Trees, none, more}
@@ -16,13 +16,13 @@ use Rattle.mz_logic.specs.LegalLists.{AreDummies}
 use Rattle.mz_logic.specs.Derivations.{Derives, no_derivs}
 use Rattle.mz_logic.specs.declared.binder.Binder.{Binder}
 use Rattle.mz_logic.proofs.Offered.{one_at, sort_is, each_from_all, all_from_each, legal_by_rules, terms_are_sorted, assertions_are_sorted}
-use Rattle.mz_forms.specs.Gaps.{SomeLeavesOnly}
-use Rattle.mz_statements.specs.Statements.{HasGapsOnly, Statement}
-use Rattle.mz_forms.specs.Proof.{Proof}
-use Rattle.mz_typing.specs.Parts.{part, declared_parts}
-use Rattle.mz_typing.specs.Rules.{expr_rules, param_rules, dummy_rules, claim_rules, claims_rules, hyp_node, body_rules, assertion_rules, theorem_rules, decl_rules, proof_rules, statement_rules}
-use Rattle.mz_typing.specs.Names.{ExprsThere, DummiesThere, StatedProofThere, DeclThere, StatementThere}
-use Rattle.mz_typing.proofs.Offered.{are_params, checks_by_sort, claim_from, claim_to, param_rules_hold, sort_by_checks}
+use Rattle.mz_mmu_forms.specs.Gaps.{SomeLeavesOnly}
+use Rattle.mz_mmu_statements.specs.Statements.{HasGapsOnly, Statement}
+use Rattle.mz_mmu_forms.specs.Proof.{Proof}
+use Rattle.mz_type_rules.specs.Parts.{part, declared_parts}
+use Rattle.mz_type_rules.specs.Rules.{expr_rules, param_rules, dummy_rules, claim_rules, claims_rules, hyp_node, body_rules, assertion_rules, theorem_rules, decl_rules, proof_rules, statement_rules}
+use Rattle.mz_type_rules.specs.Names.{ExprsThere, DummiesThere, StatedProofThere, DeclThere, StatementThere}
+use Rattle.mz_type_rules.proofs.Offered.{are_params, checks_by_sort, claim_from, claim_to, param_rules_hold, sort_by_checks}
 use Rattle.mz_type.specs.Meaning.{derivation, IsProofOf, IsProvedAsStated, IsLegalAsStated}
 use Rattle.mz_type.proofs.GapFree.{allowed}
 use Rattle.mz_type.proofs.ProofRules.{derives_by_checks, checks_by_derives}

@@ -9,13 +9,13 @@ use Rattle.mz_logic.specs.LegalLists.{MayBeLocal}
 use Rattle.mz_logic.specs.Laws.{SortsThere}
 use Rattle.mz_logic.specs.declared.binder.Binder.{Binder}
 use Rattle.mz_logic.proofs.Offered.{sorts-append, assertions-append, one_at, all_from_each, signatures-append}
-use Rattle.mz_forms.specs.Name.{Names, scope_of, no_names, names_with}
-use Rattle.mz_forms.specs.Expressions.{IsParam as IsParamNode, IsDummy as IsDummyNode, AreBinders, AreParams, AreDummies}
-use Rattle.mz_forms.specs.Proof.{Proof}
-use Rattle.mz_statements.specs.Statements.{Statement, kind_of, is_local_word, IsHyp, AreHyps, AreNamedHyps, IsDeclared, IsLocal, IsMarked, IsStatement, AreStatements}
-use Rattle.mz_statements.specs.declared.kind.Kind.{Kind}
-use Rattle.mz_statements.specs.declared.kind.Kind.TheVariants.{Sort as sort_kind, Term as term_kind, Axiom as axiom_kind, Def as def_kind, Theorem as theorem_kind, Other as no_kind}
-use Rattle.mz_typing.specs.Names.{ExprThere, ExprsThere, ProofThere, DummiesThere, StatedProofThere, DeclThere, StatementThere, StatementsThere}
+use Rattle.mz_mmu_forms.specs.Name.{Names, scope_of, no_names, names_with}
+use Rattle.mz_mmu_forms.specs.Expressions.{IsParam as IsParamNode, IsDummy as IsDummyNode, AreBinders, AreParams, AreDummies}
+use Rattle.mz_mmu_forms.specs.Proof.{Proof}
+use Rattle.mz_mmu_statements.specs.Statements.{Statement, kind_of, is_local_word, IsHyp, AreHyps, AreNamedHyps, IsDeclared, IsLocal, IsMarked, IsStatement, AreStatements}
+use Rattle.mz_mmu_statements.specs.declared.kind.Kind.{Kind}
+use Rattle.mz_mmu_statements.specs.declared.kind.Kind.TheVariants.{Sort as sort_kind, Term as term_kind, Axiom as axiom_kind, Def as def_kind, Theorem as theorem_kind, Other as no_kind}
+use Rattle.mz_type_rules.specs.Names.{ExprThere, ExprsThere, ProofThere, DummiesThere, StatedProofThere, DeclThere, StatementThere, StatementsThere}
 use Rattle.mz_type.proofs.NamesRead.{number_there, one_more, expr_there, expr_list_there, proof_there}
 
 -- the names are those of the environment

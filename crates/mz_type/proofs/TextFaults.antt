@@ -1,11 +1,11 @@
 -- Each text is well typed or has exactly one first fault.
 use Rattle.std.proofs.Common.{ℕ, ◌≡◌, ◌⊎◌, inl, inr, Bool, List, subst}
-use Rattle.mz_checks.specs.Checks.{FailsFirst}
-use Rattle.mz_checks.proofs.Offered.{fails_first-unique}
+use Rattle.mz_base_theory.specs.Checks.{FailsFirst}
+use Rattle.mz_base_theory.proofs.Offered.{fails_first-unique}
 use Rattle.mz_sexpr.specs.Node.{Nodes}
 use Rattle.mz_sexpr.specs.declared.rule.TextRefusal.{TextRefusal}
-use Rattle.mz_statements.specs.Statements.{Statement, Reads}
-use Rattle.mz_statements.specs.Order.{Refuses}
+use Rattle.mz_mmu_statements.specs.Statements.{Statement, Reads}
+use Rattle.mz_mmu_statements.specs.Order.{Refuses}
 use Rattle.mz_mmu.proofs.Offered.{one_reading, some_answer}
 use Rattle.mz_type.specs.Laws.{IsTypedOrFaulty}
 use Rattle.mz_type.specs.Meaning.{LegalAsStated}

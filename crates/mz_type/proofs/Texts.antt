@@ -1,21 +1,21 @@
 -- All type rules of a text hold exactly where its statements are legal by the stated proofs.
 use Rattle.std.proofs.Common.{ℕ, suc, ◌≡◌, inl, inr, Bool, true, List, [], ◌∷◌, ◌++◌, All, Option}
 use Rattle.std.proofs.lemmas.List.Elements.{All-head, All-tail}
-use Rattle.mz_checks.specs.Checks.{retold, AllHold}
-use Rattle.mz_checks.proofs.Offered.{fails_first-unique, all_hold-excludes, all_hold-or_fails, all_hold-first, all_hold-rest, all_hold-both, retold-held, retold-holds}
+use Rattle.mz_base_theory.specs.Checks.{retold, AllHold}
+use Rattle.mz_base_theory.proofs.Offered.{fails_first-unique, all_hold-excludes, all_hold-or_fails, all_hold-first, all_hold-rest, all_hold-both, retold-held, retold-holds}
 use Rattle.mz_sexpr.specs.Node.{Nodes}
 use Rattle.mz_sexpr.specs.Number.{first, rest}
 use Rattle.mz_logic.specs.Declaration.{Declaration, sort_decl, term_decl, assertion_decl}
 use Rattle.mz_logic.specs.Derivations.{no_derivs}
 use Rattle.mz_logic.specs.LegalLists.{LegalAfter, IsProvedIfTheorem, allowed_with}
 use Rattle.mz_logic.specs.declared.binder.Binder.{Binder}
-use Rattle.mz_statements.specs.Statements.{HasGapsOnly, Statement}
-use Rattle.mz_statements.specs.Order.{in_statement}
-use Rattle.mz_forms.specs.Proof.{Proof}
-use Rattle.mz_forms.specs.Name.{no_names}
+use Rattle.mz_mmu_statements.specs.Statements.{HasGapsOnly, Statement}
+use Rattle.mz_mmu_statements.specs.Order.{in_statement}
+use Rattle.mz_mmu_forms.specs.Proof.{Proof}
+use Rattle.mz_mmu_forms.specs.Name.{no_names}
 use Rattle.mz_mmu.proofs.Offered.{only_drafts}
-use Rattle.mz_typing.specs.Rules.{statement_rules}
-use Rattle.mz_typing.specs.Names.{StatementsThere}
+use Rattle.mz_type_rules.specs.Rules.{statement_rules}
+use Rattle.mz_type_rules.specs.Names.{StatementsThere}
 use Rattle.mz_type.specs.TextRules.{rules_from, text_rules}
 use Rattle.mz_type.specs.Meaning.{derivation, IsProvedAsStated, LegalAsStatedAfter, marked}
 use Rattle.mz_type.specs.Laws.{RulesAreTheMeaning, StatedIsLegal, EachTypedOrRefused}

@@ -1,21 +1,21 @@
 -- Statements of a text, one after another.
 use Rattle.std.proofs.Common.{ℕ, suc, ◌≡◌, ◌+◌, Bool, true, false, List, [], ◌∷◌, ◌++◌, sym, ap, ◌∙◌, subst}
 use Rattle.std.specs.Prelude.{⊤}
-use Rattle.mz_checks.specs.Checks.{Checks, ◌>>◌, retold, AllHold}
-use Rattle.mz_checks.proofs.Offered.{Decides, retold-fails, retold-holds}
+use Rattle.mz_base_theory.specs.Checks.{Checks, ◌>>◌, retold, AllHold}
+use Rattle.mz_base_theory.proofs.Offered.{Decides, retold-fails, retold-holds}
 use Rattle.mz_sexpr.specs.Node.{Node, Nodes, atom, list, no_nodes, node, parts}
 use Rattle.mz_sexpr.specs.Number.{first, rest}
 use Rattle.mz_sexpr.specs.declared.rule.TextRefusal.{TextRefusal}
 use Rattle.mz_logic.specs.Declaration.{Declaration}
-use Rattle.mz_forms.specs.Name.{Names, names_with}
-use Rattle.mz_statements.specs.Order.{in_statement}
-use Rattle.mz_statements.specs.Statements.{Statement, is_local_word, IsMarked, IsStatement, AreStatements}
-use Rattle.mz_forms.specs.Stops.{Stops}
-use Rattle.mz_forms.specs.declared.fault.Stop.{Stop}
-use Rattle.mz_forms.specs.declared.fault.Stop.TheVariants as stop
-use Rattle.mz_typing.specs.Names.{StatementThere, StatementsThere}
-use Rattle.mz_typing.specs.Rules.{statement_rules}
-use Rattle.mz_typing.proofs.Offered.{left_fails, left_step}
+use Rattle.mz_mmu_forms.specs.Name.{Names, names_with}
+use Rattle.mz_mmu_statements.specs.Order.{in_statement}
+use Rattle.mz_mmu_statements.specs.Statements.{Statement, is_local_word, IsMarked, IsStatement, AreStatements}
+use Rattle.mz_mmu_forms.specs.Stops.{Stops}
+use Rattle.mz_mmu_forms.specs.declared.fault.Stop.{Stop}
+use Rattle.mz_mmu_forms.specs.declared.fault.Stop.TheVariants as stop
+use Rattle.mz_type_rules.specs.Names.{StatementThere, StatementsThere}
+use Rattle.mz_type_rules.specs.Rules.{statement_rules}
+use Rattle.mz_type_rules.proofs.Offered.{left_fails, left_step}
 use Rattle.mz_type.specs.TextRules.{rules_from}
 use Rattle.mz_mmu.specs.TextStops.{TextStops, IsStopped}
 use Rattle.mz_type.specs.Weight.{statement_weight, weight_after}

@@ -6,9 +6,9 @@ use Rattle.mz_logic.specs.Tree.{Tree, Trees, var, app, none, more, operand, inst
 use Rattle.mz_logic.specs.Declaration.{Form, plain_form, abstract_form, defined, Declaration, sort_decl, term_decl, assertion_decl, body_of, body_tree}
 use Rattle.mz_logic.specs.Conversions.{Conversion, Conversions, refl_conv, sym_conv, cong_conv, unfold_conv, gap_conv, no_convs, more_convs}
 use Rattle.mz_logic.proofs.Offered.{trees_size-followed}
-use Rattle.mz_forms.specs.Proof.{Proof, Proofs, by_hyp, by_name, by_citation, by_conv, by_let, by_gap, no_proofs, more_proofs}
-use Rattle.mz_statements.specs.Statements.{Statement}
-use Rattle.mz_typing.specs.Sides.{assertion_at, term_at}
+use Rattle.mz_mmu_forms.specs.Proof.{Proof, Proofs, by_hyp, by_name, by_citation, by_conv, by_let, by_gap, no_proofs, more_proofs}
+use Rattle.mz_mmu_statements.specs.Statements.{Statement}
+use Rattle.mz_type_rules.specs.Sides.{assertion_at, term_at}
 use Rattle.mz_type.specs.Weight.{conv_weight, convs_weight, proof_weight, proofs_weight, declaration_weight, statement_weight, weight_after, stated_weight}
 use Rattle.mz_type.specs.Sizes.{conv_size, convs_size, proof_size, proofs_size, statement_size, text_size, stated_size}
 

@@ -1,11 +1,11 @@
 -- What follows from the definitions: the statements of the laws that `laws.rt` proves.
 use Rattle.std.specs.Prelude.{ℕ, ◌≡◌, ◌⊎◌, ◌↔◌, Bool, true, false, List, All}
-use Rattle.mz_checks.specs.Checks.{AllHold, FailsFirst}
+use Rattle.mz_base_theory.specs.Checks.{AllHold, FailsFirst}
 use Rattle.mz_sexpr.specs.declared.rule.TextRefusal.{TextRefusal}
 use Rattle.mz_sexpr.specs.Node.{Nodes}
 use Rattle.mz_logic.specs.LegalLists.{LegalBy, allowed_with}
-use Rattle.mz_statements.specs.Statements.{HasGapsOnly, Statement, AreStatements}
-use Rattle.mz_forms.specs.Name.{no_names}
+use Rattle.mz_mmu_statements.specs.Statements.{HasGapsOnly, Statement, AreStatements}
+use Rattle.mz_mmu_forms.specs.Name.{no_names}
 use Rattle.mz_type.specs.TextRules.{text_rules}
 use Rattle.mz_type.specs.TextOf.{TextOf, TextFault}
 use Rattle.mz_type.specs.Weight.{Passed, Passes, IsWithinLimits}

@@ -7,8 +7,8 @@ use Rattle.mz_logic.specs.Legality.{IsLegalDecl}
 use Rattle.mz_logic.specs.Derivations.{Derivation, Derivations, hypothesis, cite, convert, gap, no_derivs, more_derivs, Derives, derivation_at}
 use Rattle.mz_logic.specs.LegalLists.{Statement as Marked, MayBeLocal, AreDummies, allowed_with}
 use Rattle.mz_logic.specs.declared.binder.Binder.{Binder}
-use Rattle.mz_forms.specs.Proof.{Proof, Proofs, by_hyp, by_name, by_citation, by_conv, by_let, by_gap, no_proofs, more_proofs}
-use Rattle.mz_statements.specs.Statements.{Statement}
+use Rattle.mz_mmu_forms.specs.Proof.{Proof, Proofs, by_hyp, by_name, by_citation, by_conv, by_let, by_gap, no_proofs, more_proofs}
+use Rattle.mz_mmu_statements.specs.Statements.{Statement}
 
 abbrev pub then_deriv : Derivations → Derivation → Derivations
 then_deriv no_derivs d = more_derivs d no_derivs

@@ -3,9 +3,9 @@ use Rattle.std.specs.Prelude.{ℕ, ◌≡◌, ◌<◌, ◌^◌, Bool, List, [], 
 use Rattle.std.specs.Coded.{Coded, code_by, coded×, coded_bool, coded_list}
 use Rattle.mz_logic.specs.Declaration.{Declaration}
 use Rattle.mz_sexpr.specs.Node.{Nodes}
-use Rattle.mz_statements.specs.Statements.{Statement, AreStatements}
-use Rattle.mz_statements.specs.StatementView.{option_proof}
-use Rattle.mz_forms.specs.Name.{no_names}
+use Rattle.mz_mmu_statements.specs.Statements.{Statement, AreStatements}
+use Rattle.mz_mmu_statements.specs.StatementView.{option_proof}
+use Rattle.mz_mmu_forms.specs.Name.{no_names}
 use Rattle.mz_mmu.specs.TextView.{statement_code}
 use Rattle.mz_type.specs.Meaning.{LegalAsStated}
 use Rattle.mz_type.specs.Weight.{weight_of}

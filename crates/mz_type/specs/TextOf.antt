@@ -1,10 +1,10 @@
 -- Well-typed texts, and the first fault of the others (this project's own answers).
 use Rattle.std.specs.Prelude.{ℕ, Bool, List, ◌⊎◌}
-use Rattle.mz_checks.specs.Checks.{FailsFirst}
+use Rattle.mz_base_theory.specs.Checks.{FailsFirst}
 use Rattle.mz_sexpr.specs.declared.rule.TextRefusal.{TextRefusal}
 use Rattle.mz_sexpr.specs.Node.{Nodes}
-use Rattle.mz_statements.specs.Statements.{Statement, Reads}
-use Rattle.mz_statements.specs.Order.{Refuses as IsMisread}
+use Rattle.mz_mmu_statements.specs.Statements.{Statement, Reads}
+use Rattle.mz_mmu_statements.specs.Order.{Refuses as IsMisread}
 use Rattle.mz_type.specs.TextRules.{text_rules}
 use Rattle.mz_type.specs.Meaning.{LegalAsStated}
 

@@ -1,13 +1,13 @@
 -- The type rules of a text: those of its statements, one after another (this project's own order).
 use Rattle.std.specs.Prelude.{ℕ, suc, List, [], ◌∷◌, ◌++◌}
-use Rattle.mz_checks.specs.Checks.{Checks, nothing, ◌>>◌, retold}
+use Rattle.mz_base_theory.specs.Checks.{Checks, nothing, ◌>>◌, retold}
 use Rattle.mz_sexpr.specs.declared.rule.TextRefusal.{TextRefusal}
 use Rattle.mz_sexpr.specs.Node.{Nodes}
 use Rattle.mz_sexpr.specs.Number.{first, rest}
 use Rattle.mz_logic.specs.Declaration.{Declaration}
-use Rattle.mz_statements.specs.Order.{in_statement}
-use Rattle.mz_statements.specs.Statements.{Statement}
-use Rattle.mz_typing.specs.Rules.{statement_rules}
+use Rattle.mz_mmu_statements.specs.Order.{in_statement}
+use Rattle.mz_mmu_statements.specs.Statements.{Statement}
+use Rattle.mz_type_rules.specs.Rules.{statement_rules}
 
 -- the k-th statement and those behind it, over what was declared before
 abbrev pub rules_from : ℕ → List Declaration → List Statement → Nodes → Checks TextRefusal

@@ -1,14 +1,14 @@
 -- The weight of a text, and the limits of a compiled file (this project's own; 55 bound variables, 128 sorts and the
 -- sizes of the tables are the .mmb format's).
 use Rattle.std.specs.Prelude.{ℕ, ◌+◌, ◌*◌, ◌≤◌, List, [], ◌∷◌, ◌++◌, length, count_by, Option, Some, None}
-use Rattle.mz_checks.specs.Checks.{Checks, nothing, demand, ◌>>◌, AllHold, FailsFirst}
+use Rattle.mz_base_theory.specs.Checks.{Checks, nothing, demand, ◌>>◌, AllHold, FailsFirst}
 use Rattle.mz_logic.specs.Tree.{instance, followed_by, variables, size, trees_size}
 use Rattle.mz_logic.specs.Declaration.{Declaration, sort_decl, term_decl, assertion_decl, dummies_of, body_of, sorts, body_tree}
 use Rattle.mz_logic.specs.Conversions.{Conversion, Conversions, refl_conv, sym_conv, cong_conv, unfold_conv, gap_conv, no_convs, more_convs}
 use Rattle.mz_logic.specs.declared.binder.Binder.{Binder}
-use Rattle.mz_forms.specs.Proof.{Proof, Proofs, by_hyp, by_name, by_citation, by_conv, by_let, by_gap, no_proofs, more_proofs}
-use Rattle.mz_statements.specs.Statements.{Statement}
-use Rattle.mz_typing.specs.Sides.{assertion_at, term_at}
+use Rattle.mz_mmu_forms.specs.Proof.{Proof, Proofs, by_hyp, by_name, by_citation, by_conv, by_let, by_gap, no_proofs, more_proofs}
+use Rattle.mz_mmu_statements.specs.Statements.{Statement}
+use Rattle.mz_type_rules.specs.Sides.{assertion_at, term_at}
 
 -- ---- the weight: what is written, and of each citation and unfolding the instance that it stands for
 

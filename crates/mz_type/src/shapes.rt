@@ -7,7 +7,7 @@ ghost use Rattle.mz_logic.specs.Legality.{IsLegalDecl, InRange, AllInRange};
 ghost use Rattle.mz_logic.specs.Signature.{Signature};
 ghost use Rattle.mz_logic.specs.Tree.{var, size, trees_size, instance};
 ghost use Rattle.mz_logic.specs.View.{tree};
-ghost use Rattle.mz_typing.specs.Sides.{assertion_at, term_at};
+ghost use Rattle.mz_type_rules.specs.Sides.{assertion_at, term_at};
 ghost use Rattle.mz_type.specs.Shapes.{one_more, counted, all_counted, put_on, IsShapeOf};
 ghost use Rattle.mz_type.specs.Weight.{declaration_weight};
 

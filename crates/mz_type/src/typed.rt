@@ -2,13 +2,13 @@
 ghost use Rattle.std.specs.Prelude.{◌≡◌, ◌<◌, ◌^◌, ◌∷◌, [], ◌++◌, IfOk, IfErr, OnOk, ℕ, List, length, map};
 ghost use Rattle.mz_sexpr.specs.Node.{parts};
 ghost use Rattle.mz_sexpr.specs.Number.{first};
-ghost use Rattle.mz_mode.specs.Gaps.{gaps_of};
-ghost use Rattle.mz_statements.specs.StatementView.{option_proof};
-ghost use Rattle.mz_statements.specs.Statements.{is_local_word, Reads};
+ghost use Rattle.mz_base.specs.Gaps.{gaps_of};
+ghost use Rattle.mz_mmu_statements.specs.StatementView.{option_proof};
+ghost use Rattle.mz_mmu_statements.specs.Statements.{is_local_word, Reads};
 ghost use Rattle.mz_mmu.specs.EntryView.{entry as statement, IsRooted};
-ghost use Rattle.mz_typing.specs.Answers.{Judged, stated};
-ghost use Rattle.mz_typing.specs.Names.{StatementThere};
-ghost use Rattle.mz_typing.specs.Rules.{statement_rules};
+ghost use Rattle.mz_type_rules.specs.Answers.{Judged, stated};
+ghost use Rattle.mz_type_rules.specs.Names.{StatementThere};
+ghost use Rattle.mz_type_rules.specs.Rules.{statement_rules};
 ghost use Rattle.mz_type.specs.Meaning.{LegalAsStated};
 ghost use Rattle.mz_type.specs.TextRules.{text_rules};
 ghost use Rattle.mz_type.specs.StatedView.{statements_of};
@@ -19,12 +19,12 @@ ghost use Rattle.mz_type.specs.Weight.{declaration_weight};
 use crate::shapes::Shaped;
 use crate::taking::take_last;
 use crate::weigh::statement_weight;
-use mz_forms::{Proof, ProofBox, Stop};
+use mz_base::Mode;
 use mz_logic::{Binders, Decl, Env};
 use mz_mmu::{Entry, Text, TextStop, in_statement};
-use mz_mode::Mode;
+use mz_mmu_forms::{Proof, ProofBox, Stop};
 use mz_sexpr::{Sexprs, TextRefusal};
-use mz_typing::{Cursor, check_statement, proof_in};
+use mz_type_rules::{Cursor, check_statement, proof_in};
 use std::alloc::Global;
 use std::marker::Model;
 
@@ -69,7 +69,7 @@ impl<'a> Model for Typed<'a> {
 
     ghost coded = { stated_code };
 
-    ghost use Rattle.mz_mode.specs.Gaps.{gaps_of};
+    ghost use Rattle.mz_base.specs.Gaps.{gaps_of};
     ghost use Rattle.mz_type.specs.StatedView.{statements_of, IsTyped};
 
     ghost view = { λ a. record { gaps = gaps_of a.mode; statements = statements_of a.env a.beside.items } };
@@ -186,7 +186,7 @@ pub fn check_text<'a>(alloc: Global, text: Text<'a>) -> TypedRead<'a>
 impl<'a> Typed<'a> {
     ghost use Rattle.std.specs.Prelude.{◌≡◌, ◌<◌, length, option_map, slice_get, Some};
     ghost use Rattle.mz_logic.specs.DeclView.{declaration};
-    ghost use Rattle.mz_forms.specs.ProofView.{proof_view};
+    ghost use Rattle.mz_mmu_forms.specs.ProofView.{proof_view};
     ghost use Rattle.mz_type.specs.Meaning.{LegalAsStated};
     ghost use Rattle.mz_type.specs.StatedView.{AreRead};
 

@@ -1,7 +1,7 @@
 -- What a run leaves of the items: nothing at an assertion's end, everything for a definition.
 use Rattle.std.proofs.Common.{◌≡◌, ℕ, zero, suc, ◌+◌, Bool, true, false, List, [], ◌∷◌, drop, Option, Some, None, Result, Ok, Err, refl, sym, ap, ◌∙◌}
 use Rattle.std.specs.Prelude.{◌&&◌, ◌==◌, if◌then◌else◌, slice_get}
-use Rattle.mz_general.proofs.Offered.{both-true}
+use Rattle.mz_base_theory.proofs.Offered.{both-true}
 use Rattle.mz_cmd.specs.declared.rule.K.{K}
 use Rattle.mz_cmd.specs.declared.rule.K.TheVariants as k
 use Rattle.mz_cmd.specs.declared.command.Cmd.{Cmd}
@@ -13,12 +13,12 @@ use Rattle.mz_cmd.specs.Reading.{first_command}
 use Rattle.mz_logic.specs.Tree.{Tree}
 use Rattle.mz_logic.specs.Signature.{Signature}
 use Rattle.mz_logic.specs.declared.binder.Binder.{Binder}
-use Rattle.mz_unification.specs.Steps.{◌>>=◌, ◌>>◌, need, want, at_place, Turn, over, goes_on, follow}
-use Rattle.mz_unification.specs.Streams.{of_definition, UnifyCommand, u_term, u_term_save, u_ref, u_dummy, u_hyp, u_end, command_in, unify_command}
-use Rattle.mz_unification.specs.Profile.{strict, Item, tree_parts}
-use Rattle.mz_unification.specs.Tests.{same_tree}
-use Rattle.mz_unification.specs.UnifyMachine.{at_end, in_definition, kind_of, UnifyState, top_target, operands_of, is_fresh, is_empty, unify_row, unify_turn_by, unify_turn, unify_from}
-use Rattle.mz_unification.proofs.Offered.{from_need, taken-is}
+use Rattle.mz_unify_theory.specs.Steps.{◌>>=◌, ◌>>◌, need, want, at_place, Turn, over, goes_on, follow}
+use Rattle.mz_unify_theory.specs.Streams.{of_definition, UnifyCommand, u_term, u_term_save, u_ref, u_dummy, u_hyp, u_end, command_in, unify_command}
+use Rattle.mz_unify_theory.specs.Profile.{strict, Item, tree_parts}
+use Rattle.mz_unify_theory.specs.Tests.{same_tree}
+use Rattle.mz_unify_theory.specs.UnifyMachine.{at_end, in_definition, kind_of, UnifyState, top_target, operands_of, is_fresh, is_empty, unify_row, unify_turn_by, unify_turn, unify_from}
+use Rattle.mz_unify_theory.proofs.Offered.{from_need, taken-is}
 
 module _ (sigs : List Signature) (ctx : List Binder) where
   abbrev turned : Turn (UnifyState Tree) → Result (Turn (UnifyState Tree)) K

@@ -10,7 +10,7 @@ use Rattle.mz_store.specs.Sharing.{Sharing, tree_of, IsIn, AreIn, KeepsIds, tree
 use Rattle.mz_store.specs.declared.item.Id.{Id}
 use Rattle.mz_store.specs.declared.item.Item.{Item as Kept}
 use Rattle.mz_store.specs.declared.item.Item.TheVariants.{Proof}
-use Rattle.mz_unification.specs.UnifyMachine.{is_empty}
+use Rattle.mz_unify_theory.specs.UnifyMachine.{is_empty}
 use Rattle.mz_unify.specs.Stored.{trees_at, stack_at, item_at, items_at, AreItemsIn}
 
 module _ (s : Sharing) where

@@ -7,11 +7,11 @@ use Rattle.mz_cmd.specs.declared.command.CmdFault.{CmdFault}
 use Rattle.mz_cmd.specs.Reading.{first_command}
 use Rattle.mz_logic.specs.Signature.{Signature}
 use Rattle.mz_logic.specs.declared.binder.Binder.{Binder}
-use Rattle.mz_unification.specs.Steps.{at_place, over, goes_on, follow, goes_to, if_read}
-use Rattle.mz_unification.specs.Streams.{UnifyCommand, u_end, IsEnd, unify_command}
-use Rattle.mz_unification.specs.Profile.{Profile}
-use Rattle.mz_unification.specs.UnifyMachine.{UnifyMode, kind_of, UnifyState, unify_row, unify_turn_by, unify_turn, unify_from, unify_steps_from}
-use Rattle.mz_unification.proofs.Offered.{follow-same, goes_to-same, if_read-same, drop-less, went-on, bound-never-ends, count-is-whole}
+use Rattle.mz_unify_theory.specs.Steps.{at_place, over, goes_on, follow, goes_to, if_read}
+use Rattle.mz_unify_theory.specs.Streams.{UnifyCommand, u_end, IsEnd, unify_command}
+use Rattle.mz_unify_theory.specs.Profile.{Profile}
+use Rattle.mz_unify_theory.specs.UnifyMachine.{UnifyMode, kind_of, UnifyState, unify_row, unify_turn_by, unify_turn, unify_from, unify_steps_from}
+use Rattle.mz_unify_theory.proofs.Offered.{follow-same, goes_to-same, if_read-same, drop-less, went-on, bound-never-ends, count-is-whole}
 
 module _ (P : Profile) (sigs : List Signature) (ctx : List Binder) (mode : UnifyMode) where
   -- what is left of a run, and of its count

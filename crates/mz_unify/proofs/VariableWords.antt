@@ -5,7 +5,7 @@ use Rattle.std.specs.Int.{bit_at}
 use Rattle.std.proofs.lemmas.Nat.Bits.{bit_at_and, bit_at_or, bit_at-zero, bit_at-lt, same_from_bits}
 use Rattle.std.proofs.lemmas.Bool.{eqb-true, or_right, or_left}
 use Rattle.std.proofs.lemmas.Option.{get_or_from_slice_get}
-use Rattle.mz_general.proofs.Offered.{or-cases}
+use Rattle.mz_base_theory.proofs.Offered.{or-cases}
 use Rattle.mz_logic.specs.Tree.{Tree, var, app}
 use Rattle.mz_logic.specs.Variables.{InV}
 use Rattle.mz_logic.specs.declared.binder.Binder.{Binder}
@@ -17,13 +17,13 @@ use Rattle.mz_store.specs.declared.item.DepsMode.{DepsMode}
 use Rattle.mz_store.specs.declared.item.DepsMode.TheVariants as of
 use Rattle.mz_unify.specs.Stored.{trees_at, IsVariable, AreVariables, TellsAllOf}
 use Rattle.mz_unify.specs.Rows.{InAnyV, TellsAny}
-use Rattle.mz_unification.specs.Profile.{strict}
+use Rattle.mz_unify_theory.specs.Profile.{strict}
 use Rattle.mz_logic.specs.Sorts.{HasSort, IsBoundVar}
 use Rattle.mz_logic.specs.Legality.{sort_of}
 use Rattle.mz_store.proofs.Offered.{bound-has}
-use Rattle.mz_unification.specs.Tests.{in_v, is_bound_var}
-use Rattle.mz_unification.specs.UnifyMachine.{within_any, is_fresh}
-use Rattle.mz_unification.proofs.Offered.{bound-is, is-bound, in-v-true, v-in}
+use Rattle.mz_unify_theory.specs.Tests.{in_v, is_bound_var}
+use Rattle.mz_unify_theory.specs.UnifyMachine.{within_any, is_fresh}
+use Rattle.mz_unify_theory.proofs.Offered.{bound-is, is-bound, in-v-true, v-in}
 use Rattle.mz_unify.proofs.StoredIds.{trees-append}
 
 pub tells-none : (places : List ℕ) (P : ℕ → Type 0) → ((x : ℕ) → P x → ⊥) → Tells places 0 P

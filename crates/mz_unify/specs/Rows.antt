@@ -8,8 +8,8 @@ use Rattle.mz_store.specs.Bits.{Tells, bound_vars}
 use Rattle.mz_store.specs.Sharing.{Sharing}
 use Rattle.mz_store.specs.declared.item.Id.{Id}
 use Rattle.mz_store.specs.declared.item.Item.{Item as Kept}
-use Rattle.mz_unification.specs.Streams.{UnifyCommand, u_term, u_term_save, u_ref, u_dummy, u_hyp, u_end}
-use Rattle.mz_unification.specs.UnifyMachine.{UnifyMode as Mode, in_definition, UnifyState}
+use Rattle.mz_unify_theory.specs.Streams.{UnifyCommand, u_term, u_term_save, u_ref, u_dummy, u_hyp, u_end}
+use Rattle.mz_unify_theory.specs.UnifyMachine.{UnifyMode as Mode, in_definition, UnifyState}
 use Rattle.mz_unify.specs.Stored.{trees_at, stack_at, items_at}
 use Rattle.mz_unify.specs.declared.unified.Unified.{Unified}
 use Rattle.mz_unify.specs.declared.unified.Unified.TheVariants as said

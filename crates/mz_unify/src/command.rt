@@ -1,7 +1,7 @@
 //! The commands of a stream.
 ghost use Rattle.std.specs.Prelude.{◌≡◌, IfSome, IfNone, Some, None};
-ghost use Rattle.mz_unification.specs.Streams.{unify_command};
-ghost use Rattle.mz_unification.specs.UnifyMachine.{kind_of};
+ghost use Rattle.mz_unify_theory.specs.Streams.{unify_command};
+ghost use Rattle.mz_unify_theory.specs.UnifyMachine.{kind_of};
 ghost use Rattle.mz_unify.specs.Stored.{mode_of};
 ghost use Rattle.mz_unify.specs.Rows.{command_of};
 

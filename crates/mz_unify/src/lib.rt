@@ -1,6 +1,6 @@
 //! The unify machine as it runs over a store: what a stream of unify commands matches.
 //!
-//! What the machine is, and what a stream spells, is said in `mz_unification`. `specs/Stored.antt` says
+//! What the machine is, and what a stream spells, is said in `mz_unify_theory`. `specs/Stored.antt` says
 //! how ids of a store stand for expressions.
 #![tactic(auto)]
 

@@ -4,27 +4,27 @@ ghost use Rattle.mz_cmd.specs.declared.code.ProofCode.TheVariants as code;
 ghost use Rattle.mz_logic.specs.Tree.{Tree};
 ghost use Rattle.mz_store.specs.Sharing.{AreIn, IsIn, IsOver, tree_of};
 ghost use Rattle.mz_store.specs.declared.item.DepsMode.TheVariants.{All};
-ghost use Rattle.mz_unification.specs.Profile.{strict};
+ghost use Rattle.mz_unify_theory.specs.Profile.{strict};
 ghost use Rattle.mz_unify.specs.Stored.{items_at, item_at, trees_at, AreItemsIn, IsItemIn};
-ghost use Rattle.mz_soundness.specs.Premises.{pop_sides};
-ghost use Rattle.mz_soundness.specs.MachineState.{RowsBefore, State};
-ghost use Rattle.mz_soundness.specs.ProofMachine.{proof_row, sides};
-ghost use Rattle.mz_soundness.specs.Bodies.{row_steps};
-ghost use Rattle.mz_earlier.specs.Before.{tables_of, signatures_of};
+ghost use Rattle.mz_machine_theory.specs.Premises.{pop_sides};
+ghost use Rattle.mz_machine_theory.specs.MachineState.{RowsBefore, State};
+ghost use Rattle.mz_machine_theory.specs.ProofMachine.{proof_row, sides};
+ghost use Rattle.mz_machine_theory.specs.Bodies.{row_steps};
+ghost use Rattle.mz_machine_env.specs.Before.{tables_of, signatures_of};
 ghost use Rattle.mz_machine.specs.OverStore.{with_stack, pop_unfolding, Gives, GivesRule, UnlessMem};
 ghost use Rattle.mz_unify.specs.Rows.{StopsBy};
 
 use crate::stack::{pop, pop_conversion, pop_expr, pop_obligation, pop_proof};
 use mz_cmd::{K, Steps};
-use mz_earlier::{Earlier, Spare, put_back};
 use mz_logic::Terms;
+use mz_machine_env::{Earlier, Spare, put_back};
 use mz_store::{Id, Item, Store};
 use mz_unify::{Stop, UnifyMode, push, unify_in};
 use std::sync::ledger::Ledger;
 
 /// From an expression and a proof below to a proof of the expression, which the obligation above is
 /// to pay. It takes no memory.
-#[tactic(auto, using(crate::proofs::Converting::put_in), unfolding(mz_soundness::specs::ProofMachine::proof_row))]
+#[tactic(auto, using(crate::proofs::Converting::put_in), unfolding(mz_machine_theory::specs::ProofMachine::proof_row))]
 pub(crate) fn conv(store: &Store, stack: &mut Vec<Item>) -> Result<(), K>
     requires { AreItemsIn store.now stack.old.items }
     ensures ids { OnOk result (AreItemsIn store.now stack.new.items) }
@@ -38,7 +38,7 @@ pub(crate) fn conv(store: &Store, stack: &mut Vec<Item>) -> Result<(), K>
 }
 
 /// Drops an obligation whose sides are the same. It takes no memory.
-#[tactic(auto, unfolding(mz_soundness::specs::ProofMachine::proof_row))]
+#[tactic(auto, unfolding(mz_machine_theory::specs::ProofMachine::proof_row))]
 pub(crate) fn refl(store: &Store, stack: &mut Vec<Item>) -> Result<(), K>
     requires { AreItemsIn store.now stack.old.items }
     ensures ids { OnOk result (AreItemsIn store.now stack.new.items) }
@@ -53,7 +53,7 @@ pub(crate) fn refl(store: &Store, stack: &mut Vec<Item>) -> Result<(), K>
 }
 
 /// Turns an obligation round. It takes no memory.
-#[tactic(auto, using(crate::proofs::Converting::put_in), unfolding(mz_soundness::specs::ProofMachine::proof_row))]
+#[tactic(auto, using(crate::proofs::Converting::put_in), unfolding(mz_machine_theory::specs::ProofMachine::proof_row))]
 pub(crate) fn symm(store: &Store, stack: &mut Vec<Item>) -> Result<(), K>
     requires { AreItemsIn store.now stack.old.items }
     ensures ids { OnOk result (AreItemsIn store.now stack.new.items) }
@@ -66,7 +66,7 @@ pub(crate) fn symm(store: &Store, stack: &mut Vec<Item>) -> Result<(), K>
 
 /// From an obligation between two applications of one term to those between their operands, the
 /// first on top.
-#[tactic(auto, unfolding(mz_soundness::specs::ProofMachine::proof_row))]
+#[tactic(auto, unfolding(mz_machine_theory::specs::ProofMachine::proof_row))]
 pub(crate) fn cong(store: &Store, stack: &mut Vec<Item>) -> Result<(), Stop>
     requires { AreItemsIn store.now stack.old.items }
     ensures ids { OnOk result (AreItemsIn store.now stack.new.items) }
@@ -104,7 +104,7 @@ fn push_sides(store: &Store, lefts: &[Id], rights: &[Id], stack: &mut Vec<Item>)
 
 /// From an obligation whose left side is a definition's application, and what it unfolds to, to the
 /// obligation between that and the right side. The definition's stream runs on what it unfolds to.
-#[tactic(auto, unfolding(mz_soundness::specs::ProofMachine::proof_row))]
+#[tactic(auto, unfolding(mz_machine_theory::specs::ProofMachine::proof_row))]
 pub(crate) fn unfold<L: Ledger>(
     earlier: &Earlier,
     store: &Store,
@@ -184,7 +184,7 @@ fn pop_sides(store: &Store, stack: &mut Vec<Item>) -> Result<(Id, Id), K>
 }
 
 /// Puts the conversion that an obligation asks for below the obligation.
-#[tactic(auto, using(crate::proofs::Converting::put_in), unfolding(mz_soundness::specs::ProofMachine::proof_row))]
+#[tactic(auto, using(crate::proofs::Converting::put_in), unfolding(mz_machine_theory::specs::ProofMachine::proof_row))]
 pub(crate) fn conv_cut(store: &Store, stack: &mut Vec<Item>) -> Result<(), Stop>
     requires { AreItemsIn store.now stack.old.items }
     ensures ids { OnOk result (AreItemsIn store.now stack.new.items) }
@@ -199,7 +199,7 @@ pub(crate) fn conv_cut(store: &Store, stack: &mut Vec<Item>) -> Result<(), Stop>
 }
 
 /// Takes a conversion from the stack, for the heap.
-#[tactic(auto, unfolding(mz_soundness::specs::ProofMachine::proof_row))]
+#[tactic(auto, unfolding(mz_machine_theory::specs::ProofMachine::proof_row))]
 pub(crate) fn conv_save(store: &Store, stack: &mut Vec<Item>) -> Result<Item, K>
     requires { AreItemsIn store.now stack.old.items }
     ensures ids { IfOk result (λ item. IsItemIn store.now item × AreItemsIn store.now stack.new.items) }

@@ -3,18 +3,18 @@ ghost use Rattle.std.specs.Prelude.{ℕ, ◌≡◌, OnOk};
 ghost use Rattle.mz_cmd.specs.declared.code.ProofCode.TheVariants as code;
 ghost use Rattle.mz_logic.specs.Tree.{Tree};
 ghost use Rattle.mz_store.specs.Sharing.{IsOver};
-ghost use Rattle.mz_unification.specs.Profile.{draft};
+ghost use Rattle.mz_unify_theory.specs.Profile.{draft};
 ghost use Rattle.mz_unify.specs.Stored.{items_at, AreItemsIn};
-ghost use Rattle.mz_soundness.specs.MachineState.{State};
-ghost use Rattle.mz_soundness.specs.ProofMachine.{proof_row};
-ghost use Rattle.mz_earlier.specs.Before.{tables_of, signatures_of};
+ghost use Rattle.mz_machine_theory.specs.MachineState.{State};
+ghost use Rattle.mz_machine_theory.specs.ProofMachine.{proof_row};
+ghost use Rattle.mz_machine_env.specs.Before.{tables_of, signatures_of};
 ghost use Rattle.mz_machine.specs.OverStore.{with_stack, GivesRule};
 
 use crate::commands::heap::is_provable;
 use crate::stack::pop;
 use mz_cmd::K;
-use mz_earlier::{Earlier, put_back};
 use mz_logic::Terms;
+use mz_machine_env::{Earlier, put_back};
 use mz_store::{Item, Store};
 
 /// Leaves a gap: the expression on top becomes a proof of it, or the obligation on top is dropped. It

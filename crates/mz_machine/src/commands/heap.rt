@@ -5,19 +5,19 @@ ghost use Rattle.mz_logic.specs.Tree.{Tree};
 ghost use Rattle.mz_store.specs.Sharing.{IsIn, IsOver, tree_of};
 ghost use Rattle.mz_store.specs.declared.item.Item.TheVariants.{Conversion};
 ghost use Rattle.mz_store.specs.declared.item.Id.{Id};
-ghost use Rattle.mz_unification.specs.Profile.{strict, expr, proof, conversion};
+ghost use Rattle.mz_unify_theory.specs.Profile.{strict, expr, proof, conversion};
 ghost use Rattle.mz_unify.specs.Stored.{items_at, item_at, AreItemsIn, IsItemIn};
-ghost use Rattle.mz_soundness.specs.MachineState.{RowsBefore, State};
-ghost use Rattle.mz_soundness.specs.Premises.{is_provable_sort, may_be_dummy_sort};
-ghost use Rattle.mz_soundness.specs.ProofMachine.{proof_row, referred};
-ghost use Rattle.mz_earlier.specs.Before.{tables_of, signatures_of};
+ghost use Rattle.mz_machine_theory.specs.MachineState.{RowsBefore, State};
+ghost use Rattle.mz_machine_theory.specs.Premises.{is_provable_sort, may_be_dummy_sort};
+ghost use Rattle.mz_machine_theory.specs.ProofMachine.{proof_row, referred};
+ghost use Rattle.mz_machine_env.specs.Before.{tables_of, signatures_of};
 ghost use Rattle.mz_machine.specs.OverStore.{heap_at, with_stack, Gives, GivesRule, NeverWants, Grows};
 
 use crate::commands::by_rule;
 use crate::stack::{conversion_of, pop_expr, pop_obligation};
 use mz_cmd::K;
-use mz_earlier::{Earlier, is_obligation, kept_at, top};
 use mz_logic::Terms;
+use mz_machine_env::{Earlier, is_obligation, kept_at, top};
 use mz_store::{Id, Item, Store};
 use mz_unify::{Stop, push};
 

@@ -1,30 +1,30 @@
 //! Conversions: obligations that two expressions are convertible, and how they are paid.
 ghost use Rattle.std.specs.Prelude.{ℕ, ◌≡◌, ◌≤◌, ◌++◌, ◌∷◌, ◌+◌, ⊤, [], IfOk, OnOk, MatchResult, length};
 ghost use Rattle.mz_cmd.specs.declared.code.ProofCode.TheVariants as code;
-ghost use Rattle.mz_punify.specs.Numbering.{AreIn, IsIn, IsOver, expr_of};
-ghost use Rattle.mz_punify.specs.Stored.{items_at, item_at, exprs_at, AreItemsIn, IsItemIn};
-ghost use Rattle.mz_soundness.specs.Premises.{pop_sides};
-ghost use Rattle.mz_soundness.specs.MachineState.{RowsBefore, State};
-ghost use Rattle.mz_soundness.specs.ProofMachine.{proof_row, sides};
-ghost use Rattle.mz_soundness.specs.Bodies.{row_steps};
-ghost use Rattle.mz_earlier.specs.Before.{tables_of, signatures_of};
+ghost use Rattle.mz_pmachine_unify.specs.Numbering.{AreIn, IsIn, IsOver, expr_of};
+ghost use Rattle.mz_pmachine_unify.specs.Stored.{items_at, item_at, exprs_at, AreItemsIn, IsItemIn};
+ghost use Rattle.mz_machine_theory.specs.Premises.{pop_sides};
+ghost use Rattle.mz_machine_theory.specs.MachineState.{RowsBefore, State};
+ghost use Rattle.mz_machine_theory.specs.ProofMachine.{proof_row, sides};
+ghost use Rattle.mz_machine_theory.specs.Bodies.{row_steps};
+ghost use Rattle.mz_machine_env.specs.Before.{tables_of, signatures_of};
 ghost use Rattle.mz_machine.specs.OverStore.{GivesRule, Gives, UnlessMem};
 ghost use Rattle.mz_pmachine.specs.OverNodes.{with_stack, pop_unfolding};
 ghost use Rattle.mz_unify.specs.Rows.{StopsBy};
-ghost use Rattle.mz_numbered.specs.Numbered.{Numbered, portable};
+ghost use Rattle.mz_pmachine_theory.specs.Numbered.{Numbered, portable};
 
 use crate::stack::{pop_conversion, pop_expr, pop_obligation, pop_proof};
 use mz_cmd::{K, Steps};
-use mz_earlier::{Earlier, Spare, put_back};
 use mz_logic::Terms;
-use mz_punify::{Nodes, unify_in};
+use mz_machine_env::{Earlier, Spare, put_back};
+use mz_pmachine_unify::{Nodes, unify_in};
 use mz_store::{Id, Item};
 use mz_unify::{Stop, UnifyMode, push};
 use std::sync::ledger::Ledger;
 
 /// From an expression and a proof below to a proof of the expression, which the obligation above is
 /// to pay.
-#[tactic(auto, using(crate::proofs::Converting::put_in), unfolding(mz_soundness::specs::ProofMachine::proof_row))]
+#[tactic(auto, using(crate::proofs::Converting::put_in), unfolding(mz_machine_theory::specs::ProofMachine::proof_row))]
 pub(crate) fn conv(nodes: &Nodes, stack: &mut Vec<Item>) -> Result<(), K>
     requires { AreItemsIn nodes.now stack.old.items }
     ensures ids { OnOk result (AreItemsIn nodes.now stack.new.items) }
@@ -38,7 +38,7 @@ pub(crate) fn conv(nodes: &Nodes, stack: &mut Vec<Item>) -> Result<(), K>
 }
 
 /// Drops an obligation whose sides are the same.
-#[tactic(auto, unfolding(mz_soundness::specs::ProofMachine::proof_row))]
+#[tactic(auto, unfolding(mz_machine_theory::specs::ProofMachine::proof_row))]
 pub(crate) fn refl(nodes: &Nodes, stack: &mut Vec<Item>) -> Result<(), K>
     requires { AreItemsIn nodes.now stack.old.items }
     ensures ids { OnOk result (AreItemsIn nodes.now stack.new.items) }
@@ -53,7 +53,7 @@ pub(crate) fn refl(nodes: &Nodes, stack: &mut Vec<Item>) -> Result<(), K>
 }
 
 /// Turns an obligation round.
-#[tactic(auto, using(crate::proofs::Converting::put_in), unfolding(mz_soundness::specs::ProofMachine::proof_row))]
+#[tactic(auto, using(crate::proofs::Converting::put_in), unfolding(mz_machine_theory::specs::ProofMachine::proof_row))]
 pub(crate) fn symm(nodes: &Nodes, stack: &mut Vec<Item>) -> Result<(), K>
     requires { AreItemsIn nodes.now stack.old.items }
     ensures ids { OnOk result (AreItemsIn nodes.now stack.new.items) }
@@ -66,7 +66,7 @@ pub(crate) fn symm(nodes: &Nodes, stack: &mut Vec<Item>) -> Result<(), K>
 
 /// From an obligation between two applications of one term to those between their operands, the
 /// first on top.
-#[tactic(auto, unfolding(mz_soundness::specs::ProofMachine::proof_row))]
+#[tactic(auto, unfolding(mz_machine_theory::specs::ProofMachine::proof_row))]
 pub(crate) fn cong(nodes: &Nodes, stack: &mut Vec<Item>) -> Result<(), Stop>
     requires { AreItemsIn nodes.now stack.old.items }
     ensures ids { OnOk result (AreItemsIn nodes.now stack.new.items) }
@@ -104,7 +104,7 @@ fn push_sides(nodes: &Nodes, lefts: &[Id], rights: &[Id], stack: &mut Vec<Item>)
 
 /// From an obligation whose left side is a definition's application, and what it unfolds to, to the
 /// obligation between that and the right side. The definition's stream runs on what it unfolds to.
-#[tactic(auto, unfolding(mz_soundness::specs::ProofMachine::proof_row))]
+#[tactic(auto, unfolding(mz_machine_theory::specs::ProofMachine::proof_row))]
 pub(crate) fn unfold<L: Ledger>(
     earlier: &Earlier,
     nodes: &Nodes,
@@ -178,7 +178,7 @@ fn pop_sides(nodes: &Nodes, stack: &mut Vec<Item>) -> Result<(Id, Id), K>
 }
 
 /// Puts the conversion that an obligation asks for below the obligation.
-#[tactic(auto, using(crate::proofs::Converting::put_in), unfolding(mz_soundness::specs::ProofMachine::proof_row))]
+#[tactic(auto, using(crate::proofs::Converting::put_in), unfolding(mz_machine_theory::specs::ProofMachine::proof_row))]
 pub(crate) fn conv_cut(nodes: &Nodes, stack: &mut Vec<Item>) -> Result<(), Stop>
     requires { AreItemsIn nodes.now stack.old.items }
     ensures ids { OnOk result (AreItemsIn nodes.now stack.new.items) }
@@ -193,7 +193,7 @@ pub(crate) fn conv_cut(nodes: &Nodes, stack: &mut Vec<Item>) -> Result<(), Stop>
 }
 
 /// Takes a conversion from the stack, for the heap.
-#[tactic(auto, unfolding(mz_soundness::specs::ProofMachine::proof_row))]
+#[tactic(auto, unfolding(mz_machine_theory::specs::ProofMachine::proof_row))]
 pub(crate) fn conv_save(nodes: &Nodes, stack: &mut Vec<Item>) -> Result<Item, K>
     requires { AreItemsIn nodes.now stack.old.items }
     ensures ids { IfOk result (λ item. IsItemIn nodes.now item × AreItemsIn nodes.now stack.new.items) }

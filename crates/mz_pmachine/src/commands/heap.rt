@@ -1,25 +1,25 @@
 //! The heap: references to it, and what is kept there.
 ghost use Rattle.std.specs.Prelude.{ℕ, ◌≡◌, ◌<◌, ◌++◌, ◌∷◌, [], IfOk, OnOk, slice_get, Some};
 ghost use Rattle.mz_cmd.specs.declared.code.ProofCode.TheVariants as code;
-ghost use Rattle.mz_punify.specs.Numbering.{IsIn, IsOver, expr_of};
+ghost use Rattle.mz_pmachine_unify.specs.Numbering.{IsIn, IsOver, expr_of};
 ghost use Rattle.mz_store.specs.declared.item.Item.TheVariants.{Conversion};
 ghost use Rattle.mz_store.specs.declared.item.Id.{Id};
-ghost use Rattle.mz_unification.specs.Profile.{expr, proof, conversion};
-ghost use Rattle.mz_punify.specs.Stored.{items_at, item_at, AreItemsIn, IsItemIn};
-ghost use Rattle.mz_soundness.specs.MachineState.{RowsBefore, State};
-ghost use Rattle.mz_soundness.specs.Premises.{is_provable_sort, may_be_dummy_sort};
-ghost use Rattle.mz_soundness.specs.ProofMachine.{proof_row, referred};
-ghost use Rattle.mz_earlier.specs.Before.{tables_of, signatures_of};
+ghost use Rattle.mz_unify_theory.specs.Profile.{expr, proof, conversion};
+ghost use Rattle.mz_pmachine_unify.specs.Stored.{items_at, item_at, AreItemsIn, IsItemIn};
+ghost use Rattle.mz_machine_theory.specs.MachineState.{RowsBefore, State};
+ghost use Rattle.mz_machine_theory.specs.Premises.{is_provable_sort, may_be_dummy_sort};
+ghost use Rattle.mz_machine_theory.specs.ProofMachine.{proof_row, referred};
+ghost use Rattle.mz_machine_env.specs.Before.{tables_of, signatures_of};
 ghost use Rattle.mz_machine.specs.OverStore.{GivesRule, Gives};
 ghost use Rattle.mz_pmachine.specs.OverNodes.{heap_at, with_stack, Grows};
-ghost use Rattle.mz_numbered.specs.Numbered.{Numbered, portable};
+ghost use Rattle.mz_pmachine_theory.specs.Numbered.{Numbered, portable};
 
 use crate::stack::{conversion_of, pop_expr, pop_obligation};
 use mz_cmd::K;
-use mz_earlier::{Earlier, is_obligation, kept_at, top};
 use mz_logic::Terms;
 use mz_machine::by_rule;
-use mz_punify::Nodes;
+use mz_machine_env::{Earlier, is_obligation, kept_at, top};
+use mz_pmachine_unify::Nodes;
 use mz_store::{Id, Item};
 use mz_unify::{Stop, push};
 

@@ -1,5 +1,5 @@
 use Rattle.std.proofs.Common.{◌≡◌, List, refl, inl, inr}
-use Rattle.mz_verdicts.specs.Verdict.{counts_of}
+use Rattle.mz_match_theory.specs.Verdict.{counts_of}
 use Rattle.mz_axioms.specs.declared.rows.Row.{Row}
 use Rattle.mz_axioms.specs.Rows.{TellsFile, supports_of}
 use Rattle.mz_axioms.proofs.Listing.{are-supports}

@@ -1,9 +1,9 @@
 use Rattle.std.proofs.Common.{◌≡◌, ℕ, List, sym, subst, inl}
 use Rattle.mz_axioms.specs.declared.rows.Row.{Row}
-use Rattle.mz_files.specs.Good.{IsGood}
+use Rattle.mz_binary_theory.specs.Good.{IsGood}
 use Rattle.mz_axioms.specs.Rows.{TellsFile, supports_of}
-use Rattle.mz_files.specs.Standards.{strict_standard}
-use Rattle.mz_files.proofs.Offered.{good-excludes}
+use Rattle.mz_binary_theory.specs.Standards.{strict_standard}
+use Rattle.mz_binary_theory.proofs.Offered.{good-excludes}
 use Rattle.mz_axioms.proofs.Telling.{if-more, told-within, told-few}
 use Rattle.mz_axioms.proofs.axioms.lists_in.Goals as goal
 

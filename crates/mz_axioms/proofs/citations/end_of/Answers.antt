@@ -1,5 +1,5 @@
 use Rattle.std.proofs.Common.{◌≤◌, ◌∙◌, sym, ap, subst, length, Ok}
-use Rattle.mz_files.proofs.Offered.{head-at}
+use Rattle.mz_binary_theory.proofs.Offered.{head-at}
 use Rattle.mz_axioms.proofs.citations.end_of.Goals as goal
 
 pub returns-in-Ok-Head-clause-within : goal.returns-in-Ok-Head-clause-within

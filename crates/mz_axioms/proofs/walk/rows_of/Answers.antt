@@ -1,5 +1,5 @@
 use Rattle.std.proofs.Common.{List, [], sym, subst, arith}
-use Rattle.mz_walk.specs.declared.passed.Passed.{Passed}
+use Rattle.mz_binary_walk.specs.declared.passed.Passed.{Passed}
 use Rattle.mz_axioms.specs.declared.rows.Row.{Row}
 use Rattle.mz_axioms.proofs.Telling.{Walked, walked-asks, walked-first, walked-more, walked-last, walked-order}
 use Rattle.mz_axioms.proofs.walk.rows_of.Goals as goal

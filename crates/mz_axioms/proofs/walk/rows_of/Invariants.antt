@@ -1,5 +1,5 @@
 use Rattle.std.proofs.Common.{◌-◌, length}
-use Rattle.mz_walk.specs.Walk.{IsPlaced}
+use Rattle.mz_binary_walk.specs.Walk.{IsPlaced}
 use Rattle.mz_axioms.proofs.Telling.{Walked}
 use Rattle.mz_axioms.proofs.walk.rows_of.Given as goal
 

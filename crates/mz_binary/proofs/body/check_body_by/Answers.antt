@@ -1,15 +1,15 @@
 use Rattle.std.proofs.Common.{◌≡◌, ◌+◌, ℕ, List, sym, subst}
-use Rattle.mz_soundness.specs.Bodies.{body_run, body_steps}
+use Rattle.mz_machine_theory.specs.Bodies.{body_run, body_steps}
 use Rattle.mz_layout.specs.Heads.{body_bytes}
-use Rattle.mz_soundness.specs.MachineState.{Heading}
-use Rattle.mz_earlier.specs.OwnRow.{byte_of, heading_of}
-use Rattle.mz_earlier.specs.Before.{tables_before}
+use Rattle.mz_machine_theory.specs.MachineState.{Heading}
+use Rattle.mz_machine_env.specs.OwnRow.{byte_of, heading_of}
+use Rattle.mz_machine_env.specs.Before.{tables_before}
 use Rattle.mz_machine.specs.BodyAnswers.{UnlessMem}
 use Rattle.mz_machine.specs.declared.body.BodyChecked.{BodyChecked}
 use Rattle.mz_layout.specs.declared.taken.Rows.{Rows}
-use Rattle.mz_files.specs.declared.standard.Standard.{Standard}
+use Rattle.mz_binary_theory.specs.declared.standard.Standard.{Standard}
 use Rattle.mz_binary.specs.Judging.{IsBodyRun}
-use Rattle.mz_files.specs.Standards.{profile_of}
+use Rattle.mz_binary_theory.specs.Standards.{profile_of}
 use Rattle.mz_binary.proofs.Answering.{by-trees, by-address}
 use Rattle.mz_binary.proofs.body.check_body_by.Goals as goal
 

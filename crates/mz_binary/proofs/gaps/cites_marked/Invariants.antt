@@ -1,6 +1,6 @@
 use Rattle.std.specs.Prelude.{◌↔◌}
 use Rattle.std.proofs.Common.{◌≤◌, ◌-◌, length, drop}
-use Rattle.mz_files.specs.Gapped.{CitesMarked}
+use Rattle.mz_binary_theory.specs.Gapped.{CitesMarked}
 use Rattle.mz_binary.proofs.gaps.cites_marked.Given as goal
 
 abbrev pub invariant-commands : goal.invariant-commands

@@ -1,5 +1,5 @@
 use Rattle.std.proofs.lemmas.Result.{err_from_is_err_and}
-use Rattle.mz_earlier.specs.Before.{taken_before}
+use Rattle.mz_machine_env.specs.Before.{taken_before}
 use Rattle.mz_binary.proofs.Finding.{sees-assertion, thm-stops}
 use Rattle.mz_binary.proofs.place.check_thm.Goals as goal
 

@@ -1,5 +1,5 @@
 use Rattle.std.proofs.Common.{◌≡◌, ◌+◌, ◌-◌, ◌*◌, ◌∙◌, ℕ, List, length, ap, arith}
-use Rattle.mz_files.specs.FileRun.{file_steps}
+use Rattle.mz_binary_theory.specs.FileRun.{file_steps}
 use Rattle.mz_binary.specs.Progress.{most_left}
 use Rattle.mz_binary.proofs.Counting.{no-steps, most-of-file}
 use Rattle.mz_binary.proofs.whole.check_all.Goals as goal

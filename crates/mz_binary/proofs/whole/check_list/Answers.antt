@@ -1,11 +1,11 @@
 use Rattle.std.proofs.Common.{[], subst}
 use Rattle.mz_layout.specs.Tables.{list_at}
-use Rattle.mz_files.specs.Chains.{IsGoodStatement}
-use Rattle.mz_files.specs.Good.{Good}
+use Rattle.mz_binary_theory.specs.Chains.{IsGoodStatement}
+use Rattle.mz_binary_theory.specs.Good.{Good}
 use Rattle.mz_binary.specs.Judging.{IsChecked}
 use Rattle.mz_binary.specs.declared.whole.Checked.TheVariants as Checked
 use Rattle.mz_binary.specs.Progress.{CountsRows}
-use Rattle.mz_files.proofs.Offered.{chain-declares}
+use Rattle.mz_binary_theory.proofs.Offered.{chain-declares}
 use Rattle.mz_binary.proofs.SoundLists.{good-sound}
 use Rattle.mz_binary.proofs.whole.check_list.Goals as goal
 

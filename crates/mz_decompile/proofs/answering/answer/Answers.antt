@@ -1,7 +1,6 @@
-use Rattle.std.proofs.Common.{subst}
-use Rattle.mz_phrasing.specs.Naming.{vocabulary_by}
-use Rattle.mz_phrasing.specs.Phrasing.{text_of}
-use Rattle.std.proofs.Common.{length}
+use Rattle.std.proofs.Common.{subst, length}
+use Rattle.mz_decompile_text_theory.specs.Naming.{vocabulary_by}
+use Rattle.mz_decompile_text_theory.specs.Phrasing.{text_of}
 use Rattle.mz_type.specs.Weight.{weight_of}
 use Rattle.mz_decompile.specs.Passes.{IsMeasured}
 use Rattle.mz_decompile.specs.declared.measuring.Measured.{Measured}

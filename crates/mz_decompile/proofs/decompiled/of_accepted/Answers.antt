@@ -1,8 +1,8 @@
 use Rattle.std.proofs.Common.{ℕ, List, sym, subst, inl, arith}
 use Rattle.std.proofs.lemmas.Result.{IfOk-weaker}
-use Rattle.mz_files.specs.Standards.{strict_standard}
-use Rattle.mz_files.proofs.Offered.{good-excludes}
-use Rattle.mz_verdicts.specs.Verdict.{Accepts}
+use Rattle.mz_binary_theory.specs.Standards.{strict_standard}
+use Rattle.mz_binary_theory.proofs.Offered.{good-excludes}
+use Rattle.mz_match_theory.specs.Verdict.{Accepts}
 use Rattle.mz_decompile.specs.Decompiling.{IsDecompilation}
 use Rattle.mz_decompile.proofs.Answered.{some-standing, answered, text-answered}
 use Rattle.mz_decompile.proofs.decompiled.of_accepted.Goals as goal

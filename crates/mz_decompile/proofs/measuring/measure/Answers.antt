@@ -1,6 +1,6 @@
 use Rattle.std.proofs.Common.{refl, sym, subst, arith}
-use Rattle.mz_phrasing.specs.Naming.{vocabulary_by}
-use Rattle.mz_walk.specs.declared.passed.Passed.{Passed}
+use Rattle.mz_decompile_text_theory.specs.Naming.{vocabulary_by}
+use Rattle.mz_binary_walk.specs.declared.passed.Passed.{Passed}
 use Rattle.mz_decompile.specs.declared.measuring.Sizes.{Sizes}
 use Rattle.mz_decompile.proofs.Walking.{IsMeasuring, measuring-asks, measuring-first, measuring-stands, measuring-deep, measuring-more, measuring-last, deep-if, low-unless}
 use Rattle.mz_decompile.proofs.measuring.measure.Goals as goal

@@ -1,7 +1,7 @@
 use Rattle.std.proofs.Common.{◌-◌, List, length}
-use Rattle.mz_statements.specs.Statements.{Statement}
-use Rattle.mz_phrasing.specs.Naming.{vocabulary_by}
-use Rattle.mz_walk.specs.Walk.{IsPlaced}
+use Rattle.mz_mmu_statements.specs.Statements.{Statement}
+use Rattle.mz_decompile_text_theory.specs.Naming.{vocabulary_by}
+use Rattle.mz_binary_walk.specs.Walk.{IsPlaced}
 use Rattle.mz_decompile.specs.Standing.{AreAll}
 use Rattle.mz_decompile.proofs.Walking.{IsMeasuring}
 use Rattle.mz_decompile.proofs.measuring.measure.Given as goal

@@ -1,5 +1,5 @@
 use Rattle.std.proofs.Common.{refl}
-use Rattle.mz_tracing.specs.Traces.{under_lets}
+use Rattle.mz_trace_theory.specs.Traces.{under_lets}
 use Rattle.mz_trace.specs.Runs.{dummies_in, lets_in, root_in}
 use Rattle.mz_decompile.proofs.proof.prove.Goals as goal
 

@@ -4,9 +4,9 @@ use Rattle.mz_layout.specs.Tables.{term_row}
 use Rattle.mz_layout.proofs.Offered.{length-term_words}
 use Rattle.mz_logic.specs.Words.{binders_of, places_set, result_of, word_deps, word_sort}
 use Rattle.mz_logic.specs.declared.word.Word.{Word}
-use Rattle.mz_phrasing.specs.Phrases.{a_word, a_list}
-use Rattle.mz_phrasing.specs.Phrasing.{binders, result}
-use Rattle.mz_phrasing.specs.Naming.{vocabulary_by}
+use Rattle.mz_decompile_text_theory.specs.Phrases.{a_word, a_list}
+use Rattle.mz_decompile_text_theory.specs.Phrasing.{binders, result}
+use Rattle.mz_decompile_text_theory.specs.Naming.{vocabulary_by}
 use Rattle.mz_decompile.specs.Adding.{Adds}
 use Rattle.mz_decompile.proofs.Adding.{adds-then, word-is}
 use Rattle.mz_decompile.proofs.term.put_signature.Goals as goal

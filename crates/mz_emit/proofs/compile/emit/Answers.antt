@@ -1,5 +1,5 @@
 use Rattle.std.proofs.Common.{List, length, sym, ap, subst, arith}
-use Rattle.mz_statements.specs.Statements.{Statement}
+use Rattle.mz_mmu_statements.specs.Statements.{Statement}
 use Rattle.mz_type.specs.Meaning.{LegalAsStated}
 use Rattle.mz_type.specs.StatedView.{AreRead, statements_of}
 use Rattle.mz_type.specs.Weight.{IsWithinLimits}

@@ -1,6 +1,6 @@
 use Rattle.std.specs.List.{range_with_len}
-use Rattle.mz_checks.specs.Checks.{each_in_order}
-use Rattle.mz_checks.proofs.Offered.{Decides, rows_from}
+use Rattle.mz_base_theory.specs.Checks.{each_in_order}
+use Rattle.mz_base_theory.proofs.Offered.{Decides, rows_from}
 use Rattle.mz_layout.specs.Tables.{term_count}
 use Rattle.mz_layout.specs.Layout.{term_check}
 use Rattle.mz_layout.proofs.checks.check_term_rows.Given as goal

@@ -1,6 +1,6 @@
 use Rattle.std.specs.List.{range_with_len}
-use Rattle.mz_checks.specs.Checks.{each_in_order}
-use Rattle.mz_checks.proofs.Offered.{Decides, rows_from}
+use Rattle.mz_base_theory.specs.Checks.{each_in_order}
+use Rattle.mz_base_theory.proofs.Offered.{Decides, rows_from}
 use Rattle.mz_layout.specs.Tables.{thm_count}
 use Rattle.mz_layout.specs.Layout.{thm_check}
 use Rattle.mz_layout.proofs.checks.check_thm_rows.Given as goal

@@ -1,6 +1,5 @@
-use Rattle.std.proofs.Common.{ℕ, ◌<◌, length, List, All, subst, sym, IsTrue, ◌↔◌, Bool, get_or}
+use Rattle.std.proofs.Common.{ℕ, ◌<◌, length, List, All, subst, sym, IsTrue, ◌↔◌, Bool, get_or, ◌≡◌}
 use Rattle.std.proofs.lemmas.Option.{slice_get_within}
-use Rattle.std.proofs.Common.{◌≡◌}
 use Rattle.mz_logic.specs.Variables.{IsBoundAt}
 use Rattle.mz_logic.specs.declared.binder.Binder.{Binder}
 use Rattle.mz_logic.proofs.check.are_bound.Goals as goal

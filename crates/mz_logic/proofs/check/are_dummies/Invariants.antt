@@ -1,4 +1,4 @@
-use Rattle.mz_general.proofs.Offered.{AllSoFar}
+use Rattle.mz_base_theory.proofs.Offered.{AllSoFar}
 use Rattle.mz_logic.specs.Legality.{IsDummy}
 use Rattle.mz_logic.proofs.check.are_dummies.Given as goal
 

@@ -1,5 +1,5 @@
 use Rattle.std.proofs.Common.{◌∙◌, ◌+◌, List, ap, arith, drop, length, sym, subst, true≢false}
-use Rattle.mz_general.proofs.Offered.{drop-item}
+use Rattle.mz_base_theory.proofs.Offered.{drop-item}
 use Rattle.mz_logic.specs.Declaration.{signatures}
 use Rattle.mz_logic.specs.Legality.{AllInRange, BoundFit, HasBoundOperands, OperandsOf}
 use Rattle.mz_logic.specs.Tree.{Trees, more, trees_size}

@@ -3,21 +3,20 @@ use Rattle.std.specs.Int.Bits.{and_zero_r}
 use Rattle.std.proofs.Common.{◌≡◌, ◌<◌, ◌≤◌, ◌+◌, ℕ, zero, suc, true, List, length, drop, sym, ap, ◌∙◌, arith, add-one}
 use Rattle.std.proofs.lemmas.List.{length-map}
 use Rattle.std.proofs.lemmas.Option.{slice_get_within}
-use Rattle.mz_general.proofs.Offered.{drop-past, slice_get-some}
+use Rattle.mz_base_theory.proofs.Offered.{drop-past, slice_get-some}
 use Rattle.mz_logic.specs.Tree.{Tree}
 use Rattle.mz_logic.specs.Words.{binders_of}
 use Rattle.mz_logic.specs.declared.word.Word.{Word}
 use Rattle.mz_logic.specs.declared.binder.Binder.{Binder}
-use Rattle.mz_soundness.specs.Premises.{apart_at, apart_from, are_apart}
-use Rattle.mz_store.specs.Sharing.{deps_of}
+use Rattle.mz_machine_theory.specs.Premises.{apart_at, apart_from, are_apart}
+use Rattle.mz_store.specs.Sharing.{deps_of, tree_of}
 use Rattle.mz_unify.proofs.Offered.{is-in-at, tree-at}
-use Rattle.mz_earlier.specs.Before.{signatures_of}
+use Rattle.mz_machine_env.specs.Before.{signatures_of}
 use Rattle.mz_machine.proofs.Apartness.{tells-v}
 use Rattle.mz_store.specs.declared.item.Id.{Id}
-use Rattle.mz_store.specs.Sharing.{tree_of}
 use Rattle.mz_unify.specs.Stored.{trees_at}
 use Rattle.mz_layout.specs.Rows.{params_of}
-use Rattle.mz_earlier.proofs.Offered.{apart-at-once, place-below, row-asked, rows_from, rows-at}
+use Rattle.mz_machine_env.proofs.Offered.{apart-at-once, place-below, row-asked, rows_from, rows-at}
 use Rattle.mz_machine.proofs.apart.are_apart.Goals as goal
 
 pub variables_at-all-requires-clause-within : goal.variables_at-all-requires-clause-within

@@ -1,5 +1,5 @@
 use Rattle.mz_store.specs.Sharing.{tree_of, deps_of}
-use Rattle.mz_earlier.proofs.Offered.{apart-words}
+use Rattle.mz_machine_env.proofs.Offered.{apart-words}
 use Rattle.mz_machine.proofs.Apartness.{tells-v}
 use Rattle.mz_machine.proofs.apart.stands_beside.Goals as goal
 

@@ -3,7 +3,7 @@ use Rattle.std.proofs.lemmas.Option.{slice_get-get_or}
 use Rattle.mz_store.specs.declared.item.Id.{Id}
 use Rattle.mz_store.specs.Sharing.{deps_of}
 use Rattle.mz_unify.proofs.Offered.{is-in-at}
-use Rattle.mz_earlier.proofs.Offered.{among-none, among-next, among-all}
+use Rattle.mz_machine_env.proofs.Offered.{among-none, among-next, among-all}
 use Rattle.mz_machine.proofs.apart.variables_at.Goals as goal
 
 pub places-init : goal.places-init

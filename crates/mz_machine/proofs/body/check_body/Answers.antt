@@ -1,5 +1,5 @@
 use Rattle.std.proofs.Common.{sym}
-use Rattle.mz_earlier.proofs.Offered.{byte-kind}
+use Rattle.mz_machine_env.proofs.Offered.{byte-kind}
 use Rattle.mz_machine.proofs.body.check_body.Goals as goal
 
 pub check_body_in-requires-clause-may_run : goal.check_body_in-requires-clause-may_run

@@ -1,9 +1,9 @@
 use Rattle.std.proofs.Common.{◌+◌, ◌∙◌, length, sym, ap, arith}
 use Rattle.mz_machine.specs.Running.{machine_of}
 use Rattle.mz_machine.specs.Steps.{tables_for, heading_for}
-use Rattle.mz_unification.specs.Profile.{plain}
-use Rattle.mz_unification.proofs.Offered.{further}
-use Rattle.mz_earlier.proofs.Offered.{at-first, cut-whole, long-whole, end-whole, end-refused, end-many, refused-whole, refused-many, goes-on, ends-there, goes-further}
+use Rattle.mz_unify_theory.specs.Profile.{plain}
+use Rattle.mz_unify_theory.proofs.Offered.{further}
+use Rattle.mz_machine_env.proofs.Offered.{at-first, cut-whole, long-whole, end-whole, end-refused, end-many, refused-whole, refused-many, goes-on, ends-there, goes-further}
 use Rattle.mz_machine.proofs.BodyRunning.{itself, goes, row-over, steps-over, most-over, end-answer, end-counts, stop-answer, stop-counts, more-steps, place-fits, within-steps}
 use Rattle.mz_machine.proofs.GapWalk.{gap-at-first, gap-ends, gap-goes-on}
 use Rattle.mz_machine.proofs.body.run.Goals as goal

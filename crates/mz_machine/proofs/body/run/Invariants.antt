@@ -1,11 +1,11 @@
 use Rattle.std.specs.Prelude.{◌↔◌}
 use Rattle.std.proofs.Common.{◌≡◌, ◌≤◌, ◌⊎◌, ◌+◌, ◌*◌, ◌-◌, true, length, drop}
-use Rattle.mz_mode.specs.Gaps.{gaps_of}
-use Rattle.mz_unification.specs.Profile.{plain}
-use Rattle.mz_soundness.specs.Sound.{HasGap}
+use Rattle.mz_base.specs.Gaps.{gaps_of}
+use Rattle.mz_unify_theory.specs.Profile.{plain}
+use Rattle.mz_machine_theory.specs.Sound.{HasGap}
 use Rattle.mz_machine.specs.Steps.{tables_for, heading_for}
 use Rattle.mz_machine.specs.Running.{IsRunning, machine_of}
-use Rattle.mz_earlier.proofs.Offered.{IsUnderway}
+use Rattle.mz_machine_env.proofs.Offered.{IsUnderway}
 use Rattle.mz_machine.proofs.BodyRunning.{IsSameBody}
 use Rattle.mz_machine.proofs.body.run.Given as goal
 

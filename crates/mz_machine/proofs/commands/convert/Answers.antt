@@ -1,9 +1,9 @@
 use Rattle.std.proofs.Common.{◌∙◌, [], ◌∷◌, Ok, refl, sym, ap}
 use Rattle.std.proofs.lemmas.Result.{on_ok_weaker}
 use Rattle.mz_unify.proofs.Offered.{items-in-both}
-use Rattle.mz_unification.specs.Profile.{strict}
-use Rattle.mz_earlier.specs.Before.{tables_of}
-use Rattle.mz_earlier.specs.CommandCodes.{code_of_converting}
+use Rattle.mz_unify_theory.specs.Profile.{strict}
+use Rattle.mz_machine_env.specs.Before.{tables_of}
+use Rattle.mz_machine_env.specs.CommandCodes.{code_of_converting}
 use Rattle.mz_machine.specs.OverStore.{state_at}
 use Rattle.mz_machine.specs.Steps.{takes_none}
 use Rattle.mz_machine.proofs.Converting.{true-false}

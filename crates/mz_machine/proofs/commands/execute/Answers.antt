@@ -1,7 +1,7 @@
 use Rattle.std.proofs.Common.{arith}
 use Rattle.std.proofs.lemmas.Result.{on_ok_weaker}
-use Rattle.mz_unification.specs.Profile.{strict}
-use Rattle.mz_earlier.specs.Before.{tables_of}
+use Rattle.mz_unify_theory.specs.Profile.{strict}
+use Rattle.mz_machine_env.specs.Before.{tables_of}
 use Rattle.mz_unify.proofs.Offered.{are-still-in}
 use Rattle.mz_machine.specs.OverStore.{state_at}
 use Rattle.mz_machine.proofs.Unfoldings.{no-more, unless-mem}

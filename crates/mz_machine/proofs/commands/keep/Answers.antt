@@ -4,7 +4,7 @@ use Rattle.std.proofs.lemmas.Result.{err_from_is_err_and, on_ok_weaker}
 use Rattle.mz_store.specs.declared.item.Item.TheVariants.{Expr, Proof}
 use Rattle.mz_unify.proofs.Offered.{items-in-both, are-in-both, items-push, are-still-in}
 use Rattle.mz_unify.specs.Stored.{items_at}
-use Rattle.mz_earlier.specs.Before.{tables_of}
+use Rattle.mz_machine_env.specs.Before.{tables_of}
 use Rattle.mz_machine.specs.Steps.{takes_none}
 use Rattle.mz_machine.specs.OverStore.{state_at, code_of_keeping, heap_at}
 use Rattle.mz_machine.proofs.Converting.{true-false}

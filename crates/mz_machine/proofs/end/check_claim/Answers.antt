@@ -1,10 +1,10 @@
 use Rattle.std.proofs.Common.{◌∙◌, true, false, sym, ap}
 use Rattle.mz_store.specs.Sharing.{tree_of}
-use Rattle.mz_unification.specs.Profile.{strict}
-use Rattle.mz_soundness.specs.MachineState.{is_axiom}
-use Rattle.mz_soundness.specs.ProofMachine.{has_provable_sort}
-use Rattle.mz_earlier.specs.Before.{tables_of}
-use Rattle.mz_earlier.specs.OwnRow.{heading_by}
+use Rattle.mz_unify_theory.specs.Profile.{strict}
+use Rattle.mz_machine_theory.specs.MachineState.{is_axiom}
+use Rattle.mz_machine_theory.specs.ProofMachine.{has_provable_sort}
+use Rattle.mz_machine_env.specs.Before.{tables_of}
+use Rattle.mz_machine_env.specs.OwnRow.{heading_by}
 use Rattle.mz_machine.proofs.EndRows.{claim-ends, claim-other}
 use Rattle.mz_machine.proofs.RowResults.{provable}
 use Rattle.mz_machine.proofs.end.check_claim.Goals as goal

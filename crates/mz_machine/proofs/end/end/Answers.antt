@@ -1,15 +1,15 @@
 use Rattle.std.proofs.Common.{◌∙◌, ap, sym, subst, refl}
 use Rattle.mz_store.specs.Sharing.{tree_of, AreIn}
 use Rattle.mz_unify.specs.Stored.{items_at, trees_at, AreItemsIn, AreVariables}
-use Rattle.mz_unification.specs.UnifyMachine.{unify, unify_steps}
-use Rattle.mz_earlier.specs.OwnRow.{first_ids, heading_by, kind_of}
-use Rattle.mz_earlier.specs.Before.{tables_of, signatures_of}
-use Rattle.mz_soundness.specs.ProofMachine.{last_item, ending}
-use Rattle.mz_soundness.specs.MachineState.{Kind}
+use Rattle.mz_unify_theory.specs.UnifyMachine.{unify, unify_steps}
+use Rattle.mz_machine_env.specs.OwnRow.{first_ids, heading_by, kind_of}
+use Rattle.mz_machine_env.specs.Before.{tables_of, signatures_of}
+use Rattle.mz_machine_theory.specs.ProofMachine.{last_item, ending}
+use Rattle.mz_machine_theory.specs.MachineState.{Kind}
 use Rattle.mz_machine.specs.OverStore.{state_at}
 use Rattle.mz_machine.specs.Endings.{IsOwnRun}
-use Rattle.mz_unification.specs.Profile.{strict}
-use Rattle.mz_earlier.proofs.Offered.{kind-is}
+use Rattle.mz_unify_theory.specs.Profile.{strict}
+use Rattle.mz_machine_env.proofs.Offered.{kind-is}
 use Rattle.mz_machine.proofs.EndRows.{no-last-item, not-ending, is-ending, stopped-end, no-end-steps, end-steps, own-end}
 use Rattle.mz_machine.proofs.Ending.{own-matching, first-trees, first-in, first-variables, own-items, own-items-in}
 use Rattle.mz_machine.proofs.Unfoldings.{no-more, unless-more}

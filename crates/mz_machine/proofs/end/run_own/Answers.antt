@@ -1,6 +1,6 @@
 use Rattle.std.proofs.Common.{sym, subst}
 use Rattle.mz_store.specs.Sharing.{IsOver}
-use Rattle.mz_earlier.proofs.Offered.{signatures-before}
+use Rattle.mz_machine_env.proofs.Offered.{signatures-before}
 use Rattle.mz_machine.proofs.EndRows.{own-run, own-steps}
 use Rattle.mz_machine.proofs.end.run_own.Goals as goal
 

@@ -7,8 +7,8 @@ use Rattle.mz_store.specs.Sharing.{tree_of}
 use Rattle.mz_store.specs.declared.item.Id.{Id}
 use Rattle.mz_unify.specs.Stored.{trees_at}
 use Rattle.mz_unify.proofs.Offered.{is-in-at, tree-at}
-use Rattle.mz_earlier.specs.Before.{signatures_of}
-use Rattle.mz_earlier.proofs.Offered.{places-take, places-skip, places-all}
+use Rattle.mz_machine_env.specs.Before.{signatures_of}
+use Rattle.mz_machine_env.proofs.Offered.{places-take, places-skip, places-all}
 use Rattle.mz_layout.specs.Rows.{params_of}
 use Rattle.mz_machine.proofs.FittingOperands.{fit-step, fit-end}
 use Rattle.mz_machine.proofs.HandedOn.{memory-stops}

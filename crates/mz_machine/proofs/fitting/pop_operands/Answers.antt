@@ -3,7 +3,7 @@ use Rattle.std.proofs.lemmas.List.{take-append-drop, length-drop}
 use Rattle.std.proofs.lemmas.Result.{err_from_is_err_and}
 use Rattle.mz_unify.specs.Stored.{items_at, AreItemsIn}
 use Rattle.mz_unify.proofs.Offered.{items-in-left, items-in-right}
-use Rattle.mz_soundness.specs.Premises.{pop_operands}
+use Rattle.mz_machine_theory.specs.Premises.{pop_operands}
 use Rattle.mz_machine.proofs.Stopping.{stops-as}
 use Rattle.mz_machine.proofs.ReadExprs.{exprs-many, operands-read, read-of}
 use Rattle.mz_machine.proofs.StoredItems.{exprs-in, of-store}

@@ -1,11 +1,11 @@
 use Rattle.std.proofs.Common.{◌∙◌, arith, refl, sym, subst}
 use Rattle.std.proofs.lemmas.Result.{err_from_is_err_and}
-use Rattle.mz_mode.specs.Gaps.{gaps_of}
-use Rattle.mz_earlier.specs.OwnRow.{kind_of}
-use Rattle.mz_earlier.specs.Before.{tables_of}
+use Rattle.mz_base.specs.Gaps.{gaps_of}
+use Rattle.mz_machine_env.specs.OwnRow.{kind_of}
+use Rattle.mz_machine_env.specs.Before.{tables_of}
 use Rattle.mz_machine.specs.OverStore.{code_of, state_at}
-use Rattle.mz_soundness.specs.Bodies.{row_steps}
-use Rattle.mz_unification.specs.Profile.{strict}
+use Rattle.mz_machine_theory.specs.Bodies.{row_steps}
+use Rattle.mz_unify_theory.specs.Profile.{strict}
 use Rattle.mz_machine.specs.Steps.{TakesNone}
 use Rattle.mz_machine.proofs.Machines.{tells-all}
 use Rattle.mz_machine.proofs.GapRows.{stands-here, its-row, its-gap, its-steps, gap-steps, gives-as, counts-as, none-counted, none-here, rule-not-mem}

@@ -7,7 +7,7 @@ use Rattle.mz_match.specs.declared.stream.Cursor.{Cursor}
 use Rattle.std.proofs.lemmas.List.{drop_all}
 use Rattle.std.proofs.lemmas.Bool.{false≢true}
 use Rattle.mz_match.specs.Streams.{step_at, AreSaid, IsMade}
-use Rattle.mz_verdicts.specs.Comparing.{compared, all_compared}
+use Rattle.mz_match_theory.specs.Comparing.{compared, all_compared}
 use Rattle.mz_match.specs.Beside.{beside}
 use Rattle.mz_match.proofs.Compared.{cursor-is, said-within, made-within, said-no, made-no, said-made, said-mark, mark-made, mark-param, made-term, compared-param, found-place, differs-app, marked, answered, next-of, all-next, all-stopped, all-goes-on, all-done}
 use Rattle.mz_match.proofs.compare.+same_at.Goals as goal

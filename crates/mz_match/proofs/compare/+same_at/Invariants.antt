@@ -1,9 +1,9 @@
 use Rattle.std.proofs.Common.{◌≡◌, ◌≤◌, ◌+◌, ◌*◌, drop, length}
 use Rattle.mz_logic.specs.Tree.{Trees, listed, size, trees_size}
 use Rattle.mz_logic.specs.View.{tree, trees}
-use Rattle.mz_unification.specs.Spells.{Marks}
+use Rattle.mz_unify_theory.specs.Spells.{Marks}
 use Rattle.mz_match.specs.declared.stream.Cursor.{Cursor}
-use Rattle.mz_verdicts.specs.Comparing.{all_compared}
+use Rattle.mz_match_theory.specs.Comparing.{all_compared}
 use Rattle.mz_match.specs.Beside.{AllSaidAt, IsStream, beside}
 use Rattle.mz_match.proofs.compare.+same_at.Given as goal
 

@@ -2,7 +2,7 @@ use Rattle.std.proofs.Common.{arith}
 use Rattle.mz_logic.specs.View.{tree}
 use Rattle.mz_match.specs.Beside.{beside}
 use Rattle.mz_match.proofs.SameBodies.{same-body}
-use Rattle.mz_verdicts.proofs.Offered.{says-nothing}
+use Rattle.mz_match_theory.proofs.Offered.{says-nothing}
 use Rattle.mz_match.proofs.compare.same_body.Goals as goal
 
 pub same_at-requires : goal.same_at-requires

@@ -1,7 +1,7 @@
 use Rattle.std.proofs.Common.{◌≡◌, ◌∙◌, Some, refl, sym, subst, arith}
 use Rattle.mz_logic.specs.Tree.{Tree}
 use Rattle.mz_logic.specs.View.{tree}
-use Rattle.mz_verdicts.specs.Trees.{SameTree}
+use Rattle.mz_match_theory.specs.Trees.{SameTree}
 use Rattle.mz_match.specs.declared.stream.Cursor.{Cursor}
 use Rattle.mz_match.specs.Beside.{SaidAt}
 use Rattle.mz_match.proofs.compare.same_hyp.Goals as goal

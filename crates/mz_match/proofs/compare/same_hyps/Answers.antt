@@ -6,8 +6,8 @@ use Rattle.mz_cmd.specs.declared.code.UnifyCode.TheVariants as codes
 use Rattle.mz_logic.specs.Tree.{Tree, listed}
 use Rattle.mz_logic.specs.View.{tree, trees}
 use Rattle.mz_logic.proofs.Offered.{expr-at, exprs_of, length-exprs, trees-exprs}
-use Rattle.mz_unification.specs.Spells.{trees_of}
-use Rattle.mz_verdicts.specs.Trees.{SameTrees}
+use Rattle.mz_unify_theory.specs.Spells.{trees_of}
+use Rattle.mz_match_theory.specs.Trees.{SameTrees}
 use Rattle.mz_match.specs.Streams.{step_at, Passes, Says}
 use Rattle.mz_match.proofs.Steps.{step-takes}
 use Rattle.mz_match.proofs.PlainTrees.{said-passes, next-hyp-same, all-left, left-answer, hyp-left, hyp-found}

@@ -3,8 +3,8 @@ use Rattle.std.specs.Prelude.{◌↔◌}
 use Rattle.mz_logic.specs.Tree.{Tree}
 use Rattle.mz_logic.specs.View.{trees}
 use Rattle.mz_logic.proofs.Offered.{exprs_of}
-use Rattle.mz_unification.specs.Spells.{Marks, trees_of}
-use Rattle.mz_verdicts.specs.Trees.{SameTrees}
+use Rattle.mz_unify_theory.specs.Spells.{Marks, trees_of}
+use Rattle.mz_match_theory.specs.Trees.{SameTrees}
 use Rattle.mz_match.specs.Streams.{Passes, HypsAreSaid}
 use Rattle.mz_match.specs.Beside.{HypsSaidAt, IsHypAt, IsPlainStream}
 use Rattle.mz_match.proofs.compare.same_hyps.Given as goal

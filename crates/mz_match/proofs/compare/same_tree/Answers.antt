@@ -1,7 +1,7 @@
 use Rattle.std.proofs.Common.{arith}
 use Rattle.mz_logic.specs.View.{tree}
 use Rattle.mz_match.specs.Beside.{beside}
-use Rattle.mz_verdicts.proofs.Offered.{says-nothing}
+use Rattle.mz_match_theory.proofs.Offered.{says-nothing}
 use Rattle.mz_match.proofs.PlainTrees.{said-below, plain-answer}
 use Rattle.mz_match.proofs.compare.same_tree.Goals as goal
 

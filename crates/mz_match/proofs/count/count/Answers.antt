@@ -2,9 +2,9 @@ use Rattle.std.proofs.Common.{◌≡◌, ◌+◌, ◌∙◌, ℕ, Bool, suc, tak
 use Rattle.std.specs.Prelude.{if◌then◌else◌}
 use Rattle.mz_logic.specs.DeclView.{declaration}
 use Rattle.mz_spec.specs.State.{env_of}
-use Rattle.mz_verdicts.specs.Match.{is_kind, kind_of}
-use Rattle.mz_verdicts.specs.Verdict.{count as count_lem}
-use Rattle.mz_verdicts.proofs.Offered.{count-take}
+use Rattle.mz_match_theory.specs.Match.{is_kind, kind_of}
+use Rattle.mz_match_theory.specs.Verdict.{count as count_lem}
+use Rattle.mz_match_theory.proofs.Offered.{count-take}
 use Rattle.mz_match.proofs.count.count.Goals as goal
 use Rattle.mz_match.proofs.count.count.Goals.{then-is, else-is}
 

@@ -1,6 +1,6 @@
 use Rattle.std.proofs.Common.{◌≡◌, ◌≤◌, take}
 use Rattle.mz_spec.specs.State.{env_of}
-use Rattle.mz_verdicts.specs.Verdict.{count as count_lem}
+use Rattle.mz_match_theory.specs.Verdict.{count as count_lem}
 use Rattle.mz_match.proofs.count.count.Given as goal
 
 abbrev pub invariant-declarations : goal.invariant-declarations

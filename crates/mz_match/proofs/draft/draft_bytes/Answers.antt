@@ -1,9 +1,9 @@
-use Rattle.mz_verdicts.specs.declared.verdict.Verdict.TheVariants as verdicts
+use Rattle.mz_match_theory.specs.declared.verdict.Verdict.TheVariants as verdicts
 use Rattle.mz_match.specs.Drafts.{verdict_of}
 use Rattle.mz_match.proofs.GapPlaces.{draft-verdict, draft-sound}
-use Rattle.mz_verdicts.proofs.Offered.{verdict-says, refusal-says}
+use Rattle.mz_match_theory.proofs.Offered.{verdict-says, refusal-says}
 use Rattle.mz_match.proofs.draft.draft_bytes.Goals as goal
-use Rattle.mz_files.specs.Standards.{draft_standard}
+use Rattle.mz_binary_theory.specs.Standards.{draft_standard}
 
 pub returns-clause-accepted : goal.returns-clause-accepted
 returns-clause-accepted g c = λ counts accepts.

@@ -1,9 +1,9 @@
 use Rattle.std.proofs.Common.{◌∙◌, sym, ap, subst}
-use Rattle.mz_checks.specs.Checks.{Judges}
+use Rattle.mz_base_theory.specs.Checks.{Judges}
 use Rattle.mz_cmd.specs.Codes.{statement_byte}
 use Rattle.mz_logic.specs.Declaration.{Declaration}
 use Rattle.mz_logic.specs.DeclView.{assertion_of, assertion_view, is_axiom}
-use Rattle.mz_verdicts.specs.Match.{match_checks}
+use Rattle.mz_match_theory.specs.Match.{match_checks}
 use Rattle.mz_match.specs.TellsRow.{IsRowOf}
 use Rattle.mz_match.proofs.BesideRows.{exact-no}
 use Rattle.mz_match.proofs.RowPairs.{assertion-kind-differs, assertion-judged, thm-row}

@@ -1,11 +1,11 @@
 use Rattle.std.proofs.Common.{◌∙◌, List, length, Bool, refl, sym, ap, subst, arith}
 use Rattle.std.specs.Prelude.{IsTrue, ◌↔◌, MatchBool}
 use Rattle.std.proofs.lemmas.Bool.{true≢false}
-use Rattle.mz_checks.specs.Checks.{AllHold, FailsFirst}
+use Rattle.mz_base_theory.specs.Checks.{AllHold, FailsFirst}
 use Rattle.mz_logic.specs.declared.binder.Binder.{Binder}
-use Rattle.mz_verdicts.specs.declared.rule.M.TheVariants as rules
-use Rattle.mz_verdicts.specs.Match.{form_checks}
-use Rattle.mz_verdicts.specs.Trees.{SameBody}
+use Rattle.mz_match_theory.specs.declared.rule.M.TheVariants as rules
+use Rattle.mz_match_theory.specs.Match.{form_checks}
+use Rattle.mz_match_theory.specs.Trees.{SameBody}
 use Rattle.mz_logic.specs.View.{tree}
 use Rattle.mz_logic.specs.DeclView.{form}
 use Rattle.mz_logic.specs.declared.decl.TermForm.{TermForm}

@@ -1,9 +1,9 @@
 use Rattle.std.proofs.Common.{suc, drop, subst, List, ℕ}
-use Rattle.mz_checks.specs.Checks.{Judges}
+use Rattle.mz_base_theory.specs.Checks.{Judges}
 use Rattle.mz_logic.specs.DeclView.{declaration}
 use Rattle.mz_spec.specs.State.{env_of}
-use Rattle.mz_verdicts.specs.Match.{match_checks, partner_of}
-use Rattle.mz_verdicts.proofs.Offered.{drop-entry}
+use Rattle.mz_match_theory.specs.Match.{match_checks, partner_of}
+use Rattle.mz_match_theory.proofs.Offered.{drop-entry}
 use Rattle.mz_match.proofs.ToldRows.{told-row}
 use Rattle.mz_match.proofs.RowPairs.{judges-partner}
 use Rattle.mz_match.proofs.pair.match_statement.Goals as goal

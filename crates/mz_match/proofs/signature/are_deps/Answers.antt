@@ -2,7 +2,7 @@ use Rattle.std.proofs.Common.{◌≡◌, ◌/◌, ◌+◌, drop, sym, subst, tru
 use Rattle.std.specs.Prelude.{◌↔◌}
 use Rattle.std.proofs.lemmas.Bool.{eq-eqb, eqb-true}
 use Rattle.mz_logic.specs.Words.{places_set}
-use Rattle.mz_verdicts.proofs.Offered.{deps-short, deps-differ, deps-step, deps-skip, deps-end}
+use Rattle.mz_match_theory.proofs.Offered.{deps-short, deps-differ, deps-step, deps-skip, deps-end}
 use Rattle.mz_match.proofs.signature.are_deps.Goals.{then-found-deps-via-then-found-deps, then-found-deps-via-else-found-deps+then-deps-found, then-bits-eq1+else-found-deps+else-deps-found, else-bits-eq1}
 use Rattle.mz_match.proofs.signature.are_deps.Goals as goal
 

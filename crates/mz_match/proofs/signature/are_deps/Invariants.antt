@@ -1,6 +1,6 @@
 use Rattle.std.proofs.Common.{◌≡◌, ◌≤◌, length}
 use Rattle.mz_logic.specs.Words.{places_set}
-use Rattle.mz_verdicts.proofs.Offered.{AreLeft}
+use Rattle.mz_match_theory.proofs.Offered.{AreLeft}
 use Rattle.mz_match.proofs.signature.are_deps.Given as goal
 
 abbrev pub invariant-loop-place : goal.invariant-loop-place

@@ -3,7 +3,7 @@ use Rattle.std.proofs.lemmas.Option.{get_or_from_slice_get, slice_get_within}
 use Rattle.mz_logic.specs.Words.{binder_of, binders_of, bound_places}
 use Rattle.mz_logic.proofs.Offered.{length-binders}
 use Rattle.mz_layout.specs.Rows.{params_of}
-use Rattle.mz_verdicts.proofs.Offered.{params-step, params-differ, params-end, places-step, places-end, places-room}
+use Rattle.mz_match_theory.proofs.Offered.{params-step, params-differ, params-end, places-step, places-end, places-room}
 use Rattle.mz_match.proofs.signature.has_params.Goals as goal
 
 pub returns-then-params-arity-clause-same : goal.returns-then-params-arity-clause-same

@@ -1,7 +1,7 @@
 use Rattle.std.proofs.Common.{◌≡◌, ◌++◌, drop}
 use Rattle.mz_logic.specs.Words.{binders_of, bound_places}
 use Rattle.mz_layout.specs.Rows.{params_of}
-use Rattle.mz_verdicts.proofs.Offered.{ParamsLeft}
+use Rattle.mz_match_theory.proofs.Offered.{ParamsLeft}
 use Rattle.mz_match.proofs.signature.has_params.Given as goal
 
 abbrev pub invariant-loop-i : goal.invariant-loop-i

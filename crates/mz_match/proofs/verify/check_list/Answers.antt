@@ -2,23 +2,23 @@ use Rattle.std.proofs.Common.{◌≡◌, ◌≤◌, ◌<◌, ◌^◌, ℕ, List,
 use Rattle.std.proofs.lemmas.Bool.{cases_lt}
 use Rattle.mz_layout.specs.Layout.{Layout}
 use Rattle.mz_spec.specs.State.{env_of}
-use Rattle.mz_files.specs.Good.{Good}
+use Rattle.mz_binary_theory.specs.Good.{Good}
 use Rattle.mz_binary.specs.Judging.{Passes}
 use Rattle.mz_binary.specs.Progress.{most_left}
 use Rattle.mz_logic.specs.Declaration.{Declaration}
 use Rattle.mz_logic.specs.LegalLists.{Statement}
 use Rattle.mz_match.specs.Told.{IsMatched}
 use Rattle.mz_binary.proofs.Offered.{most-of-file}
-use Rattle.mz_verdicts.specs.declared.verdict.Verdict.{Verdict}
-use Rattle.mz_verdicts.specs.declared.verdict.Verdict.TheVariants as verdicts
+use Rattle.mz_match_theory.specs.declared.verdict.Verdict.{Verdict}
+use Rattle.mz_match_theory.specs.declared.verdict.Verdict.TheVariants as verdicts
 use Rattle.mz_match.specs.Drafts.{IsJudged, ListsGapsOf, places_past}
-use Rattle.mz_verdicts.specs.Verdict.{TicksBy}
-use Rattle.mz_verdicts.proofs.Offered.{length-env}
+use Rattle.mz_match_theory.specs.Verdict.{TicksBy}
+use Rattle.mz_match_theory.proofs.Offered.{length-env}
 use Rattle.mz_match.proofs.GapPlaces.{noted, stop-judged}
 use Rattle.mz_match.proofs.Pairing.{stop-ticks, fails-here, missing-here, accepted-here, few-statements}
 use Rattle.mz_match.proofs.verify.check_list.Goals as goal
-use Rattle.mz_files.specs.Standards.{lets_gaps}
-use Rattle.mz_files.specs.declared.standard.Standard.{Standard}
+use Rattle.mz_binary_theory.specs.Standards.{lets_gaps}
+use Rattle.mz_binary_theory.specs.declared.standard.Standard.{Standard}
 
 pub statements-init : goal.statements-init
 statements-init g c = record {

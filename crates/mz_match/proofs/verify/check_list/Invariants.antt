@@ -1,13 +1,13 @@
 use Rattle.std.proofs.Common.{◌≡◌, ◌≤◌, ◌+◌, ◌-◌, ◌*◌, length, true, List}
 use Rattle.mz_logic.specs.Declaration.{Declaration}
 use Rattle.mz_logic.specs.LegalLists.{Statement}
-use Rattle.mz_files.specs.FileRun.{file_steps}
+use Rattle.mz_binary_theory.specs.FileRun.{file_steps}
 use Rattle.mz_binary.specs.Progress.{steps_left, most_left}
 use Rattle.mz_spec.specs.State.{env_of}
 use Rattle.mz_match.specs.Drafts.{ListsGapsOf}
 use Rattle.mz_match.specs.Told.{IsMatched}
 use Rattle.mz_match.proofs.verify.check_list.Given as goal
-use Rattle.mz_files.specs.Standards.{lets_gaps}
+use Rattle.mz_binary_theory.specs.Standards.{lets_gaps}
 
 abbrev pub invariant-statements : goal.invariant-statements
 invariant-statements g l = record {

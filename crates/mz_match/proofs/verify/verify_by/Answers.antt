@@ -1,6 +1,6 @@
 use Rattle.mz_match.proofs.GapPlaces.{judged-verdict}
-use Rattle.mz_verdicts.specs.declared.verdict.Verdict.TheVariants as verdicts
-use Rattle.mz_verdicts.proofs.Offered.{verdict-says, refusal-says}
+use Rattle.mz_match_theory.specs.declared.verdict.Verdict.TheVariants as verdicts
+use Rattle.mz_match_theory.proofs.Offered.{verdict-says, refusal-says}
 use Rattle.mz_match.proofs.verify.verify_by.Goals as goal
 
 pub returns-clause-verdict : goal.returns-clause-verdict

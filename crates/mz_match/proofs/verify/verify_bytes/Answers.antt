@@ -1,6 +1,6 @@
 use Rattle.std.proofs.Common.{subst}
-use Rattle.mz_verdicts.specs.Verdict.{IsVerdict}
-use Rattle.mz_verdicts.proofs.Offered.{accepted-proves}
+use Rattle.mz_match_theory.specs.Verdict.{IsVerdict}
+use Rattle.mz_match_theory.proofs.Offered.{accepted-proves}
 use Rattle.mz_match.proofs.Pairing.{sound}
 use Rattle.mz_match.proofs.verify.verify_bytes.Goals as goal
 

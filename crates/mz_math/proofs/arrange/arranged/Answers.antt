@@ -1,7 +1,7 @@
 use Rattle.std.proofs.Common.{◌≡◌, ◌∙◌, ap, sym, subst}
 use Rattle.std.proofs.lemmas.Result.{IfOk-weaker}
 use Rattle.mz_logic.specs.View.{trees}
-use Rattle.mz_notation.specs.Notation.{places}
+use Rattle.mz_math_notation.specs.Notation.{places}
 use Rattle.mz_math.specs.Arrange.{AreDistinct, picked}
 use Rattle.mz_math.specs.Grammar.{arranged as in_order}
 use Rattle.mz_math.proofs.Picking.{distinct-is, picked-is}

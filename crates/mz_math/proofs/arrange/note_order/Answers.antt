@@ -1,6 +1,6 @@
 use Rattle.std.proofs.Common.{◌∙◌, ◌<◌, ◌+◌, None, get_or, length, drop, ap, ap₂, sym, refl, arith}
 use Rattle.std.proofs.lemmas.List.{drop_all}
-use Rattle.mz_notation.specs.Notation.{places}
+use Rattle.mz_math_notation.specs.Notation.{places}
 use Rattle.mz_math.specs.Arrange.{first_of}
 use Rattle.mz_math.proofs.Arranging.{at-constant, at-slot}
 use Rattle.mz_math.proofs.Picking.{first_with, with-more, with-none, with-past}

@@ -1,5 +1,5 @@
 use Rattle.std.proofs.Common.{◌≡◌, ◌<◌, ◌≤◌, ℕ, None, get_or, length, drop}
-use Rattle.mz_notation.specs.Notation.{places}
+use Rattle.mz_math_notation.specs.Notation.{places}
 use Rattle.mz_math.specs.Arrange.{first_of}
 use Rattle.mz_math.proofs.Picking.{first_with}
 use Rattle.mz_math.proofs.arrange.note_order.Given as goal

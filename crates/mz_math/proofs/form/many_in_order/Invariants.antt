@@ -1,5 +1,5 @@
 use Rattle.std.proofs.Common.{◌≡◌, ◌≤◌, ◌++◌, drop}
-use Rattle.mz_notation.specs.Notation.{places, slots}
+use Rattle.mz_math_notation.specs.Notation.{places, slots}
 use Rattle.mz_math.proofs.form.many_in_order.Given as goal
 
 abbrev pub invariant-loop-element : goal.invariant-loop-element

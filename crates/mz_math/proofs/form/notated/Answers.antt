@@ -1,6 +1,6 @@
 use Rattle.std.proofs.Common.{◌≡◌, ◌∙◌, ap, sym, subst}
 use Rattle.mz_logic.specs.Tree.{app}
-use Rattle.mz_notation.specs.Notation.{places, slots}
+use Rattle.mz_math_notation.specs.Notation.{places, slots}
 use Rattle.mz_math.proofs.Arranging.{arranged-in-order}
 use Rattle.mz_math.proofs.form.notated.Goals as goal
 

@@ -1,5 +1,5 @@
 use Rattle.std.proofs.Common.{◌≡◌, ◌≤◌, ◌+◌, length, drop}
-use Rattle.mz_notation.specs.Notation.{places}
+use Rattle.mz_math_notation.specs.Notation.{places}
 use Rattle.mz_math.proofs.form.slots.Given as goal
 
 abbrev pub invariant-loop-element : goal.invariant-loop-element

@@ -1,8 +1,8 @@
 use Rattle.std.proofs.Common.{◌≤◌, Some, sym, subst, refl, length, inl, inr, arith}
 use Rattle.std.proofs.lemmas.List.{length-map}
-use Rattle.mz_checks.specs.Checks.{AllHold}
+use Rattle.mz_base_theory.specs.Checks.{AllHold}
 use Rattle.mz_lex.specs.declared.rule.S.TheVariants as rules
-use Rattle.mz_tokens.specs.Pieces.{piece_text, piece_texts}
+use Rattle.mz_math_tokens.specs.Pieces.{piece_text, piece_texts}
 use Rattle.mz_math.specs.Answers.{IsFirstUnknown}
 use Rattle.mz_math.specs.Grammar.{Exp}
 use Rattle.mz_math.specs.Formula.{words, most, known_checks, IsParsed, breaks}

@@ -1,7 +1,7 @@
 use Rattle.std.proofs.Common.{◌≡◌, drop}
 use Rattle.mz_logic.specs.Words.{binders_of}
-use Rattle.mz_punify.specs.Stored.{trees_at}
-use Rattle.mz_soundness.specs.Premises.{apart_at, are_apart}
+use Rattle.mz_pmachine_unify.specs.Stored.{trees_at}
+use Rattle.mz_machine_theory.specs.Premises.{apart_at, are_apart}
 use Rattle.mz_layout.specs.Rows.{params_of}
 use Rattle.mz_pmachine.proofs.apart.are_apart.Given as goal
 

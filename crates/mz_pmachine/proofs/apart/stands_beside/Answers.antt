@@ -1,5 +1,5 @@
-use Rattle.mz_punify.specs.Numbering.{tree_of, vars_of}
-use Rattle.mz_earlier.proofs.Offered.{apart-words}
+use Rattle.mz_pmachine_unify.specs.Numbering.{tree_of, vars_of}
+use Rattle.mz_machine_env.proofs.Offered.{apart-words}
 use Rattle.mz_pmachine.proofs.apart.stands_beside.Goals as goal
 
 pub returns-else-exempt : goal.returns-else-exempt

@@ -1,9 +1,9 @@
 use Rattle.std.proofs.Common.{arith, add-one}
 use Rattle.std.proofs.lemmas.Option.{slice_get-get_or}
 use Rattle.mz_store.specs.declared.item.Id.{Id}
-use Rattle.mz_punify.specs.Numbering.{vars_of}
-use Rattle.mz_punify.proofs.Offered.{is-in-at}
-use Rattle.mz_earlier.proofs.Offered.{among-none, among-next, among-all}
+use Rattle.mz_pmachine_unify.specs.Numbering.{vars_of}
+use Rattle.mz_pmachine_unify.proofs.Offered.{is-in-at}
+use Rattle.mz_machine_env.proofs.Offered.{among-none, among-next, among-all}
 use Rattle.mz_pmachine.proofs.apart.variables_at.Goals as goal
 
 pub places-init : goal.places-init

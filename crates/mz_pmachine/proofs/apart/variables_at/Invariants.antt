@@ -1,6 +1,6 @@
 use Rattle.mz_store.specs.declared.item.Id.{Id}
-use Rattle.mz_punify.specs.Numbering.{vars_of}
-use Rattle.mz_earlier.proofs.Offered.{AmongFirst}
+use Rattle.mz_pmachine_unify.specs.Numbering.{vars_of}
+use Rattle.mz_machine_env.proofs.Offered.{AmongFirst}
 use Rattle.mz_pmachine.proofs.apart.variables_at.Given as goal
 
 -- the word has the variables of the operands at the places before

@@ -1,5 +1,5 @@
 use Rattle.std.proofs.Common.{sym}
-use Rattle.mz_earlier.proofs.Offered.{byte-kind}
+use Rattle.mz_machine_env.proofs.Offered.{byte-kind}
 use Rattle.mz_pmachine.proofs.body.check_portable.Goals as goal
 
 pub check_portable_in-requires-clause-may_run : goal.check_portable_in-requires-clause-may_run

@@ -1,9 +1,9 @@
 use Rattle.std.proofs.Common.{◌∙◌, [], ◌∷◌, Ok, refl, sym, ap}
 use Rattle.std.proofs.lemmas.Result.{err_from_is_err_and, on_ok_weaker}
 use Rattle.mz_store.specs.declared.item.Item.TheVariants.{Expr, Proof}
-use Rattle.mz_earlier.specs.Before.{tables_of}
-use Rattle.mz_punify.specs.Stored.{items_at}
-use Rattle.mz_punify.proofs.Offered.{items-in-both, are-in-both, items-push, are-still-in}
+use Rattle.mz_machine_env.specs.Before.{tables_of}
+use Rattle.mz_pmachine_unify.specs.Stored.{items_at}
+use Rattle.mz_pmachine_unify.proofs.Offered.{items-in-both, are-in-both, items-push, are-still-in}
 use Rattle.mz_machine.proofs.Offered.{memory-stops, on-both, on-ok, pushed-gives}
 use Rattle.mz_pmachine.specs.OverNodes.{heap_at, state_at}
 use Rattle.mz_pmachine.proofs.Popping.{assumed-state, heap-push, heap-pushed}

@@ -1,7 +1,7 @@
 use Rattle.std.proofs.Common.{◌∙◌, [], ◌∷◌, Ok, refl, sym, ap, arith}
 use Rattle.std.proofs.lemmas.Result.{err_from_is_err_and, on_ok_weaker}
 use Rattle.mz_store.specs.declared.item.Item.TheVariants.{Expr, Proof}
-use Rattle.mz_punify.proofs.Offered.{items-in-both}
+use Rattle.mz_pmachine_unify.proofs.Offered.{items-in-both}
 use Rattle.mz_machine.proofs.Offered.{no-more, on-ok, pushed-gives, unless-mem}
 use Rattle.mz_pmachine.specs.OverNodes.{state_at}
 use Rattle.mz_pmachine.proofs.Popping.{heap-pushed}

@@ -1,9 +1,9 @@
 use Rattle.std.proofs.Common.{subst}
 use Rattle.mz_store.specs.Bits.{Tells, bound_vars}
 use Rattle.mz_store.specs.Sharing.{IsTold}
-use Rattle.mz_punify.specs.Numbering.{sort_of, tree_of}
-use Rattle.mz_earlier.specs.Before.{signatures_of}
-use Rattle.mz_earlier.proofs.Offered.{free-test}
+use Rattle.mz_pmachine_unify.specs.Numbering.{sort_of, tree_of}
+use Rattle.mz_machine_env.specs.Before.{signatures_of}
+use Rattle.mz_machine_env.proofs.Offered.{free-test}
 use Rattle.mz_pmachine.proofs.end.are_free_within.Goals as goal
 
 pub returns : goal.returns

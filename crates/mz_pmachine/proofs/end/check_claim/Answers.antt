@@ -1,10 +1,10 @@
 use Rattle.std.proofs.Common.{◌∙◌, true, false, sym, ap}
-use Rattle.mz_punify.specs.Numbering.{expr_of}
-use Rattle.mz_numbered.specs.Numbered.{portable}
-use Rattle.mz_soundness.specs.MachineState.{is_axiom}
-use Rattle.mz_soundness.specs.ProofMachine.{has_provable_sort}
-use Rattle.mz_earlier.specs.Before.{tables_of}
-use Rattle.mz_earlier.specs.OwnRow.{heading_by}
+use Rattle.mz_pmachine_unify.specs.Numbering.{expr_of}
+use Rattle.mz_pmachine_theory.specs.Numbered.{portable}
+use Rattle.mz_machine_theory.specs.MachineState.{is_axiom}
+use Rattle.mz_machine_theory.specs.ProofMachine.{has_provable_sort}
+use Rattle.mz_machine_env.specs.Before.{tables_of}
+use Rattle.mz_machine_env.specs.OwnRow.{heading_by}
 use Rattle.mz_machine.proofs.Offered.{claim-ends, claim-other, provable}
 use Rattle.mz_pmachine.proofs.end.check_claim.Goals as goal
 

@@ -1,6 +1,6 @@
 use Rattle.std.proofs.Common.{sym, subst}
-use Rattle.mz_punify.specs.Numbering.{IsOver}
-use Rattle.mz_earlier.proofs.Offered.{signatures-before}
+use Rattle.mz_pmachine_unify.specs.Numbering.{IsOver}
+use Rattle.mz_machine_env.proofs.Offered.{signatures-before}
 use Rattle.mz_machine.proofs.Offered.{own-run, own-steps}
 use Rattle.mz_pmachine.proofs.end.run_own.Goals as goal
 

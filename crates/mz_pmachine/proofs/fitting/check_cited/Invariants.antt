@@ -1,8 +1,8 @@
 use Rattle.std.proofs.Common.{◌≡◌, ◌++◌, drop}
 use Rattle.mz_logic.specs.Words.{binders_of, bound_places}
-use Rattle.mz_punify.specs.Stored.{trees_at}
-use Rattle.mz_soundness.specs.Premises.{operands_fit}
-use Rattle.mz_earlier.specs.Before.{signatures_of}
+use Rattle.mz_pmachine_unify.specs.Stored.{trees_at}
+use Rattle.mz_machine_theory.specs.Premises.{operands_fit}
+use Rattle.mz_machine_env.specs.Before.{signatures_of}
 use Rattle.mz_layout.specs.Rows.{params_of}
 use Rattle.mz_pmachine.proofs.fitting.check_cited.Given as goal
 

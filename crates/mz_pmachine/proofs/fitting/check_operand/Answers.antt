@@ -1,5 +1,5 @@
 use Rattle.std.proofs.Common.{◌∙◌, sym}
-use Rattle.mz_punify.specs.Numbering.{tree_of}
+use Rattle.mz_pmachine_unify.specs.Numbering.{tree_of}
 use Rattle.mz_machine.proofs.Offered.{not-variable, other-sort, true-false}
 use Rattle.mz_pmachine.proofs.fitting.check_operand.Goals as goal
 

@@ -1,9 +1,9 @@
 use Rattle.std.proofs.Common.{◌<◌, ◌≤◌, length, refl, sym, ◌∙◌, arith, add-one}
 use Rattle.std.proofs.lemmas.Option.{slice_get-get_or}
 use Rattle.std.proofs.lemmas.Result.{err_from_is_err_and}
-use Rattle.mz_punify.specs.Stored.{trees_at}
-use Rattle.mz_punify.proofs.Offered.{is-in-at, length-trees, tree-at}
-use Rattle.mz_earlier.specs.Before.{signatures_of}
+use Rattle.mz_pmachine_unify.specs.Stored.{trees_at}
+use Rattle.mz_pmachine_unify.proofs.Offered.{is-in-at, length-trees, tree-at}
+use Rattle.mz_machine_env.specs.Before.{signatures_of}
 use Rattle.mz_layout.specs.Rows.{params_of}
 use Rattle.mz_machine.proofs.Offered.{fit-end, fit-step}
 use Rattle.mz_pmachine.proofs.fitting.check_operands.Goals as goal

@@ -1,9 +1,9 @@
 use Rattle.std.proofs.Common.{◌≡◌, ℕ, ◌-◌, ◌++◌, length, take, drop, Err, Ok, sym, subst, ◌∙◌, arith}
 use Rattle.std.proofs.lemmas.List.{take-append-drop, length-drop}
 use Rattle.std.proofs.lemmas.Result.{err_from_is_err_and}
-use Rattle.mz_punify.specs.Stored.{items_at, AreItemsIn}
-use Rattle.mz_punify.proofs.Offered.{items-in-left, items-in-right}
-use Rattle.mz_soundness.specs.Premises.{pop_operands}
+use Rattle.mz_pmachine_unify.specs.Stored.{items_at, AreItemsIn}
+use Rattle.mz_pmachine_unify.proofs.Offered.{items-in-left, items-in-right}
+use Rattle.mz_machine_theory.specs.Premises.{pop_operands}
 use Rattle.mz_machine.proofs.Offered.{exprs-many, operands-read, read-of, stops-as}
 use Rattle.mz_pmachine.proofs.NodeItems.{exprs-in, of-nodes}
 use Rattle.mz_pmachine.proofs.fitting.pop_operands.Goals as goal

@@ -1,7 +1,7 @@
 use Rattle.std.proofs.Common.{◌∙◌, ◌∷◌, [], ◌++◌, ap}
 use Rattle.mz_store.specs.declared.item.Item.{Item as Kept}
 use Rattle.mz_store.specs.declared.item.Item.TheVariants.{Conversion}
-use Rattle.mz_soundness.specs.Premises.{pop_conversion}
+use Rattle.mz_machine_theory.specs.Premises.{pop_conversion}
 use Rattle.mz_pmachine.proofs.Popping.{items-popped, popped}
 use Rattle.mz_pmachine.proofs.stack.pop_conversion.Goals as goal
 

@@ -1,5 +1,5 @@
-use Rattle.mz_files.specs.declared.standard.Standard.TheVariants.{Portable}
-use Rattle.mz_verdicts.proofs.Offered.{verdict-or-refusal, excludes, counts-one, refusal-one}
+use Rattle.mz_binary_theory.specs.declared.standard.Standard.TheVariants.{Portable}
+use Rattle.mz_match_theory.proofs.Offered.{verdict-or-refusal, excludes, counts-one, refusal-one}
 use Rattle.mz_portable.proofs.laws.each_pair_has_one_verdict_by_address.Goals as goal
 
 pub returns : goal.returns

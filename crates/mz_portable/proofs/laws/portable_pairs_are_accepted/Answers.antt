@@ -1,4 +1,4 @@
-use Rattle.mz_verdicts.proofs.Offered.{accepted-sound}
+use Rattle.mz_match_theory.proofs.Offered.{accepted-sound}
 use Rattle.mz_portable.proofs.Tables.{by-table}
 use Rattle.mz_portable.proofs.laws.portable_pairs_are_accepted.Goals as goal
 

@@ -1,6 +1,6 @@
 use Rattle.std.proofs.Common.{◌≡◌, false, refl}
-use Rattle.mz_readback.specs.Declared.{Vocabulary}
-use Rattle.mz_wording.specs.Wording.{IsBrief, long_checks, long_in}
+use Rattle.mz_prefix_theory.specs.Declared.{Vocabulary}
+use Rattle.mz_prefix_theory.specs.Wording.{IsBrief, long_checks, long_in}
 use Rattle.mz_prefix.proofs.Checking.{Left}
 use Rattle.mz_prefix.proofs.first.first_long.Given as goal
 

@@ -1,6 +1,6 @@
 use Rattle.std.proofs.Common.{◌↔◌, drop}
 use Rattle.mz_logic.specs.View.{trees}
-use Rattle.mz_readback.specs.Declared.{Vocabulary, AreShort}
+use Rattle.mz_prefix_theory.specs.Declared.{Vocabulary, AreShort}
 use Rattle.mz_prefix.proofs.hidden.are_short.Given as goal
 
 abbrev pub invariant-loop-e : goal.invariant-loop-e

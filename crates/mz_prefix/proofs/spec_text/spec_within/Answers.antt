@@ -1,5 +1,5 @@
 use Rattle.std.proofs.Common.{List, false, sym, subst}
-use Rattle.mz_statements.specs.Statements.{Statement, Reads}
+use Rattle.mz_mmu_statements.specs.Statements.{Statement, Reads}
 use Rattle.mz_type.specs.TextOf.{TextOf}
 use Rattle.mz_prefix.proofs.spec_text.spec_within.Goals as goal
 

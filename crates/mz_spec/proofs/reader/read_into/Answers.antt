@@ -1,5 +1,5 @@
 use Rattle.std.proofs.Common.{◌≡◌, ◌+◌, ◌-◌, length, ap, sym, subst, arith}
-use Rattle.mz_grammar.specs.Code.{statement}
+use Rattle.mz_spec_grammar.specs.Code.{statement}
 use Rattle.mz_spec.specs.Answers.{IsAnswer, halted}
 use Rattle.mz_spec.specs.Entries.{state}
 use Rattle.mz_spec.specs.Kept.{IsKept}

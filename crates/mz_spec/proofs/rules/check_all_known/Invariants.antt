@@ -1,7 +1,7 @@
 use Rattle.std.proofs.Common.{map, drop}
-use Rattle.mz_checks.specs.Checks.{each_in_order}
-use Rattle.mz_checks.proofs.Offered.{Decides}
-use Rattle.mz_grammar.specs.Code.{lexeme}
+use Rattle.mz_base_theory.specs.Checks.{each_in_order}
+use Rattle.mz_base_theory.proofs.Offered.{Decides}
+use Rattle.mz_spec_grammar.specs.Code.{lexeme}
 use Rattle.mz_spec.specs.Rules.{is_known}
 use Rattle.mz_spec.proofs.rules.check_all_known.Given as goal
 

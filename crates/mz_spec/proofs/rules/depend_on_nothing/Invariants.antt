@@ -1,7 +1,7 @@
 use Rattle.std.proofs.Common.{map, drop}
 use Rattle.std.specs.Prelude.{◌↔◌}
-use Rattle.mz_variables.specs.Code.{variable}
-use Rattle.mz_variables.specs.Dependencies.{Every}
+use Rattle.mz_spec_variables.specs.Code.{variable}
+use Rattle.mz_spec_variables.specs.Dependencies.{Every}
 use Rattle.mz_spec.specs.Rules.{DependsOnNothing}
 use Rattle.mz_spec.proofs.rules.depend_on_nothing.Given as goal
 

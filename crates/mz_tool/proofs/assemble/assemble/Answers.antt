@@ -2,7 +2,7 @@ use Rattle.std.proofs.Common.{◌∙◌, refl, ap, subst, length}
 use Rattle.std.specs.Prelude.{◌≤◌}
 use Rattle.mz_asm.specs.Assembling.{IsAssembly}
 use Rattle.mz_asm.specs.Spoken.{line_of}
-use Rattle.mz_wording.specs.Wording.{longest}
+use Rattle.mz_prefix_theory.specs.Wording.{longest}
 use Rattle.mz_tool.proofs.Answered.{put-bytes}
 use Rattle.mz_tool.proofs.Assemblies.{is-not-assembled, assembled-alone, not-assembled-alone, short-assembled}
 use Rattle.mz_tool.proofs.assemble.assemble.Goals as goal

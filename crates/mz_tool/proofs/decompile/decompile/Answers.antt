@@ -1,7 +1,7 @@
 use Rattle.std.proofs.Common.{◌∙◌, refl, ap, subst, length}
 use Rattle.std.specs.Prelude.{◌≤◌}
 use Rattle.mz_decompile.specs.Decompiling.{IsDecompilation, IsTextForPair}
-use Rattle.mz_wording.specs.Wording.{longest}
+use Rattle.mz_prefix_theory.specs.Wording.{longest}
 use Rattle.mz_tool.specs.Decompiled.{text_line}
 use Rattle.mz_tool.proofs.Answered.{put-bytes}
 use Rattle.mz_tool.proofs.Decompiles.{short-text, its-texts, its-sound, is-not-decompiled, decompiled-alone, not-decompiled-alone}

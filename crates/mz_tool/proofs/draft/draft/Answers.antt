@@ -1,7 +1,7 @@
 use Rattle.std.proofs.Common.{◌∙◌, subst, sym, ap, refl}
 use Rattle.mz_match.specs.declared.draft.Draft.TheVariants as drafts
 use Rattle.mz_match.specs.Drafts.{DraftAccepts}
-use Rattle.mz_verdicts.specs.Verdict.{line_of}
+use Rattle.mz_match_theory.specs.Verdict.{line_of}
 use Rattle.mz_tool.proofs.Drafted.{draft-refuted, draft-not_told, draft-not_refuted}
 use Rattle.mz_tool.proofs.draft.draft.Goals as goal
 

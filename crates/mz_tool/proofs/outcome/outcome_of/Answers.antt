@@ -1,5 +1,5 @@
 use Rattle.std.proofs.Common.{ap, [], ◌∷◌}
-use Rattle.mz_mode.specs.Gaps.{gaps_of}
+use Rattle.mz_base.specs.Gaps.{gaps_of}
 use Rattle.mz_tool.specs.Asked.{request}
 use Rattle.mz_tool.specs.Inputs.{contents_of}
 use Rattle.mz_tool.specs.Request.{assemble, axioms, draft, portable, specify, decompile}

@@ -1,6 +1,6 @@
 use Rattle.std.proofs.Common.{◌≤◌, ap, sym, subst, length}
 use Rattle.mz_tool.specs.Inputs.{name_of, bytes_of}
-use Rattle.mz_wording.specs.Wording.{longest}
+use Rattle.mz_prefix_theory.specs.Wording.{longest}
 use Rattle.mz_tool.proofs.Answered.{shorter-serves}
 use Rattle.mz_tool.proofs.output.put_file.Goals as goal
 

@@ -1,4 +1,4 @@
-use Rattle.mz_files.specs.declared.standard.Standard.TheVariants.{Portable}
+use Rattle.mz_binary_theory.specs.declared.standard.Standard.TheVariants.{Portable}
 use Rattle.mz_tool.proofs.Judged.{judged-yes, judged-no, judged-portable, judged-only_yes, judged-only_no}
 use Rattle.mz_tool.proofs.portable.portable.Goals as goal
 

@@ -1,6 +1,6 @@
 use Rattle.std.proofs.Common.{subst, sym, inl, inr, ◌≡◌, ◌∙◌, ◌≤◌, ◌++◌, ◌+◌, ap, refl, length, append_assoc, arith, [], ◌∷◌, None}
 use Rattle.std.proofs.lemmas.List.{length-append}
-use Rattle.mz_files.specs.RefusalLine.{refusal_line as refusal_text}
+use Rattle.mz_binary_theory.specs.RefusalLine.{refusal_line as refusal_text}
 use Rattle.mz_io.specs.Calls.{IsWritten}
 use Rattle.mz_io.proofs.Logs.{grows-both}
 use Rattle.mz_show.specs.Listing.{IsListing, IsListedUpTo, IsListed}

@@ -1,6 +1,6 @@
 use Rattle.std.proofs.Common.{◌∙◌, refl, ap, subst, length}
 use Rattle.std.specs.Prelude.{◌≤◌}
-use Rattle.mz_wording.specs.Wording.{longest}
+use Rattle.mz_prefix_theory.specs.Wording.{longest}
 use Rattle.mz_prefix.specs.SpecTexts.{IsWording, DeclaresItsText}
 use Rattle.mz_tool.specs.Specified.{spec_line}
 use Rattle.mz_tool.proofs.Answered.{put-bytes}

@@ -1,4 +1,4 @@
-use Rattle.mz_files.specs.Standards.{strict_standard}
+use Rattle.mz_binary_theory.specs.Standards.{strict_standard}
 use Rattle.mz_tool.proofs.Judged.{judged-yes, judged-no, judged-sound, judged-only_yes, judged-only_no}
 use Rattle.mz_tool.proofs.verify.verify.Goals as goal
 

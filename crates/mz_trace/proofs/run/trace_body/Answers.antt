@@ -1,7 +1,7 @@
 use Rattle.std.proofs.Common.{ℕ, List, [], sym, subst}
 use Rattle.mz_layout.specs.Heads.{body_bytes}
-use Rattle.mz_earlier.specs.OwnRow.{heading_of}
-use Rattle.mz_earlier.specs.Before.{tables_before}
+use Rattle.mz_machine_env.specs.OwnRow.{heading_of}
+use Rattle.mz_machine_env.specs.Before.{tables_before}
 use Rattle.mz_trace.specs.Runs.{RunsOver, IsRunOf}
 use Rattle.mz_trace.proofs.Claimed.{have-claims}
 use Rattle.mz_trace.proofs.run.trace_body.Goals as goal

@@ -1,6 +1,6 @@
 use Rattle.std.proofs.Common.{◌∷◌, [], ◌++◌, ◌+◌, ◌<◌, ◌^◌, length, map, reverse, suc, sym, ap, ◌∙◌, subst, append_assoc, add-one, arith}
 use Rattle.std.proofs.lemmas.List.{length-reverse}
-use Rattle.mz_mode.specs.Gaps.{gaps_of}
+use Rattle.mz_base.specs.Gaps.{gaps_of}
 use Rattle.mz_sexpr.specs.Number.{node_count}
 use Rattle.mz_mmu.specs.EntryView.{entry}
 use Rattle.mz_type.specs.TextRules.{text_rules}

@@ -1,5 +1,5 @@
 use Rattle.std.proofs.Common.{arith}
-use Rattle.mz_typing.proofs.Offered.{convs_size_step}
+use Rattle.mz_type_rules.proofs.Offered.{convs_size_step}
 use Rattle.mz_type.proofs.Weighing.{convs_weight_cut}
 use Rattle.mz_type.proofs.weigh.+conv_weight.Goals as goal
 

@@ -1,9 +1,9 @@
 use Rattle.std.proofs.Common.{◌∙◌, sym, ap}
 use Rattle.mz_unify.proofs.StoredIds.{stack-empty}
-use Rattle.mz_unification.specs.UnifyMachine.{is_empty, nothing_left}
+use Rattle.mz_unify_theory.specs.UnifyMachine.{is_empty, nothing_left}
 use Rattle.mz_unify.specs.Stored.{mode_of}
 use Rattle.mz_unify.proofs.RowValues.{end-target, end-left, end-row}
-use Rattle.mz_unification.specs.Profile.{strict}
+use Rattle.mz_unify_theory.specs.Profile.{strict}
 use Rattle.mz_unify.proofs.rows.end.Goals as goal
 
 pub returns-then-not-is_empty : goal.returns-then-not-is_empty

@@ -2,10 +2,10 @@ use Rattle.std.proofs.Common.{◌∙◌, ◌≡◌, true, sym, ap}
 use Rattle.std.specs.Prelude.{◌==◌}
 use Rattle.mz_store.specs.Sharing.{tree_of}
 use Rattle.mz_unify.proofs.StoredIds.{stack-empty, alone}
-use Rattle.mz_unification.specs.UnifyMachine.{is_empty, next_hypothesis}
+use Rattle.mz_unify_theory.specs.UnifyMachine.{is_empty, next_hypothesis}
 use Rattle.mz_unify.specs.Stored.{mode_of, stack_at, items_at}
 use Rattle.mz_unify.proofs.RowValues.{hyp-target, hyp-stop, hyp-row}
-use Rattle.mz_unification.specs.Profile.{strict}
+use Rattle.mz_unify_theory.specs.Profile.{strict}
 use Rattle.mz_unify.proofs.rows.hypothesis.Goals as goal
 
 pub returns-then-not-is_empty-clause-row : goal.returns-then-not-is_empty-clause-row

@@ -4,7 +4,7 @@ use Rattle.mz_store.specs.Sharing.{tree_of, head_of}
 use Rattle.mz_unify.specs.Stored.{stack_at}
 use Rattle.mz_unify.proofs.StoredIds.{are-in-both, are-in-reverse, put-there}
 use Rattle.mz_unify.proofs.RowValues.{term-none, save-none, term-other, save-other, term-row, save-row, heads-differ, heads-same}
-use Rattle.mz_unification.specs.Profile.{strict}
+use Rattle.mz_unify_theory.specs.Profile.{strict}
 use Rattle.mz_unify.proofs.Parts.{of-trees}
 use Rattle.mz_unify.proofs.rows.open.Goals as goal
 

@@ -3,7 +3,7 @@ use Rattle.std.specs.Prelude.{slice_get}
 use Rattle.std.proofs.lemmas.Option.{slice_get_read}
 use Rattle.mz_unify.proofs.StoredIds.{tree-at, no-tree-at, is-in-at}
 use Rattle.mz_unify.proofs.RowValues.{ref-no-target, ref-no-place, ref-other, ref-row}
-use Rattle.mz_unification.specs.Profile.{strict}
+use Rattle.mz_unify_theory.specs.Profile.{strict}
 use Rattle.mz_unify.proofs.Parts.{of-trees}
 use Rattle.mz_unify.proofs.rows.refer.Goals as goal
 

@@ -1,9 +1,9 @@
 use Rattle.std.proofs.Common.{◌∙◌, ◌+◌, ◌≤◌, length, drop, refl, sym, ap, subst, arith}
-use Rattle.mz_unification.specs.Streams.{IsEnd}
+use Rattle.mz_unify_theory.specs.Streams.{IsEnd}
 use Rattle.mz_unify.specs.Stored.{mode_of, trees_at, items_at}
 use Rattle.mz_unify.specs.Rows.{command_of, TellsFor, state_at}
 use Rattle.mz_unify.proofs.Underway.{not-end, dummy-stands, left-none, left-both, stopped-not-done, taken-there, taken-exactly, taken-fits, counted-within, counted-once, cut-whole, cut-many, other-whole, other-many, stopped-whole, stopped-many, ended-whole, ended-many, goes-on}
-use Rattle.mz_unification.proofs.Offered.{command-long, further}
+use Rattle.mz_unify_theory.proofs.Offered.{command-long, further}
 use Rattle.mz_unify.proofs.running.run.Goals as goal
 
 pub commands-init : goal.commands-init

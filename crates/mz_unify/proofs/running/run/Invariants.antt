@@ -2,7 +2,7 @@ use Rattle.std.proofs.Common.{◌≡◌, ℕ, ◌+◌, ◌-◌, ◌≤◌, List,
 use Rattle.mz_logic.specs.Tree.{Tree}
 use Rattle.mz_logic.specs.Signature.{Signature}
 use Rattle.mz_store.specs.Sharing.{AreIn, IsOver}
-use Rattle.mz_unification.specs.Profile.{strict}
+use Rattle.mz_unify_theory.specs.Profile.{strict}
 use Rattle.mz_unify.specs.Stored.{mode_of, trees_at, AreItemsIn, AreLeft}
 use Rattle.mz_unify.specs.Rows.{TellsFor, state_at}
 use Rattle.mz_unify.proofs.Underway.{IsUnderway}

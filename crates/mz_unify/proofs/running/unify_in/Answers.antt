@@ -1,6 +1,6 @@
 use Rattle.std.proofs.Common.{◌∙◌, ◌∷◌, ◌++◌, [], ap}
 use Rattle.mz_logic.specs.Words.{signatures_of}
-use Rattle.mz_unification.specs.Profile.{strict}
+use Rattle.mz_unify_theory.specs.Profile.{strict}
 use Rattle.mz_unify.specs.Stored.{trees_at, items_at, matching_at}
 use Rattle.mz_unify.specs.Rows.{state_at}
 use Rattle.mz_unify.proofs.RunsExact.{said-exact}

@@ -2,12 +2,12 @@ use Rattle.std.proofs.Common.{◌≡◌, ◌∙◌, ℕ, true, false, Ok, Some, 
 use Rattle.mz_cmd.specs.declared.statement.StmtAt.TheVariants as there
 use Rattle.mz_cmd.specs.Codes.{statement_byte}
 use Rattle.mz_cmd.specs.StatementList.{statement_at}
-use Rattle.mz_earlier.specs.Before.{taken_before}
-use Rattle.mz_files.specs.FileRun.{list_ends, find_at, after_kind}
+use Rattle.mz_machine_env.specs.Before.{taken_before}
+use Rattle.mz_binary_theory.specs.FileRun.{list_ends, find_at, after_kind}
 use Rattle.mz_binary.specs.Progress.{Progress, IsReached, CountsRows, StandsAt, found_of, is_assertion_kind}
 use Rattle.mz_binary.proofs.Finding.{find-head}
 use Rattle.mz_binary.proofs.GapMarks.{alone-kind, theorem-too}
-use Rattle.mz_files.proofs.Offered.{code-of}
+use Rattle.mz_binary_theory.proofs.Offered.{code-of}
 use Rattle.mz_binary.proofs.Passing.{ends-here, run-of}
 use Rattle.mz_binary.proofs.Counting.{left-at-end}
 use Rattle.mz_binary.proofs.checker.Checker.check_next.Given.{Over}

@@ -1,9 +1,9 @@
 use Rattle.std.proofs.Common.{◌+◌, ◌∙◌, Bool, ℕ, List, [], length, refl, sym, ap, subst, arith}
-use Rattle.mz_soundness.specs.FileRows.{nothing_taken}
-use Rattle.mz_files.specs.FileRun.{list_steps}
-use Rattle.mz_files.specs.Gapped.{AreMarks}
+use Rattle.mz_machine_theory.specs.FileRows.{nothing_taken}
+use Rattle.mz_binary_theory.specs.FileRun.{list_steps}
+use Rattle.mz_binary_theory.specs.Gapped.{AreMarks}
 use Rattle.mz_binary.proofs.Counting.{steps-of-list}
-use Rattle.mz_files.proofs.Offered.{no-marks}
+use Rattle.mz_binary_theory.proofs.Offered.{no-marks}
 use Rattle.mz_binary.proofs.checker.Checker.new.Goals as goal
 
 pub invariant_of-result : goal.invariant_of-result

@@ -1,15 +1,15 @@
 use Rattle.std.proofs.Common.{◌≡◌, ◌+◌, ◌-◌, ◌*◌, ◌∙◌, ℕ, List, length, refl, sym, ap, subst, arith}
 use Rattle.mz_cmd.specs.Codes.{statement_byte}
-use Rattle.mz_files.specs.declared.statement.Statement.{Statement as Told}
+use Rattle.mz_binary_theory.specs.declared.statement.Statement.{Statement as Told}
 use Rattle.mz_binary.specs.Progress.{Progress, IsReached, marks_past, most_left}
 use Rattle.mz_layout.specs.Heads.{next_row, rows_after}
-use Rattle.mz_files.proofs.Offered.{head-at}
+use Rattle.mz_binary_theory.proofs.Offered.{head-at}
 use Rattle.mz_binary.proofs.Passing.{IsPast, passes, reached, further, taken-past}
 use Rattle.mz_binary.proofs.Counting.{left-past, most-past, most-here}
 use Rattle.mz_binary.proofs.TakenSoFar.{taken}
-use Rattle.mz_files.specs.FileRun.{RunsBody}
-use Rattle.mz_files.specs.Standards.{lets_gaps}
-use Rattle.mz_soundness.specs.FileRows.{Taken}
+use Rattle.mz_binary_theory.specs.FileRun.{RunsBody}
+use Rattle.mz_binary_theory.specs.Standards.{lets_gaps}
+use Rattle.mz_machine_theory.specs.FileRows.{Taken}
 use Rattle.mz_binary.proofs.checker.Checker.past.Goals as goal
 
 abbrev after_of : goal.After-after → Progress

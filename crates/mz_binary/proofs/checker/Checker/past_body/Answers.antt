@@ -4,15 +4,15 @@ use Rattle.mz_cmd.specs.Codes.{statement_byte}
 use Rattle.mz_cmd.specs.StatementList.{statement_at}
 use Rattle.mz_layout.specs.Heads.{IsHead, body_bytes, next_row}
 use Rattle.mz_layout.specs.declared.head.Head.{Head}
-use Rattle.mz_soundness.specs.FileRows.{Taken}
-use Rattle.mz_earlier.specs.OwnRow.{MayRun, byte_of, heading_of, kind_at}
-use Rattle.mz_earlier.specs.Before.{taken_before}
-use Rattle.mz_earlier.proofs.Offered.{byte-kind, kind-byte}
+use Rattle.mz_machine_theory.specs.FileRows.{Taken}
+use Rattle.mz_machine_env.specs.OwnRow.{MayRun, byte_of, heading_of, kind_at}
+use Rattle.mz_machine_env.specs.Before.{taken_before}
+use Rattle.mz_machine_env.proofs.Offered.{byte-kind, kind-byte}
 use Rattle.mz_binary.specs.declared.place.Found.TheVariants as seen
-use Rattle.mz_files.specs.FileRun.{after_kind, find_at}
+use Rattle.mz_binary_theory.specs.FileRun.{after_kind, find_at}
 use Rattle.mz_binary.specs.Judging.{IsLeft, IsMost, IsNext}
 use Rattle.mz_binary.specs.Progress.{HasPassed, Progress, IsReached, found_of, kind_byte, most_left, next_steps}
-use Rattle.mz_files.proofs.Offered.{code-of, head-at}
+use Rattle.mz_binary_theory.proofs.Offered.{code-of, head-at}
 use Rattle.mz_binary.proofs.Finding.{find-head}
 use Rattle.mz_binary.proofs.Passing.{body-counts, body-here, body-runs, body-stops}
 use Rattle.mz_binary.proofs.Counting.{if-told, most-here}

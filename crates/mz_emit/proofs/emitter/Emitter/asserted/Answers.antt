@@ -10,11 +10,11 @@ use Rattle.mz_logic.specs.declared.word.Word.{Word}
 use Rattle.mz_store.specs.Bits.{bound_vars}
 use Rattle.mz_store.specs.Sharing.{tree_of, trees_of}
 use Rattle.mz_store.specs.declared.item.Id.{Id}
-use Rattle.mz_unification.specs.Sorted.{Sorted}
-use Rattle.mz_earlier.proofs.Offered.{binders_many}
-use Rattle.mz_typing.specs.Answers.{stated}
-use Rattle.mz_shared.specs.Instances.{AreSorted}
-use Rattle.mz_shared.specs.Variables.{IsShared}
+use Rattle.mz_unify_theory.specs.Sorted.{Sorted}
+use Rattle.mz_machine_env.proofs.Offered.{binders_many}
+use Rattle.mz_type_rules.specs.Answers.{stated}
+use Rattle.mz_emit_bodies.specs.Instances.{AreSorted}
+use Rattle.mz_emit_bodies.specs.Variables.{IsShared}
 use Rattle.mz_emit.specs.Emitting.{MakesBody, assertion_body_of, body_weight}
 use Rattle.mz_emit.proofs.Speaking.{few_bound, has_params, dummies_behind, few_words, held_after, conclusion_sorted, hyps_sorted, conclusion_reach, hyps_reach, hyps_provable, sound_there, assertion_says}
 use Rattle.mz_emit.proofs.emitter.Emitter.asserted.Goals as goal

@@ -4,8 +4,8 @@ use Rattle.mz_logic.specs.Words.{binders_of}
 use Rattle.mz_logic.specs.declared.word.Word.{Word}
 use Rattle.mz_store.specs.Bits.{bound_vars}
 use Rattle.mz_store.specs.Sharing.{tree_of}
-use Rattle.mz_earlier.proofs.Offered.{binders_many}
-use Rattle.mz_shared.specs.Variables.{IsShared}
+use Rattle.mz_machine_env.proofs.Offered.{binders_many}
+use Rattle.mz_emit_bodies.specs.Variables.{IsShared}
 use Rattle.mz_emit.proofs.Speaking.{few_bound, has_params, dummies_behind, few_words, definition_says}
 use Rattle.mz_emit.proofs.emitter.Emitter.defined.Goals as goal
 

@@ -4,8 +4,8 @@ use Rattle.mz_logic.specs.DeclView.{assertion_of, assertion_view}
 use Rattle.mz_logic.specs.Declaration.{Declaration, signatures}
 use Rattle.mz_logic.specs.Legality.{IsLegalEnv}
 use Rattle.mz_logic.specs.declared.binder.Binder.{Binder}
-use Rattle.mz_forms.specs.Proof.{Proof}
-use Rattle.mz_typing.specs.Answers.{stated}
+use Rattle.mz_mmu_forms.specs.Proof.{Proof}
+use Rattle.mz_type_rules.specs.Answers.{stated}
 use Rattle.mz_type.specs.StatedView.{with_decl}
 use Rattle.mz_type.specs.TypedText.{declared}
 use Rattle.mz_emit.specs.Emitting.{CanBeAsserted, SaysAssertion}

@@ -1,9 +1,9 @@
 use Rattle.std.proofs.Common.{◌≡◌, ◌++◌, List, length, reverse}
 use Rattle.mz_logic.specs.declared.binder.Binder.{Binder}
-use Rattle.mz_shared.specs.Instances.{AllInReach}
+use Rattle.mz_emit_bodies.specs.Instances.{AllInReach}
 use Rattle.mz_store.specs.Sharing.{trees_of}
 use Rattle.mz_store.specs.declared.item.Id.{Id}
-use Rattle.mz_streams.specs.Writing.{Writing}
+use Rattle.mz_emit_theory.specs.StreamWriting.{Writing}
 use Rattle.mz_emit.specs.Going.{HasWritten, IsReady, hyps_written}
 use Rattle.mz_emit.proofs.stream.Stream.spell_hyps.Given as goal
 

@@ -1,9 +1,8 @@
 use Rattle.std.proofs.Common.{◌∙◌, ap, sym}
 use Rattle.mz_unify.specs.Stored.{items_at}
-use Rattle.mz_unify.proofs.Offered.{heads-differ, heads-same}
-use Rattle.mz_unification.specs.Profile.{strict}
-use Rattle.mz_soundness.specs.Premises.{pop_obligation}
-use Rattle.mz_unify.proofs.Offered.{of-trees}
+use Rattle.mz_unify.proofs.Offered.{heads-differ, heads-same, of-trees}
+use Rattle.mz_unify_theory.specs.Profile.{strict}
+use Rattle.mz_machine_theory.specs.Premises.{pop_obligation}
 use Rattle.mz_machine.proofs.ConversionRows.{cong-unowed, cong-variable, cong-other, cong-row, gives-stack}
 use Rattle.mz_machine.proofs.Converting.{operand-trees}
 use Rattle.mz_machine.proofs.commands.conversions.cong.Goals as goal

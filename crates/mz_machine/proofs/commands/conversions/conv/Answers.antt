@@ -1,10 +1,10 @@
 use Rattle.std.proofs.Common.{◌∙◌, ◌∷◌, Ok, sym, ap}
 use Rattle.std.proofs.lemmas.Result.{err_from_is_err_and}
-use Rattle.mz_unification.specs.Profile.{strict}
+use Rattle.mz_unify_theory.specs.Profile.{strict}
 use Rattle.mz_unify.specs.Stored.{item_at, items_at}
 use Rattle.mz_unify.proofs.Offered.{items-push}
 use Rattle.mz_store.specs.declared.item.Item.TheVariants.{Obligation, Proof}
-use Rattle.mz_soundness.specs.Premises.{pop_proof}
+use Rattle.mz_machine_theory.specs.Premises.{pop_proof}
 use Rattle.mz_machine.proofs.ConversionRows.{conv-row, conv-unclaimed, conv-unproved}
 use Rattle.mz_machine.proofs.Converting.{put_in}
 use Rattle.mz_machine.proofs.commands.conversions.conv.Goals as goal

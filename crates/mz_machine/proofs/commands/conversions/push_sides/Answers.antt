@@ -3,7 +3,7 @@ use Rattle.mz_unify.specs.Stored.{items_at}
 use Rattle.std.proofs.lemmas.Option.{slice_get-get_or}
 use Rattle.mz_store.specs.Sharing.{tree_of}
 use Rattle.mz_store.specs.declared.item.Id.{Id}
-use Rattle.mz_unification.specs.Profile.{obligation}
+use Rattle.mz_unify_theory.specs.Profile.{obligation}
 use Rattle.mz_unify.proofs.Offered.{items-push, is-in-at}
 use Rattle.mz_machine.proofs.ConversionRows.{sides_from, no-sides, next-side}
 use Rattle.mz_machine.proofs.Converting.{put_in, least, one-before}

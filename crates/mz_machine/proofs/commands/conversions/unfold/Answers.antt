@@ -1,14 +1,14 @@
 use Rattle.std.proofs.Common.{◌≡◌, ◌∙◌, ◌+◌, ◌++◌, Err, ap, sym, subst, arith}
 use Rattle.std.proofs.lemmas.Result.{err_from_is_err_and}
 use Rattle.mz_cmd.specs.declared.code.ProofCode.TheVariants as code
-use Rattle.mz_soundness.specs.ProofMachine.{proof_row}
-use Rattle.mz_soundness.specs.Bodies.{row_steps}
-use Rattle.mz_earlier.specs.Before.{tables_of}
+use Rattle.mz_machine_theory.specs.ProofMachine.{proof_row}
+use Rattle.mz_machine_theory.specs.Bodies.{row_steps}
+use Rattle.mz_machine_env.specs.Before.{tables_of}
 use Rattle.mz_store.specs.Sharing.{IsOver, tree_of}
 use Rattle.mz_unify.specs.Stored.{trees_at}
 use Rattle.mz_machine.specs.OverStore.{pop_unfolding}
-use Rattle.mz_earlier.proofs.Offered.{signatures-before}
-use Rattle.mz_unification.specs.Profile.{strict}
+use Rattle.mz_machine_env.proofs.Offered.{signatures-before}
+use Rattle.mz_unify_theory.specs.Profile.{strict}
 use Rattle.mz_unify.proofs.Offered.{of-trees, stopped-through, went-through}
 use Rattle.mz_machine.proofs.ConversionRows.{not-taken, of-variable, not-defined, is-unfolding, unfold-stopped, stopped-steps, unfold-refused, unfold-row, unfold-steps, gives-stack}
 use Rattle.mz_machine.proofs.Converting.{operand-trees}

@@ -5,8 +5,8 @@ use Rattle.mz_logic.specs.declared.binder.Binder.{Binder}
 use Rattle.mz_logic.specs.Sorts.{HasSort}
 use Rattle.mz_store.specs.Sharing.{tree_of}
 use Rattle.mz_unify.specs.Stored.{items_at, item_at, IsItemIn}
-use Rattle.mz_earlier.specs.Before.{signatures_of}
-use Rattle.mz_soundness.specs.Premises.{pop}
+use Rattle.mz_machine_env.specs.Before.{signatures_of}
+use Rattle.mz_machine_theory.specs.Premises.{pop}
 use Rattle.mz_machine.proofs.Converting.{pop-is, put_in}
 use Rattle.mz_store.specs.declared.item.Item.TheVariants.{Proof}
 use Rattle.mz_machine.specs.OverStore.{with_stack}

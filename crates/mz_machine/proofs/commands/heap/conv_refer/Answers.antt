@@ -1,11 +1,10 @@
 use Rattle.std.proofs.Common.{◌∙◌, Some, refl, sym, ap, subst}
 use Rattle.std.specs.Prelude.{slice_get}
 use Rattle.mz_store.specs.Sharing.{tree_of}
-use Rattle.mz_unification.specs.Profile.{conversion}
+use Rattle.mz_unify_theory.specs.Profile.{conversion, strict}
 use Rattle.mz_unify.specs.Stored.{item_at, IsItemIn}
 use Rattle.mz_machine.proofs.Popping.{item-in-at, item-at-heap, no-item-at-heap}
 use Rattle.mz_machine.proofs.RowResults.{conv-ref-none, conv-ref-other, conv-ref-row}
-use Rattle.mz_unification.specs.Profile.{strict}
 use Rattle.mz_machine.proofs.commands.heap.conv_refer.Goals as goal
 
 pub returns-in_default-clause-row : goal.returns-in_default-clause-row

@@ -1,12 +1,12 @@
 use Rattle.std.proofs.Common.{◌≡◌, ◌∙◌, ◌∷◌, [], ◌++◌, ◌<◌, ◌≤◌, length, sym, ap, arith, lt-ltb, le-ltb}
 use Rattle.mz_logic.specs.Tree.{var}
 use Rattle.mz_store.specs.Sharing.{tree_of, dummy_binder}
-use Rattle.mz_unification.specs.Spells.{dummy_of}
-use Rattle.mz_soundness.specs.Premises.{bound_count}
-use Rattle.mz_earlier.specs.Before.{tables_of}
+use Rattle.mz_unify_theory.specs.Spells.{dummy_of}
+use Rattle.mz_machine_theory.specs.Premises.{bound_count}
+use Rattle.mz_machine_env.specs.Before.{tables_of}
 use Rattle.mz_machine.proofs.RowResults.{dummy-sort-fails, dummy-many, dummy-row, count-is}
 use Rattle.mz_machine.proofs.Dummies.{a-dummy}
-use Rattle.mz_unification.specs.Profile.{strict}
+use Rattle.mz_unify_theory.specs.Profile.{strict}
 use Rattle.mz_machine.proofs.commands.heap.dummy.Goals as goal
 
 pub returns-then-not-may_be_dummy-clause-row : goal.returns-then-not-may_be_dummy-clause-row

@@ -1,6 +1,6 @@
 use Rattle.std.proofs.Common.{◌∙◌, refl, sym, ap}
 use Rattle.mz_store.specs.Sharing.{tree_of}
-use Rattle.mz_soundness.specs.Premises.{pop_obligation}
+use Rattle.mz_machine_theory.specs.Premises.{pop_obligation}
 use Rattle.mz_machine.proofs.Converting.{true-false}
 use Rattle.mz_machine.proofs.RowResults.{pay-left, pay-right, pay-row}
 use Rattle.mz_unify.proofs.Offered.{of-trees}

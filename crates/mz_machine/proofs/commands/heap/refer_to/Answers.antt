@@ -1,7 +1,7 @@
 use Rattle.std.proofs.Common.{◌∙◌, ◌∷◌, Ok, sym, ap}
-use Rattle.mz_unification.specs.Profile.{strict}
+use Rattle.mz_unify_theory.specs.Profile.{strict}
 use Rattle.mz_unify.specs.Stored.{item_at}
-use Rattle.mz_soundness.specs.Premises.{is_conversion}
+use Rattle.mz_machine_theory.specs.Premises.{is_conversion}
 use Rattle.mz_machine.proofs.ConversionRows.{gives-stack}
 use Rattle.mz_machine.proofs.Converting.{true-false}
 use Rattle.mz_machine.proofs.HandedOn.{ruled-gives, ruled-never, ruled-ok}

@@ -3,16 +3,15 @@ use Rattle.std.proofs.lemmas.Result.{err_from_is_err_and}
 use Rattle.mz_logic.specs.Tree.{app}
 use Rattle.mz_logic.specs.Words.{binders_of}
 use Rattle.mz_layout.specs.Tables.{term_row}
-use Rattle.mz_store.specs.Sharing.{tree_of, CanTake}
-use Rattle.mz_store.specs.Sharing.{trees_of as trees_in}
-use Rattle.mz_unification.specs.Spells.{trees_of}
+use Rattle.mz_store.specs.Sharing.{tree_of, CanTake, trees_of as trees_in}
+use Rattle.mz_unify_theory.specs.Spells.{trees_of}
 use Rattle.mz_unify.specs.Stored.{trees_at}
-use Rattle.mz_unification.specs.Profile.{strict}
-use Rattle.mz_soundness.specs.ProofMachine.{built}
-use Rattle.mz_soundness.specs.Premises.{operands_fit}
-use Rattle.mz_earlier.specs.Before.{tables_of, signatures_of, words_before}
-use Rattle.mz_soundness.specs.FileRows.{term_of_file}
-use Rattle.mz_earlier.proofs.Offered.{term-before, no-term-before}
+use Rattle.mz_unify_theory.specs.Profile.{strict}
+use Rattle.mz_machine_theory.specs.ProofMachine.{built}
+use Rattle.mz_machine_theory.specs.Premises.{operands_fit}
+use Rattle.mz_machine_env.specs.Before.{tables_of, signatures_of, words_before}
+use Rattle.mz_machine_theory.specs.FileRows.{term_of_file}
+use Rattle.mz_machine_env.proofs.Offered.{term-before, no-term-before}
 use Rattle.mz_machine.proofs.Stopping.{stops-as}
 use Rattle.mz_machine.proofs.TermRows.{built-none, built-few, built-unfit, built-row, takes-its-own}
 use Rattle.mz_machine.proofs.TermResults.{can-take, over-words, over-rows, items-kept, items-still, map-same, same-trees}

@@ -4,10 +4,10 @@ use Rattle.mz_logic.specs.Words.{binders_of}
 use Rattle.mz_layout.specs.Tables.{thm_row}
 use Rattle.mz_store.specs.declared.item.Id.{Id}
 use Rattle.mz_unify.specs.Stored.{items_at, trees_at}
-use Rattle.mz_unification.specs.Profile.{strict}
-use Rattle.mz_soundness.specs.ProofMachine.{citation}
-use Rattle.mz_soundness.specs.Premises.{operands_fit, are_apart}
-use Rattle.mz_earlier.specs.Before.{tables_of, signatures_of}
+use Rattle.mz_unify_theory.specs.Profile.{strict}
+use Rattle.mz_machine_theory.specs.ProofMachine.{citation}
+use Rattle.mz_machine_theory.specs.Premises.{operands_fit, are_apart}
+use Rattle.mz_machine_env.specs.Before.{tables_of, signatures_of}
 use Rattle.mz_machine.proofs.Stopping.{stops-as}
 use Rattle.mz_machine.proofs.TermResults.{map-same}
 use Rattle.mz_machine.proofs.CitationRows.{cites-none, cites-few, cites-other, cites-without, cites-unfit, cites-meeting, cites-so}

@@ -2,10 +2,10 @@ use Rattle.std.proofs.Common.{◌≡◌, Err, [], ◌∷◌}
 use Rattle.std.proofs.lemmas.Result.{err_from_is_err_and}
 use Rattle.mz_cmd.specs.declared.code.ProofCode.TheVariants as code
 use Rattle.mz_store.specs.declared.item.Item.TheVariants.{Expr}
-use Rattle.mz_unification.specs.Profile.{strict}
+use Rattle.mz_unify_theory.specs.Profile.{strict}
 use Rattle.mz_unify.proofs.Offered.{items-push, items-in-both}
-use Rattle.mz_soundness.specs.ProofMachine.{proof_row}
-use Rattle.mz_earlier.specs.Before.{tables_of}
+use Rattle.mz_machine_theory.specs.ProofMachine.{proof_row}
+use Rattle.mz_machine_env.specs.Before.{tables_of}
 use Rattle.mz_machine.proofs.Stopping.{stops-as}
 use Rattle.mz_machine.proofs.TermRows.{term-of, term-save-of}
 use Rattle.mz_machine.proofs.commands.terms.term.Goals as goal

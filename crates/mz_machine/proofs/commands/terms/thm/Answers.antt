@@ -3,13 +3,13 @@ use Rattle.std.proofs.lemmas.Result.{err_from_is_err_and}
 use Rattle.mz_cmd.specs.declared.code.ProofCode.TheVariants as code
 use Rattle.mz_store.specs.Sharing.{IsOver, tree_of}
 use Rattle.mz_store.specs.declared.item.Item.TheVariants.{Proof}
-use Rattle.mz_unification.specs.Profile.{strict, proof}
+use Rattle.mz_unify_theory.specs.Profile.{strict, proof}
 use Rattle.mz_unify.proofs.Offered.{items-push, items-in-both, stopped-through, went-through}
-use Rattle.mz_soundness.specs.ProofMachine.{proof_row}
-use Rattle.mz_soundness.specs.Bodies.{row_steps}
-use Rattle.mz_earlier.specs.Before.{tables_of}
+use Rattle.mz_machine_theory.specs.ProofMachine.{proof_row}
+use Rattle.mz_machine_theory.specs.Bodies.{row_steps}
+use Rattle.mz_machine_env.specs.Before.{tables_of}
 use Rattle.mz_machine.specs.OverStore.{with_stack}
-use Rattle.mz_earlier.proofs.Offered.{signatures-before}
+use Rattle.mz_machine_env.proofs.Offered.{signatures-before}
 use Rattle.mz_machine.proofs.Stopping.{stops-as}
 use Rattle.mz_machine.proofs.Unfoldings.{no-more, so-many}
 use Rattle.mz_machine.proofs.CitationRows.{thm-stopped, thm-save-stopped, thm-stopped-steps, thm-refused, thm-save-refused, thm-row, thm-save-row, thm-steps}

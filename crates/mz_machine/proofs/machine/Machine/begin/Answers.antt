@@ -1,5 +1,5 @@
 use Rattle.std.proofs.Common.{sym}
-use Rattle.mz_earlier.proofs.Offered.{byte-kind}
+use Rattle.mz_machine_env.proofs.Offered.{byte-kind}
 use Rattle.mz_machine.proofs.machine.Machine.begin.Goals as goal
 
 pub begin-requires : goal.begin-requires

@@ -1,6 +1,6 @@
 use Rattle.std.proofs.Common.{◌∙◌, ap}
-use Rattle.mz_earlier.specs.OwnRow.{mode_for}
-use Rattle.mz_earlier.proofs.Offered.{kind-byte}
+use Rattle.mz_machine_env.specs.OwnRow.{mode_for}
+use Rattle.mz_machine_env.proofs.Offered.{kind-byte}
 use Rattle.mz_machine.specs.declared.machine.Parts.{Parts}
 use Rattle.mz_machine.proofs.Advancing.{keeps, stepped, counted}
 use Rattle.mz_machine.proofs.machine.Setting.advance.Goals as goal

@@ -1,21 +1,20 @@
-use Rattle.std.proofs.Common.{◌≡◌, ◌+◌, ◌∙◌, length, sym, ap, subst, arith}
-use Rattle.std.proofs.Common.{Ok, Err, List}
+use Rattle.std.proofs.Common.{◌≡◌, ◌+◌, ◌∙◌, length, sym, ap, subst, arith, Ok, Err, List}
 use Rattle.std.proofs.lemmas.List.{length-map}
 use Rattle.mz_cmd.specs.declared.rule.K.{K}
 use Rattle.mz_store.specs.Sharing.{tree_of}
 use Rattle.mz_store.specs.declared.item.Id.{Id}
 use Rattle.mz_store.specs.declared.item.Item.{Item as Kept}
-use Rattle.mz_mode.specs.Gaps.{gaps_of}
-use Rattle.mz_unification.specs.Profile.{strict}
-use Rattle.mz_soundness.specs.MachineState.{Kind}
-use Rattle.mz_soundness.specs.ProofMachine.{proof_end, ends_with}
-use Rattle.mz_soundness.specs.Bodies.{match_steps}
-use Rattle.mz_earlier.specs.Before.{tables_before, tables_of}
-use Rattle.mz_earlier.specs.OwnRow.{byte_of, kind_at, heading_by, heading_of, kind_of, mode_for, IsNextRow}
-use Rattle.mz_earlier.proofs.Offered.{kind-byte}
+use Rattle.mz_base.specs.Gaps.{gaps_of}
+use Rattle.mz_unify_theory.specs.Profile.{strict}
+use Rattle.mz_machine_theory.specs.MachineState.{Kind}
+use Rattle.mz_machine_theory.specs.ProofMachine.{proof_end, ends_with}
+use Rattle.mz_machine_theory.specs.Bodies.{match_steps}
+use Rattle.mz_machine_env.specs.Before.{tables_before, tables_of}
+use Rattle.mz_machine_env.specs.OwnRow.{byte_of, kind_at, heading_by, heading_of, kind_of, mode_for, IsNextRow}
+use Rattle.mz_machine_env.proofs.Offered.{kind-byte}
 use Rattle.mz_machine.specs.OverStore.{state_at, AreFirst, IsContextOf}
 use Rattle.mz_machine.proofs.GapRows.{ends-steps}
-use Rattle.mz_soundness.proofs.Offered.{end-plain}
+use Rattle.mz_machine_theory.proofs.Offered.{end-plain}
 use Rattle.mz_machine.proofs.Dummies.{bound-more, context-longer}
 use Rattle.mz_machine.proofs.Machines.{same-three}
 use Rattle.mz_machine.proofs.Stopping.{stopped}

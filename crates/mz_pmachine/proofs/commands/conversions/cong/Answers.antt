@@ -1,9 +1,9 @@
 use Rattle.std.proofs.Common.{◌∙◌, ap, sym}
-use Rattle.mz_punify.specs.Stored.{items_at}
+use Rattle.mz_pmachine_unify.specs.Stored.{items_at}
 use Rattle.mz_unify.proofs.Offered.{heads-differ, heads-same}
-use Rattle.mz_numbered.specs.Numbered.{portable}
-use Rattle.mz_soundness.specs.Premises.{pop_obligation}
-use Rattle.mz_punify.proofs.Offered.{of-numbered}
+use Rattle.mz_pmachine_theory.specs.Numbered.{portable}
+use Rattle.mz_machine_theory.specs.Premises.{pop_obligation}
+use Rattle.mz_pmachine_unify.proofs.Offered.{of-numbered}
 use Rattle.mz_machine.proofs.Offered.{cong-unowed, cong-variable, cong-other, cong-row, gives-stack}
 use Rattle.mz_pmachine.proofs.Converting.{operand-exprs}
 use Rattle.mz_pmachine.proofs.commands.conversions.cong.Goals as goal

@@ -1,10 +1,10 @@
 use Rattle.std.proofs.Common.{◌-◌, ◌∷◌, length, get_or, sym, ap, ◌∙◌, arith}
-use Rattle.mz_punify.specs.Stored.{items_at}
+use Rattle.mz_pmachine_unify.specs.Stored.{items_at}
 use Rattle.std.proofs.lemmas.Option.{slice_get-get_or}
-use Rattle.mz_punify.specs.Numbering.{expr_of}
+use Rattle.mz_pmachine_unify.specs.Numbering.{expr_of}
 use Rattle.mz_store.specs.declared.item.Id.{Id}
-use Rattle.mz_unification.specs.Profile.{obligation}
-use Rattle.mz_punify.proofs.Offered.{items-push, is-in-at}
+use Rattle.mz_unify_theory.specs.Profile.{obligation}
+use Rattle.mz_pmachine_unify.proofs.Offered.{items-push, is-in-at}
 use Rattle.mz_pmachine.proofs.Converting.{put_in}
 use Rattle.mz_machine.proofs.Offered.{sides_from, no-sides, next-side, least, one-before}
 use Rattle.mz_pmachine.proofs.commands.conversions.push_sides.Goals as goal

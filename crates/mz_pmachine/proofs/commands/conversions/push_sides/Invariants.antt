@@ -1,6 +1,6 @@
 use Rattle.std.proofs.Common.{◌≡◌, ◌≤◌, length}
-use Rattle.mz_punify.specs.Stored.{items_at, AreItemsIn}
-use Rattle.mz_punify.specs.Numbering.{expr_of}
+use Rattle.mz_pmachine_unify.specs.Stored.{items_at, AreItemsIn}
+use Rattle.mz_pmachine_unify.specs.Numbering.{expr_of}
 use Rattle.mz_machine.proofs.Offered.{sides_from}
 use Rattle.mz_pmachine.proofs.commands.conversions.push_sides.Given as goal
 

@@ -1,20 +1,19 @@
 use Rattle.std.proofs.Common.{◌≡◌, ◌∙◌, ◌+◌, ◌++◌, Err, ap, sym, subst, arith}
 use Rattle.std.proofs.lemmas.Result.{err_from_is_err_and}
 use Rattle.mz_cmd.specs.declared.code.ProofCode.TheVariants as code
-use Rattle.mz_soundness.specs.ProofMachine.{proof_row}
-use Rattle.mz_soundness.specs.Bodies.{row_steps}
-use Rattle.mz_earlier.specs.Before.{tables_of}
-use Rattle.mz_punify.specs.Numbering.{IsOver, expr_of}
-use Rattle.mz_punify.specs.Stored.{exprs_at}
+use Rattle.mz_machine_theory.specs.ProofMachine.{proof_row}
+use Rattle.mz_machine_theory.specs.Bodies.{row_steps}
+use Rattle.mz_machine_env.specs.Before.{tables_of}
+use Rattle.mz_pmachine_unify.specs.Numbering.{IsOver, expr_of}
+use Rattle.mz_pmachine_unify.specs.Stored.{exprs_at}
 use Rattle.mz_pmachine.specs.OverNodes.{pop_unfolding}
-use Rattle.mz_earlier.proofs.Offered.{signatures-before}
-use Rattle.mz_numbered.specs.Numbered.{portable}
+use Rattle.mz_machine_env.proofs.Offered.{signatures-before}
+use Rattle.mz_pmachine_theory.specs.Numbered.{portable}
 use Rattle.mz_unify.proofs.Offered.{stopped-through, went-through}
-use Rattle.mz_punify.proofs.Offered.{of-numbered}
-use Rattle.mz_machine.proofs.Offered.{not-taken, of-variable, not-defined, is-unfolding, unfold-stopped, stopped-steps, unfold-refused, unfold-row, unfold-steps, gives-stack}
+use Rattle.mz_pmachine_unify.proofs.Offered.{of-numbered}
+use Rattle.mz_machine.proofs.Offered.{not-taken, of-variable, not-defined, is-unfolding, unfold-stopped, stopped-steps, unfold-refused, unfold-row, unfold-steps, gives-stack, no-more, no-stream, row-there, so-many, stream-there, unless-mem}
 use Rattle.mz_pmachine.proofs.Converting.{operand-exprs}
 use Rattle.mz_pmachine.proofs.Unfoldings.{term-there, same-run, same-count, ids-pushed, items-pushed}
-use Rattle.mz_machine.proofs.Offered.{no-more, no-stream, row-there, so-many, stream-there, unless-mem}
 use Rattle.mz_pmachine.proofs.commands.conversions.unfold.Goals as goal
 
 pub returns-in-Err-clause-row : goal.returns-in-Err-clause-row

@@ -1,12 +1,11 @@
 use Rattle.std.proofs.Common.{◌≡◌, ◌∙◌, ◌∷◌, [], ◌++◌, ◌<◌, ◌≤◌, length, sym, ap, arith, lt-ltb, le-ltb}
-use Rattle.mz_numbered.specs.Numbered.{a_variable}
+use Rattle.mz_pmachine_theory.specs.Numbered.{a_variable, portable}
 use Rattle.mz_store.specs.Sharing.{dummy_binder}
-use Rattle.mz_punify.specs.Numbering.{expr_of}
-use Rattle.mz_unification.specs.Spells.{dummy_of}
-use Rattle.mz_soundness.specs.Premises.{bound_count}
-use Rattle.mz_earlier.specs.Before.{tables_of}
+use Rattle.mz_pmachine_unify.specs.Numbering.{expr_of}
+use Rattle.mz_unify_theory.specs.Spells.{dummy_of}
+use Rattle.mz_machine_theory.specs.Premises.{bound_count}
+use Rattle.mz_machine_env.specs.Before.{tables_of}
 use Rattle.mz_machine.proofs.Offered.{dummy-sort-fails, dummy-many, dummy-row, count-is, a-dummy}
-use Rattle.mz_numbered.specs.Numbered.{portable}
 use Rattle.mz_pmachine.proofs.commands.heap.dummy.Goals as goal
 
 pub returns-then-not-may_be_dummy-clause-row : goal.returns-then-not-may_be_dummy-clause-row

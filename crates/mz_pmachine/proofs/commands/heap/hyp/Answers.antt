@@ -1,10 +1,10 @@
 use Rattle.std.proofs.Common.{◌≡◌, ◌∙◌, true, false, sym, ap, subst}
 use Rattle.std.proofs.lemmas.Result.{err_from_is_err_and}
-use Rattle.mz_punify.specs.Numbering.{expr_of}
-use Rattle.mz_numbered.specs.Numbered.{portable}
-use Rattle.mz_soundness.specs.Premises.{pop_expr}
-use Rattle.mz_soundness.specs.ProofMachine.{has_provable_sort}
-use Rattle.mz_earlier.specs.Before.{tables_of}
+use Rattle.mz_pmachine_unify.specs.Numbering.{expr_of}
+use Rattle.mz_pmachine_theory.specs.Numbered.{portable}
+use Rattle.mz_machine_theory.specs.Premises.{pop_expr}
+use Rattle.mz_machine_theory.specs.ProofMachine.{has_provable_sort}
+use Rattle.mz_machine_env.specs.Before.{tables_of}
 use Rattle.mz_machine.proofs.Offered.{hyp-err, hyp-other, hyp-row, provable}
 use Rattle.mz_pmachine.proofs.commands.heap.hyp.Goals as goal
 

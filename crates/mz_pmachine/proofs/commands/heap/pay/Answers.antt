@@ -1,8 +1,8 @@
 use Rattle.std.proofs.Common.{◌∙◌, refl, sym, ap}
-use Rattle.mz_punify.specs.Numbering.{expr_of}
-use Rattle.mz_soundness.specs.Premises.{pop_obligation}
+use Rattle.mz_pmachine_unify.specs.Numbering.{expr_of}
+use Rattle.mz_machine_theory.specs.Premises.{pop_obligation}
 use Rattle.mz_machine.proofs.Offered.{pay-left, pay-right, pay-row, true-false}
-use Rattle.mz_punify.proofs.Offered.{of-numbered}
+use Rattle.mz_pmachine_unify.proofs.Offered.{of-numbered}
 use Rattle.mz_pmachine.proofs.commands.heap.pay.Goals.{else-same-via-then-same+else-same-2, else-same-via-else-same}
 use Rattle.mz_pmachine.proofs.commands.heap.pay.Goals as goal
 

@@ -1,6 +1,6 @@
 use Rattle.std.proofs.Common.{◌∙◌, ◌∷◌, Ok, ap}
-use Rattle.mz_numbered.specs.Numbered.{portable}
-use Rattle.mz_punify.specs.Stored.{item_at}
+use Rattle.mz_pmachine_theory.specs.Numbered.{portable}
+use Rattle.mz_pmachine_unify.specs.Stored.{item_at}
 use Rattle.mz_machine.proofs.Offered.{gives-stack, push-row, ruled-gives, ruled-ok}
 use Rattle.mz_pmachine.proofs.Unfoldings.{ids-pushed, items-pushed}
 use Rattle.mz_pmachine.proofs.commands.heap.refer_to.Goals as goal

@@ -3,18 +3,17 @@ use Rattle.std.proofs.lemmas.Result.{err_from_is_err_and}
 use Rattle.mz_logic.specs.Words.{binders_of}
 use Rattle.mz_layout.specs.Tables.{term_row}
 use Rattle.mz_store.specs.Sharing.{CanTake}
-use Rattle.mz_punify.specs.Numbering.{expr_of, exprs_of}
-use Rattle.mz_punify.specs.Numbering.{trees_of as trees_in}
-use Rattle.mz_punify.proofs.Offered.{from-exprs}
-use Rattle.mz_punify.specs.Stored.{exprs_at, trees_at}
-use Rattle.mz_numbered.specs.Numbered.{an_application, operands_from, tree_of, portable}
-use Rattle.mz_soundness.specs.ProofMachine.{built}
-use Rattle.mz_soundness.specs.Premises.{operands_fit}
-use Rattle.mz_earlier.specs.Before.{tables_of, signatures_of, words_before}
-use Rattle.mz_soundness.specs.FileRows.{term_of_file}
+use Rattle.mz_pmachine_unify.specs.Numbering.{expr_of, exprs_of, trees_of as trees_in}
+use Rattle.mz_pmachine_unify.proofs.Offered.{from-exprs}
+use Rattle.mz_pmachine_unify.specs.Stored.{exprs_at, trees_at}
+use Rattle.mz_pmachine_theory.specs.Numbered.{an_application, operands_from, tree_of, portable}
+use Rattle.mz_machine_theory.specs.ProofMachine.{built}
+use Rattle.mz_machine_theory.specs.Premises.{operands_fit}
+use Rattle.mz_machine_env.specs.Before.{tables_of, signatures_of, words_before}
+use Rattle.mz_machine_theory.specs.FileRows.{term_of_file}
 use Rattle.mz_machine.proofs.Offered.{built-none, built-few, built-unfit, built-row, takes-its-own, no-dummies, stops-as}
 use Rattle.mz_pmachine.proofs.TermResults.{can-take, over-words, over-rows, items-kept, items-still}
-use Rattle.mz_earlier.proofs.Offered.{term-before, no-term-before}
+use Rattle.mz_machine_env.proofs.Offered.{term-before, no-term-before}
 use Rattle.mz_pmachine.proofs.commands.terms.build.Goals as goal
 
 pub returns-then-t-terms-clause-built : goal.returns-then-t-terms-clause-built

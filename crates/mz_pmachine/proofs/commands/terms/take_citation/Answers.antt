@@ -3,11 +3,11 @@ use Rattle.std.proofs.lemmas.Result.{err_from_is_err_and}
 use Rattle.mz_logic.specs.Words.{binders_of}
 use Rattle.mz_layout.specs.Tables.{thm_row}
 use Rattle.mz_store.specs.declared.item.Id.{Id}
-use Rattle.mz_punify.specs.Stored.{items_at, trees_at}
-use Rattle.mz_numbered.specs.Numbered.{tree_of, portable}
-use Rattle.mz_soundness.specs.ProofMachine.{citation}
-use Rattle.mz_soundness.specs.Premises.{operands_fit, are_apart}
-use Rattle.mz_earlier.specs.Before.{tables_of, signatures_of}
+use Rattle.mz_pmachine_unify.specs.Stored.{items_at, trees_at}
+use Rattle.mz_pmachine_theory.specs.Numbered.{tree_of, portable}
+use Rattle.mz_machine_theory.specs.ProofMachine.{citation}
+use Rattle.mz_machine_theory.specs.Premises.{operands_fit, are_apart}
+use Rattle.mz_machine_env.specs.Before.{tables_of, signatures_of}
 use Rattle.mz_pmachine.proofs.Citing.{items-many}
 use Rattle.mz_machine.proofs.Offered.{cites-none, cites-few, cites-other, cites-without, cites-unfit, cites-meeting, cites-so, stops-as}
 use Rattle.mz_pmachine.proofs.commands.terms.take_citation.Goals as goal

@@ -1,20 +1,19 @@
 use Rattle.std.proofs.Common.{◌≡◌, ◌+◌, ◌∙◌, ◌++◌, ◌∷◌, [], Err, Ok, sym, ap, subst, arith}
 use Rattle.std.proofs.lemmas.Result.{err_from_is_err_and}
 use Rattle.mz_cmd.specs.declared.code.ProofCode.TheVariants as code
-use Rattle.mz_punify.specs.Numbering.{IsOver, expr_of}
+use Rattle.mz_pmachine_unify.specs.Numbering.{IsOver, expr_of}
 use Rattle.mz_store.specs.declared.item.Item.TheVariants.{Proof}
-use Rattle.mz_numbered.specs.Numbered.{portable}
-use Rattle.mz_unification.specs.Profile.{proof}
+use Rattle.mz_pmachine_theory.specs.Numbered.{portable}
+use Rattle.mz_unify_theory.specs.Profile.{proof}
 use Rattle.mz_unify.proofs.Offered.{stopped-through, went-through}
-use Rattle.mz_punify.proofs.Offered.{items-push, items-in-both}
-use Rattle.mz_soundness.specs.ProofMachine.{proof_row}
-use Rattle.mz_soundness.specs.Bodies.{row_steps}
-use Rattle.mz_earlier.specs.Before.{tables_of}
+use Rattle.mz_pmachine_unify.proofs.Offered.{items-push, items-in-both}
+use Rattle.mz_machine_theory.specs.ProofMachine.{proof_row}
+use Rattle.mz_machine_theory.specs.Bodies.{row_steps}
+use Rattle.mz_machine_env.specs.Before.{tables_of}
 use Rattle.mz_pmachine.specs.OverNodes.{with_stack}
-use Rattle.mz_earlier.proofs.Offered.{signatures-before}
-use Rattle.mz_machine.proofs.Offered.{thm-stopped, thm-save-stopped, thm-stopped-steps, thm-refused, thm-save-refused, thm-row, thm-save-row, thm-steps, no-more, so-many, stops-as}
+use Rattle.mz_machine_env.proofs.Offered.{signatures-before}
+use Rattle.mz_machine.proofs.Offered.{thm-stopped, thm-save-stopped, thm-stopped-steps, thm-refused, thm-save-refused, thm-row, thm-save-row, thm-steps, no-more, so-many, stops-as, memory-stops, memory-unless}
 use Rattle.mz_pmachine.proofs.Citing.{cited-run, cited-count}
-use Rattle.mz_machine.proofs.Offered.{memory-stops, memory-unless}
 use Rattle.mz_pmachine.proofs.commands.terms.thm.Goals as goal
 
 pub returns-in_err-target-clause-plain : goal.returns-in_err-target-clause-plain

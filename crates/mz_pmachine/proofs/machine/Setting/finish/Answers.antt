@@ -1,17 +1,16 @@
-use Rattle.std.proofs.Common.{◌≡◌, ◌+◌, ◌∙◌, length, sym, ap, subst, arith}
-use Rattle.std.proofs.Common.{Ok, Err, List}
+use Rattle.std.proofs.Common.{◌≡◌, ◌+◌, ◌∙◌, length, sym, ap, subst, arith, Ok, Err, List}
 use Rattle.std.proofs.lemmas.List.{length-map}
 use Rattle.mz_cmd.specs.declared.rule.K.{K}
-use Rattle.mz_punify.specs.Numbering.{expr_of}
+use Rattle.mz_pmachine_unify.specs.Numbering.{expr_of}
 use Rattle.mz_store.specs.declared.item.Id.{Id}
 use Rattle.mz_store.specs.declared.item.Item.{Item as Kept}
-use Rattle.mz_numbered.specs.Numbered.{portable}
-use Rattle.mz_soundness.specs.MachineState.{Kind}
-use Rattle.mz_soundness.specs.ProofMachine.{proof_end, ends_with}
-use Rattle.mz_soundness.specs.Bodies.{match_steps}
-use Rattle.mz_earlier.specs.Before.{tables_of}
-use Rattle.mz_earlier.specs.OwnRow.{byte_of, kind_at, heading_by, heading_of, kind_of, mode_for, IsNextRow}
-use Rattle.mz_earlier.proofs.Offered.{kind-byte}
+use Rattle.mz_pmachine_theory.specs.Numbered.{portable}
+use Rattle.mz_machine_theory.specs.MachineState.{Kind}
+use Rattle.mz_machine_theory.specs.ProofMachine.{proof_end, ends_with}
+use Rattle.mz_machine_theory.specs.Bodies.{match_steps}
+use Rattle.mz_machine_env.specs.Before.{tables_of}
+use Rattle.mz_machine_env.specs.OwnRow.{byte_of, kind_at, heading_by, heading_of, kind_of, mode_for, IsNextRow}
+use Rattle.mz_machine_env.proofs.Offered.{kind-byte}
 use Rattle.mz_pmachine.specs.OverNodes.{state_at, AreFirst}
 use Rattle.mz_machine.specs.OverStore.{IsContextOf}
 use Rattle.mz_machine.proofs.Offered.{bound-more, context-longer, same-three, stopped}

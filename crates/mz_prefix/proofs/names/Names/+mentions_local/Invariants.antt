@@ -1,7 +1,7 @@
 use Rattle.std.proofs.Common.{◌≡◌, ◌≤◌, ◌+◌, ◌*◌, drop}
 use Rattle.mz_logic.specs.Tree.{size, trees_size}
 use Rattle.mz_logic.specs.View.{tree, trees}
-use Rattle.mz_publics.specs.PublicPart.{any_mentions_local}
+use Rattle.mz_prefix_theory.specs.PublicPart.{any_mentions_local}
 use Rattle.mz_prefix.proofs.names.Names.+mentions_local.Given as goal
 
 abbrev pub decreases-mentions_local : goal.decreases-mentions_local

@@ -1,6 +1,6 @@
 use Rattle.std.proofs.Common.{◌≡◌, ◌∙◌, true, false, sym, subst}
 use Rattle.mz_logic.specs.DeclView.{declaration}
-use Rattle.mz_publics.specs.PublicPart.{IsSayable}
+use Rattle.mz_prefix_theory.specs.PublicPart.{IsSayable}
 use Rattle.mz_prefix.proofs.Gathering.{told-of}
 use Rattle.mz_prefix.proofs.names.Names.can_say.Goals as goal
 

@@ -1,7 +1,7 @@
 use Rattle.std.specs.Prelude.{not, ◌||◌}
 use Rattle.std.proofs.Common.{◌∙◌, sym, ap}
 use Rattle.mz_logic.specs.View.{tree}
-use Rattle.mz_wording.specs.Wording.{is_short}
+use Rattle.mz_prefix_theory.specs.Wording.{is_short}
 use Rattle.mz_prefix.specs.Names.{spoken}
 use Rattle.mz_prefix.proofs.names.Names.is_hidden.Goals as goal
 

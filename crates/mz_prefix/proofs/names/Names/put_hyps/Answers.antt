@@ -1,10 +1,10 @@
 use Rattle.std.proofs.Common.{◌∙◌, ◌++◌, ◌<◌, ◌≤◌, length, ap, refl, sym, arith}
-use Rattle.mz_general.proofs.Offered.{appended}
+use Rattle.mz_base_theory.proofs.Offered.{appended}
 use Rattle.mz_logic.specs.View.{tree}
 use Rattle.mz_logic.proofs.Offered.{expr-read, exprs_of, length-exprs, trees-exprs}
-use Rattle.mz_printing.specs.Lines.{hyps_words}
-use Rattle.mz_printing.specs.Words.{written}
-use Rattle.mz_readback.specs.Declared.{formula_of, formulas_of}
+use Rattle.mz_prefix_theory.specs.Lines.{hyps_words}
+use Rattle.mz_prefix_theory.specs.Words.{written}
+use Rattle.mz_prefix_theory.specs.Declared.{formula_of, formulas_of}
 use Rattle.mz_prefix.specs.Names.{spoken}
 use Rattle.mz_prefix.proofs.Parts.{hyp-is, hyp_text, hyps-cut, hyps_text, part-added, parts-end}
 use Rattle.mz_prefix.proofs.names.Names.put_hyps.Goals as goal

@@ -1,5 +1,5 @@
 use Rattle.std.proofs.Common.{OnOk, sym, subst}
-use Rattle.mz_grammar.specs.Code.{statement}
+use Rattle.mz_spec_grammar.specs.Code.{statement}
 use Rattle.mz_spec.specs.Answers.{JudgesStatement}
 use Rattle.mz_spec.specs.Declaring.{After}
 use Rattle.mz_spec.specs.Entries.{state}

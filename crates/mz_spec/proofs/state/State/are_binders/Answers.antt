@@ -1,7 +1,7 @@
 use Rattle.std.proofs.Common.{[], map, sym, true≢false}
 use Rattle.std.proofs.lemmas.Option.{none-some}
-use Rattle.mz_grammar.specs.Code.{type_text}
-use Rattle.mz_variables.specs.Code.{variable}
+use Rattle.mz_spec_grammar.specs.Code.{type_text}
+use Rattle.mz_spec_variables.specs.Code.{variable}
 use Rattle.mz_spec.specs.Entries.{state}
 use Rattle.mz_spec.specs.Rules.{AreBinders}
 use Rattle.mz_spec.proofs.Binding.{binders-step, binders-out, group-step, typed-at}

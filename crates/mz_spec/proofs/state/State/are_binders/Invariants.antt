@@ -1,8 +1,8 @@
 use Rattle.std.proofs.Common.{ℕ, [], Option, map, take, drop}
 use Rattle.std.specs.Prelude.{◌↔◌}
-use Rattle.mz_grammar.specs.Statement.{TypeText}
-use Rattle.mz_variables.specs.Code.{IsOfTypes, typed, variable}
-use Rattle.mz_variables.specs.Dependencies.{Every}
+use Rattle.mz_spec_grammar.specs.Statement.{TypeText}
+use Rattle.mz_spec_variables.specs.Code.{IsOfTypes, typed, variable}
+use Rattle.mz_spec_variables.specs.Dependencies.{Every}
 use Rattle.mz_spec.specs.Entries.{state}
 use Rattle.mz_spec.specs.Rules.{AreBinders}
 use Rattle.mz_spec.proofs.Binding.{IsGroupBehind}

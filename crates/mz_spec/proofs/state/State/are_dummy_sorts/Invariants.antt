@@ -1,8 +1,8 @@
 use Rattle.std.proofs.Common.{map, drop}
 use Rattle.std.specs.Prelude.{◌↔◌}
-use Rattle.mz_variables.specs.Code.{variable}
+use Rattle.mz_spec_variables.specs.Code.{variable}
 use Rattle.mz_spec.specs.Entries.{state}
-use Rattle.mz_variables.specs.Dependencies.{Every}
+use Rattle.mz_spec_variables.specs.Dependencies.{Every}
 use Rattle.mz_spec.specs.Rules.{IsDummySort}
 use Rattle.mz_spec.proofs.state.State.are_dummy_sorts.Given as goal
 

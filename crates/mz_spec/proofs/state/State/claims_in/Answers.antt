@@ -1,18 +1,18 @@
 use Rattle.std.proofs.Common.{◌∙◌, map, Err, ap, sym, subst}
 use Rattle.std.proofs.lemmas.Result.{err_from_is_err_and}
-use Rattle.mz_checks.specs.Checks.{AllHold, FailsFirst, retold}
-use Rattle.mz_grammar.specs.Code.{assertion, group, lexeme, source}
-use Rattle.mz_grammar.specs.Reading.{OnFault}
+use Rattle.mz_base_theory.specs.Checks.{AllHold, FailsFirst, retold}
+use Rattle.mz_spec_grammar.specs.Code.{assertion, group, lexeme, source}
+use Rattle.mz_spec_grammar.specs.Reading.{OnFault}
 use Rattle.mz_logic.specs.View.{tree}
-use Rattle.mz_notation.specs.Notation.{Variables}
+use Rattle.mz_math_notation.specs.Notation.{Variables}
 use Rattle.mz_math.specs.Formula.{Reader, IsFormula, formula_checks}
 use Rattle.mz_math.specs.declared.formula.Wanted.TheVariants.{Provable as provable}
 use Rattle.mz_spec.specs.Answers.{JudgesOrMem}
 use Rattle.mz_spec.specs.Code.{EndsSmall}
 use Rattle.mz_spec.specs.Entries.{state}
 use Rattle.mz_spec.specs.Formulas.{AreHyps, AreTokens, inner, told, strings_checks}
-use Rattle.mz_variables.specs.Dependencies.{Every}
-use Rattle.mz_variables.specs.View.{claim, stated_claim, stated_of, view}
+use Rattle.mz_spec_variables.specs.Dependencies.{Every}
+use Rattle.mz_spec_variables.specs.View.{claim, stated_claim, stated_of, view}
 use Rattle.mz_spec.proofs.Strung.{before-halt, last-halt, all-strings, stated-of_formulas}
 use Rattle.mz_spec.proofs.state.State.claims_in.Goals as goal
 

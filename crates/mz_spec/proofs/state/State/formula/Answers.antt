@@ -1,7 +1,7 @@
 use Rattle.std.proofs.Common.{ℕ, sym, subst}
-use Rattle.mz_checks.specs.Checks.{FailsFirst, retold}
-use Rattle.mz_grammar.specs.Code.{lexeme}
-use Rattle.mz_grammar.specs.declared.refusal.Fault.{Fault}
+use Rattle.mz_base_theory.specs.Checks.{FailsFirst, retold}
+use Rattle.mz_spec_grammar.specs.Code.{lexeme}
+use Rattle.mz_spec_grammar.specs.declared.refusal.Fault.{Fault}
 use Rattle.mz_logic.specs.View.{tree}
 use Rattle.mz_math.specs.Formula.{IsFormula, Misreads, Reader, formula_checks}
 use Rattle.mz_spec.specs.Formulas.{inner, told}

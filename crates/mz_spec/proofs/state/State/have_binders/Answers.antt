@@ -1,5 +1,5 @@
 use Rattle.std.proofs.Common.{sym, subst}
-use Rattle.mz_variables.specs.Code.{AreGrouped}
+use Rattle.mz_spec_variables.specs.Code.{AreGrouped}
 use Rattle.mz_spec.proofs.state.State.have_binders.Goals as goal
 
 pub are_binders-requires-clause-grouped : goal.are_binders-requires-clause-grouped

@@ -1,6 +1,6 @@
 use Rattle.std.proofs.Common.{true, false, refl}
-use Rattle.mz_grammar.specs.Code.{lexeme, level}
-use Rattle.mz_grammar.specs.declared.kind.Fixity.TheVariants as fixities
+use Rattle.mz_spec_grammar.specs.Code.{lexeme, level}
+use Rattle.mz_spec_grammar.specs.declared.kind.Fixity.TheVariants as fixities
 use Rattle.mz_logic.specs.Declaration.{signatures}
 use Rattle.mz_spec.specs.Entries.{state}
 use Rattle.mz_spec.specs.Formulas.{inner}

@@ -1,5 +1,5 @@
 use Rattle.std.proofs.Common.{◌++◌, map, ap}
-use Rattle.mz_variables.specs.Code.{IsOfTypes, typed, variable}
+use Rattle.mz_spec_variables.specs.Code.{IsOfTypes, typed, variable}
 use Rattle.mz_spec.specs.Entries.{state}
 use Rattle.mz_spec.specs.State.{binder_of}
 use Rattle.mz_spec.proofs.Binding.{every-at}

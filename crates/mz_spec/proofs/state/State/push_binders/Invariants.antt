@@ -1,7 +1,7 @@
 use Rattle.std.proofs.Common.{◌≡◌, ◌++◌, ℕ, Option, map, drop}
-use Rattle.mz_grammar.specs.Statement.{TypeText}
-use Rattle.mz_variables.specs.Code.{IsOfTypes, typed, variable}
-use Rattle.mz_variables.specs.Dependencies.{Every}
+use Rattle.mz_spec_grammar.specs.Statement.{TypeText}
+use Rattle.mz_spec_variables.specs.Code.{IsOfTypes, typed, variable}
+use Rattle.mz_spec_variables.specs.Dependencies.{Every}
 use Rattle.mz_spec.specs.Entries.{state}
 use Rattle.mz_spec.specs.Found.{IsFound}
 use Rattle.mz_spec.specs.State.{binder_of}

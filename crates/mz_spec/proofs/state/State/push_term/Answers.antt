@@ -1,5 +1,5 @@
 use Rattle.std.proofs.Common.{◌∙◌, ◌++◌, ◌∷◌, [], ap, sym, refl, arith}
-use Rattle.mz_grammar.specs.Code.{lexeme}
+use Rattle.mz_spec_grammar.specs.Code.{lexeme}
 use Rattle.mz_logic.specs.DeclView.{term_of}
 use Rattle.mz_spec.specs.Entries.{state}
 use Rattle.mz_spec.proofs.Judged.{few-terms}

@@ -1,10 +1,10 @@
 use Rattle.std.proofs.Common.{◌≡◌, ◌≢◌, ◌⊎◌, ◌∙◌, ◌++◌, ◌∷◌, ◌+◌, [], length, map, drop, ap, sym, refl, subst, arith, length-append, Contains}
 use Rattle.std.proofs.lemmas.List.{length-map}
 use Rattle.std.specs.Prelude.{IsTrue}
-use Rattle.mz_general.proofs.Offered.{drop-item}
-use Rattle.mz_names.specs.Identifiers.{is_name}
-use Rattle.mz_notation.specs.Kept.{AreVariables}
-use Rattle.mz_variables.specs.Code.{IsOfTypes, typed, variable}
+use Rattle.mz_base_theory.proofs.Offered.{drop-item}
+use Rattle.mz_base.specs.Identifiers.{is_name}
+use Rattle.mz_math_notation.specs.Kept.{AreVariables}
+use Rattle.mz_spec_variables.specs.Code.{IsOfTypes, typed, variable}
 use Rattle.mz_spec.specs.Entries.{state}
 use Rattle.mz_spec.specs.State.{binder_of, variable_bytes}
 use Rattle.mz_spec.proofs.Binding.{every-at}

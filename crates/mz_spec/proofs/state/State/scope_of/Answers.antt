@@ -1,6 +1,6 @@
 use Rattle.std.proofs.Common.{◌≡◌, ◌∙◌, ◌++◌, map, ap, sym, subst}
-use Rattle.mz_notation.specs.Kept.{AreVariables}
-use Rattle.mz_variables.specs.Code.{AreGrouped, variable}
+use Rattle.mz_math_notation.specs.Kept.{AreVariables}
+use Rattle.mz_spec_variables.specs.Code.{AreGrouped, variable}
 use Rattle.mz_spec.specs.State.{variable_bytes}
 use Rattle.mz_spec.proofs.Places.{front-variables}
 use Rattle.mz_spec.proofs.state.State.scope_of.Goals as goal

@@ -1,4 +1,4 @@
-use Rattle.mz_earlier.proofs.Offered.{row-in-file}
+use Rattle.mz_machine_env.proofs.Offered.{row-in-file}
 use Rattle.mz_trace.proofs.making.Making.build.Goals as goal
 
 pub arity-requires : goal.arity-requires

@@ -1,6 +1,6 @@
 use Rattle.std.proofs.Common.{◌∙◌, length, ap, arith}
 use Rattle.std.specs.Prelude.{reverse, drop}
-use Rattle.mz_earlier.proofs.Offered.{drop-within}
+use Rattle.mz_machine_env.proofs.Offered.{drop-within}
 use Rattle.mz_trace.specs.Commands.{stage_of}
 use Rattle.mz_trace.proofs.Citing.{proofs-there}
 use Rattle.mz_trace.proofs.making.Making.cite.Goals as goal

@@ -3,7 +3,7 @@ use Rattle.std.proofs.lemmas.Result.{on_ok_weaker}
 use Rattle.std.specs.Prelude.{reverse, drop, slice_get}
 use Rattle.mz_cmd.specs.declared.code.ProofCode.TheVariants as code
 use Rattle.mz_layout.specs.Tables.{term_row}
-use Rattle.mz_earlier.proofs.Offered.{drop-within}
+use Rattle.mz_machine_env.proofs.Offered.{drop-within}
 use Rattle.mz_trace.specs.Nodes.{IsApplication, Applies}
 use Rattle.mz_trace.specs.Entries.{HasSides}
 use Rattle.mz_trace.specs.Commands.{stage_of, with_stack, IsRead, Goes, MayMeet, Meets}

@@ -1,6 +1,6 @@
 use Rattle.std.proofs.Common.{sym, ap, ◌∙◌, slice_get}
 use Rattle.std.specs.Prelude.{option_map}
-use Rattle.mz_typing.proofs.Offered.{is_there}
+use Rattle.mz_type_rules.proofs.Offered.{is_there}
 use Rattle.mz_type.proofs.StatedSteps.{declared_at, both_there}
 use Rattle.mz_type.proofs.typed.Typed.decl.Goals as goal
 

@@ -1,9 +1,0 @@
-pub mod BodiesByAddress
-pub mod StatementsByAddress
-pub mod FilesByAddress
-pub mod AcceptedByAddress
-pub mod SameBodies
-pub mod Agreeing
-pub mod ItselfSame
-pub mod Accepted
-pub mod Offered

@@ -1,5 +1,0 @@
--- What crates above may use of these proofs; all else is this crate's own, and may change.
-pub use Rattle.mz_accepting.proofs.Accepted.{files-accepted}
-pub use Rattle.mz_accepting.proofs.AcceptedByAddress.{accepted-by-address}
-pub use Rattle.mz_accepting.proofs.Agreeing.{form-kind, same-longer, same-rows}
-pub use Rattle.mz_accepting.proofs.SameBodies.{fresh-back, own-of}

@@ -1,5 +1,0 @@
-use Rattle.mz_accepting.proofs.AcceptedByAddress.{accepted-by-address}
-use Rattle.mz_accepting.proofs.laws_by_address.written_files_are_accepted_by_address.Goals as goal
-
-pub returns : goal.returns
-returns c = accepted-by-address

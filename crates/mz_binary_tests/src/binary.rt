@@ -1,0 +1,231 @@
+// A file statement by statement; the tables of files stand with the program's tests.
+
+ghost use Rattle.std.specs.Prelude.{◌≡◌, ◌<◌, ◌^◌, length};
+
+use crate::expect::expect;
+use mz_base::Mode;
+use mz_binary::{Checked, Checker, Next, Rows, Statement, check_all, refusal_line};
+use mz_binary_theory::Standard;
+use mz_cmd::{K, Mem, Refusal, Steps};
+use mz_layout::Mmb;
+use mz_store::Seed;
+use std::alloc::{AllocError, Global};
+use std::marker::Brand;
+use std::process::Abort;
+use std::sync::ledger::{Blank, Ledger};
+
+/// Finished proofs, and drafts.
+const STRICT: Standard = Standard::Published(Mode::Strict);
+
+const DRAFT: Standard = Standard::Published(Mode::Draft);
+
+/// Negation, the definition of a double negation, and a theorem that folds it.
+const FOLD: &[u8] = &[
+    0x4D, 0x4D, 0x30, 0x42, 1, 1, 0, 0, 2, 0, 0, 0, 1, 0, 0, 0, 0x30, 0, 0, 0, 0x40, 0, 0, 0, 0x80,
+    0, 0, 0, 0, 0, 0, 0, 0, 0, 0, 0, 0, 0, 0, 0, 4, 0, 0, 0, 0, 0, 0, 0, 1, 0, 0, 0, 0x48, 0, 0, 0,
+    1, 0, 0x80, 0, 0x58, 0, 0, 0, 1, 0, 0, 0, 0x70, 0, 0, 0, 0, 0, 0, 0, 0, 0, 0, 0, 0, 0, 0, 0, 0,
+    0, 0, 0, 0, 0, 0, 0, 0, 0, 0, 0, 0, 0, 0, 0, 0, 0, 0, 0, 0x30, 0x30, 0x32, 0, 0, 0, 0, 0, 0, 0,
+    0, 0, 0, 0, 0, 0, 0x70, 1, 0x32, 0x36, 0x30, 0x30, 0x32, 0, 0x44, 2, 0x45, 2, 0x45, 6, 0x12,
+    0x10, 0x10, 0, 0x46, 0x15, 0x12, 0x10, 0x10, 0x16, 0x12, 0x50, 1, 0x52, 1, 0x17, 0x12, 0x50, 1,
+    0x12, 0x10, 0x10, 0x1B, 0x18, 0, 0,
+];
+
+/// The file with one byte in place of another.
+fn with_byte(alloc: Global, at: usize, byte: u8) -> Result<Vec<u8>, Mem> {
+    let mut file = FOLD.to_vec(alloc)?;
+    if let Some(place) = file.get_mut(at) {
+        *place = byte;
+    }
+    Ok(file)
+}
+
+fn check_with<L: Ledger>(alloc: Global, blank: Blank, file: &[u8], standard: Standard) -> Checked
+    requires name { blank.name ≡ L.name }
+    requires parts { blank.parts ≡ L.parts }
+    requires some { 0 < blank.parts }
+    requires fits { length file.now < 2 ^ 32 }
+{
+    let mut steps = Steps::<L>::start(blank);
+    check_all(alloc, Seed::FIXED, file, standard, &mut steps)
+}
+
+/// How many rows a file has, or its refusal's line.
+fn told(alloc: Global, checked: Checked) -> Result<Vec<u8>, Mem> {
+    match checked {
+        Checked::Good(rows) => {
+            let (sorts, terms, thms) = (rows.sorts, rows.terms, rows.thms);
+            Ok(format!(in alloc; "good: {sorts} {terms} {thms}\n")?.into_bytes())
+        }
+        Checked::Refused(refusal) => refusal_line(alloc, &refusal),
+        Checked::Mem => Err(AllocError),
+    }
+}
+
+/// What is told of the file with one byte in place of another.
+fn line_of(
+    rt: &(impl Abort + AllocGlobal),
+    at: usize,
+    byte: u8,
+    standard: Standard,
+) -> Result<Vec<u8>, Mem> {
+    let file = with_byte(rt.alloc(), at, byte)?;
+    assert!(rt; file.len() < 200);
+    told(
+        rt.alloc(),
+        check_with::<Brand>(rt.alloc(), Blank::new(1), &file, standard),
+    )
+}
+
+/// A byte and its place, and what is told of the file then.
+const WHOLE: &[(usize, u8, Standard, &str)] = &[
+    (132, 0x4D, STRICT, "good: 1 2 1\n"),
+    (
+        157,
+        0x20,
+        STRICT,
+        "refused: binary statement 4 at byte 157: K30 sorry\n",
+    ),
+    (157, 0x20, DRAFT, "good: 1 2 1\n"),
+    (
+        132,
+        0x4D,
+        Standard::Portable,
+        "refused: binary statement 4 at byte 156: K28 unfold\n",
+    ),
+];
+
+#[test]
+fn whole_files(rt: HostRuntime) {
+    for (at, byte, standard, line) in WHOLE {
+        let found = line_of(&rt, *at, *byte, *standard).expect(&rt, "memory");
+        assert!(rt; found.as_slice() == line.as_bytes(), "{byte} at {at}");
+    }
+}
+
+/// Adds the good statements of a file, and tells what comes after them.
+fn end_of<L: Ledger>(
+    alloc: Global,
+    blank: Blank,
+    mmb: &Mmb<'_>,
+    standard: Standard,
+    statements: &mut Vec<Statement>,
+) -> Result<Result<Rows, Refusal>, Mem>
+    requires name { blank.name ≡ L.name }
+    requires parts { blank.parts ≡ L.parts }
+    requires some { 0 < blank.parts }
+{
+    let mut steps = Steps::<L>::start(blank);
+    let mut checker = Checker::new(alloc, Seed::FIXED, mmb, standard);
+    for _ in 0..10 {
+        match checker.check_next(&mut steps) {
+            Next::Statement(after, statement) => {
+                statements.push(statement)?;
+                checker = after;
+            }
+            Next::End(rows) => return Ok(Ok(rows)),
+            Next::Refused(refusal) => return Ok(Err(refusal)),
+            Next::Mem => return Err(AllocError),
+        }
+    }
+    Err(AllocError)
+}
+
+/// The statements of the file, the last one made local.
+const STATEMENTS: &[Statement] = &[
+    Statement {
+        number: 1,
+        at: 128,
+        kind: 4,
+        row: 0,
+        local: false,
+        gap: false,
+    },
+    Statement {
+        number: 2,
+        at: 130,
+        kind: 5,
+        row: 0,
+        local: false,
+        gap: false,
+    },
+    Statement {
+        number: 3,
+        at: 132,
+        kind: 5,
+        row: 1,
+        local: false,
+        gap: false,
+    },
+    Statement {
+        number: 4,
+        at: 138,
+        kind: 6,
+        row: 0,
+        local: true,
+        gap: false,
+    },
+];
+
+/// A byte and its place, how many good statements come, and what comes after them.
+const ENDINGS: &[(usize, u8, usize, Result<Rows, Refusal>)] = &[
+    (
+        138,
+        0x4E,
+        4,
+        Ok(Rows {
+            sorts: 1,
+            terms: 2,
+            thms: 1,
+        }),
+    ),
+    (
+        157,
+        0x20,
+        3,
+        Err(Refusal {
+            statement: 4,
+            at: 157,
+            rule: K::Sorry,
+        }),
+    ),
+];
+
+/// The same of the file with one byte in place of another.
+fn end_with(
+    rt: &(impl Abort + AllocGlobal),
+    at: usize,
+    byte: u8,
+    standard: Standard,
+    statements: &mut Vec<Statement>,
+) -> Result<Result<Rows, Refusal>, Mem> {
+    let file = with_byte(rt.alloc(), at, byte)?;
+    assert!(rt; file.len() < 200);
+    match Mmb::read(&file) {
+        Ok(mmb) => end_of::<Brand>(rt.alloc(), Blank::new(1), &mmb, standard, statements),
+        Err(refusal) => Ok(Err(refusal)),
+    }
+}
+
+/// A sort, a term, a local definition and a theorem; then the same with an open proof.
+#[test]
+fn statements_one_by_one(rt: HostRuntime) {
+    for (at, byte, count, after) in ENDINGS {
+        let mut found = Vec::new(rt.alloc());
+        let ended = end_with(&rt, *at, *byte, STRICT, &mut found).expect(&rt, "memory");
+        let are_good = found.iter().eq(STATEMENTS.iter().take(*count));
+        assert!(rt; are_good, "{count} statements");
+        assert!(rt; ended == *after, "after {count} statements");
+    }
+}
+
+/// In a draft the open proof goes through, and its theorem is told apart.
+#[test]
+fn gaps_are_told(rt: HostRuntime) {
+    let mut found = Vec::new(rt.alloc());
+    let ended = end_with(&rt, 157, 0x20, DRAFT, &mut found).expect(&rt, "memory");
+    expect(&rt, ended.is_ok(), "good in a draft");
+    expect(&rt, found.len() == 4, "four statements");
+    for (i, statement) in found.iter().enumerate() {
+        assert!(rt; statement.gap == (i == 3), "statement {i}");
+    }
+}

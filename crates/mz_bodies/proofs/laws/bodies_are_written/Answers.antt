@@ -1,5 +1,0 @@
-use Rattle.mz_bodies.proofs.Running.{axioms_are_written, definitions_are_written, theorems_are_written}
-use Rattle.mz_bodies.proofs.laws.bodies_are_written.Goals as goal
-
-pub returns : goal.returns
-returns c = record { definitions = definitions_are_written; axioms = axioms_are_written; theorems = theorems_are_written }

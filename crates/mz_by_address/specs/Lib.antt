@@ -1,2 +1,0 @@
-pub mod SharedRows
-pub mod Laws

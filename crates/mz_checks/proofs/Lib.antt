@@ -1,4 +1,0 @@
-pub mod CheckLaws
-pub mod InOrder
-pub mod Offered
-pub mod Retold

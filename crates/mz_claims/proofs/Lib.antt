@@ -1,3 +1,0 @@
-mod Sound
-mod Weighing
-mod Using

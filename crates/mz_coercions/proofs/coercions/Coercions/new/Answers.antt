@@ -1,5 +1,0 @@
-use Rattle.mz_coercions.proofs.Leading.{none-led}
-use Rattle.mz_coercions.proofs.coercions.Coercions.new.Goals as goal
-
-pub invariant_of-result : goal.invariant_of-result
-invariant_of-result c = none-led c.new.result.items c.new-2.result.items c.new-3.result c.new.ensures.items c.new-3.ensures

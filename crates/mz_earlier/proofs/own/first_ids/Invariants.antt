@@ -1,6 +1,0 @@
-use Rattle.std.proofs.Common.{◌≡◌}
-use Rattle.mz_earlier.specs.OwnRow.{first_ids}
-use Rattle.mz_earlier.proofs.own.first_ids.Given as goal
-
-abbrev pub invariant-params : goal.invariant-params
-invariant-params l = l.ids.items ≡ first_ids l.i

@@ -1,6 +1,0 @@
-use Rattle.std.proofs.Common.{◌≡◌}
-use Rattle.mz_earlier.specs.OwnRow.{first_items}
-use Rattle.mz_earlier.proofs.own.first_items.Given as goal
-
-abbrev pub invariant-ids : goal.invariant-ids
-invariant-ids l = l.items.items ≡ first_items l.i

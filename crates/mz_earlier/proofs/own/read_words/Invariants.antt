@@ -1,6 +1,0 @@
-use Rattle.std.proofs.Common.{◌≡◌, take}
-use Rattle.mz_earlier.specs.OwnRow.{kind_of, own_words}
-use Rattle.mz_earlier.proofs.own.read_words.Given as goal
-
-abbrev pub invariant-params : goal.invariant-params
-invariant-params l = l.words.items ≡ take l.j (own_words l.earlier.file l.row (kind_of l.kind))

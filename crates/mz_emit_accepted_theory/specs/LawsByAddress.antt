@@ -1,0 +1,22 @@
+-- What is promised of a written file where verifiers compare addresses (the .mmb format's proof machine; the profile is
+-- this project's own).
+use Rattle.std.specs.Prelude.{ℕ, false, List}
+use Rattle.mz_logic.specs.Declaration.{Declaration}
+use Rattle.mz_logic.specs.LegalLists.{Statement, Legal}
+use Rattle.mz_layout.specs.Normal.{Parts, file_of}
+use Rattle.mz_layout.specs.Standing.{Fit}
+use Rattle.mz_binary_theory.specs.Good.{Good}
+use Rattle.mz_binary_theory.specs.declared.standard.Standard.TheVariants.{Portable}
+use Rattle.mz_emit_theory.specs.FileWriting.{IsWrittenAs}
+use Rattle.mz_spec.specs.Spec.{SpecOf}
+use Rattle.mz_match_theory.specs.Match.{publics, Agrees}
+use Rattle.mz_match_theory.specs.Verdict.{AcceptsBy}
+
+-- a finished legal text, written within the format's bounds, is by address too a good binary of the made statements
+abbrev pub WrittenFilesAreGoodByAddress : Type 0
+WrittenFilesAreGoodByAddress = (p : Parts) (text made : List Statement) → Fit p → Legal text → IsWrittenAs false p text made → Good Portable (file_of p) made
+
+-- so it is accepted against each specification with which the text's public statements agree
+abbrev pub WrittenFilesAreAcceptedByAddress : Type 0
+WrittenFilesAreAcceptedByAddress = (p : Parts) (text made : List Statement) → Fit p → Legal text → IsWrittenAs false p text made
+    → (spec : List ℕ) (ds : List Declaration) → SpecOf spec ds → Agrees ds (publics text) → AcceptsBy Portable spec (file_of p)

@@ -1,0 +1,3 @@
+pub mod LawsByAddress
+pub mod AcceptedLaws
+pub mod ClaimsLaws

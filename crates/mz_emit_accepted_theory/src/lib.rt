@@ -1,0 +1,18 @@
+//! Written files beside specifications: a legal text that is written within the format's bounds is accepted against
+//! each specification with which its public statements agree, and a finished one by verifiers that compare addresses too.
+//!
+//! What a text states as a proof is what the compiler writes a body for: a stated proof is sound,
+//! and proves the conclusion.
+#![tactic(auto)]
+
+mod accepted_laws;
+mod claims_laws;
+mod laws_by_address;
+
+pub use accepted_laws::{same_lists_agree, written_files_are_accepted};
+pub use claims_laws::{
+    stated_proofs_are_sound, stated_proofs_use_what_they_mean, weights_are_the_texts,
+};
+pub use laws_by_address::{
+    written_files_are_accepted_by_address, written_files_are_good_by_address,
+};

@@ -1,0 +1,12 @@
+use Rattle.std.proofs.Common.{◌∙◌, ◌∷◌, ap}
+use Rattle.std.proofs.lemmas.Result.{on_ok_weaker}
+use Rattle.mz_cmd.specs.declared.code.ProofCode.TheVariants as code
+use Rattle.mz_mmu_forms.specs.ProofView.{proof_view}
+use Rattle.mz_emit_bodies.specs.Owes.{push, prove, give}
+use Rattle.mz_emit_bodies.proofs.body.add_conversion.Goals as goal
+
+pub returns : goal.returns
+returns c = on_ok_weaker c.add-4.result
+    (λ last. last ∙ ap (λ z. push c.args.left.0 ∷ z)
+    (c.in_ok-add-3.ensures ∙ ap (λ z. prove (proof_view c.args.part.now) c.args.chain ∷ z) (c.in_ok-add-2.ensures ∙ ap (λ z. give code.Conv 0 ∷ z) c.in_ok-add.ensures)))
+    c.add-4.ensures

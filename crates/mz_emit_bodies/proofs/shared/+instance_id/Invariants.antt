@@ -1,0 +1,18 @@
+use Rattle.std.proofs.Common.{◌≤◌, ◌+◌, ◌*◌, drop}
+use Rattle.mz_logic.specs.Tree.{size, trees_size}
+use Rattle.mz_logic.specs.View.{tree, trees}
+use Rattle.mz_logic.specs.Words.{signatures_of}
+use Rattle.mz_emit_bodies.proofs.Making.{Making}
+use Rattle.mz_emit_bodies.proofs.shared.+instance_id.Given as goal
+
+abbrev pub decreases-instance_ids : goal.decreases-instance_ids
+decreases-instance_ids g l = 2 * trees_size l.es.now + 1
+
+abbrev pub decreases-instance_id : goal.decreases-instance_id
+decreases-instance_id g l = 2 * size (tree l.expr.now)
+
+abbrev pub invariant-instance_ids-loop-e : goal.invariant-instance_ids-loop-e
+invariant-instance_ids-loop-e g l = record {
+  making : Making (signatures_of (g.T.Terms.all_terms l.terms)) l.initial.store l.store l.operands l.ids.items (trees (drop l.e-index l.e-items)) l.es;
+  small : trees_size (trees (drop l.e-index l.e-items)) ≤ trees_size l.es;
+}

@@ -1,0 +1,6 @@
+-- A term's row as words.
+use Rattle.mz_logic.specs.Words.{TermWords}
+use Rattle.mz_emit_bodies.specs.declared.table.Row.{Row}
+
+abbrev pub words_of_row : Row → TermWords
+words_of_row r = record { params = r.params.items; result = r.result_word; has_body = r.has_body }

@@ -1,0 +1,24 @@
+//! Bodies of statements: the commands that make a definition's expression, an axiom's hypotheses and
+//! conclusion, or a theorem's proof, each expression built once.
+//!
+//! What unify streams and bodies of one statement share: the text's sorts and terms as words, the words of
+//! binders, the statement's expressions, each kept once, and where expressions stand in a heap.
+#![tactic(auto)]
+
+mod body;
+mod cells;
+mod heap;
+mod laws;
+mod shared;
+mod statement;
+mod table;
+mod task;
+mod words;
+
+pub use body::Before;
+pub use heap::Heap;
+pub use laws::bodies_are_written;
+pub use shared::Shared;
+pub use statement::{axiom_body, definition_body, theorem_body};
+pub use table::{Row, Table};
+pub use words::Words;

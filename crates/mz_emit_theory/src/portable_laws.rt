@@ -1,0 +1,26 @@
+// Laws on the definitions: the contract of each function is one, and its body is empty.
+ghost use Rattle.mz_emit_theory.specs.PortableLaws.{AssertionsRunByAddress, DefinitionsRunByAddress, SharedAtFirst, SharedBodiesRunByAddress, SharedTextsShare, SharedWithTerm, WrittenDefinitionsShare};
+
+/// A body that is shared runs by address, over rows whose definitions' streams save no application before
+/// its dummies are met: where it runs by the published table, and where its steps have made what its row
+/// spells. Shared are bodies that build no application twice, with each Unfold's middle item, and without
+/// ConvRef.
+pub fn shared_runs_are_portable_runs()
+    ensures { SharedBodiesRunByAddress }
+{}
+
+/// So do the bodies of statements whose texts and bodies share, as those of a compiled file do; and the
+/// table shares after each definition.
+pub fn shared_statements_run_by_address()
+    ensures assertions { AssertionsRunByAddress }
+    ensures definitions { DefinitionsRunByAddress }
+{}
+
+/// Rows whose streams share: what shares a definition's text is a stream of one, so what is written is, and
+/// a table grows by such rows.
+pub fn shared_rows_grow()
+    ensures texts { SharedTextsShare }
+    ensures written { WrittenDefinitionsShare }
+    ensures at_first { SharedAtFirst }
+    ensures terms { SharedWithTerm }
+{}

@@ -1,6 +1,0 @@
-use Rattle.mz_files.proofs.FileSteps.{steps-of-file}
-use Rattle.mz_files.proofs.ListBounds.{bound-never-ends}
-use Rattle.mz_files.proofs.whole_laws.steps_of_files_are_bounded.Goals as goal
-
-pub returns : goal.returns
-returns c = record { steps = steps-of-file; bound = bound-never-ends }

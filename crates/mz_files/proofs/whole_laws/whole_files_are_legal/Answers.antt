@@ -1,8 +1,0 @@
-use Rattle.mz_logic.proofs.Offered.{legal_list_is_closed}
-use Rattle.mz_files.specs.Standards.{strict_standard}
-use Rattle.mz_files.proofs.ByTable.{good-by-table}
-use Rattle.mz_files.proofs.LegalChains.{good-legal, cite-as-bodies}
-use Rattle.mz_files.proofs.whole_laws.whole_files_are_legal.Goals as goal
-
-pub returns : goal.returns
-returns c = record { portable = good-by-table; legal = good-legal; closed = λ file ss good. legal_list_is_closed ss (good-legal strict_standard file ss good); citations = cite-as-bodies }

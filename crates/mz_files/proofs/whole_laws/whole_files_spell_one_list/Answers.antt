@@ -1,5 +1,0 @@
-use Rattle.mz_files.proofs.WholeFiles.{one-list, good-spelled}
-use Rattle.mz_files.proofs.whole_laws.whole_files_spell_one_list.Goals as goal
-
-pub returns : goal.returns
-returns c = record { one = one-list; good = good-spelled }

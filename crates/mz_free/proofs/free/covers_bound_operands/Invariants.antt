@@ -1,8 +1,0 @@
-use Rattle.std.proofs.Common.{ℕ, ◌≡◌, Contains}
-use Rattle.mz_general.proofs.Offered.{AllSoFar}
-use Rattle.mz_logic.specs.Tree.{operand, var}
-use Rattle.mz_logic.specs.Variables.{IsBoundAt}
-use Rattle.mz_free.proofs.free.covers_bound_operands.Given as goal
-
-abbrev pub invariant-loop-place : goal.invariant-loop-place
-invariant-loop-place l = AllSoFar (λ j. (x : ℕ) → IsBoundAt l.params j → operand l.es j ≡ var x → Contains l.covered x) l.place-items l.place-index

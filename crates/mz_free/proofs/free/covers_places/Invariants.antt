@@ -1,6 +1,0 @@
-use Rattle.std.proofs.Common.{Contains}
-use Rattle.mz_general.proofs.Offered.{AllSoFar}
-use Rattle.mz_free.proofs.free.covers_places.Given as goal
-
-abbrev pub invariant-loop-place : goal.invariant-loop-place
-invariant-loop-place l = AllSoFar (Contains l.covered) l.place-items l.place-index

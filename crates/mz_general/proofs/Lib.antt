@@ -1,5 +1,0 @@
-mod Deciding
-mod Loops
-mod Members
-mod Places
-pub mod Offered

@@ -1,5 +1,0 @@
-use Rattle.mz_grammar.proofs.OneAnswer.{takes-bytes}
-use Rattle.mz_grammar.proofs.laws.statements_take_bytes.Goals as goal
-
-pub returns : goal.returns
-returns c = takes-bytes

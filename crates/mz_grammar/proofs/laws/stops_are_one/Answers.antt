@@ -1,5 +1,0 @@
-use Rattle.mz_grammar.proofs.Stopping.{stops-one, not-both, one-of-all}
-use Rattle.mz_grammar.proofs.laws.stops_are_one.Goals as goal
-
-pub returns : goal.returns
-returns c = record { one = stops-one; not_both = not-both; one_of_all = one-of-all }

@@ -1,0 +1,44 @@
+use Rattle.std.proofs.Common.{◌↔◌, ◌∙◌, ◌+◌, IsTrue, drop, ap, refl, sym, subst, true≢false, arith}
+use Rattle.std.proofs.lemmas.List.{drop_all}
+use Rattle.mz_logic.specs.Tree.{trees_size}
+use Rattle.mz_logic.specs.View.{tree, trees}
+use Rattle.mz_logic.specs.declared.expr.Expr.{Expr}
+use Rattle.mz_logic_free.proofs.Sharing.{IsOther, SomeName, Names, names-here, names-behind, names-none, cut-trees}
+use Rattle.mz_logic_free.proofs.named.+names_other.Goals as goal
+
+pub some_name_other-returns-then-names_other : goal.some_name_other-returns-then-names_other
+some_name_other-returns-then-names_other t c =
+    let items = c.as_slice-e-items.result.now in
+    let i = c.loop-e.e-index in
+    let cut = cut-trees items i c.e-item.result c.loop-e-test.true c.e-item.is in (
+      λ _. names-here c.args.ctx.now (IsOther c.args.variables.now c.args.own.now) (trees (drop i items)) (trees (drop (i + 1) items)) (tree c.e-item.result) cut (SomeName c.args.ctx.now (IsOther c.args.variables.now c.args.own.now) c.args.es.now) c.loop-e.invariant.0
+          (c.names_other.ensures.0 c.if-names_other.true),
+      λ _. refl,
+    )
+
+pub some_name_other-loop-e-preserved : goal.some_name_other-loop-e-preserved
+some_name_other-loop-e-preserved t c =
+    let items = c.as_slice-e-items.result.now in
+    let i = c.loop-e.e-index in
+    let cut = cut-trees items i c.e-item.result c.loop-e-test.true c.e-item.is in
+    let sizes = ap trees_size cut in
+    let small = c.loop-e.invariant.1 in (
+      names-behind c.args.ctx.now (IsOther c.args.variables.now c.args.own.now) (trees (drop i items)) (trees (drop (i + 1) items)) (tree c.e-item.result) cut (SomeName c.args.ctx.now (IsOther c.args.variables.now c.args.own.now) c.args.es.now) c.loop-e.invariant.0
+          (λ here. true≢false (sym (c.names_other.ensures.1 here) ∙ c.if-names_other.false)),
+      omega (arith, sizes, small),
+    )
+
+pub some_name_other-returns : goal.some_name_other-returns
+some_name_other-returns t c = (
+  λ no. absurd (true≢false (sym no)),
+  λ some. absurd (names-none c.args.ctx.now (IsOther c.args.variables.now c.args.own.now) _ (SomeName c.args.ctx.now (IsOther c.args.variables.now c.args.own.now) c.args.es.now)
+      (ap trees (drop_all c.loop-e.e-index c.as_slice-e-items.result.now c.loop-e-test.false)) c.loop-e.invariant.0 some),
+)
+
+pub names_other-returns-in-Var : goal.names_other-returns-in-Var
+names_other-returns-in-Var t c =
+    subst (λ e. IsTrue c.variable_names_other.result ↔ Names c.args.ctx.now (IsOther c.args.variables.now c.args.own.now) e) (sym (ap (λ (e : Expr). tree e) c.in-Var.is)) c.variable_names_other.ensures
+
+pub names_other-returns-in-App : goal.names_other-returns-in-App
+names_other-returns-in-App t c =
+    subst (λ e. IsTrue c.some_name_other.result ↔ Names c.args.ctx.now (IsOther c.args.variables.now c.args.own.now) e) (sym (ap (λ (e : Expr). tree e) c.in-App.is)) c.some_name_other.ensures

@@ -1,0 +1,37 @@
+// Laws of pairs of files.
+ghost use Rattle.std.specs.Prelude.{◌≡◌, ◌⊎◌, ◌↔◌, ℕ, false, List, Some, slice_get, take};
+ghost use Rattle.mz_logic.specs.Tree.{none};
+ghost use Rattle.mz_logic.specs.Declaration.{Assertion, Declaration, assertion_decl};
+ghost use Rattle.mz_logic.specs.LegalLists.{Statement, Legal};
+ghost use Rattle.mz_spec.specs.Spec.{SpecOf};
+ghost use Rattle.mz_match_theory.specs.declared.verdict.Counts.{Counts};
+ghost use Rattle.mz_match_theory.specs.declared.verdict.Verdict.{Verdict};
+ghost use Rattle.mz_match_theory.specs.declared.kind.Kind.TheVariants as kinds;
+ghost use Rattle.mz_match_theory.specs.Match.{kind_of, publics, Agrees};
+ghost use Rattle.mz_match_theory.specs.Headline.{Proves};
+ghost use Rattle.mz_match_theory.specs.Verdict.{Accepts, AcceptsWith, FirstRefusal, IsSound};
+
+/// Each specification and binary are accepted, with one number of declarations of each kind, or have
+/// exactly one first refusal, and never both.
+pub fn each_pair_has_one_verdict()
+    ensures either { (spec bin : List ℕ) → ((counts : Counts) × AcceptsWith spec bin counts) ⊎ ((verdict : Verdict) × FirstRefusal spec bin verdict) }
+    ensures not_both { (spec bin : List ℕ) (counts : Counts) (verdict : Verdict) → AcceptsWith spec bin counts → FirstRefusal spec bin verdict → ⊥ }
+    ensures one_count { (spec bin : List ℕ) (counts other : Counts) → AcceptsWith spec bin counts → AcceptsWith spec bin other → counts ≡ other }
+    ensures one_refusal { (spec bin : List ℕ) (verdict other : Verdict) → FirstRefusal spec bin verdict → FirstRefusal spec bin other → verdict ≡ other }
+{}
+
+/// What the definitions accept is sound, whatever program decides it: each theorem of the
+/// specification is proved by the binary's statements, which are a legal list.
+pub fn accepted_pairs_are_sound()
+    ensures { (spec bin : List ℕ) → Accepts spec bin → IsSound spec bin }
+{}
+
+/// Where a binary is accepted, the specification is proved, which says nothing of the binary. It is
+/// proved exactly where a legal list of statements has just its declarations for public ones; and a
+/// theorem without hypotheses is, only where an axiom is declared before it.
+pub fn accepted_pairs_prove()
+    ensures accepted { (spec bin : List ℕ) → Accepts spec bin → Proves spec }
+    ensures exact { (spec : List ℕ) → Proves spec ↔ ((ds : List Declaration) × (ss : List Statement) × SpecOf spec ds × Legal ss × Agrees ds (publics ss)) }
+    ensures grounded { (spec : List ℕ) (p : Proves spec) (i : ℕ) (a : Assertion) → slice_get p.declared i ≡ Some (assertion_decl a) → a.is_axiom ≡ false → a.hyps ≡ none
+        → (k : ℕ) × (d : Declaration) × (slice_get (take i p.declared) k ≡ Some d) × (kind_of d ≡ kinds.Axiom) }
+{}

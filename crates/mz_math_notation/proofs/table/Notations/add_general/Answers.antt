@@ -1,0 +1,40 @@
+use Rattle.std.specs.Prelude.{⊤}
+use Rattle.std.proofs.Common.{ap, subst, Err}
+use Rattle.mz_math_notation.specs.Notation.{Notation, Table, with_notation}
+use Rattle.mz_math_notation.specs.Answers.{IsMade}
+use Rattle.mz_logic.specs.Declaration.{signatures}
+use Rattle.mz_math_tokens.specs.declared.pieces.Delimiters.{Delimiters}
+use Rattle.mz_math_notation.specs.Forms.{IsGeneral, General}
+use Rattle.mz_math_notation.proofs.Tables.{general-one, general-shaped, form-answer, added-answer, added-ok, added-err}
+use Rattle.mz_math_notation.proofs.table.Notations.add_general.Goals as goal
+
+pub returns-in-Err-clause-answer : goal.returns-in-Err-clause-answer
+returns-in-Err-clause-answer c =
+    let g : General = record { term = c.args.term; names = c.args.params.now.names; binders = c.args.params.now.binders; result = c.args.result_type.now; text = c.args.text.now; literals = c.args.literals.now; tail = c.args.tail } in
+    form-answer ⊤ c.args.self.now (λ (k : Notation). IsGeneral (signatures c.args.env.now) c.args.self.now.delimiters g k) c.in-Err.fault
+    (subst (λ (d : Delimiters). IsMade {A = Notation} (Err c.in-Err.fault) (IsGeneral (signatures c.args.env.now) d g)) (ap (λ (t : Table). t.delimiters) c.self.view_is) c.in-Err.ensures.made)
+
+pub add_notation-requires : goal.add_notation-requires
+add_notation-requires c =
+    let g : General = record { term = c.args.term; names = c.args.params.now.names; binders = c.args.params.now.binders; result = c.args.result_type.now; text = c.args.text.now; literals = c.args.literals.now; tail = c.args.tail } in
+    general-shaped (signatures c.args.env.now) c.self.inside.delimiters g c.in-Ok.notation c.in-Ok.ensures.made
+
+pub returns-in-Ok-clause-answer : goal.returns-in-Ok-clause-answer
+returns-in-Ok-clause-answer c =
+    let g : General = record { term = c.args.term; names = c.args.params.now.names; binders = c.args.params.now.binders; result = c.args.result_type.now; text = c.args.text.now; literals = c.args.literals.now; tail = c.args.tail } in
+    let makes : IsGeneral (signatures c.args.env.now) c.args.self.now.delimiters g c.in-Ok.notation = subst (λ (d : Delimiters). IsGeneral (signatures c.args.env.now) d g c.in-Ok.notation) (ap (λ (t : Table). t.delimiters) c.self.view_is) c.in-Ok.ensures.made in
+    let added = c.add_notation.ensures in
+    added-answer c.args.self.now (λ (k : Notation). IsGeneral (signatures c.args.env.now) c.args.self.now.delimiters g k) c.in-Ok.notation c.add_notation.new.self c.add_notation.result makes
+    (λ l is. general-one (signatures c.args.env.now) c.args.self.now.delimiters g c.in-Ok.ensures.names.distinct l c.in-Ok.notation is makes) added
+
+pub returns-in-Ok-clause-ok : goal.returns-in-Ok-clause-ok
+returns-in-Ok-clause-ok c =
+    let g : General = record { term = c.args.term; names = c.args.params.now.names; binders = c.args.params.now.binders; result = c.args.result_type.now; text = c.args.text.now; literals = c.args.literals.now; tail = c.args.tail } in
+    let makes : IsGeneral (signatures c.args.env.now) c.args.self.now.delimiters g c.in-Ok.notation = subst (λ (d : Delimiters). IsGeneral (signatures c.args.env.now) d g c.in-Ok.notation) (ap (λ (t : Table). t.delimiters) c.self.view_is) c.in-Ok.ensures.made in
+    let added = c.add_notation.ensures in
+    added-ok c.args.self.now (λ (k : Notation). IsGeneral (signatures c.args.env.now) c.args.self.now.delimiters g k) c.in-Ok.notation c.add_notation.new.self c.add_notation.result makes added
+
+pub returns-in-Ok-clause-err : goal.returns-in-Ok-clause-err
+returns-in-Ok-clause-err c =
+    let added = c.add_notation.ensures in
+    added-err c.args.self.now (with_notation c.args.self.now c.in-Ok.notation) c.add_notation.new.self c.add_notation.result added

@@ -1,0 +1,47 @@
+use Rattle.std.proofs.Common.{◌++◌, ◌∷◌, [], ◌∙◌, List, sym, subst, refl, inl}
+use Rattle.std.proofs.lemmas.Bool.{true≢false}
+use Rattle.mz_math_notation.specs.Notation.{Notation, Table, with_leading}
+use Rattle.mz_math_notation.specs.Clear.{IsClear}
+use Rattle.mz_math_notation.specs.Kept.{IsTable}
+use Rattle.mz_math_notation.specs.Answers.{IsClearTable}
+use Rattle.mz_math_notation.proofs.Clearing.{leading-other}
+use Rattle.mz_math_notation.proofs.Spotting.{led-apart}
+use Rattle.mz_math_notation.proofs.Tables.{leading-is, pushed-leading, added-mem}
+use Rattle.mz_math_notation.proofs.table.Notations.push_leading.Goals as goal
+
+pub returns-in_err-is_clear : goal.returns-in_err-is_clear
+returns-in_err-is_clear c = added-mem c.from_residual.result c.args.self.now (with_leading c.args.self.now c.args.notation) _ refl c.from_residual.ensures.1
+
+pub returns-then-not-is_clear : goal.returns-then-not-is_clear
+returns-then-not-is_clear c =
+    let v : Table = record { delimiters = c.self.inside.delimiters; leading = c.self.inside.leading; infixes = c.self.inside.infixes; names = c.self.inside.names; coercions = c.self.inside.coercions } in
+    let k = c.args.notation in (
+      (λ made. let clear : IsClear (v.leading ++ k ∷ []) v.infixes = subst (λ (t : Table). IsClearTable (with_leading t k)) (sym c.self.view_is) made in
+          true≢false (sym (c.in_ok-is_clear.ensures.1 clear) ∙ c.if-not-is_clear.true)),
+      refl,
+    )
+
+pub invariant_of-self-2 : goal.invariant_of-self-2
+invariant_of-self-2 c =
+    let v : Table = record { delimiters = c.self.inside.delimiters; leading = c.self.inside.leading; infixes = c.self.inside.infixes; names = c.self.inside.names; coercions = c.self.inside.coercions } in
+    let k = c.args.notation in
+    let clear : IsClear (v.leading ++ k ∷ []) v.infixes = c.in_ok-is_clear.ensures.0 c.if-not-is_clear.false in
+    subst (λ (xs : List Notation). IsTable (record v { leading = xs })) (sym c.in-Ok.ensures.ok)
+    (leading-is v k c.self.invariant c.requires.plain clear c.requires.led)
+
+pub returns : goal.returns
+returns c =
+    let v : Table = record { delimiters = c.self.inside.delimiters; leading = c.self.inside.leading; infixes = c.self.inside.infixes; names = c.self.inside.names; coercions = c.self.inside.coercions } in
+    let k = c.args.notation in
+    let clear : IsClear (v.leading ++ k ∷ []) v.infixes = c.in_ok-is_clear.ensures.0 c.if-not-is_clear.false in
+    pushed-leading v c.args.self.now c.self.view_is k c.push.new.self c.in-Ok.ensures.ok clear
+
+pub push-requires-clause-headed : goal.push-requires-clause-headed
+push-requires-clause-headed c = (c.requires.led.0, inl c.requires.led.1)
+
+pub push-requires-clause-other : goal.push-requires-clause-other
+push-requires-clause-other c =
+    let v : Table = record { delimiters = c.self.inside.delimiters; leading = c.self.inside.leading; infixes = c.self.inside.infixes; names = c.self.inside.names; coercions = c.self.inside.coercions } in
+    let k = c.args.notation in
+    let clear : IsClear (v.leading ++ k ∷ []) v.infixes = c.in_ok-is_clear.ensures.0 c.if-not-is_clear.false in
+    led-apart v.leading k c.requires.led c.self.invariant.led (leading-other v.leading v.infixes k clear)

@@ -1,0 +1,21 @@
+use Rattle.std.proofs.Common.{◌+◌, ◌<◌, ◌^◌, ℕ, List, ◌++◌, length}
+use Rattle.mz_base_theory.proofs.Offered.{Decides}
+use Rattle.mz_logic.specs.declared.binder.Binder.{Binder}
+use Rattle.mz_sexpr.specs.Number.{node_at}
+use Rattle.mz_mmu_forms.specs.Cursor.{nodes_from, IsThere, nodes_size}
+use Rattle.mz_mmu_forms.specs.Expressions.{IsDummy, AreBinders, AreDummies}
+use Rattle.mz_mmu_forms.specs.Order.{dummy_asked, binders_asked, dummies_asked}
+use Rattle.mz_mmu_forms.specs.ScopeView.{names}
+use Rattle.mz_mmu_forms.proofs.reader.Reader.dummies.Given as goal
+
+abbrev pub decreases-loop-left : goal.decreases-loop-left
+decreases-loop-left l = nodes_size (nodes_from l.self.nodes.now l.left)
+
+abbrev pub invariant-loop-left : goal.invariant-loop-left
+invariant-loop-left l = record {
+  there : IsThere l.self.nodes.now l.left;
+  few : length l.vars + nodes_size (nodes_from l.self.nodes.now l.left) < 2 ^ 32;
+  read : (bs : List Binder) (after : List (List ℕ)) → AreBinders (IsDummy (names l.names)) l.vars (nodes_from l.self.nodes.now l.left) bs after
+      → AreDummies (names l.names) l.fn.vars (node_at l.self.nodes.now l.n) (l.dummies ++ bs) after;
+  asked : Decides (binders_asked (dummy_asked (names l.names)) l.vars (nodes_from l.self.nodes.now l.left)) (dummies_asked (names l.names) l.fn.vars (node_at l.self.nodes.now l.n));
+}

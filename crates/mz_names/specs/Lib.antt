@@ -1,2 +1,0 @@
-pub mod Identifiers
-pub mod Names

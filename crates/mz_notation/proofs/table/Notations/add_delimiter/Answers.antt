@@ -1,6 +1,0 @@
-use Rattle.std.specs.Prelude.{⊤}
-use Rattle.mz_notation.proofs.Tables.{delimiter-answer}
-use Rattle.mz_notation.proofs.table.Notations.add_delimiter.Goals as goal
-
-pub returns-in-Err-clause-answer : goal.returns-in-Err-clause-answer
-returns-in-Err-clause-answer c = delimiter-answer ⊤ c.args.left.now _ c.in-Err.fault c.in-Err.ensures

@@ -1,6 +1,0 @@
-use Rattle.mz_numbered.proofs.AskedAlone.{streams-too, rows-too, ends-too}
-use Rattle.mz_numbered.proofs.WholeSaves.{whole-streams}
-use Rattle.mz_numbered.proofs.laws.asked_of_unfoldings_alone.Goals as goal
-
-pub returns : goal.returns
-returns c = record { streams = streams-too; rows = rows-too; ends = ends-too; definitions = whole-streams }

@@ -1,0 +1,7 @@
+use Rattle.std.proofs.Common.{length, arith}
+use Rattle.mz_machine_theory.proofs.Offered.{steps-le}
+use Rattle.mz_pmachine_theory.specs.Numbered.{portable}
+use Rattle.mz_pmachine_theory.proofs.laws.steps_bounded.Goals as goal
+
+pub returns : goal.returns
+returns c = λ tables h n within bound at bytes st. steps-le portable tables h n within bound (length bytes) at bytes st (omega arith)

@@ -1,0 +1,21 @@
+// Worked bodies by address, computed.
+ghost use Rattle.mz_pmachine_theory.specs.Examples.{AskedOfTrees, ConversionsByRef, DummyInSaved, EqualTrees, MadeIn, Shared, ThreeItems};
+
+/// Bodies that are accepted: they refer back to what they made.
+pub fn shared_bodies()
+    ensures { Shared }
+{}
+
+/// Bodies that run by the published table and not by address: the rule that fails, and its place.
+pub fn kept_apart()
+    ensures equal_trees { EqualTrees }
+    ensures dummy_in_saved { DummyInSaved }
+    ensures three_items { ThreeItems }
+    ensures conversions_by_ref { ConversionsByRef }
+{}
+
+/// What is asked beside equal numbers, and what worked bodies make.
+pub fn over_trees()
+    ensures asked { AskedOfTrees }
+    ensures made { MadeIn }
+{}

@@ -1,0 +1,61 @@
+-- Expressions after the variables of a list of words.
+use Rattle.std.proofs.Common.{ℕ, zero, suc, ◌≡◌, ◌<◌, ◌≤◌, ◌+◌, Bool, List, [], ◌∷◌, ◌++◌, length, map, drop, get_or, refl, ap, sym, ◌∙◌, arith, append-nil, append_assoc}
+use Rattle.mz_base_theory.proofs.Offered.{drop-past, length-push}
+use Rattle.mz_logic.specs.Words.{word_sort, word_deps, word_bound, binders_from}
+use Rattle.mz_logic.specs.declared.word.Word.{Word}
+use Rattle.mz_store.specs.Bits.{bound_vars}
+use Rattle.mz_store.specs.Nodes.{binder_after}
+use Rattle.mz_pmachine_theory.specs.Numbered.{a_variable}
+use Rattle.mz_pmachine_unify.specs.Numbering.{Entry, Numbering, expr_of}
+use Rattle.mz_pmachine_unify.specs.Entering.{entered, entered_all, variable_node}
+use Rattle.mz_pmachine_unify.specs.declared.node.Node.{Node}
+use Rattle.mz_pmachine_unify.specs.declared.node.Form.TheVariants.{Variable}
+use Rattle.mz_store.proofs.Offered.{context-after, context_after, next-word}
+use Rattle.mz_pmachine_unify.proofs.Growing.{Begins, entry_with, entry-new, entry-kept, last-in}
+
+pub node-is : (w : Word) (sort deps : ℕ) (bound : Bool) → sort ≡ word_sort w → deps ≡ word_deps w → bound ≡ word_bound w
+    → record { sort = sort; vars = deps; deps = deps; form = Variable bound } ≡ variable_node w
+node-is w sort deps bound s d b =
+    ap (λ x. record { sort = x; vars = deps; deps = deps; form = Variable bound }) s ∙ ap (λ x. record { sort = word_sort w; vars = x; deps = x; form = Variable bound }) d
+    ∙ ap (λ x. record { sort = word_sort w; vars = word_deps w; deps = word_deps w; form = Variable x }) b
+
+pub rest-entered : (s s' : Numbering) (ws : List Word) (i : ℕ) → i < length ws → s' ≡ entered s (variable_node (get_or ws i (record { 0 = 0 })))
+    → entered_all s' (map variable_node (drop (i + 1) ws)) ≡ entered_all s (map variable_node (drop i ws))
+rest-entered s s' ws i less is = ap (λ t. entered_all t (map variable_node (drop (i + 1) ws))) is ∙ sym (ap (λ vs. entered_all s (map variable_node vs)) (next-word ws i less))
+
+pub all-entered : (s t : Numbering) (ws : List Word) (i : ℕ) → length ws ≤ i → entered_all s (map variable_node (drop i ws)) ≡ t → s ≡ t
+all-entered s t ws i past is = sym (ap (λ vs. entered_all s (map variable_node vs)) (drop-past ws i past)) ∙ is
+
+-- ---- what there is then
+
+pub begun-context : (s : Numbering) (ws : List Word) → (entered_all s (map variable_node ws)).context ≡ s.context ++ binders_from (length s.context) (bound_vars s.context) ws
+begun-context s ws = go s ws ∙ context-after s.context ws
+  where
+    go : (t : Numbering) (vs : List Word) → (entered_all t (map variable_node vs)).context ≡ context_after t.context vs
+    go t [] = refl
+    go t (v ∷ vs) = go (entered t (variable_node v)) vs
+
+pub begun-many : (s : Numbering) (ws : List Word) → length (entered_all s (map variable_node ws)).entries ≡ length s.entries + length ws
+begun-many s [] = omega arith
+begun-many s (w ∷ ws) = begun-many (entered s (variable_node w)) ws ∙ ap (λ m. m + length ws) (length-push s.entries _) ∙ (let e : suc (length s.entries) + length ws ≡ length s.entries + suc (length ws) = omega arith in e)
+
+all-begins : (s : Numbering) (ns : List Node) → Begins s (entered_all s ns)
+all-begins s [] = ([], sym (append-nil s.entries))
+all-begins s (n ∷ ns) = (let (last, is) = all-begins (entered s n) ns in
+    (entry_with s n ∷ last, is ∙ append_assoc s.entries (entry_with s n ∷ []) last))
+
+pub begun-exprs : (s : Numbering) (ws : List Word) (i : ℕ) → i < length ws → expr_of (entered_all s (map variable_node ws)) (length s.entries + i) ≡ a_variable (length s.context + i)
+begun-exprs s [] i less = absurd (omega arith)
+begun-exprs s (w ∷ ws) zero less =
+    ap (expr_of (entered_all s (map variable_node (w ∷ ws)))) (let e : length s.entries + 0 ≡ length s.entries = omega arith in e)
+    ∙ ap (λ (e : Entry). e.expr) (entry-kept (entered s (variable_node w)) (entered_all s (map variable_node (w ∷ ws))) (all-begins (entered s (variable_node w)) (map variable_node ws))
+    (length s.entries) (last-in s (variable_node w)))
+    ∙ ap (λ (e : Entry). e.expr) (entry-new s (variable_node w)) ∙ ap a_variable (omega arith)
+begun-exprs s (w ∷ ws) (suc i) less =
+    ap (expr_of (entered_all s (map variable_node (w ∷ ws)))) (let e : length s.entries + suc i ≡ length (entered s (variable_node w)).entries + i = omega (arith, length-push s.entries (entry_with s (variable_node w))) in e)
+    ∙ begun-exprs (entered s (variable_node w)) ws i (omega arith)
+    ∙ ap a_variable (omega (arith, length-push s.context (binder_after s.context (word_sort w) (word_deps w) (word_bound w))))
+
+pub begun-next : (s : Numbering) (ws : List Word) → (entered_all s (map variable_node ws)).next ≡ s.next
+begun-next s [] = refl
+begun-next s (w ∷ ws) = begun-next (entered s (variable_node w)) ws

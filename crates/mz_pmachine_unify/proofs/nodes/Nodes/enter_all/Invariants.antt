@@ -1,0 +1,12 @@
+use Rattle.std.proofs.Common.{◌≡◌, List, length, drop, map}
+use Rattle.mz_logic.specs.Signature.{Signature}
+use Rattle.mz_logic.specs.Words.{BitsRightAfter}
+use Rattle.mz_store.specs.Bits.{bound_vars}
+use Rattle.mz_pmachine_unify.specs.Numbering.{IsOver}
+use Rattle.mz_pmachine_unify.specs.Entering.{entered_all, variable_node}
+use Rattle.mz_pmachine_unify.proofs.nodes.Nodes.enter_all.Given as goal
+
+abbrev pub invariant-loop-param : goal.invariant-loop-param
+invariant-loop-param l = BitsRightAfter (length (bound_vars l.self.context)) (drop l.param-index l.params)
+    × (entered_all l.self (map variable_node (drop l.param-index l.params)) ≡ entered_all l.fn.self (map variable_node l.params))
+    × ((sigs : List Signature) → IsOver sigs l.fn.self → IsOver sigs l.self)

@@ -1,0 +1,19 @@
+use Rattle.std.proofs.Common.{sym, subst}
+use Rattle.mz_logic.specs.Variables.{InV}
+use Rattle.mz_store.specs.Bits.{Tells, bound_vars}
+use Rattle.mz_pmachine_unify.specs.Numbering.{tree_of}
+use Rattle.mz_pmachine_unify.proofs.Reading.{shown-at}
+use Rattle.mz_pmachine_unify.proofs.nodes.Nodes.vars.Goals as goal
+
+pub returns-clause-kept : goal.returns-clause-kept
+returns-clause-kept c =
+    let own = c.self.inside in
+    let shown = shown-at own.mode own.bound_count own.nodes.items c.args.self.now c.self.invariant c.self.view_is c.args.id.0 c.index.result.now c.requires c.index.ensures in
+    sym shown.vars
+
+pub returns-clause-variables : goal.returns-clause-variables
+returns-clause-variables c sigs over =
+    let v = c.args.self.now in
+    let own = c.self.inside in
+    let shown = shown-at own.mode own.bound_count own.nodes.items c.args.self.now c.self.invariant c.self.view_is c.args.id.0 c.index.result.now c.requires c.index.ensures in
+    subst (λ w. Tells (bound_vars v.context) w (λ x. InV v.context x (tree_of v c.args.id.0))) shown.vars (over c.args.id.0 c.requires).1.1

@@ -1,0 +1,139 @@
+use Rattle.std.proofs.Common.{◌∙◌, ◌+◌, ◌≤◌, length, drop, map, refl, sym, ap, subst, arith}
+use Rattle.mz_unify_theory.specs.Streams.{IsEnd}
+use Rattle.mz_pmachine_unify.specs.Stored.{exprs_at, items_at}
+use Rattle.mz_unify.specs.Rows.{TellsAny, command_of}
+use Rattle.mz_pmachine_theory.specs.Numbered.{tree_of}
+use Rattle.mz_pmachine_unify.specs.Rows.{state_at}
+use Rattle.mz_unify_theory.proofs.Offered.{command-long, further}
+use Rattle.mz_unify.proofs.Offered.{cut-whole, cut-many, other-whole, other-many, stopped-whole, stopped-many, ended-whole, ended-many, goes-on, left-both, left-none, not-end, stopped-not-done, taken-there, taken-exactly, taken-fits, counted-within, counted-once}
+use Rattle.mz_pmachine_unify.proofs.running.run.Goals as goal
+
+pub commands-init : goal.commands-init
+commands-init g c = record {
+  in_range = omega arith;
+  heap = c.requires.heap;
+  targets = c.requires.targets;
+  hyps = c.requires.hyps;
+  ticked = omega arith;
+  held = c.len-held.ensures ∙ c.args.hyps.now.ok.0;
+  left = (0, omega arith, left-none c.args.hyps.now.items);
+  underway = λ sigs over. record { left = (exprs_at c.args.nodes.now c.args.heap.now.items, subst (λ is. TellsAny c.args.nodes.now.context c.variables-apart.result (map tree_of (exprs_at c.args.nodes.now is))) c.deref.ensures.value (c.variables-apart.ensures sigs over), refl, refl) };
+}
+
+pub returns-in_default-clause-run : goal.returns-in_default-clause-run
+returns-in_default-clause-run g c sigs over = rw c.stopped.ensures (cut-whole (c.commands.invariant.underway sigs over) c.in_default.field-0 (sym c.in_default.ensures.computed))
+
+pub returns-in_default-clause-steps : goal.returns-in_default-clause-steps
+returns-in_default-clause-steps g c sigs over = rw c.stopped.ensures (cut-many (c.commands.invariant.underway sigs over) c.in_default.field-0 (sym c.in_default.ensures.computed))
+
+pub returns-in_default-decoded-clause-run : goal.returns-in_default-decoded-clause-run
+returns-in_default-decoded-clause-run g c sigs over = rw c.stopped-in_default-decoded.ensures (other-whole (c.commands.invariant.underway sigs over) c.in-Ok.cmd (sym c.in-Ok.ensures.computed) c.in_default-decoded.ensures.none)
+
+pub returns-in_default-decoded-clause-steps : goal.returns-in_default-decoded-clause-steps
+returns-in_default-decoded-clause-steps g c sigs over = rw c.stopped-in_default-decoded.ensures (c.tick.ensures ∙ other-many (c.commands.invariant.underway sigs over) c.in-Ok.cmd (sym c.in-Ok.ensures.computed) c.in_default-decoded.ensures.none)
+
+pub returns-in-Err-clause-run : goal.returns-in-Err-clause-run
+returns-in-Err-clause-run g c sigs over = rw c.stopped-in-Err.ensures (stopped-whole (c.commands.invariant.underway sigs over) c.in-Ok.cmd (sym c.in-Ok.ensures.computed) (command_of c.in-Some.next) c.in-Some.ensures.some c.in-Err.stop _ (λ es told. c.in-Err.ensures.row sigs es over told))
+
+pub returns-in-Err-clause-steps : goal.returns-in-Err-clause-steps
+returns-in-Err-clause-steps g c sigs over = rw (c.stopped-in-Err.ensures, c.tick.ensures) (stopped-many (c.commands.invariant.underway sigs over) c.in-Ok.cmd (sym c.in-Ok.ensures.computed) (command_of c.in-Some.next) c.in-Some.ensures.some c.in-Err.stop _ (λ es told. c.in-Err.ensures.row sigs es over told))
+
+pub returns-in-End-clause-run : goal.returns-in-End-clause-run
+returns-in-End-clause-run g c sigs over = ended-whole (c.commands.invariant.underway sigs over) c.in-Ok.cmd (sym c.in-Ok.ensures.computed) (command_of c.in-Some.next) c.in-Some.ensures.some (λ fs. TellsAny c.args.nodes.now.context c.step.new.apart (map tree_of fs)) (λ fs. state_at c.args.nodes.now c.step.new.heap.items fs c.step.new.targets.items c.step.new.hyps.items) (exprs_at c.args.nodes.now c.step.new.heap.items) (items_at c.args.nodes.now c.step.new.hyps.items) (λ _. (refl, refl)) (subst IsEnd (ap command_of (sym c.in-End.is)) tt) (λ es told. c.in_default-step.ensures.row sigs es over told)
+
+pub returns-in-End-clause-steps : goal.returns-in-End-clause-steps
+returns-in-End-clause-steps g c sigs over = c.tick.ensures ∙ ended-many (c.commands.invariant.underway sigs over) c.in-Ok.cmd (sym c.in-Ok.ensures.computed) (command_of c.in-Some.next) c.in-Some.ensures.some (λ fs. TellsAny c.args.nodes.now.context c.step.new.apart (map tree_of fs)) (λ fs. state_at c.args.nodes.now c.step.new.heap.items fs c.step.new.targets.items c.step.new.hyps.items) (subst IsEnd (ap command_of (sym c.in-End.is)) tt) (λ es told. c.in_default-step.ensures.row sigs es over told)
+
+pub overflow_add-at : goal.overflow_add-at
+overflow_add-at g c =
+    let on = further c.args.stream.now c.commands.at c.in-Ok.cmd (sym c.in-Ok.ensures.computed) c.commands.invariant.in_range in
+    let within : c.commands.at + c.in-Ok.cmd.len ≤ length c.args.stream.now = on.1 in
+    rw c.from-at.ensures (omega (arith, c.requires.stream))
+
+pub commands-preserved : goal.commands-preserved
+commands-preserved g c =
+    let on = further c.args.stream.now c.commands.at c.in-Ok.cmd (sym c.in-Ok.ensures.computed) c.commands.invariant.in_range in
+    let start = state_at c.args.nodes.now c.args.heap.now.items (exprs_at c.args.nodes.now c.args.heap.now.items) c.args.targets.now.items c.args.hyps.now.items in
+    let before = c.commands.invariant.left in
+    let after = c.in_default-step.ensures.left in
+    record {
+      in_range = rw c.from-at.ensures on.1;
+      heap = c.in_default-step.ensures.ids.0;
+      targets = c.in_default-step.ensures.ids.1;
+      hyps = c.in_default-step.ensures.ids.2;
+      ticked = rw (c.tick.ensures, c.from-at.ensures) (omega (arith, (command-long (drop c.commands.at c.args.stream.now) c.in-Ok.cmd (sym c.in-Ok.ensures.computed)).0, c.commands.invariant.ticked));
+      held = c.commands.invariant.held;
+      left = (before.0 + after.0, rw c.from-at.ensures (omega arith), left-both c.args.hyps.now.items c.commands.hyps.items c.step.new.hyps.items before.0 after.0 before.2 after.2);
+      underway = λ sigs over. rw (c.tick.ensures, c.from-at.ensures) (goes-on {start = start} (c.commands.invariant.underway sigs over) c.in-Ok.cmd (sym c.in-Ok.ensures.computed) (command_of c.in-Some.next) c.in-Some.ensures.some
+          (λ fs. TellsAny c.args.nodes.now.context c.step.new.apart (map tree_of fs)) (λ fs. state_at c.args.nodes.now c.step.new.heap.items fs c.step.new.targets.items c.step.new.hyps.items)
+          (not-end c.in-Some.next c.in_default-next.not-End) (λ es told. c.in_default-step.ensures.row sigs es over told));
+    }
+
+-- ---- what is told of want of memory and refusals is nothing
+
+pub returns-in_default-clause-taken : goal.returns-in_default-clause-taken
+returns-in_default-clause-taken g c = rw c.stopped.ensures tt
+
+pub returns-in_default-clause-ids : goal.returns-in_default-clause-ids
+returns-in_default-clause-ids g c = rw c.stopped.ensures tt
+
+pub returns-in_default-decoded-clause-taken : goal.returns-in_default-decoded-clause-taken
+returns-in_default-decoded-clause-taken g c = rw c.stopped-in_default-decoded.ensures tt
+
+pub returns-in_default-decoded-clause-ids : goal.returns-in_default-decoded-clause-ids
+returns-in_default-decoded-clause-ids g c = rw c.stopped-in_default-decoded.ensures tt
+
+pub returns-in-Err-clause-taken : goal.returns-in-Err-clause-taken
+returns-in-Err-clause-taken g c = rw c.stopped-in-Err.ensures (stopped-not-done _ c.in-Err.stop _)
+
+pub returns-in-Err-clause-ids : goal.returns-in-Err-clause-ids
+returns-in-Err-clause-ids g c = rw c.stopped-in-Err.ensures (stopped-not-done _ c.in-Err.stop _)
+
+-- ---- the count
+
+pub returns-in_default-clause-most : goal.returns-in_default-clause-most
+returns-in_default-clause-most g c =
+    counted-within c.args.steps.now c.commands.steps c.commands.at (length c.args.stream.now) c.commands.invariant.ticked c.commands.invariant.in_range
+
+pub returns-in_default-decoded-clause-most : goal.returns-in_default-decoded-clause-most
+returns-in_default-decoded-clause-most g c =
+    let on = further c.args.stream.now c.commands.at c.in-Ok.cmd (sym c.in-Ok.ensures.computed) c.commands.invariant.in_range in
+    let long = command-long (drop c.commands.at c.args.stream.now) c.in-Ok.cmd (sym c.in-Ok.ensures.computed) in
+    counted-once c.args.steps.now c.commands.steps c.tick.new.self c.commands.at c.in-Ok.cmd.len (length c.args.stream.now) c.tick.ensures c.commands.invariant.ticked long.0 on.1
+
+pub returns-in-Err-clause-most : goal.returns-in-Err-clause-most
+returns-in-Err-clause-most g c =
+    let on = further c.args.stream.now c.commands.at c.in-Ok.cmd (sym c.in-Ok.ensures.computed) c.commands.invariant.in_range in
+    let long = command-long (drop c.commands.at c.args.stream.now) c.in-Ok.cmd (sym c.in-Ok.ensures.computed) in
+    counted-once c.args.steps.now c.commands.steps c.tick.new.self c.commands.at c.in-Ok.cmd.len (length c.args.stream.now) c.tick.ensures c.commands.invariant.ticked long.0 on.1
+
+pub returns-in-End-clause-most : goal.returns-in-End-clause-most
+returns-in-End-clause-most g c =
+    let on = further c.args.stream.now c.commands.at c.in-Ok.cmd (sym c.in-Ok.ensures.computed) c.commands.invariant.in_range in
+    let long = command-long (drop c.commands.at c.args.stream.now) c.in-Ok.cmd (sym c.in-Ok.ensures.computed) in
+    counted-once c.args.steps.now c.commands.steps c.tick.new.self c.commands.at c.in-Ok.cmd.len (length c.args.stream.now) c.tick.ensures c.commands.invariant.ticked long.0 on.1
+
+-- ---- the end
+
+pub returns-in-End-clause-ids : goal.returns-in-End-clause-ids
+returns-in-End-clause-ids g c = (c.in_default-step.ensures.ids.0, c.in_default-step.ensures.ids.2)
+
+pub overflow_sub-taken : goal.overflow_sub-taken
+overflow_sub-taken g c =
+    taken-there c.args.hyps.now.items c.commands.hyps.items c.step.new.hyps.items c.commands.at c.len-held.result c.len.result c.commands.invariant.left c.in_default-step.ensures.left
+    c.commands.invariant.held (c.len.ensures ∙ c.step.new.hyps.ok.0)
+
+pub overflow_cast-taken : goal.overflow_cast-taken
+overflow_cast-taken g c =
+    let on = further c.args.stream.now c.commands.at c.in-Ok.cmd (sym c.in-Ok.ensures.computed) c.commands.invariant.in_range in
+    let long = command-long (drop c.commands.at c.args.stream.now) c.in-Ok.cmd (sym c.in-Ok.ensures.computed) in
+    record {
+      fits = taken-fits c.args.hyps.now.items c.commands.hyps.items c.step.new.hyps.items c.commands.at c.len-held.result c.len.result c.commands.invariant.left c.in_default-step.ensures.left
+          c.commands.invariant.held (c.len.ensures ∙ c.step.new.hyps.ok.0)
+          c.in-Ok.cmd.len (length c.args.stream.now) 4294967296 long.0 on.1 c.requires.stream;
+    }
+
+pub returns-in-End-clause-taken : goal.returns-in-End-clause-taken
+returns-in-End-clause-taken g c =
+    taken-exactly c.args.hyps.now.items c.commands.hyps.items c.step.new.hyps.items c.commands.at c.len-held.result c.len.result c.commands.invariant.left c.in_default-step.ensures.left
+    c.commands.invariant.held (c.len.ensures ∙ c.step.new.hyps.ok.0)

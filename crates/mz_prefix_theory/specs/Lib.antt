@@ -1,0 +1,11 @@
+pub mod AgreeLaws
+pub mod Words
+pub mod Lines
+pub mod Plain
+pub mod Prefix
+pub mod PrintLaws
+pub mod PublicPart
+pub mod PublicLaws
+pub mod Declared
+pub mod ReadLaws
+pub mod Wording

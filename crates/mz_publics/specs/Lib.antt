@@ -1,2 +1,0 @@
-pub mod PublicPart
-pub mod Laws

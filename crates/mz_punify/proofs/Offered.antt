@@ -1,4 +1,0 @@
--- What crates above may use of these proofs; all else is this crate's own, and may change.
-pub use Rattle.mz_punify.proofs.Growing.{entry-kept}
-pub use Rattle.mz_punify.proofs.Parts.{of-numbered}
-pub use Rattle.mz_punify.proofs.StoredIds.{are-in-both, are-still-in, from-exprs, is-in-at, items-in-both, items-in-left, items-in-right, items-push, length-trees, listed-exprs, still-in, tree-at, trees-of}

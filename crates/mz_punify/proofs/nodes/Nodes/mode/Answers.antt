@@ -1,7 +1,0 @@
-use Rattle.std.proofs.Common.{◌∙◌, ap, sym}
-use Rattle.mz_punify.specs.Entering.{no_expressions}
-use Rattle.mz_punify.proofs.Growing.{mode-of}
-use Rattle.mz_punify.proofs.nodes.Nodes.mode.Goals as goal
-
-pub returns : goal.returns
-returns c = sym (mode-of (no_expressions c.self.inside.mode) c.self.inside.nodes.items) ∙ ap (λ s. s.mode) c.self.view_is

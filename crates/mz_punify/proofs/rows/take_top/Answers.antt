@@ -1,5 +1,0 @@
-use Rattle.mz_punify.proofs.StoredIds.{popped}
-use Rattle.mz_punify.proofs.rows.take_top.Goals as goal
-
-pub returns-clause-ids : goal.returns-clause-ids
-returns-clause-ids c = popped c.args.nodes.now c.args.targets.now.items c.pop.new.self.items c.pop.result c.pop.ensures.items c.requires

@@ -1,7 +1,0 @@
-use Rattle.mz_spec.proofs.Offered.{one-reading}
-use Rattle.mz_files.proofs.Offered.{good-spelled}
-use Rattle.mz_restating.proofs.Texts.{plain-texts}
-use Rattle.mz_restating.proofs.laws.plain_texts_are_texts.Goals as goal
-
-pub returns : goal.returns
-returns c = plain-texts c.made_proofs_prove.ensures c.stated_texts_are_read.ensures one-reading good-spelled

@@ -1,9 +1,0 @@
-use Rattle.std.proofs.Common.{drop}
-use Rattle.mz_logic.specs.View.{trees}
-use Rattle.mz_logic.specs.Words.{signatures_of}
-use Rattle.mz_logic.proofs.Offered.{exprs_of}
-use Rattle.mz_shared.proofs.Making.{Making}
-use Rattle.mz_shared.proofs.shared.instance_hyps.Given as goal
-
-abbrev pub invariant-loop-i : goal.invariant-loop-i
-invariant-loop-i g l = Making (signatures_of (g.T.Terms.all_terms l.terms)) l.initial.store l.store l.operands l.ids.items (trees (drop l.i (exprs_of l.hyps))) l.hyps

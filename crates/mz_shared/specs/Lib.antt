@@ -1,5 +1,0 @@
-pub mod Instances
-pub mod Places
-pub mod Rows
-pub mod Variables
-pub mod Bits

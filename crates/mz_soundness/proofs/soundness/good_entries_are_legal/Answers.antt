@@ -1,5 +1,0 @@
-use Rattle.mz_soundness.proofs.Lists.{good-legal, one-list}
-use Rattle.mz_soundness.proofs.soundness.good_entries_are_legal.Goals as goal
-
-pub returns : goal.returns
-returns c = record { legal = good-legal; one = one-list }

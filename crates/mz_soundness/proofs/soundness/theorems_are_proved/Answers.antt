@@ -1,5 +1,0 @@
-use Rattle.mz_soundness.proofs.Assertions.{theorem-legal}
-use Rattle.mz_soundness.proofs.soundness.theorems_are_proved.Goals as goal
-
-pub returns : goal.returns
-returns c = λ gaps tables env legal declares h at bytes kind right (last, run). theorem-legal gaps tables env legal declares h at bytes last kind right run

@@ -1,0 +1,5 @@
+use Rattle.mz_spec_grammar.proofs.OneAnswer.{takes-bytes}
+use Rattle.mz_spec_grammar.proofs.laws.statements_take_bytes.Goals as goal
+
+pub returns : goal.returns
+returns c = takes-bytes

@@ -1,0 +1,96 @@
+// The names of a space.
+ghost use Rattle.std.specs.Prelude.{◌≡◌, ◌<◌, ◌++◌, ◌∷◌, [], length, map, IfSome, OnOk};
+ghost use Rattle.mz_base.specs.Names.{IsNew, number_of as number_lem};
+
+use indexmap::IndexSet;
+use mz_base::Hashing;
+use std::alloc::{AllocError, Global};
+use std::marker::Model;
+
+/// So many names are gone through faster than they are hashed.
+const FEW: usize = 8;
+
+/// Names in the order in which they were declared, borrowed from the text.
+#[derive(Drop)]
+pub struct Names<'a> {
+    // the first ones
+    first: Vec<&'a [u8]>,
+    // those behind them
+    others: IndexSet<&'a [u8], Hashing>,
+}
+
+impl<'a> Model for Names<'a> {
+    ghost use Rattle.std.specs.Prelude.{List, ℕ, map, ◌++◌};
+
+    ghost Value = { List (List ℕ) };
+
+    ghost view = { λ a. map (λ name. name.now) a.first.items ++ map (λ name. name.now) a.others.keys };
+}
+
+impl<'a> Names<'a> {
+    /// No names.
+    pub fn new(alloc: Global, hashing: Hashing) -> Names<'a>
+        ensures { result ≡ [] }
+    {
+        Names {
+            first: Vec::new(alloc),
+            others: IndexSet::with_hasher(alloc, hashing),
+        }
+    }
+
+    /// How many names there are.
+    pub fn len(&self) -> usize
+        ensures { result ≡ length self.now }
+    {
+        self.first.len() + self.others.len()
+    }
+
+    /// The number of the name, if it is one of them.
+    pub fn number_of(&self, name: &'a [u8]) -> Option<usize>
+        ensures number { result ≡ number_lem self.now name.now }
+        ensures within { IfSome result (λ n. n < length self.now) }
+    {
+        match number_among(&self.first, name) {
+            Some(number) => Some(number),
+            None => match self.others.get_index_of(&name) {
+                Some(number) => {
+                    let before = self.first.len();
+                    // Called for its clause that the length is small, by which the sum fits.
+                    let _many = self.others.len();
+                    Some(before + number)
+                }
+                None => None,
+            },
+        }
+    }
+
+    /// Adds a name that is new.
+    ///
+    /// # Errors
+    ///
+    /// Where there is no memory.
+    pub fn push(&mut self, name: &'a [u8]) -> Result<(), AllocError>
+        requires { IsNew self.old name.now }
+        ensures { OnOk result (self.new ≡ self.old ++ name.now ∷ []) }
+    {
+        if self.others.is_empty() && self.first.len() < FEW {
+            self.first.push(name)?;
+        } else {
+            self.others.insert(name)?;
+        }
+        Ok(())
+    }
+}
+
+/// The number of the name among these, if it is one of them.
+fn number_among(names: &[&[u8]], name: &[u8]) -> Option<usize>
+    ensures number { result ≡ number_lem (map (λ other. other.now) names.now) name.now }
+    ensures within { IfSome result (λ n. n < length names.now) }
+{
+    for (i, other) in names.iter().enumerate() {
+        if name == *other {
+            return Some(i);
+        }
+    }
+    None
+}

@@ -1,0 +1,287 @@
+//! What proofs prove, and the sides of conversions, compared without being written out.
+ghost use Rattle.std.specs.Prelude.{◌≡◌, ◌↔◌, ◌<◌, ◌≤◌, ◌+◌, ◌*◌, Bool, true, false, suc, IfOk, IsTrue, OnOk};
+ghost use Rattle.mz_logic.specs.Tree.{var, operand, instance, followed_by, size, variables};
+ghost use Rattle.mz_logic.specs.View.{tree, trees};
+ghost use Rattle.mz_mmu_forms.specs.ConvCode.{conv_steps};
+ghost use Rattle.mz_mmu_forms.specs.ConvView.{conversion, conversions};
+ghost use Rattle.mz_type_rules.specs.Claims.{put_in, all_put_in, claim_tree, side_tree, side_steps, AreSame, AllSame, lists_size, turns};
+ghost use Rattle.mz_type_rules.specs.Sides.{side, sides};
+
+use mz_logic::{Expr, Exprs};
+use mz_mmu_forms::{Conv, Convs};
+use std::alloc::{AllocError, Global};
+
+/// What stands in place of variables.
+#[derive(Clone, Copy)]
+pub(crate) enum Put<'t> {
+    /// The variables themselves.
+    Nothing,
+    /// These operands, and behind them these variables.
+    Operands(&'t Exprs, &'t [u32]),
+}
+
+/// A variable, or a term over expressions with something put in.
+#[derive(Clone, Copy)]
+pub(crate) enum Claim<'t> {
+    Var(u32),
+    App(u32, &'t [Expr], Put<'t>),
+}
+
+/// The variable at the place; past the end a term without operands.
+#[tactic(auto, using(crate::proofs::Claims::variable_in, crate::proofs::Claims::variable_past))]
+fn variable_at<'t>(vars: &'t [u32], place: usize) -> Claim<'t>
+    ensures { claim_tree result ≡ operand (variables vars.now) place }
+{
+    if place < vars.len() {
+        return Claim::Var(vars[place]);
+    }
+    Claim::App(0, &[], Put::Nothing)
+}
+
+/// What stands in place of the variable at the place.
+fn operand_at<'t>(es: &'t Exprs, vars: &'t [u32], place: usize) -> Claim<'t>
+    ensures { claim_tree result ≡ operand (followed_by es.now (variables vars.now)) place }
+{
+    match es.get(place) {
+        Some(e) => Claim::of(e),
+        None => variable_at(vars, place - es.len()),
+    }
+}
+
+impl<'t> Claim<'t> {
+    /// The expression itself.
+    pub(crate) fn of(expr: &'t Expr) -> Claim<'t>
+        ensures { claim_tree result ≡ tree expr.now }
+    {
+        match expr {
+            Expr::Var(x) => Claim::Var(*x),
+            Expr::App(t, es) => Claim::App(*t, es.as_slice(), Put::Nothing),
+        }
+    }
+
+    /// The expression with this put in.
+    fn with(expr: &'t Expr, put: Put<'t>) -> Claim<'t>
+        ensures { claim_tree result ≡ put_in put.entry (tree expr.now) }
+    {
+        match put {
+            Put::Nothing => Claim::of(expr),
+            Put::Operands(es, vars) => Claim::unfolded(expr, es, vars),
+        }
+    }
+
+    /// The expression with the operands in place of its variables, and the variables behind them.
+    pub(crate) fn unfolded(expr: &'t Expr, es: &'t Exprs, vars: &'t [u32]) -> Claim<'t>
+        ensures { claim_tree result ≡ instance (followed_by es.now (variables vars.now)) (tree expr.now) }
+    {
+        match expr {
+            Expr::Var(x) => operand_at(es, vars, *x as usize),
+            Expr::App(t, fs) => Claim::App(*t, fs.as_slice(), Put::Operands(es, vars)),
+        }
+    }
+
+    /// The expression with the operands in place of its variables.
+    pub(crate) fn instance(expr: &'t Expr, es: &'t Exprs) -> Claim<'t>
+        ensures { claim_tree result ≡ instance es.now (tree expr.now) }
+    {
+        Claim::unfolded(expr, es, &[])
+    }
+}
+
+/// Lists of expressions with something put in, which are left to compare.
+#[derive(Drop)]
+struct Lists<'t> {
+    es: &'t [Expr],
+    p: Put<'t>,
+    fs: &'t [Expr],
+    q: Put<'t>,
+}
+
+/// Lets lists wait to be compared.
+fn wait<'t>(waiting: &mut Vec<Lists<'t>>, lists: Lists<'t>) -> Result<(), AllocError>
+    ensures same { OnOk result (AllSame waiting.new.items ↔ (AllSame waiting.old.items × AreSame lists.entry)) }
+    ensures small { OnOk result (turns waiting.new.items ≤ turns waiting.old.items + suc (2 * lists_size lists.entry)) }
+{
+    if lists.es.is_empty() && lists.fs.is_empty() {
+        return Ok(());
+    }
+    waiting.push(lists)?;
+    Ok(())
+}
+
+/// Whether two claims are the same, if their operands are, which wait to be compared.
+fn compare<'t>(waiting: &mut Vec<Lists<'t>>, a: Claim<'t>, b: Claim<'t>) -> Result<bool, AllocError>
+    ensures same { IfOk result (λ same. (IsTrue same × AllSame waiting.new.items) ↔ (AllSame waiting.old.items × (claim_tree a.entry ≡ claim_tree b.entry))) }
+    ensures less { OnOk result (turns waiting.new.items < turns waiting.old.items + 2 * size (claim_tree a.entry)) }
+{
+    match (a, b) {
+        (Claim::Var(x), Claim::Var(y)) => Ok(x == y),
+        (Claim::App(t, es, p), Claim::App(u, fs, q)) => {
+            if t != u {
+                return Ok(false);
+            }
+            wait(waiting, Lists { es, p, fs, q })?;
+            Ok(true)
+        }
+        _ => Ok(false),
+    }
+}
+
+/// The same of the first expressions of two lists; those behind them wait too.
+fn compare_first<'t>(waiting: &mut Vec<Lists<'t>>, lists: Lists<'t>) -> Result<bool, AllocError>
+    ensures same { IfOk result (λ same. (IsTrue same × AllSame waiting.new.items) ↔ (AllSame waiting.old.items × AreSame lists.entry)) }
+    ensures less { OnOk result (turns waiting.new.items < turns waiting.old.items + suc (2 * lists_size lists.entry)) }
+{
+    match (lists.es.split_first(), lists.fs.split_first()) {
+        (Some((e, es)), Some((f, fs))) => {
+            let Lists { p, q, .. } = lists;
+            wait(waiting, Lists { es, p, fs, q })?;
+            compare(waiting, Claim::with(e, p), Claim::with(f, q))
+        }
+        (None, None) => Ok(true),
+        _ => Ok(false),
+    }
+}
+
+/// Whether two claims are the same expression. What is left to compare is kept in a list: both may
+/// be deep, and so are proofs, so that there is no stack for both.
+#[inline(never)]
+pub(crate) fn same_claim<'t>(alloc: Global, a: Claim<'t>, b: Claim<'t>) -> Result<bool, AllocError>
+    ensures { IfOk result (λ same. IsTrue same ↔ (claim_tree a.entry ≡ claim_tree b.entry)) }
+{
+    let mut waiting: Vec<Lists> = Vec::new(alloc);
+    let begun = compare(&mut waiting, a, b)?;
+    if !begun {
+        return Ok(false);
+    }
+    'comparing: while let Some(lists) = waiting.pop() {
+        let same = compare_first(&mut waiting, lists)?;
+        if !same {
+            return Ok(false);
+        }
+    }
+    Ok(true)
+}
+
+/// A side of a conversion, below the turnings and unfoldings that stand over it.
+#[derive(Clone, Copy)]
+enum Side<'c> {
+    /// This expression.
+    Own(&'c Expr),
+    /// The term over these operands.
+    Term(u32, &'c Exprs),
+    /// The term over a side of each of these: the right ones, or the left ones.
+    Under(u32, &'c Convs, bool),
+}
+
+/// A side of the conversion: the right one, or the left one.
+fn side_of<'c>(conv: &'c Conv, right: bool) -> Side<'c>
+    ensures same { side_tree result ≡ side right (conversion conv.now) }
+    ensures small { side_steps result ≤ conv_steps (conversion conv.now) }
+{
+    match conv {
+        Conv::Refl(e) => Side::Own(e),
+        Conv::Sym(part) => side_of(part.get(), !right),
+        Conv::Cong(t, parts) => Side::Under(*t, parts, right),
+        Conv::Unfold(t, es, _, part) => {
+            if right {
+                return side_of(part.get(), right);
+            }
+            Side::Term(*t, es)
+        }
+        Conv::Gap(l, r) => {
+            if right {
+                return Side::Own(r);
+            }
+            Side::Own(l)
+        }
+    }
+}
+
+/// Whether a side of the conversion, the right one or the left one, is the claim.
+#[cycle(is_side)]
+pub(crate) fn is_side(
+    alloc: Global,
+    conv: &Conv,
+    right: bool,
+    claim: Claim,
+) -> Result<bool, AllocError>
+    ensures { IfOk result (λ is. IsTrue is ↔ (side right (conversion conv.now) ≡ claim_tree claim.entry)) }
+{
+    match side_of(conv, right) {
+        Side::Own(e) => same_claim(alloc, Claim::of(e), claim),
+        Side::Term(t, es) => {
+            same_claim(alloc, Claim::App(t, es.as_slice(), Put::Nothing), claim)
+        }
+        Side::Under(t, parts, right) => match claim {
+            Claim::Var(_) => Ok(false),
+            Claim::App(u, es, put) => {
+                if t != u {
+                    return Ok(false);
+                }
+                are_sides(alloc, parts.as_slice(), right, es, &put)
+            }
+        },
+    }
+}
+
+/// Whether the sides of the conversions are the expressions with something put in.
+#[cycle(is_side)]
+fn are_sides(
+    alloc: Global,
+    convs: &[Conv],
+    right: bool,
+    es: &[Expr],
+    put: &Put,
+) -> Result<bool, AllocError>
+    ensures { IfOk result (λ are. IsTrue are ↔ (sides right (conversions convs.now) ≡ all_put_in put.now (trees es.now))) }
+{
+    if convs.len() != es.len() {
+        return Ok(false);
+    }
+    for i in 0..convs.len() {
+        let is = is_side_with(alloc, &convs[i], right, &es[i], put)?;
+        if !is {
+            return Ok(false);
+        }
+    }
+    Ok(true)
+}
+
+/// Whether a side of the conversion is the expression with something put in. Where both are terms
+/// over more no claim is made, which would stand on the stack once a level.
+#[cycle(is_side)]
+fn is_side_with(
+    alloc: Global,
+    conv: &Conv,
+    right: bool,
+    expr: &Expr,
+    put: &Put,
+) -> Result<bool, AllocError>
+    ensures { IfOk result (λ is. IsTrue is ↔ (side right (conversion conv.now) ≡ put_in put.now (tree expr.now))) }
+{
+    match (side_of(conv, right), expr) {
+        (Side::Under(t, parts, right), Expr::App(u, es)) => {
+            if t != *u {
+                return Ok(false);
+            }
+            are_sides(alloc, parts.as_slice(), right, es.as_slice(), put)
+        }
+        _ => is_side_read(alloc, conv, right, expr, put),
+    }
+}
+
+/// The same of what the expression is where it is read. It isn't inlined: the claim would stand on
+/// the stack once a level.
+#[cycle(is_side)]
+#[inline(never)]
+fn is_side_read(
+    alloc: Global,
+    conv: &Conv,
+    right: bool,
+    expr: &Expr,
+    put: &Put,
+) -> Result<bool, AllocError>
+    ensures { IfOk result (λ is. IsTrue is ↔ (side right (conversion conv.now) ≡ put_in put.now (tree expr.now))) }
+{
+    is_side(alloc, conv, right, Claim::with(expr, *put))
+}

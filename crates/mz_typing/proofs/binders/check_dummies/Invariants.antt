@@ -1,7 +1,0 @@
-use Rattle.std.proofs.Common.{drop}
-use Rattle.mz_checks.proofs.Offered.{Decides}
-use Rattle.mz_typing.specs.Rules.{dummy_rules}
-use Rattle.mz_typing.proofs.binders.check_dummies.Given as goal
-
-abbrev pub invariant-loop-i : goal.invariant-loop-i
-invariant-loop-i l = Decides (dummy_rules l.env (drop l.i l.dummies) l.left) (dummy_rules l.env l.dummies l.nodes)

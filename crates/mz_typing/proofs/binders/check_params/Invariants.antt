@@ -1,7 +1,0 @@
-use Rattle.std.proofs.Common.{drop}
-use Rattle.mz_checks.proofs.Offered.{Decides}
-use Rattle.mz_typing.specs.Rules.{param_rules}
-use Rattle.mz_typing.proofs.binders.check_params.Given as goal
-
-abbrev pub invariant-loop-i : goal.invariant-loop-i
-invariant-loop-i l = Decides (param_rules l.env l.params l.i (drop l.i l.params) l.left) (param_rules l.env l.params 0 l.params l.nodes)

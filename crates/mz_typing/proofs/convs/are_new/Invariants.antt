@@ -1,7 +1,0 @@
-use Rattle.std.proofs.Common.{◌↔◌, drop}
-use Rattle.mz_typing.specs.Rules.{AreNew}
-use Rattle.mz_typing.proofs.Differing.{AreNewTo}
-use Rattle.mz_typing.proofs.convs.are_new.Given as goal
-
-abbrev pub invariant-loop-place : goal.invariant-loop-place
-invariant-loop-place l = AreNewTo l.ctx l.es l.seen (drop l.place-index l.place-items) ↔ AreNew l.ctx l.es l.vars

@@ -1,9 +1,0 @@
-use Rattle.std.proofs.Common.{drop}
-use Rattle.mz_checks.proofs.Offered.{Decides}
-use Rattle.mz_logic.specs.View.{trees}
-use Rattle.mz_logic.proofs.Offered.{exprs_of}
-use Rattle.mz_typing.specs.Rules.{claims_rules}
-use Rattle.mz_typing.proofs.statements.check_hyps.Given as goal
-
-abbrev pub invariant-loop-i : goal.invariant-loop-i
-invariant-loop-i l = Decides (claims_rules l.env l.ctx l.is_axiom (trees (drop l.i (exprs_of l.hyps))) l.left) (claims_rules l.env l.ctx l.is_axiom l.hyps l.nodes)

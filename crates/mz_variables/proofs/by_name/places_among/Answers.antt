@@ -1,8 +1,0 @@
-use Rattle.std.proofs.Common.{◌∙◌, map}
-use Rattle.mz_grammar.specs.Code.{lexeme}
-use Rattle.mz_variables.specs.Code.{variable}
-use Rattle.mz_variables.proofs.Places.{nothing-among}
-use Rattle.mz_variables.proofs.by_name.places_among.Goals as goal
-
-pub returns-then-is_empty : goal.returns-then-is_empty
-returns-then-is_empty c = c.new.ensures ∙ nothing-among lexeme (map variable c.args.variables.now) c.args.deps.now c.is_empty.result c.is_empty.ensures c.if-is_empty.true

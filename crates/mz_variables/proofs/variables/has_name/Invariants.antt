@@ -1,8 +1,0 @@
-use Rattle.std.proofs.Common.{◌≡◌, map, drop}
-use Rattle.std.specs.Prelude.{bytes_eq}
-use Rattle.std.specs.List.{list_any}
-use Rattle.mz_grammar.specs.Code.{lexeme}
-use Rattle.mz_variables.proofs.variables.has_name.Given as goal
-
-abbrev pub invariant-loop-dep : goal.invariant-loop-dep
-invariant-loop-dep l = list_any (λ d. bytes_eq d.text l.name) (map lexeme (drop l.dep-index l.deps)) ≡ list_any (λ d. bytes_eq d.text l.name) (map lexeme l.deps)

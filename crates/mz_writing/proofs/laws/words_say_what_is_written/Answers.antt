@@ -1,5 +1,0 @@
-use Rattle.mz_writing.proofs.WordsSay.{words-say-params, words-say-signatures}
-use Rattle.mz_writing.proofs.laws.words_say_what_is_written.Goals as goal
-
-pub returns : goal.returns
-returns c = record { parameters = words-say-params; signatures = words-say-signatures }

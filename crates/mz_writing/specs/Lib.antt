@@ -1,6 +1,0 @@
-pub mod Writing
-pub mod WordsSay
-pub mod Laws
-pub mod Growing
-pub mod Gaps
-pub mod Example
