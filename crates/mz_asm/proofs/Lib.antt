@@ -11,3 +11,4 @@ pub mod LineTexts
 pub mod GoodLines
 pub mod Shown
 pub mod Listable
+pub mod RoundTrip

@@ -8,8 +8,8 @@ use Rattle.mz_cmd.specs.Codes.{is_known}
 use Rattle.mz_cmd.specs.Reading.{first_command, command_at}
 use Rattle.mz_cmd.specs.Spelling.{Spells, shortest}
 use Rattle.mz_cmd.proofs.Offered.{Spells-again, shortest-spells}
-use Rattle.mz_layout.specs.Standing.{Stands}
-use Rattle.mz_layout.proofs.Offered.{stands-first, stands-second, stands-is, stands-bytes}
+use Rattle.mz_layout_tables.specs.Standing.{Stands}
+use Rattle.mz_layout_tables.proofs.Offered.{stands-first, stands-second, stands-is, stands-bytes}
 use Rattle.mz_show.specs.declared.stream.Stream.{Stream}
 use Rattle.mz_show.specs.Streams.{belongs, Follow, Run, IsLongest, EndStands, LeadsTo}
 use Rattle.mz_asm.specs.Statements.{command_bytes}

@@ -11,13 +11,13 @@ use Rattle.mz_cmd.specs.declared.code.UnifyCode.TheVariants as unifies
 use Rattle.mz_cmd.specs.declared.statement.StmtAt.TheVariants.{Head}
 use Rattle.mz_cmd.specs.Codes.{unify_byte, proof_byte, is_known, begins_statement}
 use Rattle.mz_cmd.specs.StatementList.{statement_at}
-use Rattle.mz_logic.specs.declared.word.Word.{Word}
-use Rattle.mz_logic.specs.declared.binder.SortMods.{SortMods}
-use Rattle.mz_layout.specs.Normal.{Row, Written, Parts, no_parts, row_of_term, row_of_thm, file_of, file_length}
-use Rattle.mz_layout.specs.Standing.{Stands, HasRoom, HaveRoom, Fit, AreListed, body_place, next_place}
-use Rattle.mz_layout.specs.Tables.{TermRow, ThmRow, list_at, term_row as term_row_of, thm_row as thm_row_of}
-use Rattle.mz_layout.specs.Heads.{body_bytes}
-use Rattle.mz_layout.proofs.Offered.{layout-holds, all-listed, counts-said, mods-read, term-read, thm-read, term-stream, thm-stream}
+use Rattle.mz_logic_theory.specs.declared.word.Word.{Word}
+use Rattle.mz_logic_theory.specs.declared.binder.SortMods.{SortMods}
+use Rattle.mz_layout_tables.specs.Normal.{Row, Written, Parts, no_parts, row_of_term, row_of_thm, file_of, file_length}
+use Rattle.mz_layout_tables.specs.Standing.{Stands, HasRoom, HaveRoom, Fit, AreListed, body_place, next_place}
+use Rattle.mz_layout_tables.specs.Tables.{TermRow, ThmRow, list_at, term_row as term_row_of, thm_row as thm_row_of}
+use Rattle.mz_layout_tables.specs.Heads.{body_bytes}
+use Rattle.mz_layout_tables.proofs.Offered.{layout-holds, all-listed, counts-said, mods-read, term-read, thm-read, term-stream, thm-stream}
 use Rattle.mz_show.specs.declared.place.Place.{Place}
 use Rattle.mz_show.specs.declared.stream.Stream.TheVariants as streams
 use Rattle.mz_show.specs.Words.{texts, numbered, param_line, result_line}

@@ -1,6 +1,6 @@
 -- What the parts of the assembler answer.
 use Rattle.std.specs.Prelude.{◌≡◌, ◌≤◌, ◌<◌, ◌^◌, ⊤, ℕ, List, length, Result, Ok, Err}
-use Rattle.mz_layout.specs.Normal.{Parts, file_length, file_of}
+use Rattle.mz_layout_tables.specs.Normal.{Parts, file_length, file_of}
 use Rattle.mz_asm.specs.declared.assembled.Assembled.{Assembled}
 use Rattle.mz_asm.specs.declared.assembled.Assembled.TheVariants as answers
 use Rattle.mz_asm.specs.declared.stop.Stop.{Stop}

@@ -2,7 +2,8 @@
 use Rattle.std.specs.Prelude.{◌≡◌, ◌≤◌, ◌<◌, ◌^◌, ◌+◌, ◌==◌, ⊤, ℕ, List, [], ◌∷◌, ◌++◌, length, false}
 use Rattle.std.specs.List.{position_or_len, before_first, after_first}
 use Rattle.mz_base_theory.specs.Checks.{Checks, demand, ◌>>◌, FailsFirst}
-use Rattle.mz_layout.specs.Normal.{file_length, file_of}
+use Rattle.mz_layout_tables.specs.Normal.{file_length, file_of}
+use Rattle.mz_show.specs.Listing.{IsListing}
 use Rattle.mz_show.specs.Words.{unify_has_number, proof_has_number}
 use Rattle.mz_asm.specs.declared.line.Line.{Line}
 use Rattle.mz_asm.specs.declared.line.Line.TheVariants as lines
@@ -109,3 +110,17 @@ IsAssembly text (answers.Bytes bytes) = IsBinaryOf text bytes.items
 IsAssembly text (answers.Refused line rule) = Breaks text line rule
 IsAssembly text (answers.Limit count) = IsTooLong text count
 IsAssembly text answers.Mem = ⊤
+
+-- a binary that comes is in the normal layout, and the text is its listing
+abbrev pub IsListedBack : List ℕ → Assembled → Type 0
+IsListedBack text (answers.Bytes bytes) = IsNormal bytes.items × IsListing bytes.items text
+IsListedBack text (answers.Refused line rule) = ⊤
+IsListedBack text (answers.Limit count) = ⊤
+IsListedBack text answers.Mem = ⊤
+
+-- this file is what comes, but for want of memory
+abbrev pub GivesBack : List ℕ → Assembled → Type 0
+GivesBack file (answers.Bytes bytes) = bytes.items ≡ file
+GivesBack file (answers.Refused line rule) = ⊥
+GivesBack file (answers.Limit count) = ⊥
+GivesBack file answers.Mem = ⊤

@@ -1,7 +1,8 @@
 // From a listing to its binary.
-ghost use Rattle.std.specs.Prelude.{◌≡◌, ◌≤◌, ◌<◌, ◌^◌, length};
+ghost use Rattle.std.specs.Prelude.{◌≡◌, ◌≤◌, ◌<◌, ◌^◌, ℕ, List, length};
+ghost use Rattle.mz_show.specs.Listing.{IsListing};
 ghost use Rattle.mz_asm.specs.Answers.{ReadsLines, WritesOut};
-ghost use Rattle.mz_asm.specs.Assembling.{IsAssembly};
+ghost use Rattle.mz_asm.specs.Assembling.{GivesBack, IsAssembly, IsListedBack, IsNormal};
 ghost use Rattle.mz_asm.specs.Making.{nothing_made};
 
 use crate::assembled::Assembled;
@@ -17,8 +18,19 @@ use std::alloc::Global;
 const MOST_BYTES: u128 = 4_294_967_295;
 
 /// Assembles a text of at most 4,294,967,295 bytes: the binary where it is a listing, and the first
-/// rule that it breaks, at the first line that breaks one, where it is none.
+/// rule that it breaks, at the first line that breaks one, where it is none. The binary is in the normal
+/// layout, and the text is its listing; and each such binary comes back from its listing.
 pub fn assemble_bytes(alloc: Global, text: &[u8]) -> Assembled
+    requires { length text.now < 2 ^ 32 }
+    ensures answer { IsAssembly text.now result }
+    ensures listed { IsListedBack text.now result }
+    ensures back { (file : List ℕ) → IsNormal file → length file < 2 ^ 32 → IsListing file text.now → GivesBack file result }
+{
+    assembled(alloc, text)
+}
+
+/// The answer of [`assemble_bytes`], of which the other two clauses are laws.
+fn assembled(alloc: Global, text: &[u8]) -> Assembled
     requires { length text.now < 2 ^ 32 }
     ensures { IsAssembly text.now result }
 {

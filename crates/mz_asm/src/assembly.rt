@@ -13,7 +13,7 @@ use crate::stop::Fault;
 use crate::want::Want;
 use mz_cmd::{END, Mem, StatementCode, put_cmd};
 use mz_layout::LayoutWriter;
-use mz_logic::Word;
+use mz_logic_theory::Word;
 use std::alloc::Global;
 use std::marker::Model;
 

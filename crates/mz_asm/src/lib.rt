@@ -21,6 +21,6 @@ mod want;
 
 pub use assemble::assemble_bytes;
 pub use assembled::Assembled;
-pub use laws::{assembly_is_one, lines_are_one};
+pub use laws::{assembly_is_one, lines_are_one, listings_are_assembled};
 pub use rule::A;
 pub use spoken::assembled_line;

@@ -7,7 +7,7 @@ use crate::bytes::{first_word, is, other_words, place_of};
 use crate::kind::Kind;
 use crate::number::{number, word};
 use mz_cmd::{ProofCode, UnifyCode};
-use mz_logic::Word;
+use mz_logic_theory::Word;
 
 /// A line of a listing. A number that is past 4,294,967,295 counts as 4,294,967,296.
 #[derive(Clone, Copy)]

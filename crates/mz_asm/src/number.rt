@@ -4,7 +4,7 @@ ghost use Rattle.std.specs.List.{list_all};
 ghost use Rattle.mz_asm.specs.Numbers.{are_digits, is_numeral as numeral, number_of, number_in, word_in};
 
 use mz_base::is_digit;
-use mz_logic::Word;
+use mz_logic_theory::Word;
 
 /// The number for which all numbers stand that are too large.
 const TOO_LARGE: u64 = 4_294_967_296;

@@ -4,14 +4,14 @@ use Rattle.std.specs.Prelude.{All, MatchBool}
 use Rattle.std.proofs.lemmas.List.Elements.{All-append}
 use Rattle.std.proofs.lemmas.Option.{slice_get_within}
 use Rattle.mz_binary_theory.specs.Gapped.{GappedIn}
-use Rattle.mz_logic.specs.Declaration.{Declaration, sort_decl, term_decl, assertion_decl, assertions}
-use Rattle.mz_logic.specs.LegalLists.{Statement, declarations}
-use Rattle.mz_spec.specs.State.{Entry, env_of}
-use Rattle.mz_spec.specs.Spec.{SpecMakes}
-use Rattle.mz_spec.proofs.Offered.{one-reading}
+use Rattle.mz_logic_theory.specs.Declaration.{Declaration, sort_decl, term_decl, assertion_decl, assertions}
+use Rattle.mz_logic_theory.specs.LegalLists.{Statement, declarations}
+use Rattle.mz_spec_theory.specs.State.{Entry, env_of}
+use Rattle.mz_spec_theory.specs.Spec.{SpecMakes}
+use Rattle.mz_spec_theory.proofs.Offered.{one-reading}
 use Rattle.mz_match.specs.Drafts.{IsGapOf, ListsGaps}
-use Rattle.mz_match_theory.specs.Match.{publics, Agrees}
-use Rattle.mz_match_theory.proofs.Offered.{length-env}
+use Rattle.mz_spec_proved_theory.specs.Match.{publics, Agrees}
+use Rattle.mz_spec_proved_theory.proofs.Offered.{length-env}
 use Rattle.mz_axioms.specs.Gaps.{AreGapsOf}
 use Rattle.mz_axioms.proofs.Placing.{declared-at}
 

@@ -5,14 +5,14 @@ use Rattle.std.proofs.lemmas.List.{map-append}
 use Rattle.std.proofs.lemmas.List.Elements.{All-nil, All-cons, All-append}
 use Rattle.std.proofs.lemmas.Option.{none-some, slice_get_within}
 use Rattle.mz_base_theory.proofs.Offered.{slice_get-some, slice_get-map_back, slice_get-map_at, place-of as contained-get, contains_at}
-use Rattle.mz_logic.specs.Declaration.{Declaration, sort_decl, term_decl, assertion_decl}
-use Rattle.mz_logic.specs.LegalLists.{Statement, declarations, IsProvedBy, Legal, gap_free}
-use Rattle.mz_logic.proofs.Offered.{one_at, legal_at}
-use Rattle.mz_layout.specs.Tables.{list_at}
+use Rattle.mz_logic_theory.specs.Declaration.{Declaration, sort_decl, term_decl, assertion_decl}
+use Rattle.mz_logic_theory.specs.LegalLists.{Statement, declarations, IsProvedBy, Legal, gap_free}
+use Rattle.mz_logic_theory.proofs.Offered.{one_at, legal_at}
+use Rattle.mz_layout_tables.specs.Tables.{list_at}
 use Rattle.mz_cmd.specs.StatementList.{statement_at}
 use Rattle.mz_binary_theory.specs.Good.{Good}
 use Rattle.mz_binary_theory.proofs.Offered.{good-legal, one-list, good-spelled}
-use Rattle.mz_match_theory.specs.Match.{publics, Agrees}
+use Rattle.mz_spec_proved_theory.specs.Match.{publics, Agrees}
 use Rattle.mz_match_theory.specs.Verdict.{Accepts}
 use Rattle.mz_axioms.specs.declared.rows.Place.{Place}
 use Rattle.mz_axioms.specs.declared.rows.Row.{Row}
@@ -28,7 +28,7 @@ use Rattle.mz_axioms.proofs.Placing.{IsPlaceOf, place-of, numbers-grow, declared
 use Rattle.mz_axioms.proofs.Resting.{rest-on-supports}
 use Rattle.mz_axioms.proofs.Telling.{rows-many}
 use Rattle.mz_binary_theory.specs.Standards.{strict_standard}
-use Rattle.mz_match_theory.proofs.Offered.{never-local}
+use Rattle.mz_spec_proved_theory.proofs.Offered.{never-local}
 
 -- ---- lists
 

@@ -6,8 +6,8 @@ use Rattle.std.proofs.lemmas.List.Elements.{Contains-push, Contains-push_cases, 
 use Rattle.std.proofs.lemmas.Option.{slice_get_within, get_or_from_slice_get, slice_get-get_or}
 use Rattle.std.proofs.lemmas.Bool.{cases_lt}
 use Rattle.mz_base_theory.proofs.Offered.{contains_none, place-of, contains_at}
-use Rattle.mz_logic.proofs.Offered.{one_at}
-use Rattle.mz_match_theory.proofs.Offered.{row-decided}
+use Rattle.mz_logic_theory.proofs.Offered.{one_at}
+use Rattle.mz_spec_proved_theory.proofs.Offered.{row-decided}
 use Rattle.mz_axioms.proofs.Increasing.{increasing-push, increasing-pair}
 
 -- x stands in the list from the i-th place on

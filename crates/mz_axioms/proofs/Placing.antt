@@ -6,13 +6,13 @@ use Rattle.mz_base_theory.specs.Checks.{AllHold}
 use Rattle.mz_cmd.specs.declared.code.StatementCode.{StatementCode}
 use Rattle.mz_cmd.specs.declared.code.StatementCode.TheVariants as codes
 use Rattle.mz_cmd.specs.Codes.{statement_byte}
-use Rattle.mz_logic.specs.Declaration.{Declaration, sort_decl, term_decl, assertion_decl, Assertion, Form, plain_form, abstract_form, defined, assertions}
-use Rattle.mz_logic.specs.LegalLists.{Statement, declarations}
-use Rattle.mz_logic.proofs.Offered.{one_at}
+use Rattle.mz_logic_theory.specs.Declaration.{Declaration, sort_decl, term_decl, assertion_decl, Assertion, Form, plain_form, abstract_form, defined, assertions}
+use Rattle.mz_logic_theory.specs.LegalLists.{Statement, declarations}
+use Rattle.mz_logic_theory.proofs.Offered.{one_at}
 use Rattle.mz_binary_theory.specs.Spelling.{IsKindOf, is_local_code, HasKind}
-use Rattle.mz_match_theory.specs.declared.kind.Kind.TheVariants as kinds
-use Rattle.mz_match_theory.specs.Match.{Partner, partner_of, publics, publics_after, kind_of, kind_of_form, match_checks, Agrees}
-use Rattle.mz_match_theory.proofs.Offered.{publics-append, publics-public}
+use Rattle.mz_spec_proved_theory.specs.declared.kind.Kind.TheVariants as kinds
+use Rattle.mz_spec_proved_theory.specs.Match.{Partner, partner_of, publics, publics_after, kind_of, kind_of_form, match_checks, Agrees}
+use Rattle.mz_spec_proved_theory.proofs.Offered.{publics-append, publics-public}
 use Rattle.mz_binary_walk.specs.Walk.{past_public}
 use Rattle.mz_binary_walk.proofs.Offered.{one-code}
 use Rattle.mz_axioms.specs.declared.rows.Place.{Place}

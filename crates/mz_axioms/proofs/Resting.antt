@@ -3,14 +3,14 @@
 use Rattle.std.proofs.Common.{◌≡◌, ◌∙◌, ℕ, zero, suc, Bool, true, false, List, [], ◌∷◌, ◌++◌, length, slice_get, Some, refl, sym, ap, subst, inl, inr, append_assoc, length-append, arith}
 use Rattle.std.proofs.lemmas.Option.{none-some}
 use Rattle.mz_cmd.specs.StatementList.{statement_at}
-use Rattle.mz_logic.specs.Declaration.{Assertion, Declaration, sort_decl, term_decl, assertion_decl, assertions}
-use Rattle.mz_logic.specs.Derivations.{without_gaps}
-use Rattle.mz_logic.specs.LegalLists.{Statement, declarations, IsProvedBy, IsProvedIfTheorem, LegalAfter, LegalBy, gap_free}
-use Rattle.mz_logic.specs.Closed.{AreSupports, by_number, on_support}
-use Rattle.mz_logic.proofs.Offered.{one_at, assertions-append, cites_more, legal_at, legal_by_supports}
-use Rattle.mz_layout.specs.Tables.{list_at}
+use Rattle.mz_logic_theory.specs.Declaration.{Assertion, Declaration, sort_decl, term_decl, assertion_decl, assertions}
+use Rattle.mz_logic_theory.specs.Derivations.{without_gaps}
+use Rattle.mz_logic_theory.specs.LegalLists.{Statement, declarations, IsProvedBy, IsProvedIfTheorem, LegalAfter, LegalBy, gap_free}
+use Rattle.mz_logic_theory.specs.Closed.{AreSupports, by_number, on_support}
+use Rattle.mz_logic_theory.proofs.Offered.{one_at, assertions-append, cites_more, legal_at, legal_by_supports}
+use Rattle.mz_layout_tables.specs.Tables.{list_at}
 use Rattle.mz_machine_theory.specs.Sound.{IsCited, used_by, cites_as}
-use Rattle.mz_layout.specs.Heads.{body_bytes}
+use Rattle.mz_layout_tables.specs.Heads.{body_bytes}
 use Rattle.mz_binary_theory.specs.Chains.{IsGoodStatement, GoodTo}
 use Rattle.mz_binary_theory.specs.Good.{Good}
 use Rattle.mz_binary_theory.proofs.Offered.{chain-more, good-legal, cite-as-bodies}

@@ -9,12 +9,12 @@ use Rattle.mz_base_theory.proofs.Offered.{contains_none, slice_get-some, contain
 use Rattle.mz_base_theory.specs.Checks.{AllHold}
 use Rattle.mz_cmd.specs.Codes.{statement_byte}
 use Rattle.mz_cmd.specs.StatementList.{statement_at}
-use Rattle.mz_logic.specs.Declaration.{Declaration, sort_decl, term_decl, assertion_decl, assertions}
-use Rattle.mz_logic.specs.LegalLists.{Statement, declarations}
-use Rattle.mz_logic.proofs.Offered.{one_at, split_at}
-use Rattle.mz_layout.specs.Tables.{list_at}
-use Rattle.mz_layout.specs.Heads.{body_bytes, head_checks}
-use Rattle.mz_layout.specs.declared.head.Head.{Head}
+use Rattle.mz_logic_theory.specs.Declaration.{Declaration, sort_decl, term_decl, assertion_decl, assertions}
+use Rattle.mz_logic_theory.specs.LegalLists.{Statement, declarations}
+use Rattle.mz_logic_theory.proofs.Offered.{one_at, split_at}
+use Rattle.mz_layout_tables.specs.Tables.{list_at}
+use Rattle.mz_layout_tables.specs.Heads.{body_bytes, head_checks}
+use Rattle.mz_layout_tables.specs.declared.head.Head.{Head}
 use Rattle.mz_binary_theory.specs.Spelling.{is_local_code}
 use Rattle.mz_binary_theory.specs.Chains.{GoodTo, IsListEnd}
 use Rattle.mz_binary_theory.specs.Good.{Good}

@@ -2,11 +2,11 @@
 use Rattle.std.proofs.Common.{◌≡◌, ◌∙◌, ℕ, List, All, length, get_or, ap, arith}
 use Rattle.std.proofs.lemmas.List.Elements.{Contains-get_or}
 use Rattle.std.proofs.lemmas.Option.{slice_get_within}
-use Rattle.mz_logic.specs.Declaration.{Declaration}
-use Rattle.mz_spec.specs.State.{Entry, env_of}
-use Rattle.mz_spec.specs.Spec.{SpecMakes}
-use Rattle.mz_spec.proofs.Offered.{one-reading}
-use Rattle.mz_match_theory.proofs.Offered.{length-env}
+use Rattle.mz_logic_theory.specs.Declaration.{Declaration}
+use Rattle.mz_spec_theory.specs.State.{Entry, env_of}
+use Rattle.mz_spec_theory.specs.Spec.{SpecMakes}
+use Rattle.mz_spec_theory.proofs.Offered.{one-reading}
+use Rattle.mz_spec_proved_theory.proofs.Offered.{length-env}
 use Rattle.mz_axioms.specs.Lists.{TheoremSupport}
 use Rattle.mz_axioms.specs.Text.{IsNamed, AreOfSome}
 

@@ -5,7 +5,7 @@ use Rattle.mz_cmd.specs.declared.command.Cmd.{Cmd}
 use Rattle.mz_cmd.specs.declared.statement.StmtAt.TheVariants.{Head}
 use Rattle.mz_cmd.specs.StatementList.{statement_at}
 use Rattle.mz_machine_theory.specs.Sound.{IsCitation}
-use Rattle.mz_layout.specs.Heads.{body_bytes}
+use Rattle.mz_layout_tables.specs.Heads.{body_bytes}
 use Rattle.mz_axioms.specs.Commands.{StandThere, length_of, IsCiting, IsCitedIn}
 use Rattle.mz_binary_theory.specs.Gapped.{place_after}
 

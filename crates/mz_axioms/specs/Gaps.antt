@@ -1,10 +1,10 @@
 -- What is printed of the theorems that rest on a gap (this project's own).
 use Rattle.std.specs.Prelude.{◌≡◌, ◌++◌, ℕ, List, length, codes, decimal, flat_map}
-use Rattle.mz_spec.specs.State.{Entry}
-use Rattle.mz_spec.specs.Spec.{SpecMakes}
+use Rattle.mz_spec_theory.specs.State.{Entry}
+use Rattle.mz_spec_theory.specs.Spec.{SpecMakes}
 use Rattle.mz_match_theory.specs.declared.verdict.Counts.{Counts}
 use Rattle.mz_match.specs.Drafts.{DraftAccepts}
-use Rattle.mz_spec_names.specs.Names.{name_at}
+use Rattle.mz_spec_theory.specs.Names.{name_at}
 
 -- how many of the theorems do
 abbrev pub count_line : (gaps theorems : ℕ) → List ℕ

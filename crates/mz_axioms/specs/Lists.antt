@@ -2,8 +2,8 @@
 -- from the axioms before it; that a tool tells which is this project's own).
 use Rattle.std.specs.Prelude.{◌≡◌, ◌<◌, ◌^◌, ℕ, false, List, [], map, length, All, Contains, slice_get, Option, Some, None}
 use Rattle.std.specs.List.Sorted.{IsStrictlyIncreasing}
-use Rattle.mz_logic.specs.Declaration.{Declaration}
-use Rattle.mz_logic.specs.LegalLists.{Statement, declarations, IsProvedBy}
+use Rattle.mz_logic_theory.specs.Declaration.{Declaration}
+use Rattle.mz_logic_theory.specs.LegalLists.{Statement, declarations, IsProvedBy}
 use Rattle.mz_match_theory.specs.Verdict.{Accepts}
 use Rattle.mz_binary_theory.specs.Gapped.{bodies_of}
 use Rattle.mz_axioms.specs.Supports.{InSupport, within_support}

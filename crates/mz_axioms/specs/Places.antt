@@ -4,9 +4,9 @@ use Rattle.std.specs.Prelude.{◌≡◌, ◌+◌, ℕ, Bool, true, false, not, �
 use Rattle.mz_base_theory.specs.Checks.{AllHold}
 use Rattle.mz_cmd.specs.declared.code.StatementCode.{StatementCode}
 use Rattle.mz_cmd.specs.declared.code.StatementCode.TheVariants as codes
-use Rattle.mz_logic.specs.Declaration.{Declaration, sort_decl, term_decl, assertion_decl, Assertion, assertions}
-use Rattle.mz_logic.specs.LegalLists.{Statement, declarations}
-use Rattle.mz_match_theory.specs.Match.{publics, partner_of, match_checks}
+use Rattle.mz_logic_theory.specs.Declaration.{Declaration, sort_decl, term_decl, assertion_decl, Assertion, assertions}
+use Rattle.mz_logic_theory.specs.LegalLists.{Statement, declarations}
+use Rattle.mz_spec_proved_theory.specs.Match.{publics, partner_of, match_checks}
 use Rattle.mz_binary_walk.specs.Walk.{past_public}
 use Rattle.mz_axioms.specs.declared.rows.Place.{Place}
 

@@ -2,7 +2,7 @@
 -- theorems are numbered together in the order of their statements, and are cited by these numbers).
 use Rattle.std.specs.Prelude.{◌≡◌, ◌≤◌, ◌<◌, ◌⊎◌, ◌↔◌, ℕ, true, false, if◌then◌else◌, MatchBool, List, [], ◌∷◌, ◌++◌, map, flat_map, length, All, Contains, slice_get, Option, Some, None}
 use Rattle.std.specs.List.Sorted.{IsStrictlyIncreasing}
-use Rattle.mz_logic.specs.LegalLists.{Statement}
+use Rattle.mz_logic_theory.specs.LegalLists.{Statement}
 use Rattle.mz_binary_theory.specs.Good.{Good}
 use Rattle.mz_binary_theory.specs.Gapped.{AssertionBody, bodies_of}
 use Rattle.mz_axioms.specs.Supports.{IsKind, InSupport}

@@ -1,9 +1,9 @@
 -- What a theorem rests on: the axioms that its proof cites, and what the theorems rest on that it cites (mm0.md, section
 -- on theorems: a theorem follows from the axioms; the proofs are the bodies of the .mmb format).
 use Rattle.std.specs.Prelude.{◌≡◌, ◌<◌, ℕ, Bool, true, false, List, slice_get, Some}
-use Rattle.mz_logic.specs.Declaration.{Declaration}
-use Rattle.mz_logic.specs.Derivations.{Derivation, CitesOnly, without_gaps}
-use Rattle.mz_logic.specs.Closed.{IsAxiomIn}
+use Rattle.mz_logic_theory.specs.Declaration.{Declaration}
+use Rattle.mz_logic_theory.specs.Derivations.{Derivation, CitesOnly, without_gaps}
+use Rattle.mz_logic_theory.specs.Closed.{IsAxiomIn}
 use Rattle.mz_binary_theory.specs.Gapped.{AssertionBody}
 use Rattle.mz_axioms.specs.Commands.{IsCitedIn}
 

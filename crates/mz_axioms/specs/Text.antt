@@ -1,8 +1,8 @@
 -- What is printed of the supports (this project's own).
 use Rattle.std.specs.Prelude.{◌≡◌, ◌<◌, ◌++◌, ℕ, List, length, All, codes, flat_map}
-use Rattle.mz_spec.specs.State.{Entry}
-use Rattle.mz_spec.specs.Spec.{SpecMakes}
-use Rattle.mz_spec_names.specs.Names.{name_at}
+use Rattle.mz_spec_theory.specs.State.{Entry}
+use Rattle.mz_spec_theory.specs.Spec.{SpecMakes}
+use Rattle.mz_spec_theory.specs.Names.{name_at}
 use Rattle.mz_axioms.specs.Lists.{TheoremSupport, AreSupports}
 
 -- for each axiom a space and its name

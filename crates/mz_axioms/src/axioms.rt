@@ -10,7 +10,7 @@ ghost use Rattle.mz_axioms.specs.Rows.{TellsFile, supports_of};
 use crate::lists::{Lists, lists_of};
 use crate::walk::rows_of;
 use mz_cmd::Steps;
-use mz_layout::Mmb;
+use mz_layout_tables::Mmb;
 use mz_match::verify_bytes;
 use mz_match_theory::Verdict;
 use mz_store::Seed;

@@ -1,14 +1,14 @@
 // The citations of a body.
 ghost use Rattle.std.specs.Prelude.{◌≡◌, ◌≤◌, ◌<◌, ◌+◌, ◌^◌, ◌↔◌, ℕ, length, IsTrue, Some, None};
 ghost use Rattle.mz_cmd.specs.StatementList.{statement_at};
-ghost use Rattle.mz_layout.specs.Heads.{body_bytes};
+ghost use Rattle.mz_layout_tables.specs.Heads.{body_bytes};
 ghost use Rattle.mz_binary_theory.specs.Gapped.{place_after};
 ghost use Rattle.mz_axioms.specs.Commands.{IsCiting};
 ghost use Rattle.mz_axioms.specs.Citations.{CiteNothing, IsFirstCitation, IsFirstIn, IsInBody, rest_of_body};
 
-use mz_binary::Statement;
+use mz_binary_theory::Statement;
 use mz_cmd::{Cmd, ProofCode, StmtAt, cmd_at, stmt_at};
-use mz_layout::Mmb;
+use mz_layout_tables::Mmb;
 
 /// The row that the first Thm or ThmSave cites from a place of the statement's body on, and the place
 /// after that command; `None` exactly where none stands there. The place is that of a command, or the

@@ -3,8 +3,9 @@ ghost use Rattle.std.specs.Prelude.{◌≡◌, ◌<◌, ◌++◌, ◌^◌, lengt
 ghost use Rattle.mz_axioms.specs.Gaps.{AreGapsOf, IsGapsTextOf, count_line, gap_line, gap_lines};
 
 use mz_cmd::Mem;
-use mz_spec::{Hashing, Spec};
+use mz_spec::Hashing;
 use mz_spec_names::{declared_by, put_name};
+use mz_spec_theory::Spec;
 use mz_store::Seed;
 use std::alloc::Global;
 

@@ -4,8 +4,9 @@ ghost use Rattle.mz_axioms.specs.Text.{AreOfSome, IsNamed, IsTextOf, axiom_names
 
 use crate::lists::{Lists, Support};
 use mz_cmd::Mem;
-use mz_spec::{Hashing, Spec};
+use mz_spec::Hashing;
 use mz_spec_names::{declared_by, put_name};
+use mz_spec_theory::Spec;
 use mz_store::Seed;
 use std::alloc::Global;
 

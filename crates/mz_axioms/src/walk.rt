@@ -1,7 +1,7 @@
 // The axioms and theorems of a good binary, in order.
 ghost use Rattle.std.specs.Prelude.{◌≡◌, ◌⊎◌, ◌↔◌, ◌≤◌, ◌<◌, ◌∷◌, [], ◌^◌, ℕ, length, Contains, MatchBool, IfOk, OnOk};
 ghost use Rattle.std.specs.List.Sorted.{IsStrictlyIncreasing};
-ghost use Rattle.mz_layout.specs.Heads.{body_bytes};
+ghost use Rattle.mz_layout_tables.specs.Heads.{body_bytes};
 ghost use Rattle.mz_axioms.specs.Places.{place_by};
 ghost use Rattle.mz_axioms.specs.Rows.{AreInOrder, Gives, IsNoted, Reaches, TellsFile};
 ghost use Rattle.mz_binary_theory.specs.Good.{IsGood};
@@ -11,7 +11,7 @@ use crate::places::place_of;
 use crate::rows::{Place, Row};
 use crate::union::union;
 use mz_binary_walk::Passed;
-use mz_layout::{Head, Mmb};
+use mz_layout_tables::{Head, Mmb};
 use std::alloc::{AllocError, Global};
 
 /// The rows of a good binary. No body is run.

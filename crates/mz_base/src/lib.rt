@@ -1,3 +1,5 @@
+//! Identifiers, the numbers of names and how maps hash them; and whether proofs may have gaps.
+//!
 //! Names: which words are identifiers, and which numbers names have.
 //!
 //! A specification and a proof text both declare by name, and each name stands for the number of what it

@@ -1,3 +1,6 @@
+//! Lemmas on lists, and ordered checks: facts asked in order, each with the refusal that comes
+//! where it is the first that doesn't hold.
+//!
 //! What is asked of something, in order: facts, each with the refusal that comes where it is the
 //! first that doesn't hold.
 //!

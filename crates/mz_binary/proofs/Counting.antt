@@ -3,8 +3,8 @@ use Rattle.std.proofs.Common.{◌≡◌, ◌<◌, ◌≤◌, ◌+◌, ◌∙◌,
 use Rattle.mz_base_theory.specs.Checks.{FailsFirst, Judges}
 use Rattle.mz_base_theory.proofs.Offered.{all_hold-excludes}
 use Rattle.mz_cmd.specs.declared.rule.K.{K}
-use Rattle.mz_layout.specs.Tables.{list_at}
-use Rattle.mz_layout.specs.Layout.{Layout, layout_checks}
+use Rattle.mz_layout_tables.specs.Tables.{list_at}
+use Rattle.mz_layout_tables.specs.Layout.{Layout, layout_checks}
 use Rattle.mz_machine_theory.specs.FileRows.{Taken, nothing_taken}
 use Rattle.mz_machine_theory.proofs.Offered.{times-grow, add-times}
 use Rattle.mz_machine_env.specs.Before.{taken_before}
@@ -17,7 +17,7 @@ use Rattle.mz_binary_theory.proofs.Offered.{layout-judged, bound-never-ends}
 use Rattle.mz_binary_theory.specs.declared.standard.Standard.{Standard}
 
 -- of any answer, and so of one that is told
-pub if-told : (r : Next) (P : Type 0) → P → IfTold r P
+pub if-told : {B : Type 0} (r : Next B) (P : Type 0) → P → IfTold r P
 if-told (next.Statement after told) P h = h
 if-told (next.End rows) P h = h
 if-told (next.Refused refusal) P h = h

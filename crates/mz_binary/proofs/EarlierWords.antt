@@ -1,12 +1,12 @@
 -- The words of the rows before a statement were right in their turn.
-use Rattle.std.proofs.Common.{◌<◌, ◌≤◌, ◌+◌, ℕ, List, [], ◌∷◌, ◌++◌, length, refl, sym, subst, inl, inr, arith}
+use Rattle.std.proofs.Common.{◌<◌, ◌≤◌, ℕ, List, [], ◌∷◌, ◌++◌, length, refl, sym, subst, inl, inr, arith}
 use Rattle.mz_base_theory.proofs.Offered.{below-or-last}
 use Rattle.mz_base_theory.specs.Checks.{AllHold}
-use Rattle.mz_logic.specs.Declaration.{Declaration, sort_decl, term_decl, assertion_decl, sorts, terms, assertions}
-use Rattle.mz_logic.specs.LegalLists.{Statement}
-use Rattle.mz_logic.specs.declared.binder.SortMods.{SortMods}
-use Rattle.mz_layout.specs.Tables.{term_row, thm_row}
-use Rattle.mz_layout_words.specs.RowWords.{param_checks, word_checks}
+use Rattle.mz_logic_theory.specs.Declaration.{Declaration, sort_decl, term_decl, assertion_decl, sorts, terms, assertions}
+use Rattle.mz_logic_theory.specs.LegalLists.{Statement}
+use Rattle.mz_logic_theory.specs.declared.binder.SortMods.{SortMods}
+use Rattle.mz_layout_tables.specs.Tables.{term_row, thm_row}
+use Rattle.mz_layout_tables.specs.RowWords.{param_checks, word_checks}
 use Rattle.mz_machine_env.specs.Before.{HasRightWords, HasRightParams}
 use Rattle.mz_binary_theory.specs.Chains.{GoodTo}
 use Rattle.mz_binary_theory.proofs.Offered.{sorts-many, terms-many, assertions-many, HasSorts, sorts-more, HasRightRow, right-row}

@@ -12,18 +12,18 @@ use Rattle.mz_cmd.specs.declared.statement.StmtAt.TheVariants.{End, Head as a_he
 use Rattle.mz_cmd.specs.declared.statement.StmtFault.{StmtFault}
 use Rattle.mz_cmd.specs.Codes.{statement_byte, statement_code}
 use Rattle.mz_cmd.specs.StatementList.{statement_at}
-use Rattle.mz_layout.specs.Heads.{IsHeadAt, IsNextHead, AllTaken, body_bytes, empty_checks, end_checks, head_checks, next_row, row_checks}
-use Rattle.mz_layout.specs.Heads as heads
-use Rattle.mz_layout.specs.declared.head.Head.{Head}
-use Rattle.mz_layout.specs.declared.taken.Rows.{Rows}
-use Rattle.mz_layout.specs.Tables.{sort_count, term_row, thm_row}
+use Rattle.mz_layout_tables.specs.Heads.{IsHeadAt, IsNextHead, AllTaken, body_bytes, empty_checks, end_checks, head_checks, next_row, row_checks}
+use Rattle.mz_layout_tables.specs.Heads as heads
+use Rattle.mz_layout_tables.specs.declared.head.Head.{Head}
+use Rattle.mz_layout_tables.specs.declared.taken.Rows.{Rows}
+use Rattle.mz_layout_tables.specs.Tables.{sort_count, term_row, thm_row}
 use Rattle.mz_unify_theory.specs.Steps.{◌>>◌ as ◌then◌}
 use Rattle.mz_machine_theory.specs.MachineState.{Heading}
 use Rattle.mz_machine_theory.specs.Lists.{definition_of, assertion_of}
 use Rattle.mz_machine_theory.specs.FileRows.{Taken, term_of_file, thm_of_file}
-use Rattle.mz_layout_words.specs.RowWords.{param_checks, word_checks}
-use Rattle.mz_layout_words.proofs.Offered.{length-first_sorts}
-use Rattle.mz_machine_env.specs.OwnRow.{heading_of}
+use Rattle.mz_layout_tables.specs.RowWords.{param_checks, word_checks}
+use Rattle.mz_layout_tables.proofs.Offered.{length-first_sorts}
+use Rattle.mz_machine_theory.specs.Headings.{heading_of}
 use Rattle.mz_machine_env.specs.Before.{taken_before}
 use Rattle.mz_binary_theory.specs.Checking.{counts}
 use Rattle.mz_binary_theory.specs.FileRun.{Passing, test, test_params, test_words, test_row, Found, list_ends, stands_alone, has_body, is_empty_body, with_term, with_thm, after_kind, find_empty, find_term_body, find_term_parts, find_thm_parts, find_parts, find_kind, find_of, find_at, all_taken}

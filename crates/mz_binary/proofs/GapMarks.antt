@@ -6,10 +6,10 @@ use Rattle.mz_cmd.specs.declared.code.StatementCode.TheVariants as codes
 use Rattle.mz_cmd.specs.declared.statement.StmtAt.TheVariants.{Head}
 use Rattle.mz_cmd.specs.Codes.{statement_byte}
 use Rattle.mz_cmd.specs.StatementList.{statement_at}
-use Rattle.mz_logic.specs.Declaration.{Declaration, Assertion, sort_decl, term_decl, assertion_decl, assertions}
-use Rattle.mz_logic.specs.LegalLists.{Statement}
-use Rattle.mz_layout.specs.Tables.{list_at, thm_row}
-use Rattle.mz_layout.specs.Heads.{body_bytes}
+use Rattle.mz_logic_theory.specs.Declaration.{Declaration, Assertion, sort_decl, term_decl, assertion_decl, assertions}
+use Rattle.mz_logic_theory.specs.LegalLists.{Statement}
+use Rattle.mz_layout_tables.specs.Tables.{list_at, thm_row}
+use Rattle.mz_layout_tables.specs.Heads.{body_bytes}
 use Rattle.mz_machine_theory.specs.Lists.{assertion_of}
 use Rattle.mz_machine_theory.specs.Sound.{HasGap}
 use Rattle.mz_machine_theory.specs.FileRows.{Taken, thm_of_file}

@@ -9,19 +9,19 @@ use Rattle.mz_cmd.specs.declared.rule.Refusal.{Refusal}
 use Rattle.mz_cmd.specs.declared.statement.StmtAt.TheVariants as there
 use Rattle.mz_cmd.specs.Codes.{statement_byte}
 use Rattle.mz_cmd.specs.StatementList.{statement_at}
-use Rattle.mz_logic.specs.Declaration.{Declaration, sort_decl, term_decl, assertion_decl, sorts, assertions}
-use Rattle.mz_logic.specs.LegalLists.{Statement}
-use Rattle.mz_layout.specs.Tables.{list_at, mods_of, sort_count, term_count, thm_count}
-use Rattle.mz_layout.specs.Layout.{IsBinary}
+use Rattle.mz_logic_theory.specs.Declaration.{Declaration, sort_decl, term_decl, assertion_decl, sorts, assertions}
+use Rattle.mz_logic_theory.specs.LegalLists.{Statement}
+use Rattle.mz_layout_tables.specs.Tables.{list_at, mods_of, sort_count, term_count, thm_count}
+use Rattle.mz_layout_tables.specs.Layout.{IsBinary}
 use Rattle.mz_unify_theory.specs.Steps.{◌>>=◌}
 use Rattle.mz_machine_theory.specs.MachineState.{Heading, Kind, State}
 use Rattle.mz_machine_theory.specs.Bodies.{body_run, body_steps}
-use Rattle.mz_machine_env.specs.OwnRow.{heading_by, kind_at}
+use Rattle.mz_machine_theory.specs.Headings.{heading_by, kind_at}
 use Rattle.mz_machine_env.specs.Before.{tables_before, taken_before}
 use Rattle.mz_binary.specs.declared.place.Found.TheVariants as seen
-use Rattle.mz_layout.specs.declared.head.Head.{Head}
-use Rattle.mz_layout.specs.declared.taken.Rows.{Rows}
-use Rattle.mz_layout.specs.Heads.{IsHead, body_bytes, next_row, rows_after}
+use Rattle.mz_layout_tables.specs.declared.head.Head.{Head}
+use Rattle.mz_layout_tables.specs.declared.taken.Rows.{Rows}
+use Rattle.mz_layout_tables.specs.Heads.{IsHead, body_bytes, next_row, rows_after}
 use Rattle.mz_binary_theory.specs.declared.statement.Statement.{Statement as Told}
 use Rattle.mz_machine_theory.specs.FileRows.{Taken, taken_by}
 use Rattle.mz_binary_theory.specs.Spelling.{IsKindOf, HasKind, IsSpelled, is_local_code}

@@ -5,17 +5,18 @@ use Rattle.mz_cmd.specs.declared.code.StatementCode.{StatementCode}
 use Rattle.mz_cmd.specs.declared.code.StatementCode.TheVariants as codes
 use Rattle.mz_cmd.specs.declared.rule.K.{K}
 use Rattle.mz_cmd.specs.declared.rule.K.TheVariants as rules
-use Rattle.mz_layout.specs.Tables.{TermRow, term_row, thm_row, list_at}
+use Rattle.mz_layout_tables.specs.Tables.{TermRow, term_row, thm_row, list_at}
 use Rattle.mz_unify_theory.specs.Steps.{◌>>◌ as ◌then◌}
 use Rattle.mz_machine_theory.specs.MachineState.{Heading}
-use Rattle.mz_layout_words.specs.RowWords.{param_checks, word_checks}
+use Rattle.mz_layout_tables.specs.RowWords.{param_checks, word_checks}
 use Rattle.mz_machine_theory.specs.FileRows.{Taken, thm_of_file}
-use Rattle.mz_layout.specs.Heads.{body_bytes, next_row, row_checks}
-use Rattle.mz_machine_env.specs.OwnRow.{IsNextRow, MayRun, kind_at}
+use Rattle.mz_layout_tables.specs.Heads.{body_bytes, next_row, row_checks}
+use Rattle.mz_machine_env.specs.OwnRow.{IsNextRow, MayRun}
+use Rattle.mz_machine_theory.specs.Headings.{kind_at}
 use Rattle.mz_machine_env.specs.Before.{taken_before}
 use Rattle.mz_machine_theory.specs.Lists.{assertion_of}
-use Rattle.mz_layout.specs.declared.taken.Rows.{Rows}
-use Rattle.mz_logic.specs.Declaration.{sorts, terms, assertions}
+use Rattle.mz_layout_tables.specs.declared.taken.Rows.{Rows}
+use Rattle.mz_logic_theory.specs.Declaration.{sorts, terms, assertions}
 use Rattle.mz_binary_theory.specs.Checking.{counts}
 use Rattle.mz_binary_theory.specs.FileRun.{Passing, test, test_params, test_row, test_words, Found, stands_alone, has_body, is_empty_body, with_sort, with_term, with_thm, find_empty, find_term_body, find_term_parts, find_thm_parts, find_parts, find_kind}
 use Rattle.mz_binary.specs.Progress.{Progress, IsReached, kind_byte}

@@ -1,7 +1,7 @@
 -- The statements of a good file are sound.
 use Rattle.std.proofs.Common.{ℕ, Bool, true, false, List}
-use Rattle.mz_logic.specs.LegalLists.{Statement, LegalBy, allowed_with}
-use Rattle.mz_logic.proofs.Offered.{legal_list_is_closed}
+use Rattle.mz_logic_theory.specs.LegalLists.{Statement, LegalBy, allowed_with}
+use Rattle.mz_logic_theory.proofs.Offered.{legal_list_is_closed}
 use Rattle.mz_binary_theory.specs.Good.{Good}
 use Rattle.mz_binary.specs.Judging.{AreSound}
 use Rattle.mz_binary_theory.proofs.Offered.{good-legal, ungapped-free}

@@ -1,9 +1,9 @@
 -- The rows that the statements passed have taken.
 use Rattle.std.proofs.Common.{◌≡◌, ◌∙◌, List, [], refl, sym, ap}
-use Rattle.mz_logic.specs.Declaration.{Declaration, sorts}
-use Rattle.mz_logic.specs.LegalLists.{Statement}
-use Rattle.mz_layout.specs.Tables.{list_at}
-use Rattle.mz_layout_words.specs.RowWords.{first_sorts}
+use Rattle.mz_logic_theory.specs.Declaration.{Declaration, sorts}
+use Rattle.mz_logic_theory.specs.LegalLists.{Statement}
+use Rattle.mz_layout_tables.specs.Tables.{list_at}
+use Rattle.mz_layout_tables.specs.RowWords.{first_sorts}
 use Rattle.mz_machine_env.specs.Before.{taken_before}
 use Rattle.mz_binary.specs.Progress.{Progress, HasPassed}
 use Rattle.mz_machine_theory.specs.FileRows.{taken_by}

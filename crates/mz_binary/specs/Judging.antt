@@ -1,21 +1,16 @@
 -- What a checker answers.
-use Rattle.std.specs.Prelude.{◌≡◌, ◌≤◌, ◌<◌, ◌↔◌, ⊤, ℕ, ◌+◌, Bool, true, false, List, [], ◌∷◌, ◌++◌, length, Result, Ok, Err}
-use Rattle.mz_cmd.specs.declared.rule.K.{K}
-use Rattle.mz_logic.specs.Declaration.{Declaration, assertions}
-use Rattle.mz_logic.specs.LegalLists.{Statement, Legal, DraftLegal, declarations}
-use Rattle.mz_logic.specs.Closed.{TheoremsClosed}
-use Rattle.mz_layout.specs.Tables.{list_at}
-use Rattle.mz_layout.specs.Layout.{Layout}
+use Rattle.std.specs.Prelude.{◌≡◌, ◌≤◌, ◌<◌, ◌↔◌, ⊤, ℕ, ◌+◌, Bool, true, false, List, [], ◌∷◌, ◌++◌, length}
+use Rattle.mz_logic_theory.specs.Declaration.{Declaration, assertions}
+use Rattle.mz_logic_theory.specs.LegalLists.{Statement, Legal, DraftLegal, declarations}
+use Rattle.mz_logic_theory.specs.Closed.{TheoremsClosed}
+use Rattle.mz_layout_tables.specs.Tables.{list_at}
+use Rattle.mz_layout_tables.specs.Layout.{Layout}
 use Rattle.mz_binary_theory.specs.declared.statement.Statement.{Statement as Told}
 use Rattle.mz_binary.specs.declared.checker.Next.{Next}
 use Rattle.mz_binary.specs.declared.checker.Next.TheVariants as next
 use Rattle.mz_binary.specs.declared.whole.Checked.{Checked}
 use Rattle.mz_binary.specs.declared.whole.Checked.TheVariants as checked
-use Rattle.mz_machine_theory.specs.MachineState.{State}
 use Rattle.mz_machine_theory.specs.FileRows.{taken_by}
-use Rattle.mz_machine_theory.specs.Sound.{HasGap}
-use Rattle.mz_machine.specs.declared.body.BodyChecked.{BodyChecked}
-use Rattle.mz_machine.specs.declared.body.BodyChecked.TheVariants as bodies
 use Rattle.mz_binary_theory.specs.FileRun.{RunsBody}
 use Rattle.mz_binary_theory.specs.Chains.{IsGoodStatement, GoodTo}
 use Rattle.mz_binary_theory.specs.Good.{Good, FailsAfter, BinaryFault}
@@ -23,13 +18,6 @@ use Rattle.mz_binary_theory.specs.Gapped.{GappedIn, AreFreeUnlessGapped}
 use Rattle.mz_binary.specs.Progress.{Progress, HasPassed, CountsRows, Tells, next_steps, steps_left, most_left}
 use Rattle.mz_binary_theory.specs.declared.standard.Standard.{Standard}
 use Rattle.mz_binary_theory.specs.Standards.{lets_gaps}
-
--- The answer is what the run of these bytes comes to, and where gaps are let through it tells whether they leave one.
--- Want of memory says nothing.
-abbrev pub IsBodyRun : {T : Type 0} → Standard → List ℕ → Result (State T) (ℕ × K) → BodyChecked → Type 0
-IsBodyRun {T} standard bytes r (bodies.Good end) = (last : State T) × (r ≡ Ok last) × (lets_gaps standard ≡ true → (end.sorry ≡ true) ↔ HasGap bytes)
-IsBodyRun standard bytes r (bodies.Refused at rule) = r ≡ Err (at, rule)
-IsBodyRun standard bytes r bodies.Mem = ⊤
 
 -- the next statement is good, it is what is told, and the checker has passed it; in a draft it is told where it is a gapped
 -- theorem
@@ -45,28 +33,28 @@ pub record Passes (p : Progress) (ss : List Statement) (env : List Declaration) 
   pub within : after.at ≤ length p.file
 
 -- after good statements, which declare env, what comes next; want of memory only where a body runs
-abbrev pub IsNext : Progress → List Statement → List Declaration → Next → Type 0
+abbrev pub IsNext : {B : Type 0} → Progress → List Statement → List Declaration → Next B → Type 0
 IsNext p ss env (next.Statement after told) = Passes p ss env after told
 IsNext p ss env (next.End rows) = Good p.standard p.file ss × CountsRows rows env
 IsNext p ss env (next.Refused refusal) = FailsAfter p.standard p.file ss env p.at refusal
 IsNext p ss env next.Mem = RunsBody p.file (taken_by env) p.at
 
 -- the answer is another than want of memory
-abbrev pub IfTold : Next → Type 0 → Type 0
+abbrev pub IfTold : {B : Type 0} → Next B → Type 0 → Type 0
 IfTold (next.Statement after told) P = P
 IfTold (next.End rows) P = P
 IfTold (next.Refused refusal) P = P
 IfTold next.Mem P = ⊤
 
 -- what is left after it of the commands executed in the list
-abbrev pub IsLeft : Progress → Next → Type 0
+abbrev pub IsLeft : {B : Type 0} → Progress → Next B → Type 0
 IsLeft p (next.Statement after told) = steps_left p ≡ next_steps p + steps_left after
 IsLeft p (next.End rows) = steps_left p ≡ next_steps p
 IsLeft p (next.Refused refusal) = steps_left p ≡ next_steps p
 IsLeft p next.Mem = ⊤
 
 -- the most that may be counted, want of memory or not: where the list goes on, what may be counted after is kept
-abbrev pub IsMost : Progress → (old new : ℕ) → Next → Type 0
+abbrev pub IsMost : {B : Type 0} → Progress → (old new : ℕ) → Next B → Type 0
 IsMost p old new (next.Statement after told) = new + most_left after ≤ old + most_left p
 IsMost p old new (next.End rows) = new ≤ old + most_left p
 IsMost p old new (next.Refused refusal) = new ≤ old + most_left p

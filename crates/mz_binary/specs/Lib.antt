@@ -1,2 +1,3 @@
+pub mod BodyRuns
 pub mod Progress
 pub mod Judging

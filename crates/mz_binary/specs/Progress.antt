@@ -4,14 +4,14 @@ use Rattle.mz_cmd.specs.declared.code.StatementCode.{StatementCode}
 use Rattle.mz_cmd.specs.declared.code.StatementCode.TheVariants as codes
 use Rattle.mz_cmd.specs.declared.rule.K.{K}
 use Rattle.mz_cmd.specs.Codes.{statement_byte}
-use Rattle.mz_logic.specs.Declaration.{Declaration, sort_decl, term_decl, assertion_decl, sorts, terms, assertions}
-use Rattle.mz_logic.specs.LegalLists.{Statement}
-use Rattle.mz_layout.specs.Tables.{list_at, sort_count, term_count, thm_count}
-use Rattle.mz_layout.specs.Layout.{IsBinary}
-use Rattle.mz_layout.specs.Heads.{IsHeadAt, body_bytes, next_row}
-use Rattle.mz_layout.specs.declared.head.Head.{Head}
-use Rattle.mz_layout.specs.declared.taken.Rows.{Rows}
-use Rattle.mz_machine_env.specs.OwnRow.{heading_of}
+use Rattle.mz_logic_theory.specs.Declaration.{Declaration, sort_decl, term_decl, assertion_decl, sorts, terms, assertions}
+use Rattle.mz_logic_theory.specs.LegalLists.{Statement}
+use Rattle.mz_layout_tables.specs.Tables.{list_at, sort_count, term_count, thm_count}
+use Rattle.mz_layout_tables.specs.Layout.{IsBinary}
+use Rattle.mz_layout_tables.specs.Heads.{IsHeadAt, body_bytes, next_row}
+use Rattle.mz_layout_tables.specs.declared.head.Head.{Head}
+use Rattle.mz_layout_tables.specs.declared.taken.Rows.{Rows}
+use Rattle.mz_machine_theory.specs.Headings.{heading_of}
 use Rattle.mz_machine_env.specs.Before.{taken_before}
 use Rattle.mz_binary_theory.specs.FileRun.{Found, list_ends, stands_alone, has_body, after_kind, find_at, found_steps, list_steps}
 use Rattle.mz_binary_theory.specs.declared.statement.Statement.{Statement as Told}

@@ -1,23 +1,23 @@
 // The list of statements, one after another.
 ghost use Rattle.std.specs.Prelude.{◌≡◌, ◌≤◌, ◌+◌, ◌-◌, ◌*◌, ◌↔◌, ℕ, List, [], length, Ok, Err, true, OnOk, OnErr};
-ghost use Rattle.mz_logic.specs.Declaration.{Declaration};
-ghost use Rattle.mz_logic.specs.LegalLists.{Statement as Declared};
+ghost use Rattle.mz_logic_theory.specs.Declaration.{Declaration};
+ghost use Rattle.mz_logic_theory.specs.LegalLists.{Statement as Declared};
 ghost use Rattle.mz_machine_env.specs.Before.{taken_before};
-ghost use Rattle.mz_machine_env.specs.OwnRow.{kind_at, kind_of as kind_lem};
+ghost use Rattle.mz_machine_env.specs.OwnRow.{kind_of as kind_lem};
+ghost use Rattle.mz_machine_theory.specs.Headings.{kind_at};
 ghost use Rattle.mz_machine_theory.specs.Sound.{HasGap};
-ghost use Rattle.mz_layout.specs.Heads.{IsHead, body_bytes};
+ghost use Rattle.mz_layout_tables.specs.Heads.{IsHead, body_bytes};
 ghost use Rattle.mz_binary_theory.specs.FileRun.{after_kind, file_steps, find_at, onward, run_place, RunsBody};
 ghost use Rattle.mz_binary.specs.Progress.{HasPassed, RestsOnGap, found_of, is_assertion_kind, is_theorem_kind, kind_byte, marks_past, next_steps, steps_left, most_left};
 ghost use Rattle.mz_binary.specs.Judging.{IfTold, IsLeft, IsMost, IsNext};
 ghost use Rattle.mz_binary_theory.specs.Standards.{lets_gaps};
 
-use crate::body::check_body_by;
+use crate::bodies::Bodies;
 use crate::gaps::cites_marked;
 use crate::place::{Found, found_at, is_local};
-use crate::rooms::Rooms;
 use mz_binary_theory::{Standard, Statement};
 use mz_cmd::{Mem, Refusal, StatementCode, Steps};
-use mz_layout::{Fault, Head, Mmb, Rows};
+use mz_layout_tables::{Fault, Head, Mmb, Rows};
 use mz_machine::BodyChecked;
 use mz_machine_env::BodyKind;
 use mz_store::Seed;
@@ -28,32 +28,31 @@ use std::sync::ledger::Ledger;
 /// A checker of the list of statements of one binary. Its meaning is how far it has come; the
 /// statements before are good, a draft's with gaps.
 #[derive(Drop)]
-pub struct Checker<'a> {
+pub struct Checker<'a, B: Bodies> {
     alloc: Global,
     mmb: &'a Mmb<'a>,
-    standard: Standard,
     rows: Rows,
     passed: u32,
     at: u32,
     gapped: Vec<bool>,
-    rooms: Rooms,
+    bodies: B,
 }
 
-impl<'a> Model for Checker<'a> {
+impl<'a, B: Bodies> Model for Checker<'a, B> {
     ghost use Rattle.mz_binary.specs.Progress.{Progress, IsReached};
 
     ghost Value = { Progress };
 
-    ghost view = { λ c. record { standard = c.standard; file = c.mmb.now; at = c.at; passed = c.passed; rows = c.rows; marks = c.gapped.items } };
+    ghost view = { λ c. record { standard = B.STANDARD; file = c.mmb.now; at = c.at; passed = c.passed; rows = c.rows; marks = c.gapped.items } };
 
-    ghost invariant = { λ c. IsReached (record { standard = c.standard; file = c.mmb.now; at = c.at; passed = c.passed; rows = c.rows; marks = c.gapped.items }) };
+    ghost invariant = { λ c. IsReached (record { standard = B.STANDARD; file = c.mmb.now; at = c.at; passed = c.passed; rows = c.rows; marks = c.gapped.items }) };
 }
 
 /// What comes next in the list of statements.
 #[derive(Drop)]
-pub enum Next<'a> {
+pub enum Next<'a, B: Bodies> {
     /// A good statement, and the checker after it.
-    Statement(Checker<'a>, Statement),
+    Statement(Checker<'a, B>, Statement),
     /// The end of the list, with all rows of the tables taken.
     End(Rows),
     /// The first rule that fails.
@@ -62,14 +61,14 @@ pub enum Next<'a> {
     Mem,
 }
 
-impl<'a> Checker<'a> {
+impl<'a, B: Bodies> Checker<'a, B> {
     /// At the first statement. In a draft bodies may leave gaps, and the theorems that rest on one are
     /// told apart. The bodies' terms are numbered with the seed.
-    pub fn new(alloc: Global, seed: Seed, mmb: &'a Mmb<'a>, standard: Standard) -> Checker<'a>
+    pub fn new(alloc: Global, seed: Seed, mmb: &'a Mmb<'a>) -> Checker<'a, B>
         ensures file { result.file ≡ mmb.now }
-        ensures standard { result.standard ≡ standard }
+        ensures standard { result.standard ≡ B.STANDARD }
         ensures nothing { HasPassed result [] [] }
-        ensures steps { steps_left result ≡ file_steps standard mmb.now }
+        ensures steps { steps_left result ≡ file_steps B.STANDARD mmb.now }
     {
         let at = mmb.proof_at();
         let rows = Rows {
@@ -80,17 +79,16 @@ impl<'a> Checker<'a> {
         Checker {
             alloc,
             mmb,
-            standard,
             rows,
             passed: 0,
             at,
             gapped: Vec::new(alloc),
-            rooms: Rooms::new(seed),
+            bodies: B::new(seed),
         }
     }
 
     /// Checks the next statement, or that the list ends right.
-    pub fn check_next<L: Ledger>(self, steps: &mut Steps<L>) -> Next<'a>
+    pub fn check_next<L: Ledger>(self, steps: &mut Steps<L>) -> Next<'a, B>
         ensures next { (ss : List Declared) (env : List Declaration) → HasPassed self.entry ss env → IsNext self.entry ss env result }
         ensures steps { IfTold result (steps.new ≡ steps.old + next_steps self.entry) }
         ensures most { IsMost self.entry steps.old steps.new result }
@@ -105,7 +103,7 @@ impl<'a> Checker<'a> {
     }
 
     /// Runs the statement's body, and goes past it.
-    fn past_body<L: Ledger>(mut self, head: Head, steps: &mut Steps<L>) -> Next<'a>
+    fn past_body<L: Ledger>(mut self, head: Head, steps: &mut Steps<L>) -> Next<'a, B>
         requires head { IsHead self.file head }
         requires at { head.at ≡ self.at }
         requires body { find_at self.file (taken_before self.file self.rows) self.at ≡ Ok (found_of self.file self.rows (Found.WithBody head)) }
@@ -114,12 +112,14 @@ impl<'a> Checker<'a> {
         ensures most { IsMost self.entry steps.old steps.new result }
         ensures left { IsLeft self.entry result }
     {
-        let (alloc, mmb, standard, rows) = (self.alloc, self.mmb, self.standard, self.rows);
+        let (alloc, mmb, rows) = (self.alloc, self.mmb, self.rows);
         let kind = body_kind(head.code);
         let row = rows.next(head.code);
         let body = (head.body, head.next);
-        let rooms = &mut self.rooms;
-        match check_body_by(alloc, rooms, mmb, standard, kind, row, rows, body, steps) {
+        match self
+            .bodies
+            .check_body(alloc, mmb, kind, row, rows, body, steps)
+        {
             BodyChecked::Good(end) => {
                 let gap = self.rests_on_gap(head, end.sorry);
                 self.past(head, gap)
@@ -136,15 +136,16 @@ impl<'a> Checker<'a> {
         requires sorry { lets_gaps self.now.standard ≡ true → (sorry ≡ true) ↔ HasGap (body_bytes self.now.file head.body head.next) }
         ensures { (result ≡ true) ↔ RestsOnGap self.now head }
     {
-        if !self.standard.allows_gaps() || !is_theorem(head.code) {
+        let marks = self.gapped.as_slice();
+        if !B::STANDARD.allows_gaps() || !is_theorem(head.code) {
             return false;
         }
         let bytes = &self.mmb.file()[head.body as usize..head.next as usize];
-        sorry || cites_marked(bytes, &self.gapped)
+        sorry || cites_marked(bytes, marks)
     }
 
     /// Past a statement, whose body runs if it has one: whether it rests on a gap is told, and marked.
-    fn past(self, head: Head, gap: bool) -> Next<'a>
+    fn past(self, head: Head, gap: bool) -> Next<'a, B>
         requires head { IsHead self.file head }
         requires at { head.at ≡ self.at }
         requires runs { run_place self.standard self.file (taken_before self.file self.rows) self.at ≡ Ok (onward (after_kind self.file (taken_before self.file self.rows) head.code) head.next) }
@@ -165,30 +166,28 @@ impl<'a> Checker<'a> {
         let Checker {
             alloc,
             mmb,
-            standard,
             rows,
             mut gapped,
-            rooms,
+            bodies,
             ..
         } = self;
-        let Ok(()) = mark(standard, head.code, gap, &mut gapped) else {
+        let Ok(()) = mark(B::STANDARD, head.code, gap, &mut gapped) else {
             return Next::Mem;
         };
         let after = Checker {
             alloc,
             mmb,
-            standard,
             rows: rows.after(head.code),
             passed: told.number,
             at: head.next,
             gapped,
-            rooms,
+            bodies,
         };
         Next::Statement(after, told)
     }
 
     /// The rule that fails at the next statement.
-    fn refused(self, fault: Fault) -> Next<'a>
+    fn refused(self, fault: Fault) -> Next<'a, B>
         requires { run_place self.standard self.file (taken_before self.file self.rows) self.at ≡ Err fault }
         ensures next { (ss : List Declared) (env : List Declaration) → HasPassed self.entry ss env → IsNext self.entry ss env result }
         ensures left { IsLeft self.entry result }

@@ -5,16 +5,16 @@
 //! list, statement by statement, and tells each one or the first rule that fails, at its place.
 #![tactic(auto)]
 
-mod body;
+mod bodies;
 mod checker;
 mod gaps;
 mod line;
 mod place;
-mod rooms;
 mod whole;
 
+pub use bodies::{Bodies, DraftBodies, StrictBodies};
 pub use checker::{Checker, Next};
 pub use line::refusal_line;
 pub use mz_binary_theory::Statement;
-pub use mz_layout::Rows;
+pub use mz_layout_tables::Rows;
 pub use whole::{Checked, check_all};

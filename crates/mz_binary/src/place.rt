@@ -1,16 +1,17 @@
 // What stands at a place of the list of statements.
 ghost use Rattle.std.specs.Prelude.{◌≡◌, ◌≤◌, ◌<◌, IfOk, length};
 ghost use Rattle.mz_base_theory.specs.Checks.{AllHold, Judges};
-ghost use Rattle.mz_layout.specs.Heads.{empty_checks, row_checks};
-ghost use Rattle.mz_layout.specs.Tables.{sort_count, term_count, thm_count};
+ghost use Rattle.mz_layout_tables.specs.Heads.{empty_checks, row_checks};
+ghost use Rattle.mz_layout_tables.specs.Tables.{sort_count, term_count, thm_count};
 ghost use Rattle.mz_machine_env.specs.Before.{taken_before};
 ghost use Rattle.mz_binary_theory.specs.FileRun.{find_at, find_parts};
 ghost use Rattle.mz_binary.specs.Progress.{Finds, IsAssertionKind, IsOf, IsTermKind, StandsAt, is_local_kind};
 
 use mz_cmd::{K, StatementCode};
-use mz_layout::{Fault, Head, HeadOrEnd, Mmb, Rows, head_at};
-use mz_layout_words::{check_term_words, check_thm_words};
-use mz_logic::Terms;
+use mz_layout_tables::{
+    Fault, Head, HeadOrEnd, Mmb, Rows, check_term_words, check_thm_words, head_at,
+};
+use mz_logic_theory::Terms;
 
 /// What stands at a place, all that is asked of it met, but that its body runs.
 #[derive(Clone, Copy)]

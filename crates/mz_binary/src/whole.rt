@@ -1,14 +1,14 @@
 // A whole binary.
 ghost use Rattle.std.specs.Prelude.{◌≡◌, ◌≤◌, ◌<◌, ◌+◌, ◌*◌, ◌^◌, List, [], length};
-ghost use Rattle.mz_layout.specs.Layout.{Layout};
+ghost use Rattle.mz_layout_tables.specs.Layout.{Layout};
 ghost use Rattle.mz_binary_theory.specs.FileRun.{file_steps};
 ghost use Rattle.mz_binary.specs.Progress.{HasPassed, most_left, steps_left};
 ghost use Rattle.mz_binary.specs.Judging.{IfJudged, IsChecked};
 
+use crate::bodies::Bodies;
 use crate::checker::{Checker, Next};
-use mz_binary_theory::Standard;
 use mz_cmd::{Refusal, Steps};
-use mz_layout::{Mmb, Rows};
+use mz_layout_tables::{Mmb, Rows};
 use mz_store::Seed;
 use std::alloc::Global;
 use std::sync::ledger::Ledger;
@@ -26,26 +26,25 @@ pub enum Checked {
 
 /// Checks header, tables and the whole list of statements. A draft's bodies may leave gaps; then the
 /// theorems that rest on none are proved without.
-pub fn check_all<L: Ledger>(
+pub fn check_all<B: Bodies, L: Ledger>(
     alloc: Global,
     seed: Seed,
     file: &[u8],
-    standard: Standard,
     steps: &mut Steps<L>,
 ) -> Checked
     requires { length file.now < 2 ^ 32 }
-    ensures checked { IsChecked standard file.now result }
-    ensures steps { IfJudged result (steps.new ≡ steps.old + file_steps standard file.now) }
+    ensures checked { IsChecked B.STANDARD file.now result }
+    ensures steps { IfJudged result (steps.new ≡ steps.old + file_steps B.STANDARD file.now) }
     ensures bound { steps.new ≤ steps.old + (length file.now * length file.now + length file.now) }
 {
     match Mmb::read(file) {
-        Ok(mmb) => check_list(Checker::new(alloc, seed, &mmb, standard), steps),
+        Ok(mmb) => check_list(Checker::<B>::new(alloc, seed, &mmb), steps),
         Err(refusal) => Checked::Refused(refusal),
     }
 }
 
 /// Checks the list of statements from its first one on.
-fn check_list<L: Ledger>(first: Checker, steps: &mut Steps<L>) -> Checked
+fn check_list<B: Bodies, L: Ledger>(first: Checker<B>, steps: &mut Steps<L>) -> Checked
     requires layout { Layout first.file }
     requires nothing { HasPassed first [] [] }
     ensures checked { IsChecked first.entry.standard first.entry.file result }

@@ -4,20 +4,16 @@ ghost use Rattle.std.specs.Prelude.{◌≡◌, ◌<◌, ◌^◌, length};
 
 use crate::expect::expect;
 use mz_base::Mode;
-use mz_binary::{Checked, Checker, Next, Rows, Statement, check_all, refusal_line};
-use mz_binary_theory::Standard;
+use mz_binary::{
+    Bodies, Checked, Checker, DraftBodies, Next, StrictBodies, check_all, refusal_line,
+};
+use mz_binary_theory::Statement;
 use mz_cmd::{K, Mem, Refusal, Steps};
-use mz_layout::Mmb;
+use mz_layout_tables::{Mmb, Rows};
 use mz_store::Seed;
 use std::alloc::{AllocError, Global};
 use std::marker::Brand;
-use std::process::Abort;
 use std::sync::ledger::{Blank, Ledger};
-
-/// Finished proofs, and drafts.
-const STRICT: Standard = Standard::Published(Mode::Strict);
-
-const DRAFT: Standard = Standard::Published(Mode::Draft);
 
 /// Negation, the definition of a double negation, and a theorem that folds it.
 const FOLD: &[u8] = &[
@@ -39,14 +35,14 @@ fn with_byte(alloc: Global, at: usize, byte: u8) -> Result<Vec<u8>, Mem> {
     Ok(file)
 }
 
-fn check_with<L: Ledger>(alloc: Global, blank: Blank, file: &[u8], standard: Standard) -> Checked
+fn check_with<B: Bodies, L: Ledger>(alloc: Global, blank: Blank, file: &[u8]) -> Checked
     requires name { blank.name ≡ L.name }
     requires parts { blank.parts ≡ L.parts }
     requires some { 0 < blank.parts }
     requires fits { length file.now < 2 ^ 32 }
 {
     let mut steps = Steps::<L>::start(blank);
-    check_all(alloc, Seed::FIXED, file, standard, &mut steps)
+    check_all::<B, L>(alloc, Seed::FIXED, file, &mut steps)
 }
 
 /// How many rows a file has, or its refusal's line.
@@ -62,52 +58,47 @@ fn told(alloc: Global, checked: Checked) -> Result<Vec<u8>, Mem> {
 }
 
 /// What is told of the file with one byte in place of another.
-fn line_of(
-    rt: &(impl Abort + AllocGlobal),
-    at: usize,
-    byte: u8,
-    standard: Standard,
-) -> Result<Vec<u8>, Mem> {
-    let file = with_byte(rt.alloc(), at, byte)?;
-    assert!(rt; file.len() < 200);
-    told(
-        rt.alloc(),
-        check_with::<Brand>(rt.alloc(), Blank::new(1), &file, standard),
-    )
+fn line_of<B: Bodies>(alloc: Global, at: usize, byte: u8) -> Result<Vec<u8>, Mem> {
+    let file = with_byte(alloc, at, byte)?;
+    if file.len() >= 200 {
+        return Err(AllocError);
+    }
+    told(alloc, check_with::<B, Brand>(alloc, Blank::new(1), &file))
+}
+
+/// The same, as the mode says.
+fn line_by(alloc: Global, mode: Mode, at: usize, byte: u8) -> Result<Vec<u8>, Mem> {
+    match mode {
+        Mode::Strict => line_of::<StrictBodies>(alloc, at, byte),
+        Mode::Draft => line_of::<DraftBodies>(alloc, at, byte),
+    }
 }
 
 /// A byte and its place, and what is told of the file then.
-const WHOLE: &[(usize, u8, Standard, &str)] = &[
-    (132, 0x4D, STRICT, "good: 1 2 1\n"),
+const WHOLE: &[(usize, u8, Mode, &str)] = &[
+    (132, 0x4D, Mode::Strict, "good: 1 2 1\n"),
     (
         157,
         0x20,
-        STRICT,
+        Mode::Strict,
         "refused: binary statement 4 at byte 157: K30 sorry\n",
     ),
-    (157, 0x20, DRAFT, "good: 1 2 1\n"),
-    (
-        132,
-        0x4D,
-        Standard::Portable,
-        "refused: binary statement 4 at byte 156: K28 unfold\n",
-    ),
+    (157, 0x20, Mode::Draft, "good: 1 2 1\n"),
 ];
 
 #[test]
 fn whole_files(rt: HostRuntime) {
-    for (at, byte, standard, line) in WHOLE {
-        let found = line_of(&rt, *at, *byte, *standard).expect(&rt, "memory");
+    for (at, byte, mode, line) in WHOLE {
+        let found = line_by(rt.alloc(), *mode, *at, *byte).expect(&rt, "memory");
         assert!(rt; found.as_slice() == line.as_bytes(), "{byte} at {at}");
     }
 }
 
 /// Adds the good statements of a file, and tells what comes after them.
-fn end_of<L: Ledger>(
+fn end_of<B: Bodies, L: Ledger>(
     alloc: Global,
     blank: Blank,
     mmb: &Mmb<'_>,
-    standard: Standard,
     statements: &mut Vec<Statement>,
 ) -> Result<Result<Rows, Refusal>, Mem>
     requires name { blank.name ≡ L.name }
@@ -115,7 +106,7 @@ fn end_of<L: Ledger>(
     requires some { 0 < blank.parts }
 {
     let mut steps = Steps::<L>::start(blank);
-    let mut checker = Checker::new(alloc, Seed::FIXED, mmb, standard);
+    let mut checker = Checker::<B>::new(alloc, Seed::FIXED, mmb);
     for _ in 0..10 {
         match checker.check_next(&mut steps) {
             Next::Statement(after, statement) => {
@@ -191,17 +182,18 @@ const ENDINGS: &[(usize, u8, usize, Result<Rows, Refusal>)] = &[
 ];
 
 /// The same of the file with one byte in place of another.
-fn end_with(
-    rt: &(impl Abort + AllocGlobal),
+fn end_with<B: Bodies>(
+    alloc: Global,
     at: usize,
     byte: u8,
-    standard: Standard,
     statements: &mut Vec<Statement>,
 ) -> Result<Result<Rows, Refusal>, Mem> {
-    let file = with_byte(rt.alloc(), at, byte)?;
-    assert!(rt; file.len() < 200);
+    let file = with_byte(alloc, at, byte)?;
+    if file.len() >= 200 {
+        return Err(AllocError);
+    }
     match Mmb::read(&file) {
-        Ok(mmb) => end_of::<Brand>(rt.alloc(), Blank::new(1), &mmb, standard, statements),
+        Ok(mmb) => end_of::<B, Brand>(alloc, Blank::new(1), &mmb, statements),
         Err(refusal) => Ok(Err(refusal)),
     }
 }
@@ -211,7 +203,9 @@ fn end_with(
 fn statements_one_by_one(rt: HostRuntime) {
     for (at, byte, count, after) in ENDINGS {
         let mut found = Vec::new(rt.alloc());
-        let ended = end_with(&rt, *at, *byte, STRICT, &mut found).expect(&rt, "memory");
+        let ended = end_with::<StrictBodies>(rt.alloc(), *at, *byte, &mut found).expect(
+            &rt, "memory",
+        );
         let are_good = found.iter().eq(STATEMENTS.iter().take(*count));
         assert!(rt; are_good, "{count} statements");
         assert!(rt; ended == *after, "after {count} statements");
@@ -222,7 +216,7 @@ fn statements_one_by_one(rt: HostRuntime) {
 #[test]
 fn gaps_are_told(rt: HostRuntime) {
     let mut found = Vec::new(rt.alloc());
-    let ended = end_with(&rt, 157, 0x20, DRAFT, &mut found).expect(&rt, "memory");
+    let ended = end_with::<DraftBodies>(rt.alloc(), 157, 0x20, &mut found).expect(&rt, "memory");
     expect(&rt, ended.is_ok(), "good in a draft");
     expect(&rt, found.len() == 4, "four statements");
     for (i, statement) in found.iter().enumerate() {

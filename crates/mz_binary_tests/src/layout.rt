@@ -2,8 +2,8 @@
 
 use crate::expect::expect;
 use mz_cmd::{K, Refusal};
-use mz_layout::Mmb;
-use mz_logic::Terms;
+use mz_layout_tables::Mmb;
+use mz_logic_theory::Terms;
 use std::alloc::AllocError;
 use std::process::Abort;
 

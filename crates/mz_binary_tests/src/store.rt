@@ -1,10 +1,10 @@
 ghost use Rattle.std.specs.Prelude.{ℕ, ◌≡◌, ◌<◌, ◌∷◌, [], IsTrue, length, true, false};
-ghost use Rattle.mz_logic.specs.Words.{BitsRight, signatures_of, word_bound, word_sort};
-ghost use Rattle.mz_logic.specs.Sorts.{IsBoundVar};
+ghost use Rattle.mz_logic_theory.specs.Words.{BitsRight, signatures_of, word_bound, word_sort};
+ghost use Rattle.mz_logic_theory.specs.Sorts.{IsBoundVar};
 ghost use Rattle.mz_store.specs.Sharing.{IsIn, AreIn, sort_of, tree_of, trees_of, IsOver, CanTake};
 
 use crate::expect::{expect, expect_part};
-use mz_logic::{SortMods, Terms, Word};
+use mz_logic_theory::{SortMods, Terms, Word};
 use mz_store::{DepsMode, Id, Store};
 use std::alloc::{AllocError, Global};
 use std::marker::Model;
@@ -71,7 +71,7 @@ struct Bench<T: Terms> {
 }
 
 impl<T: Terms> Model for Bench<T> {
-    ghost use Rattle.mz_logic.specs.Words.{signatures_of};
+    ghost use Rattle.mz_logic_theory.specs.Words.{signatures_of};
     ghost use Rattle.mz_store.specs.Sharing.{Sharing, IsOver};
     ghost use Rattle.mz_store.specs.Codes.{sharing_code};
 

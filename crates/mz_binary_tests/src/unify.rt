@@ -1,15 +1,15 @@
 // Streams run over a small store, with what the format says of them.
 ghost use Rattle.std.specs.Prelude.{◌≡◌, ◌<◌, ◌^◌, ◌∷◌, [], true, false, List, IsTrue, IfOk, OnOk, length};
-ghost use Rattle.mz_logic.specs.Signature.{Signature};
-ghost use Rattle.mz_logic.specs.Sorts.{HasSort, IsBoundVar};
-ghost use Rattle.mz_logic.specs.Words.{signatures_of, word_sort, word_bound};
+ghost use Rattle.mz_logic_theory.specs.Signature.{Signature};
+ghost use Rattle.mz_logic_theory.specs.Sorts.{HasSort, IsBoundVar};
+ghost use Rattle.mz_logic_theory.specs.Words.{signatures_of, word_sort, word_bound};
 ghost use Rattle.mz_store.specs.Sharing.{AreIn, IsIn, tree_of, trees_of, IsOver, CanTake};
 ghost use Rattle.mz_store.specs.declared.item.DepsMode.TheVariants.{All as AllVars};
 ghost use Rattle.mz_unify.specs.Stored.{AreItemsIn};
 
 use crate::expect::expect_part;
 use mz_cmd::{K, Steps};
-use mz_logic::{SortMods, Terms, Word};
+use mz_logic_theory::{SortMods, Terms, Word};
 use mz_store::{DepsMode, Id, Item, Store};
 use mz_unify::{Unified, UnifyMode, unify};
 use std::alloc::Global;

@@ -2,7 +2,7 @@
 
 use crate::expect::{expect_bytes, expect_part};
 use mz_layout::LayoutWriter;
-use mz_logic::Word;
+use mz_logic_theory::Word;
 use std::process::Abort;
 
 /// Two sorts, the term `all {x: nat} (p: wff x): wff`, an axiom of the same parameters and a

@@ -10,14 +10,14 @@ use Rattle.mz_cmd.specs.declared.statement.StmtAt.TheVariants.{End, Head}
 use Rattle.mz_cmd.specs.declared.statement.StmtFault.{StmtFault}
 use Rattle.mz_cmd.specs.StatementList.{statement_at}
 use Rattle.mz_cmd.specs.Codes.{statement_code}
-use Rattle.mz_logic.specs.Declaration.{Declaration}
-use Rattle.mz_logic.specs.LegalLists.{Statement}
-use Rattle.mz_layout.specs.Tables.{list_at, term_row, thm_row}
+use Rattle.mz_logic_theory.specs.Declaration.{Declaration}
+use Rattle.mz_logic_theory.specs.LegalLists.{Statement}
+use Rattle.mz_layout_tables.specs.Tables.{list_at, term_row, thm_row}
 use Rattle.mz_unify_theory.specs.Profile.{plain, strict}
 use Rattle.mz_machine_theory.specs.Bodies.{Runs, body_checks}
 use Rattle.mz_machine_theory.specs.FileRows.{Taken, taken_by, term_of_file, thm_of_file, rows_taken}
 use Rattle.mz_machine_theory.specs.Lists.{definition_of, assertion_of}
-use Rattle.mz_layout_words.specs.RowWords.{param_checks, word_checks}
+use Rattle.mz_layout_tables.specs.RowWords.{param_checks, word_checks}
 use Rattle.mz_machine_theory.specs.MachineState.{RowsBefore, Heading}
 use Rattle.mz_machine_theory.proofs.Offered.{bodies-checked}
 use Rattle.mz_pmachine_theory.specs.Numbered.{portable}
@@ -25,8 +25,8 @@ use Rattle.mz_pmachine_theory.proofs.Offered.{bodies-strict}
 use Rattle.mz_binary_theory.specs.declared.standard.Standard.{Standard}
 use Rattle.mz_binary_theory.specs.declared.standard.Standard.TheVariants.{Published, Portable}
 use Rattle.mz_binary_theory.specs.Standards.{profile_of, lets_gaps, strict_standard, by_table}
-use Rattle.mz_layout.specs.Heads.{body_bytes}
-use Rattle.mz_layout.specs.Heads as heads
+use Rattle.mz_layout_tables.specs.Heads.{body_bytes}
+use Rattle.mz_layout_tables.specs.Heads as heads
 use Rattle.mz_binary_theory.specs.Checking.{counts, term_body_checks, term_checks, thm_checks, parts_of, rest_checks, checks_of}
 use Rattle.mz_binary_theory.specs.Chains.{IsGoodStatement}
 use Rattle.mz_binary_theory.specs.WholeLaws.{PortableFilesAreGood}

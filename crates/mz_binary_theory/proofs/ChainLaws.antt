@@ -1,7 +1,7 @@
 -- Chains of statements.
 use Rattle.std.proofs.Common.{◌≡◌, ◌∙◌, ◌⊎◌, ℕ, List, [], ◌∷◌, ◌++◌, refl, sym, ap, subst, inl, inr, append_assoc}
-use Rattle.mz_logic.specs.Declaration.{Declaration}
-use Rattle.mz_logic.specs.LegalLists.{Statement, declarations}
+use Rattle.mz_logic_theory.specs.Declaration.{Declaration}
+use Rattle.mz_logic_theory.specs.LegalLists.{Statement, declarations}
 use Rattle.mz_binary_theory.specs.Chains.{Chain}
 
 -- one statement more at the end

@@ -1,7 +1,7 @@
 -- One declaration more.
 use Rattle.std.proofs.Common.{◌≡◌, ◌+◌, ◌∙◌, List, [], ◌++◌, length, ap, length-append}
-use Rattle.mz_logic.specs.Declaration.{Declaration, sorts, terms, assertions}
-use Rattle.mz_logic.proofs.Offered.{sorts-append, terms-append, assertions-append}
+use Rattle.mz_logic_theory.specs.Declaration.{Declaration, sorts, terms, assertions}
+use Rattle.mz_logic_theory.proofs.Offered.{sorts-append, terms-append, assertions-append}
 
 module _ (env more : List Declaration) where
   pub sorts-many : length (sorts (env ++ more)) ≡ length (sorts env) + length (sorts more)

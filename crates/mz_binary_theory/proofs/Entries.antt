@@ -6,21 +6,21 @@ use Rattle.mz_base_theory.proofs.Offered.{all_hold-first, all_hold-rest}
 use Rattle.mz_cmd.specs.declared.code.StatementCode.{StatementCode}
 use Rattle.mz_cmd.specs.declared.code.StatementCode.TheVariants as codes
 use Rattle.mz_cmd.specs.declared.rule.K.{K}
-use Rattle.mz_logic.specs.Words.{binders_of, result_of}
-use Rattle.mz_logic.specs.declared.binder.SortMods.{SortMods}
-use Rattle.mz_logic.specs.declared.word.Word.{Word}
-use Rattle.mz_logic.proofs.Offered.{words_say_results}
-use Rattle.mz_layout.specs.Tables.{TermRow, mods_of, term_row, thm_row}
+use Rattle.mz_logic_theory.specs.Words.{binders_of, result_of}
+use Rattle.mz_logic_theory.specs.declared.binder.SortMods.{SortMods}
+use Rattle.mz_logic_theory.specs.declared.word.Word.{Word}
+use Rattle.mz_logic_theory.proofs.Offered.{words_say_results}
+use Rattle.mz_layout_tables.specs.Tables.{TermRow, mods_of, term_row, thm_row}
 use Rattle.mz_machine_theory.specs.MachineState.{RowsBefore, Heading}
 use Rattle.mz_machine_theory.specs.Bodies.{Runs, body_checks}
 use Rattle.mz_machine_theory.specs.Sound.{AreRowParams, IsRowResult}
 use Rattle.mz_machine_theory.specs.Lists.{Body, Entry, a_sort, a_term, an_assertion, definition_of, assertion_of, BodyIsGood, IsGoodEntry}
-use Rattle.mz_layout_words.specs.RowWords.{AreParamWords, IsResultWord, param_checks, word_checks}
-use Rattle.mz_layout.specs.Heads.{body_bytes}
+use Rattle.mz_layout_tables.specs.RowWords.{AreParamWords, IsResultWord, param_checks, word_checks}
+use Rattle.mz_layout_tables.specs.Heads.{body_bytes}
 use Rattle.mz_machine_theory.specs.FileRows.{Taken, stream_of, term_of_file, thm_of_file, rows_taken}
 use Rattle.mz_binary_theory.specs.Checking.{term_body_checks, term_checks, thm_checks, kind_checks}
 use Rattle.mz_machine_theory.proofs.Offered.{bodies-checked}
-use Rattle.mz_layout_words.proofs.Offered.{params-right, result-right, right-words, term-params-right}
+use Rattle.mz_layout_tables.proofs.Offered.{params-right, result-right, right-words, term-params-right}
 use Rattle.mz_binary_theory.specs.declared.standard.Standard.{Standard}
 use Rattle.mz_binary_theory.specs.Standards.{lets_gaps, profile_of}
 use Rattle.mz_binary_theory.proofs.ByTable.{runs-by-table}

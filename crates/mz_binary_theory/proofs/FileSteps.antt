@@ -12,8 +12,8 @@ use Rattle.mz_cmd.specs.declared.statement.StmtAt.TheVariants.{End, Head}
 use Rattle.mz_cmd.specs.declared.statement.StmtFault.{StmtFault}
 use Rattle.mz_cmd.specs.Codes.{statement_code}
 use Rattle.mz_cmd.specs.StatementList.{statement_at}
-use Rattle.mz_layout.specs.Tables.{TermRow, list_at, term_row, thm_row}
-use Rattle.mz_layout.specs.Heads.{body_bytes}
+use Rattle.mz_layout_tables.specs.Tables.{TermRow, list_at, term_row, thm_row}
+use Rattle.mz_layout_tables.specs.Heads.{body_bytes}
 use Rattle.mz_unify_theory.specs.Steps.{◌>>=◌, ◌>>◌ as ◌then◌}
 use Rattle.mz_unify_theory.specs.Spells.{SpelledTerm, SpelledThm}
 use Rattle.mz_machine_theory.specs.MachineState.{Heading}

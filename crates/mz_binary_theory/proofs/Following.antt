@@ -8,18 +8,18 @@ use Rattle.mz_cmd.specs.declared.code.StatementCode.TheVariants as codes
 use Rattle.mz_cmd.specs.declared.statement.StmtAt.TheVariants.{Head}
 use Rattle.mz_cmd.specs.Codes.{statement_byte, statement_code}
 use Rattle.mz_cmd.specs.StatementList.{statement_at}
-use Rattle.mz_logic.specs.Declaration.{Declaration, sort_decl, term_decl, assertion_decl, Term, Assertion, sorts, terms, signatures, assertions}
-use Rattle.mz_logic.specs.Legality.{IsLegalEnv}
-use Rattle.mz_logic.specs.LegalLists.{Statement, IsProvedBy, IsLegalStatement, allowed_with}
-use Rattle.mz_logic.specs.declared.binder.SortMods.{SortMods}
-use Rattle.mz_logic.proofs.Offered.{sorts-append, terms-append, assertions-append}
-use Rattle.mz_layout.specs.Tables.{mods_of}
-use Rattle.mz_layout.proofs.Offered.{code-is, slice_get-sorts}
+use Rattle.mz_logic_theory.specs.Declaration.{Declaration, sort_decl, term_decl, assertion_decl, Term, Assertion, sorts, terms, signatures, assertions}
+use Rattle.mz_logic_theory.specs.Legality.{IsLegalEnv}
+use Rattle.mz_logic_theory.specs.LegalLists.{Statement, IsProvedBy, IsLegalStatement, allowed_with}
+use Rattle.mz_logic_theory.specs.declared.binder.SortMods.{SortMods}
+use Rattle.mz_logic_theory.proofs.Offered.{sorts-append, terms-append, assertions-append}
+use Rattle.mz_layout_tables.specs.Tables.{mods_of}
+use Rattle.mz_layout_tables.proofs.Offered.{code-is, slice_get-sorts}
 use Rattle.mz_machine_theory.specs.MachineState.{RowsBefore, Declares}
 use Rattle.mz_machine_theory.specs.Sound.{cites_as}
 use Rattle.mz_machine_theory.specs.Lists.{Entry, with_entry, SpellsEntry, an_assertion, ProvedByBody}
 use Rattle.mz_machine_theory.proofs.Offered.{follows}
-use Rattle.mz_layout.specs.Heads.{body_bytes}
+use Rattle.mz_layout_tables.specs.Heads.{body_bytes}
 use Rattle.mz_machine_theory.specs.FileRows.{Taken, taken_by, term_of_file, thm_of_file, rows_taken}
 use Rattle.mz_binary_theory.specs.Spelling.{IsKindOf, is_local_code, SpellsRow, IsSpelled}
 use Rattle.mz_binary_theory.specs.Checking.{kind_checks}

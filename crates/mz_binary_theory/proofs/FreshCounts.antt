@@ -2,14 +2,14 @@
 use Rattle.std.proofs.Common.{◌≡◌, ◌≤◌, ◌⊎◌, ◌∙◌, ℕ, suc, Bool, true, false, cond, List, [], ◌∷◌, ◌++◌, length, refl, sym, ap, subst, inl, inr, arith}
 use Rattle.std.specs.Prelude.{if◌then◌else◌, Contains}
 use Rattle.std.specs.List.{filter}
-use Rattle.mz_logic.specs.Tree.{Tree}
-use Rattle.mz_logic.specs.Conversions.{AreFresh}
-use Rattle.mz_logic.specs.Words.{binders_from, word_bound}
-use Rattle.mz_logic.specs.declared.binder.Binder.{Binder}
-use Rattle.mz_logic.specs.declared.word.Word.{Word}
+use Rattle.mz_logic_theory.specs.Tree.{Tree}
+use Rattle.mz_logic_theory.specs.Conversions.{AreFresh}
+use Rattle.mz_logic_theory.specs.Words.{binders_from, word_bound}
+use Rattle.mz_logic_theory.specs.declared.binder.Binder.{Binder}
+use Rattle.mz_logic_theory.specs.declared.word.Word.{Word}
 use Rattle.mz_unify_theory.specs.Spells.{trees_of}
 use Rattle.mz_machine_theory.specs.Premises.{bound_count}
-use Rattle.mz_layout_words.specs.RowWords.{bound_count as bound_words}
+use Rattle.mz_layout_tables.specs.RowWords.{bound_count as bound_words}
 
 abbrev pub Among : ℕ → List ℕ → Type 0
 Among y [] = ⊥

@@ -1,12 +1,12 @@
 -- A theorem of a good file that isn't gapped has a derivation without gaps that cites no gapped theorem.
 use Rattle.std.proofs.Common.{◌≡◌, ◌∙◌, ◌<◌, ℕ, false, List, [], ◌∷◌, ◌++◌, length, slice_get, Some, refl, ap, subst, arith}
 use Rattle.mz_cmd.specs.StatementList.{statement_at}
-use Rattle.mz_logic.specs.Declaration.{Declaration, Assertion, assertion_decl, assertions}
-use Rattle.mz_logic.specs.Derivations.{without_gaps}
-use Rattle.mz_logic.specs.LegalLists.{Statement, declarations, IsProvedBy}
-use Rattle.mz_logic.proofs.Offered.{cites_more}
-use Rattle.mz_layout.specs.Tables.{list_at}
-use Rattle.mz_layout.specs.Heads.{body_bytes}
+use Rattle.mz_logic_theory.specs.Declaration.{Declaration, Assertion, assertion_decl, assertions}
+use Rattle.mz_logic_theory.specs.Derivations.{without_gaps}
+use Rattle.mz_logic_theory.specs.LegalLists.{Statement, declarations, IsProvedBy}
+use Rattle.mz_logic_theory.proofs.Offered.{cites_more}
+use Rattle.mz_layout_tables.specs.Tables.{list_at}
+use Rattle.mz_layout_tables.specs.Heads.{body_bytes}
 use Rattle.mz_machine_theory.specs.Gapped.{free_of}
 use Rattle.mz_machine_theory.specs.Sound.{used_by, cites_as}
 use Rattle.mz_binary_theory.specs.Chains.{IsGoodStatement, GoodTo}

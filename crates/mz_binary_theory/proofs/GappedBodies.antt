@@ -4,9 +4,9 @@ use Rattle.std.specs.Prelude.{◌↔◌}
 use Rattle.std.proofs.lemmas.Option.{none-some, slice_get_within}
 use Rattle.mz_base_theory.proofs.Offered.{slice_get-within}
 use Rattle.mz_cmd.specs.StatementList.{statement_at}
-use Rattle.mz_logic.specs.Declaration.{Declaration, sort_decl, term_decl, assertion_decl, assertions}
-use Rattle.mz_logic.specs.LegalLists.{Statement}
-use Rattle.mz_logic.proofs.Offered.{one_at, assertions-append}
+use Rattle.mz_logic_theory.specs.Declaration.{Declaration, sort_decl, term_decl, assertion_decl, assertions}
+use Rattle.mz_logic_theory.specs.LegalLists.{Statement}
+use Rattle.mz_logic_theory.proofs.Offered.{one_at, assertions-append}
 use Rattle.mz_machine_theory.specs.Sound.{HasGap}
 use Rattle.mz_binary_theory.specs.Chains.{GoodTo}
 use Rattle.mz_binary_theory.specs.Gapped.{AssertionBody, place_after, body_of, bodies_from, IsTheoremBody, IsGapped, leaves_gap, rests_on, IsMarked, AreMarks, CitesMarked}

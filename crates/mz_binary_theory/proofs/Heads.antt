@@ -5,7 +5,7 @@ use Rattle.mz_cmd.specs.declared.code.StatementCode.TheVariants as codes
 use Rattle.mz_cmd.specs.declared.statement.StmtAt.TheVariants.{Head}
 use Rattle.mz_cmd.specs.Codes.{statement_byte, statement_code}
 use Rattle.mz_cmd.specs.StatementList.{statement_at}
-use Rattle.mz_layout.proofs.Offered.{head-ahead}
+use Rattle.mz_layout_tables.proofs.Offered.{head-ahead}
 
 pub code-of : (k : StatementCode) → statement_code (statement_byte k) ≡ Some k
 code-of codes.Axiom = refl

@@ -7,14 +7,14 @@ use Rattle.mz_cmd.specs.declared.statement.StmtAt.TheVariants.{Head}
 use Rattle.mz_cmd.specs.declared.statement.StmtFault.{StmtFault}
 use Rattle.mz_cmd.specs.Codes.{statement_code}
 use Rattle.mz_cmd.specs.StatementList.{statement_at}
-use Rattle.mz_logic.specs.Declaration.{Declaration}
-use Rattle.mz_logic.specs.Legality.{IsLegalEnv}
-use Rattle.mz_logic.specs.LegalLists.{Statement, IsProvedBy, IsLegalStatement, LegalAfter, LegalBy, allowed_with}
-use Rattle.mz_logic.proofs.Offered.{legal_push}
-use Rattle.mz_layout.specs.Tables.{list_at}
+use Rattle.mz_logic_theory.specs.Declaration.{Declaration}
+use Rattle.mz_logic_theory.specs.Legality.{IsLegalEnv}
+use Rattle.mz_logic_theory.specs.LegalLists.{Statement, IsProvedBy, IsLegalStatement, LegalAfter, LegalBy, allowed_with}
+use Rattle.mz_logic_theory.proofs.Offered.{legal_push}
+use Rattle.mz_layout_tables.specs.Tables.{list_at}
 use Rattle.mz_machine_theory.specs.MachineState.{Declares}
 use Rattle.mz_machine_theory.specs.Sound.{cites_as}
-use Rattle.mz_layout.specs.Heads.{body_bytes}
+use Rattle.mz_layout_tables.specs.Heads.{body_bytes}
 use Rattle.mz_machine_theory.specs.FileRows.{taken_by, rows_taken}
 use Rattle.mz_binary_theory.specs.Checking.{kind_checks, checks_of}
 use Rattle.mz_binary_theory.specs.Chains.{IsGoodStatement, GoodTo}

@@ -19,15 +19,15 @@ use Rattle.mz_cmd.specs.declared.statement.StmtAt.TheVariants.{End, Head}
 use Rattle.mz_cmd.specs.declared.statement.StmtFault.{StmtFault}
 use Rattle.mz_cmd.specs.Codes.{statement_code}
 use Rattle.mz_cmd.specs.StatementList.{statement_at}
-use Rattle.mz_layout.specs.Heads.{AllTaken, IsEmptyBody, body_bytes, empty_checks, next_row, row_count, suits_checks}
-use Rattle.mz_layout.specs.Heads as heads
-use Rattle.mz_layout.specs.Numbers.{byte_at}
-use Rattle.mz_layout.specs.declared.taken.Rows.{Rows}
-use Rattle.mz_layout.specs.Tables.{term_row, thm_row, sort_count, term_count, thm_count, terms_at, thms_at, list_at, term_record, thm_record, words_at, param_count, TermRow}
-use Rattle.mz_layout.specs.Layout.{HoldsRecords, HoldsWords, header_checks, table_checks, row_checks, term_check, thm_check, layout_checks}
-use Rattle.mz_logic.specs.Words.{word_bound, word_sort, word_deps}
-use Rattle.mz_logic.specs.declared.binder.SortMods.{SortMods}
-use Rattle.mz_logic.specs.declared.word.Word.{Word}
+use Rattle.mz_layout_tables.specs.Heads.{AllTaken, IsEmptyBody, body_bytes, empty_checks, next_row, row_count, suits_checks}
+use Rattle.mz_layout_tables.specs.Heads as heads
+use Rattle.mz_layout_tables.specs.Numbers.{byte_at}
+use Rattle.mz_layout_tables.specs.declared.taken.Rows.{Rows}
+use Rattle.mz_layout_tables.specs.Tables.{term_row, thm_row, sort_count, term_count, thm_count, terms_at, thms_at, list_at, term_record, thm_record, words_at, param_count, TermRow}
+use Rattle.mz_layout_tables.specs.Layout.{HoldsRecords, HoldsWords, header_checks, table_checks, row_checks, term_check, thm_check, layout_checks}
+use Rattle.mz_logic_theory.specs.Words.{word_bound, word_sort, word_deps}
+use Rattle.mz_logic_theory.specs.declared.binder.SortMods.{SortMods}
+use Rattle.mz_logic_theory.specs.declared.word.Word.{Word}
 use Rattle.mz_unify_theory.specs.Tests.{has_bit}
 use Rattle.mz_unify_theory.proofs.Offered.{bit-set, bit-not-set}
 use Rattle.mz_machine_theory.specs.Bodies.{body_run, body_checks}
@@ -35,7 +35,7 @@ use Rattle.mz_machine_theory.specs.Bodies as bodies
 use Rattle.mz_machine_theory.specs.Lists.{definition_of, assertion_of}
 use Rattle.mz_machine_theory.specs.FileRows.{Taken, term_of_file, thm_of_file, rows_taken}
 use Rattle.mz_binary_theory.specs.Checking.{counts, term_body_checks, term_checks, thm_checks, part_checks, kind_checks, checks_of, place_checks}
-use Rattle.mz_layout_words.specs.RowWords.{bound_count, IsParamWord, IsParamAt, IsResultWord, param_check, param_checks, word_checks}
+use Rattle.mz_layout_tables.specs.RowWords.{bound_count, IsParamWord, IsParamAt, IsResultWord, param_check, param_checks, word_checks}
 use Rattle.mz_binary_theory.specs.FileRun.{Passing, with_sort, with_term, test, test_each, holds_records, test_header, test_tables, test_rows, test_layout, may_be, is_param_word, is_param_at, test_params, is_result_word, test_words, Found, list_ends, stands_alone, has_body, is_empty_body, find_empty, find_term_body, find_term_parts, find_thm_parts, find_parts, suits_row, test_row, find_kind, all_taken, find_of, find_at, Onward, onward, if_runs, run_found, run_place}
 use Rattle.mz_binary_theory.specs.declared.standard.Standard.{Standard}
 use Rattle.mz_binary_theory.specs.Standards.{profile_of}

@@ -10,20 +10,19 @@ use Rattle.mz_cmd.specs.declared.rule.K.{K}
 use Rattle.mz_cmd.specs.declared.statement.StmtAt.{StmtAt}
 use Rattle.mz_cmd.specs.declared.statement.StmtFault.{StmtFault}
 use Rattle.mz_cmd.specs.Codes.{statement_byte, statement_code}
-use Rattle.mz_logic.specs.Declaration.{Declaration, sort_decl, term_decl, assertion_decl, Form, plain_form, abstract_form, defined, sorts, terms, assertions, signatures, is_defined}
-use Rattle.mz_logic.specs.LegalLists.{Statement}
-use Rattle.mz_logic.specs.Signature.{Signature}
-use Rattle.mz_logic.specs.declared.binder.Binder.{Binder}
-use Rattle.mz_logic.specs.declared.binder.SortMods.{SortMods}
-use Rattle.mz_layout.specs.Tables.{TermRow, tables_of, sort_count, term_row, thm_row}
-use Rattle.mz_layout.proofs.Offered.{code-is, length-sorts, slice_get-sorts}
+use Rattle.mz_logic_theory.specs.Declaration.{Declaration, sort_decl, term_decl, assertion_decl, Form, plain_form, abstract_form, defined, sorts, terms, assertions, signatures, is_defined}
+use Rattle.mz_logic_theory.specs.LegalLists.{Statement}
+use Rattle.mz_logic_theory.specs.Signature.{Signature}
+use Rattle.mz_logic_theory.specs.declared.binder.Binder.{Binder}
+use Rattle.mz_logic_theory.specs.declared.binder.SortMods.{SortMods}
+use Rattle.mz_layout_tables.specs.Tables.{TermRow, tables_of, sort_count, term_row, thm_row}
+use Rattle.mz_layout_tables.proofs.Offered.{code-is, length-sorts, slice_get-sorts, params-right, result-right, term-params-right}
 use Rattle.mz_unify_theory.specs.Spells.{SpellsForm}
 use Rattle.mz_machine_theory.specs.Bodies.{body_checks}
 use Rattle.mz_machine_theory.specs.Lists.{assertion_of}
-use Rattle.mz_layout.specs.Heads.{body_bytes}
+use Rattle.mz_layout_tables.specs.Heads.{body_bytes}
 use Rattle.mz_machine_theory.specs.FileRows.{taken_by, rows_taken, term_of_file, thm_of_file}
-use Rattle.mz_layout_words.specs.RowWords.{param_checks, word_checks}
-use Rattle.mz_layout_words.proofs.Offered.{params-right, result-right, term-params-right}
+use Rattle.mz_layout_tables.specs.RowWords.{param_checks, word_checks}
 use Rattle.mz_binary_theory.specs.Spelling.{IsKindOf, SpellsRow}
 use Rattle.mz_binary_theory.specs.Checking.{term_body_checks, term_checks, thm_checks, kind_checks, checks_of}
 use Rattle.mz_binary_theory.specs.Chains.{IsGoodStatement}

@@ -2,12 +2,12 @@
 use Rattle.std.proofs.Common.{◌≡◌, ◌∙◌, ℕ, suc, List, [], ◌∷◌, ◌++◌, length, take, slice_get, Some, refl, sym, ap, subst}
 use Rattle.std.proofs.lemmas.Option.{slice_get_within, get_or_from_slice_get}
 use Rattle.std.proofs.Math.Seq.{take-suc}
-use Rattle.mz_logic.specs.Declaration.{Declaration, sort_decl, term_decl, assertion_decl, sorts}
-use Rattle.mz_logic.specs.LegalLists.{Statement}
-use Rattle.mz_logic.specs.declared.binder.SortMods.{SortMods}
-use Rattle.mz_logic.proofs.Offered.{sorts-append, same-sorts}
-use Rattle.mz_layout.specs.Tables.{tables_of}
-use Rattle.mz_layout_words.specs.RowWords.{first_sorts}
+use Rattle.mz_logic_theory.specs.Declaration.{Declaration, sort_decl, term_decl, assertion_decl, sorts}
+use Rattle.mz_logic_theory.specs.LegalLists.{Statement}
+use Rattle.mz_logic_theory.specs.declared.binder.SortMods.{SortMods}
+use Rattle.mz_logic_theory.proofs.Offered.{sorts-append, same-sorts}
+use Rattle.mz_layout_tables.specs.Tables.{tables_of}
+use Rattle.mz_layout_tables.specs.RowWords.{first_sorts}
 use Rattle.mz_binary_theory.specs.Spelling.{SpellsRow}
 use Rattle.mz_binary_theory.specs.Chains.{GoodTo}
 use Rattle.mz_binary_theory.specs.declared.standard.Standard.{Standard}

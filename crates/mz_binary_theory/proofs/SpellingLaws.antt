@@ -2,8 +2,8 @@
 use Rattle.std.proofs.Common.{◌≡◌, ◌⊎◌, ◌∙◌, ℕ, Bool, true, false, List, length, Ok, refl, sym, ap, subst, inl, inr, arith}
 use Rattle.std.specs.Prelude.{MatchBool}
 use Rattle.mz_cmd.specs.declared.statement.StmtAt.TheVariants.{Head}
-use Rattle.mz_logic.specs.Declaration.{Declaration, sort_decl, term_decl, assertion_decl, terms, signatures, assertions}
-use Rattle.mz_logic.specs.LegalLists.{Statement}
+use Rattle.mz_logic_theory.specs.Declaration.{Declaration, sort_decl, term_decl, assertion_decl, terms, signatures, assertions}
+use Rattle.mz_logic_theory.specs.LegalLists.{Statement}
 use Rattle.mz_unify_theory.proofs.Offered.{one-assertion, one-term}
 use Rattle.mz_machine_theory.specs.FileRows.{term_of_file, thm_of_file}
 use Rattle.mz_machine_theory.proofs.Offered.{same-statement}

@@ -11,13 +11,13 @@ use Rattle.mz_cmd.specs.declared.statement.StmtAt.TheVariants.{End, Head}
 use Rattle.mz_cmd.specs.declared.statement.StmtFault.{StmtFault}
 use Rattle.mz_cmd.specs.Codes.{statement_code}
 use Rattle.mz_cmd.specs.StatementList.{statement_at}
-use Rattle.mz_logic.specs.Declaration.{Declaration}
-use Rattle.mz_logic.specs.Legality.{IsLegalEnv}
-use Rattle.mz_logic.specs.LegalLists.{Statement}
-use Rattle.mz_logic.proofs.Offered.{legal_push}
-use Rattle.mz_layout.specs.Tables.{list_at}
-use Rattle.mz_layout.specs.Layout.{Layout, layout_checks}
-use Rattle.mz_layout.proofs.Offered.{parts-of_layout}
+use Rattle.mz_logic_theory.specs.Declaration.{Declaration}
+use Rattle.mz_logic_theory.specs.Legality.{IsLegalEnv}
+use Rattle.mz_logic_theory.specs.LegalLists.{Statement}
+use Rattle.mz_logic_theory.proofs.Offered.{legal_push}
+use Rattle.mz_layout_tables.specs.Tables.{list_at}
+use Rattle.mz_layout_tables.specs.Layout.{Layout, layout_checks}
+use Rattle.mz_layout_tables.proofs.Offered.{parts-of_layout}
 use Rattle.mz_machine_theory.specs.MachineState.{Declares}
 use Rattle.mz_machine_theory.specs.FileRows.{Taken, nothing_taken, taken_by, rows_taken}
 use Rattle.mz_binary_theory.specs.Spelling.{IsSpelled}

@@ -10,14 +10,14 @@ use Rattle.mz_cmd.specs.declared.statement.StmtFault.{StmtFault}
 use Rattle.mz_cmd.specs.declared.rule.K.{K}
 use Rattle.mz_cmd.specs.Codes.{statement_code}
 use Rattle.mz_cmd.specs.StatementList.{statement_at}
-use Rattle.mz_logic.specs.Declaration.{Declaration}
-use Rattle.mz_layout.specs.Heads.{body_bytes, empty_checks, head_checks}
-use Rattle.mz_layout.specs.Heads as heads
-use Rattle.mz_layout.specs.Tables.{term_row, thm_row}
-use Rattle.mz_layout.specs.declared.taken.Rows.{Rows}
+use Rattle.mz_logic_theory.specs.Declaration.{Declaration}
+use Rattle.mz_layout_tables.specs.Heads.{body_bytes, empty_checks, head_checks}
+use Rattle.mz_layout_tables.specs.Heads as heads
+use Rattle.mz_layout_tables.specs.Tables.{term_row, thm_row}
+use Rattle.mz_layout_tables.specs.declared.taken.Rows.{Rows}
 use Rattle.mz_machine_theory.specs.Bodies.{body_checks}
 use Rattle.mz_machine_theory.specs.Lists.{definition_of, assertion_of}
-use Rattle.mz_layout_words.specs.RowWords.{param_checks, word_checks}
+use Rattle.mz_layout_tables.specs.RowWords.{param_checks, word_checks}
 use Rattle.mz_machine_theory.specs.FileRows.{Taken, taken_by, term_of_file, thm_of_file, rows_taken}
 use Rattle.mz_binary_theory.specs.declared.standard.Standard.{Standard}
 use Rattle.mz_binary_theory.specs.Standards.{profile_of}

@@ -12,19 +12,19 @@ use Rattle.mz_cmd.specs.declared.statement.StmtAt.TheVariants.{End, Head}
 use Rattle.mz_cmd.specs.declared.statement.StmtFault.{StmtFault}
 use Rattle.mz_cmd.specs.Codes.{statement_code}
 use Rattle.mz_cmd.specs.StatementList.{statement_at}
-use Rattle.mz_logic.specs.Words.{word_bound, word_sort, word_deps}
-use Rattle.mz_logic.specs.declared.binder.SortMods.{SortMods}
-use Rattle.mz_logic.specs.declared.word.Word.{Word}
-use Rattle.mz_layout.specs.Numbers.{byte_at}
-use Rattle.mz_layout.specs.Heads.{body_bytes, next_row, row_count, rule_of}
-use Rattle.mz_layout.specs.declared.taken.Rows.{Rows}
-use Rattle.mz_layout.specs.Tables.{TermRow, sort_count, term_count, thm_count, terms_at, thms_at, list_at, term_record, thm_record, param_count, words_at, mods_of, term_row, thm_row}
+use Rattle.mz_logic_theory.specs.Words.{word_bound, word_sort, word_deps}
+use Rattle.mz_logic_theory.specs.declared.binder.SortMods.{SortMods}
+use Rattle.mz_logic_theory.specs.declared.word.Word.{Word}
+use Rattle.mz_layout_tables.specs.Numbers.{byte_at}
+use Rattle.mz_layout_tables.specs.Heads.{body_bytes, next_row, row_count, rule_of}
+use Rattle.mz_layout_tables.specs.declared.taken.Rows.{Rows}
+use Rattle.mz_layout_tables.specs.Tables.{TermRow, sort_count, term_count, thm_count, terms_at, thms_at, list_at, term_record, thm_record, param_count, words_at, mods_of, term_row, thm_row}
 use Rattle.mz_unify_theory.specs.Steps.{◌>>=◌, ◌>>◌}
 use Rattle.mz_unify_theory.specs.Tests.{has_bit}
 use Rattle.mz_machine_theory.specs.MachineState.{Heading}
 use Rattle.mz_machine_theory.specs.Bodies.{body_run, body_steps}
 use Rattle.mz_machine_theory.specs.Lists.{definition_of, assertion_of}
-use Rattle.mz_layout_words.specs.RowWords.{bound_count}
+use Rattle.mz_layout_tables.specs.RowWords.{bound_count}
 use Rattle.mz_machine_theory.specs.FileRows.{Taken, nothing_taken, term_of_file, thm_of_file, rows_taken}
 use Rattle.mz_binary_theory.specs.Checking.{counts}
 use Rattle.mz_binary_theory.specs.declared.standard.Standard.{Standard}

@@ -9,11 +9,11 @@ use Rattle.mz_cmd.specs.declared.statement.StmtAt.TheVariants.{End, Head}
 use Rattle.mz_cmd.specs.declared.statement.StmtFault.{StmtFault}
 use Rattle.mz_cmd.specs.Codes.{proof_code}
 use Rattle.mz_cmd.specs.StatementList.{statement_at}
-use Rattle.mz_logic.specs.Declaration.{Declaration, Assertion, sort_decl, term_decl, assertion_decl, assertions}
-use Rattle.mz_logic.specs.LegalLists.{Statement, declarations, IsProvedBy}
-use Rattle.mz_layout.specs.Tables.{list_at}
+use Rattle.mz_logic_theory.specs.Declaration.{Declaration, Assertion, sort_decl, term_decl, assertion_decl, assertions}
+use Rattle.mz_logic_theory.specs.LegalLists.{Statement, declarations, IsProvedBy}
+use Rattle.mz_layout_tables.specs.Tables.{list_at}
 use Rattle.mz_machine_theory.specs.Sound.{HasGap, CitesWithin}
-use Rattle.mz_layout.specs.Heads.{body_bytes}
+use Rattle.mz_layout_tables.specs.Heads.{body_bytes}
 use Rattle.mz_machine_theory.specs.Gapped.{free_of}
 
 -- ---- the bodies of the axioms and theorems of a binary, numbered together in their order

@@ -3,10 +3,10 @@
 use Rattle.std.specs.Prelude.{◌≡◌, ◌⊎◌, ℕ, ◌+◌, List, [], length}
 use Rattle.mz_base_theory.specs.Checks.{FailsFirst}
 use Rattle.mz_cmd.specs.declared.rule.Refusal.{Refusal}
-use Rattle.mz_logic.specs.Declaration.{Declaration}
-use Rattle.mz_logic.specs.LegalLists.{Statement}
-use Rattle.mz_layout.specs.Tables.{list_at}
-use Rattle.mz_layout.specs.Layout.{Layout, layout_checks}
+use Rattle.mz_logic_theory.specs.Declaration.{Declaration}
+use Rattle.mz_logic_theory.specs.LegalLists.{Statement}
+use Rattle.mz_layout_tables.specs.Tables.{list_at}
+use Rattle.mz_layout_tables.specs.Layout.{Layout, layout_checks}
 use Rattle.mz_binary_theory.specs.Checking.{list_checks}
 use Rattle.mz_binary_theory.specs.Chains.{GoodTo, EndsAt}
 use Rattle.mz_binary_theory.specs.declared.standard.Standard.{Standard}

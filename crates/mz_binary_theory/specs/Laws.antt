@@ -1,11 +1,11 @@
 -- What follows of rows whose words are right: the statements of laws that `laws.rt` proves.
 use Rattle.std.specs.Prelude.{◌≡◌, ◌<◌, ℕ, List, length}
-use Rattle.mz_logic.specs.Declaration.{Declaration, sort_decl, term_decl, assertion_decl, Term, Assertion, sorts, terms, assertions, is_defined}
-use Rattle.mz_logic.specs.LegalLists.{Statement}
-use Rattle.mz_logic.specs.Words.{binders_of, signature_of}
-use Rattle.mz_logic.specs.declared.binder.SortMods.{SortMods}
-use Rattle.mz_layout.specs.Tables.{TermRow, ThmRow, sort_count, term_count, thm_count, mods_of, term_row, thm_row}
-use Rattle.mz_layout_words.specs.RowWords.{IsResultWord, AreParamWords}
+use Rattle.mz_logic_theory.specs.Declaration.{Declaration, sort_decl, term_decl, assertion_decl, Term, Assertion, sorts, terms, assertions, is_defined}
+use Rattle.mz_logic_theory.specs.LegalLists.{Statement}
+use Rattle.mz_logic_theory.specs.Words.{binders_of, signature_of}
+use Rattle.mz_logic_theory.specs.declared.binder.SortMods.{SortMods}
+use Rattle.mz_layout_tables.specs.Tables.{TermRow, ThmRow, sort_count, term_count, thm_count, mods_of, term_row, thm_row}
+use Rattle.mz_layout_tables.specs.RowWords.{IsResultWord, AreParamWords}
 use Rattle.mz_binary_theory.specs.Chains.{IsGoodStatement}
 use Rattle.mz_binary_theory.specs.declared.standard.Standard.{Standard}
 

@@ -3,12 +3,12 @@ use Rattle.std.specs.Prelude.{◌≡◌, ◌⊎◌, ◌↔◌, ◌≤◌, ◌<�
 use Rattle.mz_cmd.specs.declared.rule.Refusal.{Refusal}
 use Rattle.mz_cmd.specs.declared.statement.StmtAt.TheVariants.{Head}
 use Rattle.mz_cmd.specs.StatementList.{statement_at}
-use Rattle.mz_logic.specs.Declaration.{Assertion, Declaration, assertion_decl}
-use Rattle.mz_logic.specs.LegalLists.{Statement, IsProvedBy, LegalBy, allowed_with}
-use Rattle.mz_logic.specs.Closed.{TheoremsClosed}
-use Rattle.mz_layout.specs.Tables.{list_at}
+use Rattle.mz_logic_theory.specs.Declaration.{Assertion, Declaration, assertion_decl}
+use Rattle.mz_logic_theory.specs.LegalLists.{Statement, IsProvedBy, LegalBy, allowed_with}
+use Rattle.mz_logic_theory.specs.Closed.{TheoremsClosed}
+use Rattle.mz_layout_tables.specs.Tables.{list_at}
 use Rattle.mz_machine_theory.specs.Sound.{cites_as}
-use Rattle.mz_layout.specs.Heads.{body_bytes}
+use Rattle.mz_layout_tables.specs.Heads.{body_bytes}
 use Rattle.mz_machine_theory.specs.FileRows.{Taken}
 use Rattle.mz_binary_theory.specs.Chains.{Statements, IsGoodStatement, GoodTo}
 use Rattle.mz_binary_theory.specs.Good.{Good, BinaryFault}

@@ -7,8 +7,8 @@ use Rattle.mz_cmd.specs.declared.statement.StmtAt.TheVariants as stands
 use Rattle.mz_cmd.specs.declared.statement.StmtFault.{StmtFault}
 use Rattle.mz_cmd.specs.Codes.{statement_byte, statement_code}
 use Rattle.mz_cmd.specs.StatementList.{statement_at}
-use Rattle.mz_layout.specs.Heads.{IsHeadAt, IsNextHead}
-use Rattle.mz_layout.specs.declared.head.Head.{Head}
+use Rattle.mz_layout_tables.specs.Heads.{IsHeadAt, IsNextHead}
+use Rattle.mz_layout_tables.specs.declared.head.Head.{Head}
 use Rattle.mz_binary_theory.specs.Spelling.{is_local_code}
 use Rattle.mz_binary_theory.proofs.Offered.{code-of}
 use Rattle.mz_binary_walk.specs.Walk.{GoesOn, IsPlaced, passed_with, past_public}

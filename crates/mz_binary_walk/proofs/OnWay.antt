@@ -8,12 +8,12 @@ use Rattle.mz_cmd.specs.declared.code.StatementCode.TheVariants as codes
 use Rattle.mz_cmd.specs.declared.statement.StmtAt.TheVariants.{End, Head as AHead}
 use Rattle.mz_cmd.specs.Codes.{statement_byte}
 use Rattle.mz_cmd.specs.StatementList.{statement_at}
-use Rattle.mz_logic.specs.Declaration.{Assertion, Declaration, Term, sort_decl, term_decl, assertion_decl, sorts, terms, assertions}
-use Rattle.mz_logic.specs.LegalLists.{Statement}
-use Rattle.mz_layout.specs.Heads.{IsHeadAt, head_checks, rows_after}
-use Rattle.mz_layout.specs.Tables.{list_at}
-use Rattle.mz_layout.specs.declared.head.Head.{Head}
-use Rattle.mz_layout.specs.declared.taken.Rows.{Rows}
+use Rattle.mz_logic_theory.specs.Declaration.{Assertion, Declaration, Term, sort_decl, term_decl, assertion_decl, sorts, terms, assertions}
+use Rattle.mz_logic_theory.specs.LegalLists.{Statement}
+use Rattle.mz_layout_tables.specs.Heads.{IsHeadAt, head_checks, rows_after}
+use Rattle.mz_layout_tables.specs.Tables.{list_at}
+use Rattle.mz_layout_tables.specs.declared.head.Head.{Head}
+use Rattle.mz_layout_tables.specs.declared.taken.Rows.{Rows}
 use Rattle.mz_machine_theory.specs.FileRows.{taken_by}
 use Rattle.mz_binary_theory.specs.Chains.{GoodTo, IsGoodStatement, IsListEnd}
 use Rattle.mz_binary_theory.specs.Checking.{counts, list_checks, rest_checks}

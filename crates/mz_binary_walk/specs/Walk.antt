@@ -1,9 +1,9 @@
 -- How far the list of statements of a binary was gone over (the .mmb format, its list of statements).
 use Rattle.std.specs.Prelude.{◌≡◌, ◌≤◌, ◌<◌, ◌+◌, ◌^◌, ℕ, Bool, if◌then◌else◌, List, length}
 use Rattle.mz_cmd.specs.Codes.{statement_byte}
-use Rattle.mz_layout.specs.Heads.{IsNextHead, rows_after}
-use Rattle.mz_layout.specs.Tables.{list_at}
-use Rattle.mz_layout.specs.declared.head.Head.{Head}
+use Rattle.mz_layout_tables.specs.Heads.{IsNextHead, rows_after}
+use Rattle.mz_layout_tables.specs.Tables.{list_at}
+use Rattle.mz_layout_tables.specs.declared.head.Head.{Head}
 use Rattle.mz_binary_theory.specs.Spelling.{is_local_code}
 use Rattle.mz_binary_walk.specs.declared.passed.Passed.{Passed}
 

@@ -1,12 +1,12 @@
 // How far the list of statements was gone over.
 ghost use Rattle.std.specs.Prelude.{◌≡◌, ◌<◌, ◌+◌, ◌^◌, IfNone, IfSome};
 ghost use Rattle.mz_base_theory.specs.Checks.{AllHold};
-ghost use Rattle.mz_layout.specs.Heads.{head_checks, next_row};
+ghost use Rattle.mz_layout_tables.specs.Heads.{head_checks, next_row};
 ghost use Rattle.mz_binary_theory.specs.Chains.{IsListEnd};
 ghost use Rattle.mz_binary_walk.specs.Walk.{GoesOn, IsPlaced, nothing_passed, passed_with, past_public};
 
 use crate::local::is_local;
-use mz_layout::{Head, HeadOrEnd, Mmb, Rows, head_at};
+use mz_layout_tables::{Head, HeadOrEnd, Mmb, Rows, head_at};
 
 /// How far the list of statements was gone over.
 #[derive(Clone, Copy, Debug, PartialEq, Eq)]

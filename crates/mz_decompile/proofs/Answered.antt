@@ -1,13 +1,13 @@
 -- What the passes answer of a pair that is accepted.
 use Rattle.std.proofs.Common.{◌≡◌, ◌∙◌, ◌<◌, ◌^◌, ◌++◌, ℕ, Bool, List, [], ◌∷◌, length, sym, ap, subst}
-use Rattle.mz_logic.specs.Declaration.{Declaration}
-use Rattle.mz_logic.specs.LegalLists.{Statement as Marked}
-use Rattle.mz_layout.specs.Tables.{list_at}
-use Rattle.mz_mmu_statements.specs.Statements.{Statement}
+use Rattle.mz_logic_theory.specs.Declaration.{Declaration}
+use Rattle.mz_logic_theory.specs.LegalLists.{Statement as Marked}
+use Rattle.mz_layout_tables.specs.Tables.{list_at}
+use Rattle.mz_mmu_theory.specs.Statements.{Statement}
 use Rattle.mz_match_theory.specs.Verdict.{Accepts}
 use Rattle.mz_trace_theory.specs.Laws.{BodiesMakeOne}
 use Rattle.mz_decompile_text_theory.specs.Naming.{Naming, vocabulary_by}
-use Rattle.mz_decompile_names.specs.Names.{declared_names, statement_names, naming_of}
+use Rattle.mz_decompile_text_theory.specs.Names.{declared_names, statement_names, naming_of}
 use Rattle.mz_decompile_names.specs.Accepted.{AreNamed, IsNamingOf, naming_under}
 use Rattle.mz_decompile_names.proofs.Offered.{named-alike}
 use Rattle.mz_decompile_theory.specs.Restated.{AreRestated, Restates}
@@ -17,7 +17,7 @@ use Rattle.mz_decompile.specs.Passes.{IsAnswer, IsOfAccepted}
 use Rattle.mz_decompile.specs.Standing.{AreAll, SomeAreAll}
 use Rattle.mz_decompile.specs.declared.decompiled.Decompiled.{Decompiled}
 use Rattle.mz_decompile.specs.declared.decompiled.Decompiled.TheVariants as answers
-use Rattle.mz_type.specs.Laws.{IsTypedOrFaulty}
+use Rattle.mz_mmu_theory.specs.TypeLaws.{IsTypedOrFaulty}
 use Rattle.mz_binary_theory.proofs.Offered.{one-list, good-spelled}
 use Rattle.mz_decompile.proofs.Bridging.{good-standing}
 use Rattle.mz_decompile.proofs.Texts.{text-for}

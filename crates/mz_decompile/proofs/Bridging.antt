@@ -11,26 +11,27 @@ use Rattle.mz_cmd.specs.declared.statement.StmtAt.TheVariants as stands
 use Rattle.mz_cmd.specs.declared.statement.StmtFault.{StmtFault}
 use Rattle.mz_cmd.specs.Codes.{statement_byte}
 use Rattle.mz_cmd.specs.StatementList.{statement_at}
-use Rattle.mz_logic.specs.Signature.{Signature}
-use Rattle.mz_logic.specs.Declaration.{Term, Assertion, Declaration, sort_decl, term_decl, assertion_decl, sorts, terms, signatures, assertions}
-use Rattle.mz_logic.specs.Legality.{IsLegalEnv}
-use Rattle.mz_logic.specs.LegalLists.{Statement as Marked}
-use Rattle.mz_logic.specs.declared.binder.Binder.{Binder}
-use Rattle.mz_logic.specs.declared.binder.SortMods.{SortMods}
-use Rattle.mz_logic.proofs.Offered.{length-binders, length-signatures}
-use Rattle.mz_layout.specs.Tables.{list_at, term_count, thm_count, term_row, thm_row, tables_of}
-use Rattle.mz_layout.proofs.Offered.{slice_get-rows, length-sorts}
+use Rattle.mz_logic_theory.specs.Signature.{Signature}
+use Rattle.mz_logic_theory.specs.Declaration.{Term, Assertion, Declaration, sort_decl, term_decl, assertion_decl, sorts, terms, signatures, assertions}
+use Rattle.mz_logic_theory.specs.Legality.{IsLegalEnv}
+use Rattle.mz_logic_theory.specs.LegalLists.{Statement as Marked}
+use Rattle.mz_logic_theory.specs.declared.binder.Binder.{Binder}
+use Rattle.mz_logic_theory.specs.declared.binder.SortMods.{SortMods}
+use Rattle.mz_logic_theory.proofs.Offered.{length-binders, length-signatures, slice_get-rows}
+use Rattle.mz_layout_tables.specs.Tables.{list_at, term_count, thm_count, term_row, thm_row, tables_of}
+use Rattle.mz_layout_tables.proofs.Offered.{length-sorts}
 use Rattle.mz_unify_theory.specs.Profile.{strict}
 use Rattle.mz_machine_theory.specs.Bodies.{Runs}
-use Rattle.mz_layout.specs.Heads.{IsHeadAt, body_bytes, rows_after}
-use Rattle.mz_layout.specs.declared.head.Head.{Head}
+use Rattle.mz_layout_tables.specs.Heads.{IsHeadAt, body_bytes, rows_after}
+use Rattle.mz_layout_tables.specs.declared.head.Head.{Head}
 use Rattle.mz_machine_theory.specs.FileRows.{Taken, taken_by, rows_taken, term_of_file}
-use Rattle.mz_layout_words.specs.RowWords.{first_sorts, param_checks}
+use Rattle.mz_layout_tables.specs.RowWords.{first_sorts, param_checks}
 use Rattle.mz_machine_theory.specs.MachineState.{Declares}
 use Rattle.mz_machine_theory.proofs.Offered.{signature-at}
 use Rattle.mz_machine_env.specs.Before.{AreWithin, HasRightParams, taken_before}
-use Rattle.mz_machine_env.specs.OwnRow.{MayRun, heading_of}
-use Rattle.mz_layout.specs.declared.taken.Rows.{Rows}
+use Rattle.mz_machine_env.specs.OwnRow.{MayRun}
+use Rattle.mz_machine_theory.specs.Headings.{heading_of}
+use Rattle.mz_layout_tables.specs.declared.taken.Rows.{Rows}
 use Rattle.mz_binary_theory.specs.Chains.{IsGoodStatement, GoodTo}
 use Rattle.mz_binary_theory.specs.Checking.{checks_of, counts as taken-counts}
 use Rattle.mz_binary_theory.specs.Good.{Good}
@@ -38,13 +39,13 @@ use Rattle.mz_binary_theory.specs.Spelling.{IsKindOf, SpellsRow, is_local_code}
 use Rattle.mz_binary_theory.specs.Standards.{strict_standard}
 use Rattle.mz_binary_theory.proofs.Offered.{sorts-many, terms-many, assertions-many, entry-good, same-taken, head-at, well-chain, HasRightRow, right-row, HasSorts, chain-sorts}
 use Rattle.mz_binary.proofs.Offered.{were-right}
-use Rattle.mz_mmu_forms.specs.Proof.{Proof}
-use Rattle.mz_mmu_statements.specs.Statements.{Statement}
-use Rattle.mz_mmu_statements.specs.DeclaredNames.{sort_name, term_name, sort_names, term_names, assertion_name, assertion_names}
+use Rattle.mz_mmu_theory.specs.Proof.{Proof}
+use Rattle.mz_mmu_theory.specs.Statements.{Statement}
+use Rattle.mz_mmu_theory.specs.DeclaredNames.{sort_name, term_name, sort_names, term_names, assertion_name, assertion_names}
 use Rattle.mz_trace_theory.specs.Laws.{BodiesMakeOne}
 use Rattle.mz_trace_theory.specs.Traces.{Made, under_lets}
 use Rattle.mz_decompile_text_theory.specs.Naming.{Naming, vocabulary_by}
-use Rattle.mz_decompile_names.specs.Names.{naming_of}
+use Rattle.mz_decompile_text_theory.specs.Names.{naming_of}
 use Rattle.mz_decompile_rows.specs.Rows.{AreArities}
 use Rattle.mz_decompile_theory.specs.Restated.{IsProofMade, IsRestated, AreRestated}
 use Rattle.mz_decompile.specs.Naming.{next_name}

@@ -3,13 +3,13 @@ use Rattle.std.proofs.Common.{◌≡◌, ◌⊎◌, ◌∙◌, ℕ, suc, inl, in
 use Rattle.mz_base_theory.specs.Checks.{AllHold, FailsFirst, AreDecided}
 use Rattle.mz_base_theory.proofs.Offered.{fails_first-unique, all_hold-excludes, all_hold-or_fails, are_decided-both, at_most-decided}
 use Rattle.mz_sexpr.specs.Node.{depth_limit}
-use Rattle.mz_mmu_statements.specs.Statements.{Statement}
+use Rattle.mz_mmu_theory.specs.Statements.{Statement}
 use Rattle.mz_match_theory.specs.declared.verdict.Counts.{Counts}
 use Rattle.mz_match_theory.specs.declared.verdict.Verdict.{Verdict}
 use Rattle.mz_match_theory.specs.Verdict.{Accepts, AcceptsWith, FirstRefusal, counts_of}
 use Rattle.mz_decompile_text_theory.specs.Phrases.{depth}
 use Rattle.mz_decompile_text_theory.specs.Phrasing.{Vocabulary, statement, text_of}
-use Rattle.mz_decompile_names.specs.Names.{vocabulary_of}
+use Rattle.mz_decompile_text_theory.specs.Names.{vocabulary_of}
 use Rattle.mz_prefix_theory.specs.Wording.{longest}
 use Rattle.mz_decompile_theory.specs.Restated.{Restates, Unstated, depth_checks, greater_length, stating_checks}
 use Rattle.mz_decompile_theory.specs.Laws.{AcceptedAreRestated, RestatedAlike}

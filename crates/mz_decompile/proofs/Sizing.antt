@@ -3,8 +3,8 @@ use Rattle.std.proofs.Common.{◌≡◌, ◌<◌, ◌≤◌, ◌+◌, ◌*◌, �
 use Rattle.std.specs.Prelude.{max}
 use Rattle.mz_base_theory.specs.Checks.{AllHold, FailsFirst, demand}
 use Rattle.mz_base_theory.proofs.Offered.{fails-before, fails-after, all_hold-both}
-use Rattle.mz_mmu_statements.specs.Statements.{Statement}
-use Rattle.mz_type.specs.Weight.{weight_of}
+use Rattle.mz_mmu_theory.specs.Statements.{Statement}
+use Rattle.mz_mmu_theory.specs.Weight.{weight_of}
 use Rattle.mz_decompile_text_theory.specs.Phrasing.{Vocabulary, text_of}
 use Rattle.mz_decompile_phrases.specs.Measures.{capped}
 use Rattle.mz_prefix_theory.specs.Wording.{longest}

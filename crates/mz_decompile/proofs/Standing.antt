@@ -5,21 +5,21 @@ use Rattle.std.proofs.lemmas.Option.{slice_get_within}
 use Rattle.mz_cmd.specs.declared.code.StatementCode.{StatementCode}
 use Rattle.mz_cmd.specs.declared.code.StatementCode.TheVariants as codes
 use Rattle.mz_cmd.specs.Codes.{statement_byte}
-use Rattle.mz_logic.specs.Signature.{Signature}
-use Rattle.mz_logic.specs.Declaration.{Term, Assertion, Declaration, sort_decl, term_decl, assertion_decl, sorts, signatures, assertions}
-use Rattle.mz_logic.specs.declared.binder.Binder.{Binder}
-use Rattle.mz_logic.specs.declared.binder.SortMods.{SortMods}
-use Rattle.mz_layout.specs.Tables.{tables_of, term_count, thm_count}
+use Rattle.mz_logic_theory.specs.Signature.{Signature}
+use Rattle.mz_logic_theory.specs.Declaration.{Term, Assertion, Declaration, sort_decl, term_decl, assertion_decl, sorts, signatures, assertions}
+use Rattle.mz_logic_theory.specs.declared.binder.Binder.{Binder}
+use Rattle.mz_logic_theory.specs.declared.binder.SortMods.{SortMods}
+use Rattle.mz_layout_tables.specs.Tables.{tables_of, term_count, thm_count}
 use Rattle.mz_unify_theory.specs.Spells.{SpellsTerm, SpellsThm}
 use Rattle.mz_machine_theory.specs.FileRows.{term_of_file, thm_of_file}
-use Rattle.mz_layout.specs.declared.head.Head.{Head}
-use Rattle.mz_layout.specs.declared.taken.Rows.{Rows}
+use Rattle.mz_layout_tables.specs.declared.head.Head.{Head}
+use Rattle.mz_layout_tables.specs.declared.taken.Rows.{Rows}
 use Rattle.mz_binary.specs.Progress.{IsTermKind}
 use Rattle.mz_binary_theory.specs.Spelling.{IsKindOf, SpellsRow}
 use Rattle.mz_binary_walk.proofs.Offered.{one-code}
-use Rattle.mz_mmu_forms.specs.Proof.{Proof}
-use Rattle.mz_mmu_statements.specs.Statements.{Statement}
-use Rattle.mz_type.specs.Weight.{declaration_weight, stated_weight}
+use Rattle.mz_mmu_theory.specs.Proof.{Proof}
+use Rattle.mz_mmu_theory.specs.Statements.{Statement}
+use Rattle.mz_mmu_theory.specs.Weight.{declaration_weight, stated_weight}
 use Rattle.mz_decompile_text_theory.specs.Phrases.{Phrase}
 use Rattle.mz_decompile_text_theory.specs.Phrasing.{Vocabulary, declared_parts, assertion_parts}
 use Rattle.mz_decompile_text_theory.specs.Naming.{Naming, vocabulary_by}

@@ -2,17 +2,17 @@
 use Rattle.std.proofs.Common.{◌≡◌, ◌∙◌, ◌<◌, ◌+◌, ◌^◌, ◌++◌, ℕ, suc, Bool, true, false, List, [], ◌∷◌, length, drop, Option, Some, None, refl, sym, ap, subst, arith}
 use Rattle.std.proofs.lemmas.List.{length-map}
 use Rattle.std.specs.Prelude.{codes, map, if◌then◌else◌}
-use Rattle.mz_logic.specs.Tree.{Tree, Trees, var, app, none, more, size, trees_size}
-use Rattle.mz_logic.specs.Signature.{Signature}
-use Rattle.mz_logic.specs.Declaration.{Form, plain_form, abstract_form, defined, Term, Assertion, Declaration, dummies_of, body_of}
-use Rattle.mz_logic.specs.declared.binder.Binder.{Binder}
-use Rattle.mz_logic.specs.Words.{binders_of, result_of}
-use Rattle.mz_logic.proofs.Offered.{length-binders}
-use Rattle.mz_layout.specs.Tables.{term_row, thm_row}
+use Rattle.mz_logic_theory.specs.Tree.{Tree, Trees, var, app, none, more, size, trees_size}
+use Rattle.mz_logic_theory.specs.Signature.{Signature}
+use Rattle.mz_logic_theory.specs.Declaration.{Form, plain_form, abstract_form, defined, Term, Assertion, Declaration, dummies_of, body_of}
+use Rattle.mz_logic_theory.specs.declared.binder.Binder.{Binder}
+use Rattle.mz_logic_theory.specs.Words.{binders_of, result_of}
+use Rattle.mz_logic_theory.proofs.Offered.{length-binders}
+use Rattle.mz_layout_tables.specs.Tables.{term_row, thm_row}
 use Rattle.mz_unify_theory.specs.Spells.{SpellsTerm, SpellsThm, SpellsForm, dummy_of}
 use Rattle.mz_machine_theory.specs.FileRows.{term_of_file, thm_of_file}
-use Rattle.mz_mmu_forms.specs.Proof.{Proof}
-use Rattle.mz_type.specs.Weight.{proof_weight, stated_weight}
+use Rattle.mz_mmu_theory.specs.Proof.{Proof}
+use Rattle.mz_mmu_theory.specs.Weight.{proof_weight, stated_weight}
 use Rattle.mz_decompile_text_theory.specs.Phrases.{Phrase, Phrases, a_word, a_list, one_more}
 use Rattle.mz_decompile_text_theory.specs.Phrasing.{Vocabulary, list_of, expression, expressions, binders, result, term_parts, assertion_parts, named_hypotheses, proof as statement-proof-by}
 use Rattle.mz_decompile_phrases.specs.ByNumber.{phrase_at, phrases_at, Grows}

@@ -1,12 +1,12 @@
 -- The text of a pair can be compiled, and what it compiles to is accepted against the specification.
 use Rattle.std.proofs.Common.{◌≡◌, ◌<◌, ◌^◌, ◌∙◌, ℕ, Bool, false, List, length, sym, ap, subst}
-use Rattle.mz_type.specs.Laws.{IsTypedOrFaulty}
-use Rattle.mz_type.specs.Meaning.{marked}
+use Rattle.mz_mmu_theory.specs.TypeLaws.{IsTypedOrFaulty}
+use Rattle.mz_mmu_theory.specs.Meaning.{marked}
 use Rattle.mz_binary_theory.specs.Standards.{strict_standard}
 use Rattle.mz_binary_theory.specs.WholeLaws.{OneListOfStatements, GoodFilesSpell}
-use Rattle.mz_match_theory.specs.Match.{publics, Agrees}
+use Rattle.mz_spec_proved_theory.specs.Match.{publics, Agrees}
 use Rattle.mz_match_theory.specs.Verdict.{Accepts}
-use Rattle.mz_emit.specs.Compiling.{CompilesTo}
+use Rattle.mz_emit_accepted_theory.specs.Compiling.{CompilesTo}
 use Rattle.mz_decompile_theory.specs.Laws.{AreBytes, IsTextOfBinary, PlainTextsAreTexts}
 use Rattle.mz_decompile_theory.specs.Texts.{IsPlainText}
 use Rattle.mz_decompile.specs.Decompiling.{IsTextFor}

@@ -7,16 +7,16 @@ use Rattle.mz_base_theory.proofs.Offered.{Decides, decides-whole}
 use Rattle.mz_cmd.specs.declared.code.StatementCode.{StatementCode}
 use Rattle.mz_cmd.specs.declared.statement.StmtAt.TheVariants as stands
 use Rattle.mz_cmd.specs.Codes.{statement_byte}
-use Rattle.mz_logic.specs.Declaration.{Declaration}
-use Rattle.mz_layout.specs.Heads.{IsHeadAt, head_checks}
-use Rattle.mz_layout.specs.declared.head.Head.{Head}
+use Rattle.mz_logic_theory.specs.Declaration.{Declaration}
+use Rattle.mz_layout_tables.specs.Heads.{IsHeadAt, head_checks}
+use Rattle.mz_layout_tables.specs.declared.head.Head.{Head}
 use Rattle.mz_sexpr.specs.Node.{depth_limit}
 use Rattle.mz_binary_theory.specs.Chains.{IsListEnd}
 use Rattle.mz_binary_walk.specs.Walk.{GoesOn, nothing_passed, passed_with}
 use Rattle.mz_binary_walk.specs.declared.passed.Passed.{Passed}
 use Rattle.mz_binary_walk.proofs.Offered.{head-here, one-code}
-use Rattle.mz_mmu_statements.specs.Statements.{Statement}
-use Rattle.mz_type.specs.Weight.{statement_weight, weight_after, weight_of}
+use Rattle.mz_mmu_theory.specs.Statements.{Statement}
+use Rattle.mz_mmu_theory.specs.Weight.{statement_weight, weight_after, weight_of}
 use Rattle.mz_decompile_text_theory.specs.Phrases.{Phrase, depth, written}
 use Rattle.mz_decompile_text_theory.specs.Phrasing.{Vocabulary, statement, text_of}
 use Rattle.mz_decompile_text_theory.specs.Naming.{Naming}

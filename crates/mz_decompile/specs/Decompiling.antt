@@ -2,7 +2,7 @@
 use Rattle.std.specs.Prelude.{◌≡◌, ◌⊎◌, ◌+◌, ⊤, ℕ, false, List}
 use Rattle.mz_binary_theory.specs.FileRun.{file_steps}
 use Rattle.mz_binary_theory.specs.Standards.{strict_standard}
-use Rattle.mz_emit.specs.Compiling.{IsCompilable, CompilesTo}
+use Rattle.mz_emit_accepted_theory.specs.Compiling.{IsCompilable, CompilesTo}
 use Rattle.mz_match_theory.specs.declared.verdict.Verdict.{Verdict}
 use Rattle.mz_match_theory.specs.Verdict.{Accepts, FirstRefusal, Ticks}
 use Rattle.mz_decompile_theory.specs.Restated.{Unstated, deep, too_long}

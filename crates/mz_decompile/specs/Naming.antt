@@ -1,6 +1,6 @@
 -- The name of a statement, by its place among those of its kind.
 use Rattle.std.specs.Prelude.{ℕ, List, length}
-use Rattle.mz_logic.specs.Declaration.{Declaration, sort_decl, term_decl, assertion_decl, sorts, terms, assertions}
+use Rattle.mz_logic_theory.specs.Declaration.{Declaration, sort_decl, term_decl, assertion_decl, sorts, terms, assertions}
 use Rattle.mz_decompile_text_theory.specs.Phrasing.{Vocabulary}
 
 -- of what is declared next after env

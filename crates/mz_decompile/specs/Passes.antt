@@ -2,9 +2,9 @@
 use Rattle.std.specs.Prelude.{◌≡◌, ◌<◌, ◌↔◌, ⊤, IsTrue, List, ◌++◌, length, codes}
 use Rattle.mz_base_theory.specs.Checks.{AllHold, FailsFirst}
 use Rattle.mz_sexpr.specs.Node.{depth_limit}
-use Rattle.mz_logic.specs.Declaration.{Declaration}
-use Rattle.mz_mmu_statements.specs.Statements.{Statement}
-use Rattle.mz_type.specs.Weight.{statement_weight, weight_of}
+use Rattle.mz_logic_theory.specs.Declaration.{Declaration}
+use Rattle.mz_mmu_theory.specs.Statements.{Statement}
+use Rattle.mz_mmu_theory.specs.Weight.{statement_weight, weight_of}
 use Rattle.mz_decompile_text_theory.specs.Phrases.{depth, written}
 use Rattle.mz_decompile_text_theory.specs.Phrasing.{Vocabulary, statement, text_of}
 use Rattle.mz_decompile_phrases.specs.Measures.{capped}

@@ -1,23 +1,24 @@
 -- What is known of a statement that is told, and what is told of it.
 use Rattle.std.specs.Prelude.{◌≡◌, ◌≤◌, ◌+◌, ℕ, true, false, List, [], length, map, Option, Some, None, MatchBool}
 use Rattle.mz_cmd.specs.Codes.{statement_byte}
-use Rattle.mz_logic.specs.Signature.{Signature}
-use Rattle.mz_logic.specs.Declaration.{Term, Assertion, Declaration, sort_decl, term_decl, assertion_decl, sorts, terms, signatures, assertions}
-use Rattle.mz_logic.specs.declared.binder.Binder.{Binder}
+use Rattle.mz_logic_theory.specs.Signature.{Signature}
+use Rattle.mz_logic_theory.specs.Declaration.{Term, Assertion, Declaration, sort_decl, term_decl, assertion_decl, sorts, terms, signatures, assertions}
+use Rattle.mz_logic_theory.specs.declared.binder.Binder.{Binder}
 use Rattle.mz_unify_theory.specs.Profile.{strict}
 use Rattle.mz_unify_theory.specs.Spells.{SpellsTerm, SpellsThm, dummy_of}
 use Rattle.mz_machine_theory.specs.Bodies.{Runs}
-use Rattle.mz_layout.specs.Heads.{body_bytes}
+use Rattle.mz_layout_tables.specs.Heads.{body_bytes}
 use Rattle.mz_machine_theory.specs.FileRows.{term_of_file, thm_of_file}
 use Rattle.mz_machine_theory.specs.MachineState.{Declares}
-use Rattle.mz_machine_env.specs.OwnRow.{MayRun, heading_of}
+use Rattle.mz_machine_env.specs.OwnRow.{MayRun}
+use Rattle.mz_machine_theory.specs.Headings.{heading_of}
 use Rattle.mz_machine_env.specs.Before.{tables_before}
-use Rattle.mz_layout.specs.declared.head.Head.{Head}
-use Rattle.mz_layout.specs.declared.taken.Rows.{Rows}
+use Rattle.mz_layout_tables.specs.declared.head.Head.{Head}
+use Rattle.mz_layout_tables.specs.declared.taken.Rows.{Rows}
 use Rattle.mz_binary_theory.specs.Spelling.{IsKindOf, is_local_code, SpellsRow}
-use Rattle.mz_mmu_forms.specs.Proof.{Proof}
-use Rattle.mz_mmu_statements.specs.Statements.{Statement}
-use Rattle.mz_type.specs.Weight.{statement_weight, declaration_weight, proof_weight, stated_weight}
+use Rattle.mz_mmu_theory.specs.Proof.{Proof}
+use Rattle.mz_mmu_theory.specs.Statements.{Statement}
+use Rattle.mz_mmu_theory.specs.Weight.{statement_weight, declaration_weight, proof_weight, stated_weight}
 use Rattle.mz_trace_theory.specs.Traces.{Made, under_lets}
 use Rattle.mz_decompile_text_theory.specs.Phrases.{Phrase}
 use Rattle.mz_decompile_text_theory.specs.Phrasing.{Vocabulary, statement, declared_parts, term_parts, assertion_parts, proof}

@@ -1,6 +1,6 @@
 // The text, or what stands against it.
 ghost use Rattle.std.specs.Prelude.{◌≡◌, ◌+◌, ◌*◌, ℕ, IfOk, List, max};
-ghost use Rattle.mz_mmu_statements.specs.Statements.{Statement};
+ghost use Rattle.mz_mmu_theory.specs.Statements.{Statement};
 ghost use Rattle.mz_decompile_text_theory.specs.Naming.{vocabulary_by};
 ghost use Rattle.mz_decompile_phrases.specs.Measures.{capped};
 ghost use Rattle.mz_decompile.specs.Standing.{AreAll, SomeAreAll};
@@ -11,7 +11,7 @@ use crate::lines::text;
 use crate::measuring::{Measured, Sizes, measure};
 use mz_cmd::Mem;
 use mz_decompile_names::Names;
-use mz_layout::Mmb;
+use mz_layout_tables::Mmb;
 use std::alloc::Global;
 
 /// The most bytes of a text, and of what it compiles to.

@@ -1,9 +1,9 @@
 //! Axioms.
 ghost use Rattle.std.specs.Prelude.{◌≡◌, ◌<◌, ◌∷◌, [], IfOk, List, OnOk};
-ghost use Rattle.mz_logic.specs.Declaration.{Assertion};
-ghost use Rattle.mz_logic.specs.Signature.{Signature};
-ghost use Rattle.mz_logic.specs.Words.{binders_of};
-ghost use Rattle.mz_layout.specs.Tables.{thm_count, thm_row};
+ghost use Rattle.mz_logic_theory.specs.Declaration.{Assertion};
+ghost use Rattle.mz_logic_theory.specs.Signature.{Signature};
+ghost use Rattle.mz_logic_theory.specs.Words.{binders_of};
+ghost use Rattle.mz_layout_tables.specs.Tables.{thm_count, thm_row};
 ghost use Rattle.mz_unify_theory.specs.Spells.{SpellsThm};
 ghost use Rattle.mz_machine_theory.specs.FileRows.{thm_of_file};
 ghost use Rattle.mz_decompile_text_theory.specs.Phrases.{a_word, a_list};
@@ -20,7 +20,7 @@ use mz_cmd::Mem;
 use mz_decompile_names::Names;
 use mz_decompile_phrases::Phrases;
 use mz_decompile_rows::assertion;
-use mz_layout::{Mmb, Row};
+use mz_layout_tables::{Mmb, Row};
 use std::alloc::Global;
 
 /// Adds the parts of an axiom. The result is its weight.

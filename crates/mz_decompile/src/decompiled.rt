@@ -8,7 +8,7 @@ use crate::answering::answer;
 use mz_cmd::{Mem, Steps};
 use mz_decompile_names::Names;
 use mz_decompile_theory::{accepted_are_restated, plain_texts_are_texts};
-use mz_layout::Mmb;
+use mz_layout_tables::Mmb;
 use mz_match::verify_bytes;
 use mz_match_theory::Verdict;
 use mz_spec::Hashing;

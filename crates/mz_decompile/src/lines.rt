@@ -1,7 +1,7 @@
 // The second pass: the text itself.
 ghost use Rattle.std.specs.Prelude.{◌≡◌, ◌++◌, IfOk, List, OnOk, codes};
-ghost use Rattle.mz_logic.specs.Declaration.{Declaration};
-ghost use Rattle.mz_mmu_statements.specs.Statements.{Statement};
+ghost use Rattle.mz_logic_theory.specs.Declaration.{Declaration};
+ghost use Rattle.mz_mmu_theory.specs.Statements.{Statement};
 ghost use Rattle.mz_decompile_text_theory.specs.Naming.{vocabulary_by};
 ghost use Rattle.mz_decompile_text_theory.specs.Phrases.{written};
 ghost use Rattle.mz_decompile_text_theory.specs.Phrasing.{statement as the_statement, text_of};
@@ -13,7 +13,7 @@ use mz_binary_walk::Passed;
 use mz_cmd::Mem;
 use mz_decompile_names::Names;
 use mz_decompile_phrases::Phrases;
-use mz_layout::{Head, Mmb, Rows};
+use mz_layout_tables::{Head, Mmb, Rows};
 use std::alloc::Global;
 
 /// The text of a binary's statements, a line each.

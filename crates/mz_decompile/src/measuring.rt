@@ -1,7 +1,7 @@
 // The first pass: how long and how heavy the text is, and whether a statement is too deep.
 ghost use Rattle.std.specs.Prelude.{◌≡◌, ◌+◌, ℕ, IfOk, List};
-ghost use Rattle.mz_logic.specs.Declaration.{Declaration};
-ghost use Rattle.mz_mmu_statements.specs.Statements.{Statement};
+ghost use Rattle.mz_logic_theory.specs.Declaration.{Declaration};
+ghost use Rattle.mz_mmu_theory.specs.Statements.{Statement};
 ghost use Rattle.mz_decompile_text_theory.specs.Naming.{vocabulary_by};
 ghost use Rattle.mz_decompile_phrases.specs.Measures.{capped};
 ghost use Rattle.mz_decompile.specs.Telling.{SomeStands, Stands};
@@ -13,7 +13,7 @@ use mz_binary_walk::Passed;
 use mz_cmd::Mem;
 use mz_decompile_names::Names;
 use mz_decompile_phrases::Phrases;
-use mz_layout::{Head, Mmb, Rows};
+use mz_layout_tables::{Head, Mmb, Rows};
 use std::alloc::Global;
 
 /// A length and a weight, or the largest number in place of one that is larger.

@@ -1,8 +1,8 @@
 //! Sorts.
 ghost use Rattle.std.specs.Prelude.{◌≡◌, ◌<◌, ◌∷◌, [], None, OnOk, Some, length, map, slice_get};
-ghost use Rattle.mz_logic.specs.Declaration.{sort_decl};
-ghost use Rattle.mz_logic.specs.declared.binder.SortMods.{SortMods as TheMods};
-ghost use Rattle.mz_layout.specs.Tables.{tables_of};
+ghost use Rattle.mz_logic_theory.specs.Declaration.{sort_decl};
+ghost use Rattle.mz_logic_theory.specs.declared.binder.SortMods.{SortMods as TheMods};
+ghost use Rattle.mz_layout_tables.specs.Tables.{tables_of};
 ghost use Rattle.mz_decompile_text_theory.specs.Phrases.{a_word};
 ghost use Rattle.mz_decompile_text_theory.specs.Phrasing.{declared_parts, modifiers};
 ghost use Rattle.mz_decompile_text_theory.specs.Naming.{vocabulary_by};
@@ -12,8 +12,8 @@ use crate::parts::{put_word, put_word_if};
 use mz_cmd::Mem;
 use mz_decompile_names::Names;
 use mz_decompile_phrases::Phrases;
-use mz_layout::Mmb;
-use mz_logic::{SortMods, Terms};
+use mz_layout_tables::Mmb;
+use mz_logic_theory::{SortMods, Terms};
 
 /// Adds the parts of a sort.
 pub(crate) fn put_sort(

@@ -1,7 +1,7 @@
 //! A statement, whatever its kind.
 ghost use Rattle.std.specs.Prelude.{IfOk, List};
-ghost use Rattle.mz_logic.specs.Declaration.{Declaration};
-ghost use Rattle.mz_mmu_statements.specs.Statements.{Statement};
+ghost use Rattle.mz_logic_theory.specs.Declaration.{Declaration};
+ghost use Rattle.mz_mmu_theory.specs.Statements.{Statement};
 ghost use Rattle.mz_decompile_text_theory.specs.Naming.{vocabulary_by};
 ghost use Rattle.mz_decompile.specs.Telling.{AreParts, IsTold, SomeStands, Stands};
 
@@ -15,7 +15,7 @@ use mz_binary_walk::is_local;
 use mz_cmd::{Mem, StatementCode};
 use mz_decompile_names::Names;
 use mz_decompile_phrases::Phrases;
-use mz_layout::{Head, Mmb, Rows};
+use mz_layout_tables::{Head, Mmb, Rows};
 use std::alloc::Global;
 
 /// The phrase and the weight of the statement with this head, before which so many rows were taken. The phrase, and

@@ -1,9 +1,9 @@
 //! Terms and definitions.
 ghost use Rattle.std.specs.Prelude.{◌≡◌, ◌<◌, ◌∷◌, [], IfOk, List, OnOk, true};
-ghost use Rattle.mz_logic.specs.Declaration.{Term};
-ghost use Rattle.mz_logic.specs.Signature.{Signature};
-ghost use Rattle.mz_logic.specs.Words.{binders_of, result_of};
-ghost use Rattle.mz_layout.specs.Tables.{term_count, term_row};
+ghost use Rattle.mz_logic_theory.specs.Declaration.{Term};
+ghost use Rattle.mz_logic_theory.specs.Signature.{Signature};
+ghost use Rattle.mz_logic_theory.specs.Words.{binders_of, result_of};
+ghost use Rattle.mz_layout_tables.specs.Tables.{term_count, term_row};
 ghost use Rattle.mz_unify_theory.specs.Spells.{SpellsTerm};
 ghost use Rattle.mz_machine_theory.specs.FileRows.{term_of_file};
 ghost use Rattle.mz_decompile_text_theory.specs.Phrases.{a_word, a_list};
@@ -20,8 +20,8 @@ use mz_cmd::Mem;
 use mz_decompile_names::Names;
 use mz_decompile_phrases::Phrases;
 use mz_decompile_rows::definition;
-use mz_layout::{Mmb, Row};
-use mz_logic::Terms;
+use mz_layout_tables::{Mmb, Row};
+use mz_logic_theory::Terms;
 use std::alloc::Global;
 
 /// Adds the parts of a term or a definition. The result is its weight.

@@ -1,12 +1,12 @@
 //! Theorems.
 ghost use Rattle.std.specs.Prelude.{◌≡◌, ◌<◌, IfOk, List, Option};
-ghost use Rattle.mz_logic.specs.Declaration.{Assertion, Declaration};
-ghost use Rattle.mz_logic.specs.Signature.{Signature};
-ghost use Rattle.mz_logic.specs.declared.binder.Binder.{Binder};
-ghost use Rattle.mz_layout.specs.Tables.{thm_count};
+ghost use Rattle.mz_logic_theory.specs.Declaration.{Assertion, Declaration};
+ghost use Rattle.mz_logic_theory.specs.Signature.{Signature};
+ghost use Rattle.mz_logic_theory.specs.declared.binder.Binder.{Binder};
+ghost use Rattle.mz_layout_tables.specs.Tables.{thm_count};
 ghost use Rattle.mz_unify_theory.specs.Spells.{SpellsThm};
 ghost use Rattle.mz_machine_theory.specs.FileRows.{thm_of_file};
-ghost use Rattle.mz_mmu_forms.specs.Proof.{Proof};
+ghost use Rattle.mz_mmu_theory.specs.Proof.{Proof};
 ghost use Rattle.mz_decompile_text_theory.specs.Naming.{vocabulary_by};
 ghost use Rattle.mz_decompile_rows.specs.Rows.{AreArities};
 ghost use Rattle.mz_decompile.specs.Telling.{IsTheorem, MakesProof, MakesSome, SpellsSomeThm};
@@ -20,7 +20,7 @@ use mz_cmd::Mem;
 use mz_decompile_names::Names;
 use mz_decompile_phrases::Phrases;
 use mz_decompile_rows::assertion;
-use mz_layout::{Head, Mmb, Rows};
+use mz_layout_tables::{Head, Mmb, Rows};
 use std::alloc::Global;
 
 /// Adds the parts of a theorem. The result is its weight.

@@ -1,9 +1,9 @@
 -- The names of statements that declare what a list's do are those of the list.
 use Rattle.std.proofs.Common.{◌≡◌, ◌∙◌, ◌++◌, ℕ, List, [], ◌∷◌, refl, ap}
-use Rattle.mz_logic.specs.Declaration.{Declaration}
-use Rattle.mz_logic.specs.LegalLists.{Statement as Marked}
-use Rattle.mz_mmu_statements.specs.Statements.{Statement}
-use Rattle.mz_mmu_statements.specs.DeclaredNames.{sort_name, term_name, sort_names, term_names, assertion_name, assertion_names}
+use Rattle.mz_logic_theory.specs.Declaration.{Declaration}
+use Rattle.mz_logic_theory.specs.LegalLists.{Statement as Marked}
+use Rattle.mz_mmu_theory.specs.Statements.{Statement}
+use Rattle.mz_mmu_theory.specs.DeclaredNames.{sort_name, term_name, sort_names, term_names, assertion_name, assertion_names}
 use Rattle.mz_decompile_text_theory.specs.Naming.{Naming}
 use Rattle.mz_decompile_names.specs.Accepted.{names_of, AreNamed, NamedStatementsName}
 

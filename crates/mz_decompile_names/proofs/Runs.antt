@@ -2,10 +2,10 @@
 use Rattle.std.proofs.Common.{◌≡◌, ◌∙◌, ◌≤◌, ◌<◌, ◌+◌, ℕ, zero, suc, max, List, [], ◌∷◌, length, drop, get_or, refl, sym, ap, add-one, arith}
 use Rattle.std.proofs.lemmas.List.{drop_all}
 use Rattle.std.proofs.lemmas.Option.{slice_get_past}
-use Rattle.mz_spec.specs.State.{Entry}
-use Rattle.mz_spec_names.specs.Names.{name_at, name_in}
-use Rattle.mz_mmu_statements.specs.DeclaredNames.{underscores, longest_run}
-use Rattle.mz_decompile_names.specs.Names.{names_from, declared_names}
+use Rattle.mz_spec_theory.specs.State.{Entry}
+use Rattle.mz_spec_theory.specs.Names.{name_at, name_in}
+use Rattle.mz_mmu_theory.specs.DeclaredNames.{underscores, longest_run}
+use Rattle.mz_decompile_text_theory.specs.Names.{names_from, declared_names}
 
 drop-more : {A : Type 0} (xs : List A) (k : ℕ) → k < length xs → (x : A) × (drop k xs ≡ x ∷ drop (suc k) xs)
 drop-more [] k lt = absurd (omega (arith, lt))

@@ -5,10 +5,10 @@ use Rattle.mz_base_theory.specs.Checks.{AllHold}
 use Rattle.mz_cmd.specs.declared.code.StatementCode.{StatementCode}
 use Rattle.mz_cmd.specs.declared.code.StatementCode.TheVariants as kinds
 use Rattle.mz_cmd.specs.Codes.{statement_byte}
-use Rattle.mz_logic.specs.Declaration.{Declaration, sort_decl, term_decl, assertion_decl}
-use Rattle.mz_logic.specs.LegalLists.{Statement}
-use Rattle.mz_layout.specs.Heads.{head_checks}
-use Rattle.mz_layout.specs.declared.head.Head.{Head}
+use Rattle.mz_logic_theory.specs.Declaration.{Declaration, sort_decl, term_decl, assertion_decl}
+use Rattle.mz_logic_theory.specs.LegalLists.{Statement}
+use Rattle.mz_layout_tables.specs.Heads.{head_checks}
+use Rattle.mz_layout_tables.specs.declared.head.Head.{Head}
 use Rattle.mz_binary_theory.specs.Spelling.{IsKindOf, is_local_code}
 use Rattle.mz_binary_theory.specs.Chains.{IsListEnd}
 use Rattle.mz_binary_theory.specs.Good.{Good}
@@ -17,13 +17,13 @@ use Rattle.mz_binary_theory.proofs.Offered.{one-list, good-spelled}
 use Rattle.mz_binary_walk.specs.Walk.{GoesOn, nothing_passed, passed_with, past_public}
 use Rattle.mz_binary_walk.specs.declared.passed.Passed.{Passed}
 use Rattle.mz_binary_walk.proofs.Offered.{HasGone, IsOnWay, one-code, way-asks, way-first, way-last, way-more}
-use Rattle.mz_spec.specs.State.{Entry}
-use Rattle.mz_spec.specs.Spec.{SpecMakes}
-use Rattle.mz_spec.proofs.Offered.{one-reading}
-use Rattle.mz_spec_names.specs.Names.{name_at}
-use Rattle.mz_mmu_statements.specs.DeclaredNames.{sort_name, term_name, assertion_name, prefix_beside}
+use Rattle.mz_spec_theory.specs.State.{Entry}
+use Rattle.mz_spec_theory.specs.Spec.{SpecMakes}
+use Rattle.mz_spec_theory.proofs.Offered.{one-reading}
+use Rattle.mz_spec_theory.specs.Names.{name_at}
+use Rattle.mz_mmu_theory.specs.DeclaredNames.{sort_name, term_name, assertion_name, prefix_beside}
 use Rattle.mz_decompile_text_theory.specs.Naming.{Naming}
-use Rattle.mz_decompile_names.specs.Names.{declared_names, statement_names}
+use Rattle.mz_decompile_text_theory.specs.Names.{declared_names, statement_names}
 use Rattle.mz_decompile_names.specs.Accepted.{names_of, naming_by, IsNamingOf}
 use Rattle.mz_decompile_names.specs.Adding.{next_name, as_sort, as_term, as_assertion, IsAdded, AreGathered}
 use Rattle.mz_decompile_names.proofs.Named.{same-naming}

@@ -1,15 +1,15 @@
 -- The names of the statements of a pair that is accepted, as they are gathered from the specification and the binary
 -- (this project's own).
 use Rattle.std.specs.Prelude.{◌≡◌, ◌++◌, ⊤, ℕ, List, [], ◌∷◌}
-use Rattle.mz_logic.specs.Declaration.{Declaration}
-use Rattle.mz_logic.specs.LegalLists.{Statement as Marked}
-use Rattle.mz_mmu_statements.specs.Statements.{Statement}
-use Rattle.mz_spec.specs.State.{Entry}
-use Rattle.mz_spec.specs.Spec.{SpecMakes}
+use Rattle.mz_logic_theory.specs.Declaration.{Declaration}
+use Rattle.mz_logic_theory.specs.LegalLists.{Statement as Marked}
+use Rattle.mz_mmu_theory.specs.Statements.{Statement}
+use Rattle.mz_spec_theory.specs.State.{Entry}
+use Rattle.mz_spec_theory.specs.Spec.{SpecMakes}
 use Rattle.mz_match_theory.specs.Verdict.{Accepts}
-use Rattle.mz_mmu_statements.specs.DeclaredNames.{sort_name, term_name, assertion_name, prefix_beside}
+use Rattle.mz_mmu_theory.specs.DeclaredNames.{sort_name, term_name, assertion_name, prefix_beside}
 use Rattle.mz_decompile_text_theory.specs.Naming.{Naming}
-use Rattle.mz_decompile_names.specs.Names.{declared_names, statement_names, naming_of}
+use Rattle.mz_decompile_text_theory.specs.Names.{declared_names, statement_names, naming_of}
 
 -- the names of the statements of one kind, where each has one of the names
 abbrev pub names_of : (Declaration → List ℕ → List (List ℕ)) → List Marked → List (List ℕ) → List (List ℕ)

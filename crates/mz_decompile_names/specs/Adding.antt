@@ -2,7 +2,7 @@
 use Rattle.std.specs.Prelude.{◌≡◌, ◌++◌, ℕ, Bool, List, [], ◌∷◌, get_or, if◌then◌else◌, codes, decimal}
 use Rattle.mz_cmd.specs.declared.code.StatementCode.{StatementCode}
 use Rattle.mz_cmd.specs.declared.code.StatementCode.TheVariants as kinds
-use Rattle.mz_logic.specs.LegalLists.{Statement}
+use Rattle.mz_logic_theory.specs.LegalLists.{Statement}
 use Rattle.mz_binary_theory.specs.Good.{Good}
 use Rattle.mz_binary_theory.specs.Standards.{strict_standard}
 use Rattle.mz_decompile_text_theory.specs.Naming.{Naming}

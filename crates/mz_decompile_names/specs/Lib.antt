@@ -1,4 +1,3 @@
-pub mod Names
 pub mod Accepted
 pub mod Adding
 pub mod Spans

@@ -4,7 +4,7 @@ ghost use Rattle.mz_cmd.specs.Codes.{statement_byte};
 ghost use Rattle.mz_binary_theory.specs.Spelling.{is_local_code};
 ghost use Rattle.mz_match_theory.specs.Verdict.{Accepts};
 ghost use Rattle.mz_binary_theory.specs.Good.{IsGood};
-ghost use Rattle.mz_decompile_names.specs.Names.{declared_names};
+ghost use Rattle.mz_decompile_text_theory.specs.Names.{declared_names};
 ghost use Rattle.mz_decompile_names.specs.Accepted.{IsNamingOf};
 ghost use Rattle.mz_decompile_names.specs.Adding.{AreGathered, IsAdded, local_name, next_name};
 
@@ -13,9 +13,10 @@ use crate::names::{Names, put_numbered};
 use crate::source::prefix_beside;
 use mz_binary_walk::{Passed, is_local};
 use mz_cmd::{Mem, StatementCode};
-use mz_layout::Mmb;
-use mz_spec::{Hashing, Spec};
+use mz_layout_tables::Mmb;
+use mz_spec::Hashing;
 use mz_spec_names::{declared_by, declared_name};
+use mz_spec_theory::Spec;
 use std::alloc::Global;
 
 impl Names {

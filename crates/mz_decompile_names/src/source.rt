@@ -1,12 +1,12 @@
 // A specification that is read once more, for the names of its declarations.
 ghost use Rattle.std.specs.Prelude.{◌≡◌, IfOk};
-ghost use Rattle.mz_mmu_statements.specs.DeclaredNames;
-ghost use Rattle.mz_decompile_names.specs.Names;
+ghost use Rattle.mz_mmu_theory.specs.DeclaredNames;
+ghost use Rattle.mz_decompile_text_theory.specs.Names;
 
 use mz_cmd::Mem;
 use mz_mmu_statements::{leading_underscores, one_underscore_more};
-use mz_spec::Spec;
 use mz_spec_names::declared_name;
+use mz_spec_theory::Spec;
 use std::alloc::Global;
 
 /// The longest run of underscores with which a declaration's name begins.

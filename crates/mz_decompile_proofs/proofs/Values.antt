@@ -2,9 +2,9 @@
 use Rattle.std.proofs.Common.{◌≡◌, ◌∙◌, ℕ, List, [], ◌∷◌, ◌++◌, map, Some, slice_get, codes, sym, ap, refl, arith}
 use Rattle.std.proofs.lemmas.List.{map-append, get_or-map}
 use Rattle.std.proofs.lemmas.Option.{get_or_from_slice_get, slice_get_within}
-use Rattle.mz_logic.specs.Tree.{Trees, app, none, more, size, trees_size}
-use Rattle.mz_logic.specs.Declaration.{Declaration}
-use Rattle.mz_type.specs.Weight.{conv_weight, convs_weight, proof_weight, proofs_weight}
+use Rattle.mz_logic_theory.specs.Tree.{Trees, app, none, more, size, trees_size}
+use Rattle.mz_logic_theory.specs.Declaration.{Declaration}
+use Rattle.mz_mmu_theory.specs.Weight.{conv_weight, convs_weight, proof_weight, proofs_weight}
 use Rattle.mz_unify_theory.specs.Spells.{trees_of}
 use Rattle.mz_machine_theory.specs.MachineState.{RowsBefore}
 use Rattle.mz_decompile_text_theory.specs.Phrases.{Phrase, Phrases, a_word, a_list, no_phrases, one_more}

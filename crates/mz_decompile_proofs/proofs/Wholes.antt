@@ -1,8 +1,8 @@
 -- What is told of a whole run is its proof's phrase and weight.
 use Rattle.std.proofs.Common.{◌≡◌, ◌∙◌, ℕ, suc, ◌+◌, ◌<◌, All, List, [], ◌∷◌, length, map, codes, sym, ap, subst, refl, arith}
 use Rattle.std.proofs.lemmas.List.{length-map}
-use Rattle.mz_logic.specs.Declaration.{Declaration}
-use Rattle.mz_type.specs.Weight.{proof_weight}
+use Rattle.mz_logic_theory.specs.Declaration.{Declaration}
+use Rattle.mz_mmu_theory.specs.Weight.{proof_weight}
 use Rattle.mz_trace_theory.specs.Traces.{under_lets}
 use Rattle.mz_decompile_text_theory.specs.Phrases.{Phrase, a_word}
 use Rattle.mz_decompile_text_theory.specs.Phrasing.{Vocabulary, list_of, proof}

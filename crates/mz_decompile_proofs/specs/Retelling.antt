@@ -1,8 +1,8 @@
 -- The phrase and the weight of the proof that a run has.
 use Rattle.std.specs.Prelude.{ℕ, ◌≡◌, ◌<◌, List, length}
-use Rattle.mz_logic.specs.Declaration.{Declaration}
-use Rattle.mz_mmu_forms.specs.Proof.{Proof}
-use Rattle.mz_type.specs.Weight.{proof_weight}
+use Rattle.mz_logic_theory.specs.Declaration.{Declaration}
+use Rattle.mz_mmu_theory.specs.Proof.{Proof}
+use Rattle.mz_mmu_theory.specs.Weight.{proof_weight}
 use Rattle.mz_machine_theory.specs.MachineState.{RowsBefore}
 use Rattle.mz_trace_theory.specs.Traces.{under_lets}
 use Rattle.mz_decompile_text_theory.specs.Phrases.{Phrase}

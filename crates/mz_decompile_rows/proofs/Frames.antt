@@ -4,9 +4,9 @@ use Rattle.std.proofs.lemmas.Bool.{cases_eq}
 use Rattle.std.proofs.lemmas.List.{length-map}
 use Rattle.std.proofs.lemmas.Option.{slice_get_within}
 use Rattle.mz_base_theory.proofs.Offered.{slice_get-last, slice_get-append, slice_get-push_cases}
-use Rattle.mz_logic.specs.Tree.{Tree, Trees, var, none, more, listed, size, trees_size}
-use Rattle.mz_logic.specs.Signature.{Signature}
-use Rattle.mz_logic.specs.declared.binder.Binder.{Binder}
+use Rattle.mz_logic_theory.specs.Tree.{Tree, Trees, var, none, more, listed, size, trees_size}
+use Rattle.mz_logic_theory.specs.Signature.{Signature}
+use Rattle.mz_logic_theory.specs.declared.binder.Binder.{Binder}
 use Rattle.mz_unify_theory.specs.Streams.{UnifyCommand}
 use Rattle.mz_unify_theory.specs.Spells.{Marks, trees_of, variables_from}
 use Rattle.mz_unify_theory.proofs.Offered.{length-params}

@@ -6,8 +6,8 @@ use Rattle.std.proofs.lemmas.List.{map-append, nil_from_length, reverse-append}
 use Rattle.std.proofs.lemmas.List.Elements.{All-nil, All-cons}
 use Rattle.std.proofs.lemmas.Option.{get_or_from_slice_get, slice_get_within, same_Some}
 use Rattle.mz_base_theory.proofs.Offered.{slice_get-last, slice_get-append}
-use Rattle.mz_logic.specs.Tree.{Tree, app, var}
-use Rattle.mz_logic.specs.declared.binder.Binder.{Binder}
+use Rattle.mz_logic_theory.specs.Tree.{Tree, app, var}
+use Rattle.mz_logic_theory.specs.declared.binder.Binder.{Binder}
 use Rattle.mz_unify_theory.specs.Spells.{trees_of, variables_from}
 use Rattle.mz_decompile_text_theory.specs.Phrases.{Phrase, Phrases, a_list, a_word, one_more}
 use Rattle.mz_decompile_text_theory.specs.Phrasing.{Vocabulary, expression, expressions}

@@ -1,11 +1,11 @@
 -- What the rows of a file spell, as what is read.
 use Rattle.std.proofs.Common.{ℕ, ◌≡◌, Bool, true, List, [], length, drop, Option, Some, None, if◌then◌else◌, refl, ap, subst}
-use Rattle.mz_logic.specs.Tree.{Tree, none}
-use Rattle.mz_logic.specs.Words.{binders_of}
-use Rattle.mz_logic.specs.Signature.{Signature}
-use Rattle.mz_logic.specs.Declaration.{Form, plain_form, abstract_form, defined, Term}
-use Rattle.mz_logic.specs.declared.binder.Binder.{Binder}
-use Rattle.mz_layout.specs.Tables.{term_row, thm_row}
+use Rattle.mz_logic_theory.specs.Tree.{Tree, none}
+use Rattle.mz_logic_theory.specs.Words.{binders_of}
+use Rattle.mz_logic_theory.specs.Signature.{Signature}
+use Rattle.mz_logic_theory.specs.Declaration.{Form, plain_form, abstract_form, defined, Term}
+use Rattle.mz_logic_theory.specs.declared.binder.Binder.{Binder}
+use Rattle.mz_layout_tables.specs.Tables.{term_row, thm_row}
 use Rattle.mz_unify_theory.specs.Spells.{Marks, SpellsForm, SpellsTerm, Text}
 use Rattle.mz_unify_theory.specs.Streams.{StreamKind, UnifyCommand, of_definition}
 use Rattle.mz_machine_theory.specs.FileRows.{term_of_file}

@@ -3,9 +3,9 @@ use Rattle.std.proofs.Common.{ℕ, suc, ◌≡◌, ◌<◌, ◌≤◌, ◌⊎◌
 use Rattle.std.proofs.lemmas.List.{length-map, map-append, same_from_push}
 use Rattle.std.proofs.lemmas.Option.{slice_get_within}
 use Rattle.mz_base_theory.proofs.Offered.{slice_get-last}
-use Rattle.mz_layout.specs.Tables.{term_count, term_row}
-use Rattle.mz_logic.specs.Tree.{Tree, Trees, var, app, none, more, listed}
-use Rattle.mz_logic.specs.declared.binder.Binder.{Binder}
+use Rattle.mz_layout_tables.specs.Tables.{term_count, term_row}
+use Rattle.mz_logic_theory.specs.Tree.{Tree, Trees, var, app, none, more, listed}
+use Rattle.mz_logic_theory.specs.declared.binder.Binder.{Binder}
 use Rattle.mz_cmd.specs.declared.code.UnifyCode.{UnifyCode}
 use Rattle.mz_cmd.specs.declared.code.UnifyCode.TheVariants as codes
 use Rattle.mz_unify_theory.specs.Streams.{StreamKind, UnifyCommand, StreamIs, command_in, u_dummy, u_hyp, u_ref, u_term, u_term_save}

@@ -1,7 +1,7 @@
 -- The applications that are being read, each an operand of the next.
 use Rattle.std.specs.Prelude.{◌≡◌, ◌⊎◌, ◌+◌, ⊤, ℕ, suc, List, [], ◌∷◌, ◌++◌, length, map, Option, Some, None, slice_get}
-use Rattle.mz_logic.specs.Tree.{Tree, Trees, app, more, listed}
-use Rattle.mz_logic.specs.Signature.{Signature}
+use Rattle.mz_logic_theory.specs.Tree.{Tree, Trees, app, more, listed}
+use Rattle.mz_logic_theory.specs.Signature.{Signature}
 use Rattle.mz_unify_theory.specs.Streams.{UnifyCommand}
 use Rattle.mz_unify_theory.specs.Spells.{Marks, SpellsAll}
 use Rattle.mz_decompile_text_theory.specs.Phrases.{Phrase, a_word}

@@ -1,6 +1,6 @@
 -- Numbers of phrases.
 use Rattle.std.specs.Prelude.{◌≡◌, ◌<◌, ⊤, ℕ, List, [], ◌∷◌, length, Some, slice_get}
-use Rattle.mz_logic.specs.Tree.{var}
+use Rattle.mz_logic_theory.specs.Tree.{var}
 use Rattle.mz_decompile_text_theory.specs.Phrases.{Phrase}
 use Rattle.mz_decompile_text_theory.specs.Phrasing.{Vocabulary, expression}
 

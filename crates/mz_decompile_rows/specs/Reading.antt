@@ -1,7 +1,7 @@
 -- What holds while a unify stream is read.
 use Rattle.std.specs.Prelude.{◌≡◌, ◌+◌, ℕ, suc, List, [], ◌∷◌, ◌++◌, length, map, Option, Some, None, slice_set}
-use Rattle.mz_logic.specs.Tree.{Tree}
-use Rattle.mz_logic.specs.Signature.{Signature}
+use Rattle.mz_logic_theory.specs.Tree.{Tree}
+use Rattle.mz_logic_theory.specs.Signature.{Signature}
 use Rattle.mz_unify_theory.specs.Streams.{StreamKind, UnifyCommand, StreamIs}
 use Rattle.mz_unify_theory.specs.Spells.{Marks, Spells, SpellsHyps, dummy_of}
 use Rattle.mz_decompile_text_theory.specs.Phrases.{Phrase}

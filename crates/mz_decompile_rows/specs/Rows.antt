@@ -1,10 +1,10 @@
 -- What is asked of the signatures over which a file's rows spell, and what phrases of a row are (this project's own).
 use Rattle.std.specs.Prelude.{◌≡◌, ◌<◌, ℕ, List, length, map, All, Some, slice_get}
-use Rattle.mz_logic.specs.Signature.{Signature}
-use Rattle.mz_logic.specs.Declaration.{Assertion}
-use Rattle.mz_logic.specs.Tree.{Tree}
-use Rattle.mz_logic.specs.declared.binder.Binder.{Binder}
-use Rattle.mz_layout.specs.Tables.{term_count, term_row}
+use Rattle.mz_logic_theory.specs.Signature.{Signature}
+use Rattle.mz_logic_theory.specs.Declaration.{Assertion}
+use Rattle.mz_logic_theory.specs.Tree.{Tree}
+use Rattle.mz_logic_theory.specs.declared.binder.Binder.{Binder}
+use Rattle.mz_layout_tables.specs.Tables.{term_count, term_row}
 use Rattle.mz_unify_theory.specs.Spells.{dummy_of}
 use Rattle.mz_decompile_text_theory.specs.Phrases.{Phrase}
 use Rattle.mz_decompile_text_theory.specs.Phrasing.{Vocabulary, expression, expressions}

@@ -1,7 +1,7 @@
 //! A unify stream, read command by command.
 ghost use Rattle.std.specs.Prelude.{◌≡◌, ◌<◌, ◌+◌, ◌*◌, ◌↔◌, ◌∷◌, [], ◌++◌, ℕ, IfOk, IsTrue, List, MatchBool, OnOk, Some, length, map, reverse, slice_get};
-ghost use Rattle.mz_logic.specs.Tree.{Tree};
-ghost use Rattle.mz_logic.specs.declared.binder.Binder.{Binder};
+ghost use Rattle.mz_logic_theory.specs.Tree.{Tree};
+ghost use Rattle.mz_logic_theory.specs.declared.binder.Binder.{Binder};
 ghost use Rattle.mz_unify_theory.specs.Spells.{Marks, Spells, SpellsHyps, at_first};
 ghost use Rattle.mz_unify_theory.specs.Streams.{UnifyCommand, StreamIs, StreamKind, u_dummy, u_ref, u_term, u_term_save};
 ghost use Rattle.mz_decompile_text_theory.specs.Naming.{vocabulary_by};
@@ -17,8 +17,8 @@ use crate::gather::{gather, parts_from, push_term, push_variable};
 use mz_cmd::{Mem, UnifyCode};
 use mz_decompile_names::Names;
 use mz_decompile_phrases::Phrases;
-use mz_layout::Mmb;
-use mz_logic::Terms;
+use mz_layout_tables::Mmb;
+use mz_logic_theory::Terms;
 use std::alloc::Global;
 
 /// An application that is being read: from where its parts stand among those that are read, up to where they will, and

@@ -1,10 +1,10 @@
 //! The rows of a file.
 ghost use Rattle.std.specs.Prelude.{◌≡◌, ◌<◌, IfOk, List, true};
-ghost use Rattle.mz_logic.specs.Tree.{Tree};
-ghost use Rattle.mz_logic.specs.Signature.{Signature};
-ghost use Rattle.mz_logic.specs.Declaration.{Assertion, Term, defined};
-ghost use Rattle.mz_logic.specs.declared.binder.Binder.{Binder};
-ghost use Rattle.mz_layout.specs.Tables.{term_count, term_row, thm_count};
+ghost use Rattle.mz_logic_theory.specs.Tree.{Tree};
+ghost use Rattle.mz_logic_theory.specs.Signature.{Signature};
+ghost use Rattle.mz_logic_theory.specs.Declaration.{Assertion, Term, defined};
+ghost use Rattle.mz_logic_theory.specs.declared.binder.Binder.{Binder};
+ghost use Rattle.mz_layout_tables.specs.Tables.{term_count, term_row, thm_count};
 ghost use Rattle.mz_unify_theory.specs.Spells.{SpellsTerm, SpellsThm};
 ghost use Rattle.mz_machine_theory.specs.FileRows.{term_of_file, thm_of_file};
 ghost use Rattle.mz_decompile_text_theory.specs.Naming.{vocabulary_by};
@@ -15,8 +15,8 @@ use crate::reading::Reading;
 use mz_cmd::Mem;
 use mz_decompile_names::Names;
 use mz_decompile_phrases::Phrases;
-use mz_layout::Mmb;
-use mz_logic::Terms;
+use mz_layout_tables::Mmb;
+use mz_logic_theory::Terms;
 use std::alloc::Global;
 
 /// What an axiom or theorem says: its hypotheses, in order, and its conclusion, as phrases.

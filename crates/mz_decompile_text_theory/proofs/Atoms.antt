@@ -7,7 +7,7 @@ use Rattle.std.proofs.lemmas.Bool.Decides.{nat_tests}
 use Rattle.std.proofs.lemmas.List.Elements.{All-nil, All-cons}
 use Rattle.mz_sexpr.specs.Grammar.{IsAllowed, IsAtom, is_letter, begins_with}
 use Rattle.mz_base.specs.Identifiers.{is_between, is_name_start, is_digit, is_name_byte}
-use Rattle.mz_mmu_forms.specs.Name.{hidden, IsName}
+use Rattle.mz_mmu_theory.specs.Name.{hidden, IsName}
 
 -- from `0` to `z`, where the digits, the colon, the letters and `_` are
 abbrev is_plain_byte : ℕ → Bool

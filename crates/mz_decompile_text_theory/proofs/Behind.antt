@@ -2,15 +2,15 @@
 use Rattle.std.proofs.Common.{ℕ, suc, ◌≡◌, ◌<◌, ◌∙◌, false, List, [], ◌∷◌, ◌++◌, length, Some, refl, sym, ap, subst, arith, length-append, append-nil}
 use Rattle.std.proofs.lemmas.List.{get_or_append_left, get_or_push}
 use Rattle.mz_base_theory.proofs.Offered.{length-push}
-use Rattle.mz_logic.specs.Signature.{Signature}
-use Rattle.mz_logic.specs.Declaration.{Declaration, sort_decl, term_decl, assertion_decl, sorts, signatures, assertions}
-use Rattle.mz_logic.specs.Legality.{signature_at}
-use Rattle.mz_logic.specs.declared.binder.Binder.{Binder}
-use Rattle.mz_logic.proofs.Offered.{sorts-append, assertions-append, signatures-append}
+use Rattle.mz_logic_theory.specs.Signature.{Signature}
+use Rattle.mz_logic_theory.specs.Declaration.{Declaration, sort_decl, term_decl, assertion_decl, sorts, signatures, assertions}
+use Rattle.mz_logic_theory.specs.Legality.{signature_at}
+use Rattle.mz_logic_theory.specs.declared.binder.Binder.{Binder}
+use Rattle.mz_logic_theory.proofs.Offered.{sorts-append, assertions-append, signatures-append}
 use Rattle.mz_base.specs.Names.{number_of, IsNew}
 use Rattle.mz_base.proofs.Offered.{number-last, number-more}
-use Rattle.mz_mmu_forms.specs.Name.{Names, IsName, no_names, constant_name, names_with}
-use Rattle.mz_mmu.proofs.Offered.{Agrees}
+use Rattle.mz_mmu_theory.specs.Name.{Names, IsName, no_names, constant_name, names_with}
+use Rattle.mz_mmu_theory.proofs.Offered.{Agrees}
 use Rattle.mz_decompile_text_theory.specs.Phrasing.{Vocabulary}
 use Rattle.mz_decompile_text_theory.specs.Phrasable.{HasNewName}
 use Rattle.mz_decompile_text_theory.proofs.Numbers.{Numbered, numbered-none, numbered-more, last-or-before}

@@ -5,18 +5,18 @@ use Rattle.std.specs.List.Sorted.{IsStrictlyIncreasing}
 use Rattle.std.proofs.lemmas.List.Elements.{All-weaker}
 use Rattle.mz_base_theory.proofs.Offered.{one-further}
 use Rattle.mz_sexpr.specs.Node.{Node}
-use Rattle.mz_logic.specs.Tree.{Trees, none, more, listed}
-use Rattle.mz_logic.specs.Declaration.{DepsAscend}
-use Rattle.mz_logic.specs.Signature.{Signature}
-use Rattle.mz_logic.specs.Legality.{AllInRange, IsBinderThere, AreBindersThere, AreParams as HasRightParams}
-use Rattle.mz_logic.specs.Variables.{IsBoundAt}
-use Rattle.mz_logic.specs.declared.binder.Binder.{Binder}
-use Rattle.mz_logic.specs.declared.binder.ResultType.{ResultType}
-use Rattle.mz_logic.specs.declared.binder.SortMods.{SortMods}
-use Rattle.mz_logic.proofs.Offered.{each_from_all}
-use Rattle.mz_mmu_forms.specs.Name.{Names, IsParamName, scope_of}
-use Rattle.mz_mmu_forms.specs.Expressions.{AreDeps, IsParam, IsDummy, AreBinders, AreParams, AreDummies, IsResult}
-use Rattle.mz_mmu_statements.specs.Statements.{AreHyps, AreNamedHyps}
+use Rattle.mz_logic_theory.specs.Tree.{Trees, none, more, listed}
+use Rattle.mz_logic_theory.specs.Declaration.{DepsAscend}
+use Rattle.mz_logic_theory.specs.Signature.{Signature}
+use Rattle.mz_logic_theory.specs.Legality.{AllInRange, IsBinderThere, AreBindersThere, AreParams as HasRightParams}
+use Rattle.mz_logic_theory.specs.Variables.{IsBoundAt}
+use Rattle.mz_logic_theory.specs.declared.binder.Binder.{Binder}
+use Rattle.mz_logic_theory.specs.declared.binder.ResultType.{ResultType}
+use Rattle.mz_logic_theory.specs.declared.binder.SortMods.{SortMods}
+use Rattle.mz_logic_theory.proofs.Offered.{each_from_all}
+use Rattle.mz_mmu_theory.specs.Name.{Names, IsParamName, scope_of}
+use Rattle.mz_mmu_theory.specs.Expressions.{AreDeps, IsParam, IsDummy, AreBinders, AreParams, AreDummies, IsResult}
+use Rattle.mz_mmu_theory.specs.Statements.{AreHyps, AreNamedHyps}
 use Rattle.mz_decompile_text_theory.specs.Phrases.{a_word, a_list}
 use Rattle.mz_decompile_text_theory.specs.Phrasing.{Vocabulary, list_of, variable_names, binder, binders, result, named_hypotheses}
 use Rattle.mz_decompile_text_theory.proofs.Saying.{Says, AllSay, a-word, a-list, take, done, so, all-so}

@@ -2,23 +2,23 @@
 use Rattle.std.proofs.Common.{ℕ, ◌≡◌, ◌<◌, ◌≤◌, ◌+◌, Bool, true, false, List, [], ◌∷◌, ◌++◌, length, map, All, Option, Some, None, refl, sym, ap, subst, arith, slice_get, length-append}
 use Rattle.std.proofs.lemmas.List.Elements.{All-weaker}
 use Rattle.std.proofs.lemmas.Option.{slice_get_within}
-use Rattle.mz_logic.specs.Tree.{Tree, Trees, listed}
-use Rattle.mz_logic.specs.Signature.{Signature}
-use Rattle.mz_logic.specs.Declaration.{plain_form, defined, Declaration, sort_decl, term_decl, assertion_decl, sorts, signatures, assertions}
-use Rattle.mz_logic.specs.Derivations.{Derives, no_derivs}
-use Rattle.mz_logic.specs.Legality.{IsBinderThere, IsLegalDecl, IsDummy as IsRightDummy}
-use Rattle.mz_logic.specs.LegalLists.{AreDummies as HasRightDummies}
-use Rattle.mz_logic.specs.Variables.{IsBoundAt}
-use Rattle.mz_logic.specs.declared.binder.Binder.{Binder}
-use Rattle.mz_logic.specs.declared.binder.SortMods.{SortMods}
-use Rattle.mz_logic.proofs.Offered.{each_from_all}
+use Rattle.mz_logic_theory.specs.Tree.{Tree, Trees, listed}
+use Rattle.mz_logic_theory.specs.Signature.{Signature}
+use Rattle.mz_logic_theory.specs.Declaration.{plain_form, defined, Declaration, sort_decl, term_decl, assertion_decl, sorts, signatures, assertions}
+use Rattle.mz_logic_theory.specs.Derivations.{Derives, no_derivs}
+use Rattle.mz_logic_theory.specs.Legality.{IsBinderThere, IsLegalDecl, IsDummy as IsRightDummy}
+use Rattle.mz_logic_theory.specs.LegalLists.{AreDummies as HasRightDummies}
+use Rattle.mz_logic_theory.specs.Variables.{IsBoundAt}
+use Rattle.mz_logic_theory.specs.declared.binder.Binder.{Binder}
+use Rattle.mz_logic_theory.specs.declared.binder.SortMods.{SortMods}
+use Rattle.mz_logic_theory.proofs.Offered.{each_from_all}
 use Rattle.mz_base.specs.Names.{IsNew}
-use Rattle.mz_mmu_forms.specs.Name.{Names, IsName}
-use Rattle.mz_mmu_forms.specs.Gaps.{LeavesOnly}
-use Rattle.mz_mmu_forms.specs.Proof.{Proof}
-use Rattle.mz_mmu_statements.specs.Statements.{Statement, IsDeclared}
-use Rattle.mz_mmu_statements.specs.declared.kind.Kind.TheVariants.{Sort as sort_kind, Term as term_kind, Axiom as axiom_kind, Def as def_kind, Theorem as theorem_kind}
-use Rattle.mz_type.specs.Meaning.{IsProvedAsStated, derivation, LetsDerive}
+use Rattle.mz_mmu_theory.specs.Name.{Names, IsName}
+use Rattle.mz_mmu_theory.specs.Gaps.{LeavesOnly}
+use Rattle.mz_mmu_theory.specs.Proof.{Proof}
+use Rattle.mz_mmu_theory.specs.Statements.{Statement, IsDeclared}
+use Rattle.mz_mmu_theory.specs.declared.kind.Kind.TheVariants.{Sort as sort_kind, Term as term_kind, Axiom as axiom_kind, Def as def_kind, Theorem as theorem_kind}
+use Rattle.mz_mmu_theory.specs.Meaning.{IsProvedAsStated, derivation, LetsDerive}
 use Rattle.mz_decompile_text_theory.specs.Phrases.{a_word, a_list}
 use Rattle.mz_decompile_text_theory.specs.Phrasing.{Vocabulary, of_parts, expression, expressions, binders, result, named_hypotheses, proof, modifiers}
 use Rattle.mz_decompile_text_theory.specs.Phrasable.{HasNames, IsWithin}

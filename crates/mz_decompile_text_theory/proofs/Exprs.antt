@@ -1,12 +1,12 @@
 -- Expressions and variables are read of their phrases.
 use Rattle.std.proofs.Common.{ℕ, ◌≡◌, ◌<◌, inl, inr, List, [], ◌∷◌, length, map, All, Some, refl}
 use Rattle.std.proofs.lemmas.List.Elements.{All-head, All-tail}
-use Rattle.mz_logic.specs.Tree.{Tree, Trees, var, app, none, more}
-use Rattle.mz_logic.specs.Signature.{Signature}
-use Rattle.mz_logic.specs.Legality.{signature_at, InRange, AllInRange}
+use Rattle.mz_logic_theory.specs.Tree.{Tree, Trees, var, app, none, more}
+use Rattle.mz_logic_theory.specs.Signature.{Signature}
+use Rattle.mz_logic_theory.specs.Legality.{signature_at, InRange, AllInRange}
 use Rattle.mz_base.specs.Names.{number_of, IsNew}
-use Rattle.mz_mmu_forms.specs.Name.{Names, Scope, IsName, HasNumber, IsNewName, scope_of}
-use Rattle.mz_mmu_forms.specs.Expressions.{IsExpr, AreExprs, IsExprList, AreVariables, IsVariableList}
+use Rattle.mz_mmu_theory.specs.Name.{Names, Scope, IsName, HasNumber, IsNewName, scope_of}
+use Rattle.mz_mmu_theory.specs.Expressions.{IsExpr, AreExprs, IsExprList, AreVariables, IsVariableList}
 use Rattle.mz_decompile_text_theory.specs.Phrases.{a_word, a_list}
 use Rattle.mz_decompile_text_theory.specs.Phrasing.{Vocabulary, expression, expressions, word_list, variable_names}
 use Rattle.mz_decompile_text_theory.proofs.Saying.{Says, AllSay, a-word, a-list, take, done, all-so}

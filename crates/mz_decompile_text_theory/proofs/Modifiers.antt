@@ -2,8 +2,8 @@
 use Rattle.std.proofs.Common.{ℕ, ◌≡◌, ◌<◌, ◌+◌, ◌*◌, ◌/◌, ◌%◌, ◌==◌, ◌∙◌, ◌++◌, inl, inr, Bool, true, false, List, [], ◌∷◌, map, Some, refl, sym, ap, subst, arith, append_assoc}
 use Rattle.std.specs.Prelude.{codes, if◌then◌else◌}
 use Rattle.std.proofs.lemmas.Bool.{cases_eq, eq-eqb, ne_eqb}
-use Rattle.mz_logic.specs.declared.binder.SortMods.{SortMods}
-use Rattle.mz_mmu_statements.specs.Statements.{Modifiers, no_modifiers, with_modifier, AreModifiers, bit, modifier_bits}
+use Rattle.mz_logic_theory.specs.declared.binder.SortMods.{SortMods}
+use Rattle.mz_mmu_theory.specs.Statements.{Modifiers, no_modifiers, with_modifier, AreModifiers, bit, modifier_bits}
 use Rattle.mz_decompile_text_theory.specs.Phrases.{a_word}
 use Rattle.mz_decompile_text_theory.specs.Phrasing.{of_parts, if_set, modifiers}
 use Rattle.mz_decompile_text_theory.proofs.Saying.{IsFit, AllSay, key, done, all-so}

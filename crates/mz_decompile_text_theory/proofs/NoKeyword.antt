@@ -3,10 +3,10 @@ use Rattle.std.proofs.Common.{ℕ, ◌≡◌, ◌∙◌, Bool, false, List, ap, 
 use Rattle.std.specs.Prelude.{codes, bytes_eq, if◌then◌else◌}
 use Rattle.mz_base_theory.proofs.Offered.{other-bytes}
 use Rattle.mz_base.specs.Identifiers.{is_name}
-use Rattle.mz_mmu_forms.specs.Name.{IsName}
-use Rattle.mz_mmu_forms.specs.declared.keyword.Keyword.{Keyword}
-use Rattle.mz_mmu_forms.specs.declared.keyword.Keyword.TheVariants.{Conv as conv_word, Let as let_word, Refl as refl_word, Sym as sym_word, Unfold as unfold_word, Sorry as sorry_word, Other as no_word}
-use Rattle.mz_mmu_forms.specs.Proofs.{conv_keyword_of, proof_keyword_of}
+use Rattle.mz_mmu_theory.specs.Name.{IsName}
+use Rattle.mz_mmu_theory.specs.declared.keyword.Keyword.{Keyword}
+use Rattle.mz_mmu_theory.specs.declared.keyword.Keyword.TheVariants.{Conv as conv_word, Let as let_word, Refl as refl_word, Sym as sym_word, Unfold as unfold_word, Sorry as sorry_word, Other as no_word}
+use Rattle.mz_mmu_theory.specs.Proofs.{conv_keyword_of, proof_keyword_of}
 
 not-this : (w u : List ℕ) → is_name u ≡ false → IsName w → bytes_eq w u ≡ false
 not-this w u not_ name = other-bytes w u (λ is. true≢false (sym name ∙ ap is_name is ∙ not_))

@@ -3,7 +3,7 @@ use Rattle.std.proofs.Common.{ℕ, zero, suc, ◌≡◌, ◌<◌, ◌≤◌, ◌
 use Rattle.std.proofs.lemmas.Bool.{cases_eq}
 use Rattle.mz_base.specs.Names.{number_of, IsNew}
 use Rattle.mz_base.proofs.Offered.{new-more, number-last, number-more}
-use Rattle.mz_mmu_forms.specs.Name.{IsName}
+use Rattle.mz_mmu_theory.specs.Name.{IsName}
 
 -- ---- names that a vocabulary has by number
 

@@ -2,17 +2,17 @@
 use Rattle.std.proofs.Common.{ℕ, ◌≤◌, max, Bool, true, false, true≢false, List, [], ◌∷◌, ◌++◌, Option, Some, None, refl, sym, arith}
 use Rattle.std.specs.Prelude.{codes}
 use Rattle.mz_sexpr.specs.Node.{depth_limit}
-use Rattle.mz_logic.specs.Tree.{Tree, Trees}
-use Rattle.mz_logic.specs.Signature.{Signature}
-use Rattle.mz_logic.specs.Declaration.{Form, plain_form, abstract_form, defined, Declaration, sort_decl, term_decl, assertion_decl}
-use Rattle.mz_logic.specs.declared.binder.Binder.{Binder}
-use Rattle.mz_logic.specs.declared.binder.SortMods.{SortMods}
-use Rattle.mz_mmu_forms.specs.Name.{Names, IsName, no_names, names_with}
-use Rattle.mz_mmu_forms.specs.Gaps.{SomeLeavesOnly}
-use Rattle.mz_mmu_forms.specs.Proof.{Proof}
-use Rattle.mz_mmu_statements.specs.Statements.{Statement, IsStatement, AreStatements}
-use Rattle.mz_mmu.proofs.Offered.{Agrees, agrees_more, agrees_first}
-use Rattle.mz_type.specs.Meaning.{IsLegalAsStated, LegalAsStatedAfter}
+use Rattle.mz_logic_theory.specs.Tree.{Tree, Trees}
+use Rattle.mz_logic_theory.specs.Signature.{Signature}
+use Rattle.mz_logic_theory.specs.Declaration.{Form, plain_form, abstract_form, defined, Declaration, sort_decl, term_decl, assertion_decl}
+use Rattle.mz_logic_theory.specs.declared.binder.Binder.{Binder}
+use Rattle.mz_logic_theory.specs.declared.binder.SortMods.{SortMods}
+use Rattle.mz_mmu_theory.specs.Name.{Names, IsName, no_names, names_with}
+use Rattle.mz_mmu_theory.specs.Gaps.{SomeLeavesOnly}
+use Rattle.mz_mmu_theory.specs.Proof.{Proof}
+use Rattle.mz_mmu_theory.specs.Statements.{Statement, IsStatement, AreStatements}
+use Rattle.mz_mmu_theory.proofs.Offered.{Agrees, agrees_more, agrees_first}
+use Rattle.mz_mmu_theory.specs.Meaning.{IsLegalAsStated, LegalAsStatedAfter}
 use Rattle.mz_decompile_text_theory.specs.Phrases.{depth, depth_of_all}
 use Rattle.mz_decompile_text_theory.specs.Phrasing.{Vocabulary, list_of, marked_parts, declared_parts, statement, statements}
 use Rattle.mz_decompile_text_theory.specs.Phrasable.{HasNames, HasNewName, IsWithin, ArePhrasableAfter, IsPhrasable}

@@ -4,23 +4,23 @@ use Rattle.std.specs.Prelude.{codes}
 use Rattle.std.proofs.lemmas.List.Elements.{All-nil, All-cons}
 use Rattle.std.proofs.lemmas.Option.{slice_get_within}
 use Rattle.mz_sexpr.specs.Node.{Node, Nodes, atom, list, no_nodes, node}
-use Rattle.mz_logic.specs.Tree.{Tree, Trees, app, none, more, listed}
-use Rattle.mz_logic.specs.Declaration.{Declaration, signatures, assertions}
-use Rattle.mz_logic.specs.Sorts.{IsSorted}
-use Rattle.mz_logic.specs.Legality.{InRange}
-use Rattle.mz_logic.specs.Conversions.{Conversion, Conversions, refl_conv, sym_conv, cong_conv, unfold_conv, gap_conv, no_convs, more_convs, AreFresh, Between, AllBetween, GapsOnly, AllGapsOnly}
-use Rattle.mz_logic.specs.Derivations.{Derivations, Derives, AllDerive}
-use Rattle.mz_logic.specs.declared.binder.Binder.{Binder}
-use Rattle.mz_logic.proofs.Offered.{range_of_sort, ranges_of_fits}
+use Rattle.mz_logic_theory.specs.Tree.{Tree, Trees, app, none, more, listed}
+use Rattle.mz_logic_theory.specs.Declaration.{Declaration, signatures, assertions}
+use Rattle.mz_logic_theory.specs.Sorts.{IsSorted}
+use Rattle.mz_logic_theory.specs.Legality.{InRange}
+use Rattle.mz_logic_theory.specs.Conversions.{Conversion, Conversions, refl_conv, sym_conv, cong_conv, unfold_conv, gap_conv, no_convs, more_convs, AreFresh, Between, AllBetween, GapsOnly, AllGapsOnly}
+use Rattle.mz_logic_theory.specs.Derivations.{Derivations, Derives, AllDerive}
+use Rattle.mz_logic_theory.specs.declared.binder.Binder.{Binder}
+use Rattle.mz_logic_theory.proofs.Offered.{range_of_sort, ranges_of_fits}
 use Rattle.mz_base.specs.Names.{IsNew}
 use Rattle.mz_base.proofs.Offered.{new-both}
-use Rattle.mz_mmu_forms.specs.Name.{Names, Scope, HasNumber, IsName, scope_of}
-use Rattle.mz_mmu_forms.specs.Expressions.{IsExprList}
-use Rattle.mz_mmu_forms.specs.Gaps.{LeavesOnly, AllLeaveOnly}
-use Rattle.mz_mmu_forms.specs.Proof.{Proof, Proofs, by_hyp, by_name, by_citation, by_conv, by_let, by_gap, no_proofs, more_proofs}
-use Rattle.mz_mmu_forms.specs.Proofs.{IsConv, IsConvBy, AreConvs, IsProof, IsProofBy, AreProofs}
-use Rattle.mz_mmu_forms.specs.declared.keyword.Keyword.TheVariants.{Other as no_word}
-use Rattle.mz_type.specs.Meaning.{derivation, derivations, then_deriv, LetsDerive, AllLetsDerive}
+use Rattle.mz_mmu_theory.specs.Name.{Names, Scope, HasNumber, IsName, scope_of}
+use Rattle.mz_mmu_theory.specs.Expressions.{IsExprList}
+use Rattle.mz_mmu_theory.specs.Gaps.{LeavesOnly, AllLeaveOnly}
+use Rattle.mz_mmu_theory.specs.Proof.{Proof, Proofs, by_hyp, by_name, by_citation, by_conv, by_let, by_gap, no_proofs, more_proofs}
+use Rattle.mz_mmu_theory.specs.Proofs.{IsConv, IsConvBy, AreConvs, IsProof, IsProofBy, AreProofs}
+use Rattle.mz_mmu_theory.specs.declared.keyword.Keyword.TheVariants.{Other as no_word}
+use Rattle.mz_mmu_theory.specs.Meaning.{derivation, derivations, then_deriv, LetsDerive, AllLetsDerive}
 use Rattle.mz_decompile_text_theory.specs.Phrasing.{Vocabulary, conversion, conversions, proof, proofs}
 use Rattle.mz_decompile_text_theory.specs.Phrasable.{HasNames, SeesLets, AllSeeLets}
 use Rattle.mz_decompile_text_theory.proofs.Saying.{Says, AllSay, a-word, a-list, take, key, done, all-so}

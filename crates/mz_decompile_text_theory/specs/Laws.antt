@@ -2,8 +2,8 @@
 use Rattle.std.specs.Prelude.{◌≡◌, ◌≤◌, ⊤, ℕ, false, List, All}
 use Rattle.mz_sexpr.specs.Node.{Nodes, depth_limit}
 use Rattle.mz_sexpr.specs.Grammar.{Reads as Spells, IsAllowed, IsAtom}
-use Rattle.mz_mmu_statements.specs.Statements.{Statement}
-use Rattle.mz_type.specs.TextOf.{TextOf}
+use Rattle.mz_mmu_theory.specs.Statements.{Statement}
+use Rattle.mz_mmu_theory.specs.TextOf.{TextOf}
 use Rattle.mz_decompile_text_theory.specs.Phrases.{Phrase, Phrases, a_word, a_list, no_phrases, one_more, lines_of, phrases_of, depth_of_all}
 use Rattle.mz_decompile_text_theory.specs.Phrasing.{Vocabulary, text_of}
 use Rattle.mz_decompile_text_theory.specs.Phrasable.{HasNames, ArePhrasable}

@@ -3,3 +3,4 @@ pub mod Phrasing
 pub mod Naming
 pub mod Phrasable
 pub mod Laws
+pub mod Names

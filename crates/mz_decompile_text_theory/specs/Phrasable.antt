@@ -2,14 +2,14 @@
 use Rattle.std.specs.Prelude.{◌≡◌, ◌<◌, ◌≤◌, ⊤, ℕ, suc, Bool, true, false, List, [], ◌∷◌, ◌++◌, length, Option, Some, None}
 use Rattle.std.specs.List.Sorted.{IsStrictlyIncreasing}
 use Rattle.mz_sexpr.specs.Node.{depth_limit}
-use Rattle.mz_logic.specs.Tree.{listed}
-use Rattle.mz_logic.specs.Declaration.{Form, plain_form, abstract_form, defined, context_of, Declaration, sort_decl, term_decl, assertion_decl, sorts, signatures, assertions, DepsAscend}
-use Rattle.mz_logic.specs.declared.binder.Binder.{Binder}
+use Rattle.mz_logic_theory.specs.Tree.{listed}
+use Rattle.mz_logic_theory.specs.Declaration.{Form, plain_form, abstract_form, defined, context_of, Declaration, sort_decl, term_decl, assertion_decl, sorts, signatures, assertions, DepsAscend}
+use Rattle.mz_logic_theory.specs.declared.binder.Binder.{Binder}
 use Rattle.mz_base.specs.Names.{IsNew}
-use Rattle.mz_mmu_forms.specs.Name.{Names, IsName, no_names, names_with}
-use Rattle.mz_mmu_statements.specs.Statements.{HasGapsOnly, Statement}
-use Rattle.mz_mmu_forms.specs.Proof.{Proof, Proofs, by_hyp, by_name, by_citation, by_conv, by_let, by_gap, no_proofs, more_proofs}
-use Rattle.mz_type.specs.Meaning.{IsLegalAsStated}
+use Rattle.mz_mmu_theory.specs.Name.{Names, IsName, no_names, names_with}
+use Rattle.mz_mmu_theory.specs.Statements.{HasGapsOnly, Statement}
+use Rattle.mz_mmu_theory.specs.Proof.{Proof, Proofs, by_hyp, by_name, by_citation, by_conv, by_let, by_gap, no_proofs, more_proofs}
+use Rattle.mz_mmu_theory.specs.Meaning.{IsLegalAsStated}
 use Rattle.mz_decompile_text_theory.specs.Phrases.{depth}
 use Rattle.mz_decompile_text_theory.specs.Phrasing.{Vocabulary, statement}
 

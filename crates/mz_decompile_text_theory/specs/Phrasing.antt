@@ -1,15 +1,15 @@
 -- Statements as phrases (this project's own form of mm0.md's sorts, terms, axioms, definitions and theorems, and of
 -- proofs).
 use Rattle.std.specs.Prelude.{ℕ, suc, ◌/◌, ◌%◌, ◌==◌, Bool, true, false, List, [], ◌∷◌, ◌++◌, length, map, Option, Some, None, codes, if◌then◌else◌}
-use Rattle.mz_logic.specs.Tree.{Tree, Trees, var, app, none, more}
-use Rattle.mz_logic.specs.Signature.{Signature}
-use Rattle.mz_logic.specs.Declaration.{Form, defined, Declaration, sort_decl, term_decl, assertion_decl}
-use Rattle.mz_logic.specs.Conversions.{Conversion, Conversions, refl_conv, sym_conv, cong_conv, unfold_conv, gap_conv, no_convs, more_convs}
-use Rattle.mz_logic.specs.declared.binder.Binder.{Binder}
-use Rattle.mz_logic.specs.declared.binder.ResultType.{ResultType}
-use Rattle.mz_logic.specs.declared.binder.SortMods.{SortMods}
-use Rattle.mz_mmu_forms.specs.Proof.{Proof, Proofs, by_hyp, by_name, by_citation, by_conv, by_let, by_gap, no_proofs, more_proofs}
-use Rattle.mz_mmu_statements.specs.Statements.{Statement}
+use Rattle.mz_logic_theory.specs.Tree.{Tree, Trees, var, app, none, more}
+use Rattle.mz_logic_theory.specs.Signature.{Signature}
+use Rattle.mz_logic_theory.specs.Declaration.{Form, defined, Declaration, sort_decl, term_decl, assertion_decl}
+use Rattle.mz_logic_theory.specs.Conversions.{Conversion, Conversions, refl_conv, sym_conv, cong_conv, unfold_conv, gap_conv, no_convs, more_convs}
+use Rattle.mz_logic_theory.specs.declared.binder.Binder.{Binder}
+use Rattle.mz_logic_theory.specs.declared.binder.ResultType.{ResultType}
+use Rattle.mz_logic_theory.specs.declared.binder.SortMods.{SortMods}
+use Rattle.mz_mmu_theory.specs.Proof.{Proof, Proofs, by_hyp, by_name, by_citation, by_conv, by_let, by_gap, no_proofs, more_proofs}
+use Rattle.mz_mmu_theory.specs.Statements.{Statement}
 use Rattle.mz_decompile_text_theory.specs.Phrases.{Phrase, Phrases, a_word, a_list, no_phrases, one_more, lines_of}
 
 -- the names of sorts, of terms, of axioms and theorems, and in a statement of variables, of hypotheses and of lets, each

@@ -1,22 +1,22 @@
 -- They can be restated in one way.
 use Rattle.std.proofs.Common.{◌≡◌, ◌∙◌, ℕ, Bool, true, false, List, [], ◌∷◌, ◌++◌, Option, Some, Ok, refl, sym, ap, subst}
 use Rattle.mz_cmd.specs.declared.statement.StmtAt.TheVariants.{Head}
-use Rattle.mz_logic.specs.Declaration.{Declaration, sort_decl, term_decl, assertion_decl}
-use Rattle.mz_logic.specs.LegalLists.{Statement as Marked}
-use Rattle.mz_logic.specs.declared.binder.Binder.{Binder}
-use Rattle.mz_mmu_forms.specs.Proof.{Proof}
-use Rattle.mz_mmu_statements.specs.Statements.{Statement}
-use Rattle.mz_layout.specs.Tables.{list_at}
-use Rattle.mz_layout.specs.Heads.{body_bytes}
+use Rattle.mz_logic_theory.specs.Declaration.{Declaration, sort_decl, term_decl, assertion_decl}
+use Rattle.mz_logic_theory.specs.LegalLists.{Statement as Marked}
+use Rattle.mz_logic_theory.specs.declared.binder.Binder.{Binder}
+use Rattle.mz_mmu_theory.specs.Proof.{Proof}
+use Rattle.mz_mmu_theory.specs.Statements.{Statement}
+use Rattle.mz_layout_tables.specs.Tables.{list_at}
+use Rattle.mz_layout_tables.specs.Heads.{body_bytes}
 use Rattle.mz_machine_theory.specs.FileRows.{taken_by, rows_taken}
 use Rattle.mz_binary_theory.specs.WholeLaws.{OneListOfStatements, GoodFilesSpell}
 use Rattle.mz_binary_theory.specs.Standards.{strict_standard}
-use Rattle.mz_spec.specs.State.{Entry}
-use Rattle.mz_spec.specs.Laws.{OneReading}
+use Rattle.mz_spec_theory.specs.State.{Entry}
+use Rattle.mz_spec_theory.specs.Laws.{OneReading}
 use Rattle.mz_trace_theory.specs.Laws.{BodiesMakeOne}
 use Rattle.mz_trace_theory.specs.Traces.{under_lets}
-use Rattle.mz_mmu_statements.specs.DeclaredNames.{prefix_beside}
-use Rattle.mz_decompile_names.specs.Names.{declared_names, statement_names}
+use Rattle.mz_mmu_theory.specs.DeclaredNames.{prefix_beside}
+use Rattle.mz_decompile_text_theory.specs.Names.{declared_names, statement_names}
 use Rattle.mz_decompile_theory.specs.Restated.{IsProofMade, IsRestated, AreRestated}
 use Rattle.mz_decompile_theory.specs.Laws.{RestatedAlike}
 use Rattle.mz_decompile_theory.proofs.Theorems.{next_heading, IsProofBy}

@@ -3,10 +3,10 @@ use Rattle.std.proofs.Common.{◌≡◌, ◌≤◌, ◌<◌, ◌+◌, ◌/◌, �
 use Rattle.std.specs.Prelude.{if◌then◌else◌}
 use Rattle.std.specs.List.Sorted.{IsStrictlyIncreasing}
 use Rattle.std.proofs.lemmas.List.Elements.{All-nil, All-cons}
-use Rattle.mz_logic.specs.Words.{word_bound, word_deps, places_set, bound_places, binder_of, binders_from, binders_of, TermWords, result_of}
-use Rattle.mz_logic.specs.Declaration.{DepsAscend}
-use Rattle.mz_logic.specs.declared.binder.Binder.{Binder}
-use Rattle.mz_logic.specs.declared.word.Word.{Word}
+use Rattle.mz_logic_theory.specs.Words.{word_bound, word_deps, places_set, bound_places, binder_of, binders_from, binders_of, TermWords, result_of}
+use Rattle.mz_logic_theory.specs.Declaration.{DepsAscend}
+use Rattle.mz_logic_theory.specs.declared.binder.Binder.{Binder}
+use Rattle.mz_logic_theory.specs.declared.word.Word.{Word}
 
 -- ascending from a number on, and all below another
 abbrev Ascends : ℕ → ℕ → List ℕ → Type 0

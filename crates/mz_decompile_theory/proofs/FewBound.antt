@@ -9,15 +9,15 @@ use Rattle.mz_cmd.specs.declared.command.CmdFault.{CmdFault}
 use Rattle.mz_cmd.specs.declared.code.ProofCode.{ProofCode}
 use Rattle.mz_cmd.specs.declared.code.ProofCode.TheVariants as code
 use Rattle.mz_cmd.specs.Reading.{first_command}
-use Rattle.mz_logic.specs.Tree.{Tree, none}
-use Rattle.mz_logic.specs.Declaration.{Declaration, defined, sorts, signatures}
-use Rattle.mz_logic.specs.Variables.{InSomeV}
-use Rattle.mz_logic.specs.Conversions.{AreFresh}
-use Rattle.mz_logic.specs.Legality.{sort_of}
-use Rattle.mz_logic.specs.LegalLists.{AreDummies}
-use Rattle.mz_logic.specs.declared.binder.Binder.{Binder}
-use Rattle.mz_logic.specs.declared.binder.SortMods.{SortMods}
-use Rattle.mz_mmu_forms.specs.Proof.{Proof}
+use Rattle.mz_logic_theory.specs.Tree.{Tree, none}
+use Rattle.mz_logic_theory.specs.Declaration.{Declaration, defined, sorts, signatures}
+use Rattle.mz_logic_theory.specs.Variables.{InSomeV}
+use Rattle.mz_logic_theory.specs.Conversions.{AreFresh}
+use Rattle.mz_logic_theory.specs.Legality.{sort_of}
+use Rattle.mz_logic_theory.specs.LegalLists.{AreDummies}
+use Rattle.mz_logic_theory.specs.declared.binder.Binder.{Binder}
+use Rattle.mz_logic_theory.specs.declared.binder.SortMods.{SortMods}
+use Rattle.mz_mmu_theory.specs.Proof.{Proof}
 use Rattle.mz_unify_theory.specs.Steps.{◌>>◌, need, at_place, Turn, over, goes_on}
 use Rattle.mz_unify_theory.specs.Streams.{of_definition}
 use Rattle.mz_unify_theory.specs.Spells.{trees_of, dummy_of, variables_from, SpellsForm}

@@ -7,9 +7,9 @@ use Rattle.mz_cmd.specs.declared.command.CmdFault.TheVariants.{Cut, Unknown}
 use Rattle.mz_cmd.specs.Codes.{is_known}
 use Rattle.mz_cmd.specs.Spelling.{operand_len}
 use Rattle.mz_cmd.specs.Reading.{first_command}
-use Rattle.mz_logic.specs.Tree.{Tree, Trees, var, app, none, more, listed}
-use Rattle.mz_logic.specs.Signature.{Signature}
-use Rattle.mz_logic.specs.Declaration.{Assertion}
+use Rattle.mz_logic_theory.specs.Tree.{Tree, Trees, var, app, none, more, listed}
+use Rattle.mz_logic_theory.specs.Signature.{Signature}
+use Rattle.mz_logic_theory.specs.Declaration.{Assertion}
 use Rattle.mz_unify_theory.specs.Streams.{StreamKind, of_assertion, UnifyCommand, StreamIs}
 use Rattle.mz_unify_theory.specs.Spells.{Marks, marked, at_first, Spells, SpellsAll, SpellsHyps, SpelledThm, SpellsThm}
 

@@ -6,14 +6,14 @@ use Rattle.mz_base_theory.specs.Checks.{AllHold}
 use Rattle.mz_cmd.specs.declared.statement.StmtAt.TheVariants.{Head}
 use Rattle.mz_cmd.specs.StatementList.{statement_at}
 use Rattle.mz_sexpr.specs.Node.{depth_limit}
-use Rattle.mz_logic.specs.Declaration.{Declaration}
-use Rattle.mz_logic.specs.Legality.{IsLegalDecl, IsLegalEnv}
-use Rattle.mz_logic.specs.LegalLists.{Statement as Marked, MayBeLocal, LegalAfter, gap_free}
-use Rattle.mz_logic.specs.declared.binder.Binder.{Binder}
-use Rattle.mz_mmu_forms.specs.Name.{Names, IsName, names_with}
-use Rattle.mz_mmu_statements.specs.Statements.{Statement}
-use Rattle.mz_type.specs.Meaning.{marked}
-use Rattle.mz_type.specs.Weight.{parameter_limit, bound_limit, params_of, parameter_count, bound_count as bound_in, each_within}
+use Rattle.mz_logic_theory.specs.Declaration.{Declaration}
+use Rattle.mz_logic_theory.specs.Legality.{IsLegalDecl, IsLegalEnv}
+use Rattle.mz_logic_theory.specs.LegalLists.{Statement as Marked, MayBeLocal, LegalAfter, gap_free}
+use Rattle.mz_logic_theory.specs.declared.binder.Binder.{Binder}
+use Rattle.mz_mmu_theory.specs.Name.{Names, IsName, names_with}
+use Rattle.mz_mmu_theory.specs.Statements.{Statement}
+use Rattle.mz_mmu_theory.specs.Meaning.{marked}
+use Rattle.mz_mmu_theory.specs.Weight.{parameter_limit, bound_limit, params_of, parameter_count, bound_count as bound_in, each_within}
 use Rattle.mz_machine_theory.specs.MachineState.{Declares}
 use Rattle.mz_machine_theory.specs.Premises.{bound_count}
 use Rattle.mz_machine_theory.specs.FileRows.{taken_by, rows_taken}

@@ -7,9 +7,9 @@ use Rattle.std.proofs.lemmas.Fmt.{decimal_injective, decimal_is_IsNumeral}
 use Rattle.std.proofs.lemmas.List.{append_cancel_left}
 use Rattle.mz_base.specs.Identifiers.{is_name_byte}
 use Rattle.mz_base.proofs.Offered.{digits-named}
-use Rattle.mz_mmu_forms.specs.Name.{IsName}
-use Rattle.mz_spec_variables.specs.Dependencies.{Every}
-use Rattle.mz_mmu_statements.specs.DeclaredNames.{underscores, longest_run}
+use Rattle.mz_mmu_theory.specs.Name.{IsName}
+use Rattle.mz_spec_theory.specs.Dependencies.{Every}
+use Rattle.mz_mmu_theory.specs.DeclaredNames.{underscores, longest_run}
 
 -- ---- how a prefixed name begins
 

@@ -1,22 +1,22 @@
 -- The statements of a pair that is accepted can be restated.
 use Rattle.std.proofs.Common.{◌≡◌, ℕ, suc, Bool, true, false, List, [], ◌∷◌, ◌++◌, length, get_or, Option, Some, None, refl, sym, ap, subst}
 use Rattle.std.specs.Prelude.{if◌then◌else◌, codes, decimal}
-use Rattle.mz_logic.specs.Declaration.{Declaration, sort_decl, term_decl, assertion_decl}
-use Rattle.mz_logic.specs.LegalLists.{Statement as Marked}
-use Rattle.mz_logic.specs.Legality.{IsLegalEnv}
-use Rattle.mz_logic.specs.declared.binder.Binder.{Binder}
-use Rattle.mz_mmu_forms.specs.Proof.{Proof}
-use Rattle.mz_mmu_statements.specs.Statements.{Statement}
-use Rattle.mz_layout.specs.Tables.{list_at}
+use Rattle.mz_logic_theory.specs.Declaration.{Declaration, sort_decl, term_decl, assertion_decl}
+use Rattle.mz_logic_theory.specs.LegalLists.{Statement as Marked}
+use Rattle.mz_logic_theory.specs.Legality.{IsLegalEnv}
+use Rattle.mz_logic_theory.specs.declared.binder.Binder.{Binder}
+use Rattle.mz_mmu_theory.specs.Proof.{Proof}
+use Rattle.mz_mmu_theory.specs.Statements.{Statement}
+use Rattle.mz_layout_tables.specs.Tables.{list_at}
 use Rattle.mz_machine_theory.specs.MachineState.{Declares}
-use Rattle.mz_layout.specs.Heads.{body_bytes}
+use Rattle.mz_layout_tables.specs.Heads.{body_bytes}
 use Rattle.mz_machine_theory.specs.FileRows.{taken_by, rows_taken}
 use Rattle.mz_binary_theory.specs.Chains.{IsGoodStatement, GoodTo}
 use Rattle.mz_binary_theory.specs.Standards.{strict_standard}
 use Rattle.mz_trace_theory.specs.Laws.{BodiesMakeProofs}
 use Rattle.mz_trace_theory.specs.Traces.{under_lets}
-use Rattle.mz_mmu_statements.specs.DeclaredNames.{prefix_beside}
-use Rattle.mz_decompile_names.specs.Names.{declared_names, statement_names}
+use Rattle.mz_mmu_theory.specs.DeclaredNames.{prefix_beside}
+use Rattle.mz_decompile_text_theory.specs.Names.{declared_names, statement_names}
 use Rattle.mz_decompile_theory.specs.Restated.{IsProofMade, IsRestated, AreRestated}
 use Rattle.mz_decompile_theory.specs.Laws.{AcceptedAreRestated}
 use Rattle.mz_decompile_theory.proofs.Theorems.{next_heading, IsProofBy, theorem-runs, one-more}

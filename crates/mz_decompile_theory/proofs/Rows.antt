@@ -8,26 +8,25 @@ use Rattle.mz_cmd.specs.declared.code.StatementCode.TheVariants as codes
 use Rattle.mz_cmd.specs.declared.statement.StmtAt.{StmtAt}
 use Rattle.mz_cmd.specs.declared.statement.StmtFault.{StmtFault}
 use Rattle.mz_cmd.specs.Codes.{statement_code}
-use Rattle.mz_logic.specs.Tree.{listed}
-use Rattle.mz_logic.specs.Signature.{Signature}
-use Rattle.mz_logic.specs.Declaration.{Form, plain_form, abstract_form, defined, dummies_of, Declaration, sort_decl, term_decl, assertion_decl, Term, Assertion, sorts, terms, signatures, assertions, DepsAscend}
-use Rattle.mz_logic.specs.LegalLists.{Statement}
-use Rattle.mz_logic.specs.Words.{binders_of, signature_of}
-use Rattle.mz_logic.specs.declared.binder.Binder.{Binder}
-use Rattle.mz_logic.specs.declared.binder.SortMods.{SortMods}
-use Rattle.mz_logic.specs.declared.word.Word.{Word}
-use Rattle.mz_logic.proofs.Offered.{length-binders}
-use Rattle.mz_layout.specs.Numbers.{number_at}
-use Rattle.mz_layout.specs.Tables.{param_count, params_of, term_record, thm_record, term_row, thm_row}
-use Rattle.mz_layout.proofs.Offered.{length-params}
+use Rattle.mz_logic_theory.specs.Tree.{listed}
+use Rattle.mz_logic_theory.specs.Signature.{Signature}
+use Rattle.mz_logic_theory.specs.Declaration.{Form, plain_form, abstract_form, defined, dummies_of, Declaration, sort_decl, term_decl, assertion_decl, Term, Assertion, sorts, terms, signatures, assertions, DepsAscend}
+use Rattle.mz_logic_theory.specs.LegalLists.{Statement}
+use Rattle.mz_logic_theory.specs.Words.{binders_of, signature_of}
+use Rattle.mz_logic_theory.specs.declared.binder.Binder.{Binder}
+use Rattle.mz_logic_theory.specs.declared.binder.SortMods.{SortMods}
+use Rattle.mz_logic_theory.specs.declared.word.Word.{Word}
+use Rattle.mz_logic_theory.proofs.Offered.{length-binders}
+use Rattle.mz_layout_tables.specs.Numbers.{number_at}
+use Rattle.mz_layout_tables.specs.Tables.{param_count, params_of, term_record, thm_record, term_row, thm_row}
+use Rattle.mz_layout_tables.proofs.Offered.{length-params, right-words}
 use Rattle.mz_unify_theory.specs.Spells.{SpellsForm}
 use Rattle.mz_machine_theory.specs.MachineState.{Heading, Declares}
 use Rattle.mz_machine_theory.specs.Premises.{bound_count}
-use Rattle.mz_layout_words.specs.RowWords.{AreParamWords}
+use Rattle.mz_layout_tables.specs.RowWords.{AreParamWords}
 use Rattle.mz_machine_theory.specs.Lists.{definition_of, BodyIsGood}
-use Rattle.mz_layout.specs.Heads.{body_bytes}
+use Rattle.mz_layout_tables.specs.Heads.{body_bytes}
 use Rattle.mz_machine_theory.specs.FileRows.{taken_by, rows_taken, term_of_file, thm_of_file}
-use Rattle.mz_layout_words.proofs.Offered.{right-words}
 use Rattle.mz_binary_theory.specs.Checking.{checks_of, kind_checks}
 use Rattle.mz_binary_theory.specs.Chains.{IsGoodStatement}
 use Rattle.mz_binary_theory.specs.Laws.{HasRow}

@@ -4,10 +4,10 @@ use Rattle.std.specs.Prelude.{⊤, IsTrue, if◌then◌else◌, option_map, byte
 use Rattle.std.specs.Bool.{Decides}
 use Rattle.std.proofs.lemmas.Slice.Eq.{bytes_eq-Decides}
 use Rattle.mz_base.specs.Identifiers.{is_name}
-use Rattle.mz_logic.specs.Declaration.{Declaration, sort_decl, term_decl, assertion_decl}
+use Rattle.mz_logic_theory.specs.Declaration.{Declaration, sort_decl, term_decl, assertion_decl}
 use Rattle.mz_base.specs.Names.{number_of, IsNew}
-use Rattle.mz_mmu_forms.specs.Name.{Names, names_with}
-use Rattle.mz_spec_variables.specs.Dependencies.{Every}
+use Rattle.mz_mmu_theory.specs.Name.{Names, names_with}
+use Rattle.mz_spec_theory.specs.Dependencies.{Every}
 
 pub record Seen : Type 0 where
   pub sorts : List (List ℕ)

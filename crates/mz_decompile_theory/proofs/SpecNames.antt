@@ -5,20 +5,20 @@ use Rattle.mz_base.specs.Identifiers.{is_name}
 use Rattle.mz_lex.specs.Kinds.{is_of_kind}
 use Rattle.mz_lex.specs.Lexemes.{Lexeme, IsNext, LexesFrom}
 use Rattle.mz_lex.specs.declared.token.LexFault.{LexFault}
-use Rattle.mz_logic.specs.Declaration.{Declaration}
-use Rattle.mz_math_notation.specs.Notation.{Table}
-use Rattle.mz_spec_grammar.specs.Statement.{Statement, sort_statement, term_statement, assert_statement, definition_statement, operator_statement, coercion_statement, delimiter_statement, notation_statement, Spells, Sign, keyword, symbol, name, name_or_blank, formula, number, only_if, IsSign, AreSigns, end_signs, modifier_signs, statement_signs}
-use Rattle.mz_spec_grammar.specs.Reading.{place_of_first}
-use Rattle.mz_spec.specs.declared.spec.Mark.{Mark}
+use Rattle.mz_logic_theory.specs.Declaration.{Declaration}
+use Rattle.mz_math_theory.specs.Notation.{Table}
+use Rattle.mz_spec_theory.specs.Statement.{Statement, sort_statement, term_statement, assert_statement, definition_statement, operator_statement, coercion_statement, delimiter_statement, notation_statement, Spells, Sign, keyword, symbol, name, name_or_blank, formula, number, only_if, IsSign, AreSigns, end_signs, modifier_signs, statement_signs}
+use Rattle.mz_spec_theory.specs.Reading.{place_of_first}
+use Rattle.mz_spec_theory.specs.declared.spec.Mark.{Mark}
 use Rattle.mz_base.specs.Names.{IsNew}
 use Rattle.mz_base.proofs.Offered.{new-first}
-use Rattle.mz_spec_variables.specs.Dependencies.{Every}
-use Rattle.mz_spec.specs.State.{State, Entry, nothing, mark_at, env_of, with_table}
-use Rattle.mz_spec.specs.Declaring.{After}
-use Rattle.mz_spec.specs.Spec.{IsGood, Stand, SpecMakes}
-use Rattle.mz_spec.proofs.Offered.{IsOfKind, every-front, good-new, entries-decls, entries-marks, kept-nothing, lexes-kinds, stand-kept}
-use Rattle.mz_spec_names.specs.Names.{name_in}
-use Rattle.mz_decompile_names.specs.Names.{names_from, declared_names}
+use Rattle.mz_spec_theory.specs.Dependencies.{Every}
+use Rattle.mz_spec_theory.specs.State.{State, Entry, nothing, mark_at, env_of, with_table}
+use Rattle.mz_spec_theory.specs.Declaring.{After}
+use Rattle.mz_spec_theory.specs.Spec.{IsGood, Stand, SpecMakes}
+use Rattle.mz_spec_theory.proofs.Offered.{IsOfKind, every-front, good-new, entries-decls, entries-marks, kept-nothing, lexes-kinds, stand-kept}
+use Rattle.mz_spec_theory.specs.Names.{name_in}
+use Rattle.mz_decompile_text_theory.specs.Names.{names_from, declared_names}
 use Rattle.mz_decompile_theory.proofs.Seen.{Seen, none_seen, seen_in, seen_with, IsOther, AreNew}
 
 new-other : (xs : List (List ℕ)) (w : List ℕ) → IsNew xs w → IsOther w xs

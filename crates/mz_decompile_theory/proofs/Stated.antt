@@ -1,16 +1,16 @@
 -- What is stated of one good statement: its proof, its names' numbers and its bound variables.
 use Rattle.std.proofs.Common.{◌≡◌, ◌≤◌, ◌+◌, ◌-◌, ◌∙◌, ℕ, Bool, true, false, List, [], length, drop, Option, None, refl, sym, ap, subst, arith, length-append, length-take, length-drop}
-use Rattle.mz_logic.specs.Declaration.{dummies_of, Declaration, sort_decl, term_decl, assertion_decl, Term, Assertion, sorts}
-use Rattle.mz_logic.specs.Legality.{IsLegalEnv}
-use Rattle.mz_logic.specs.LegalLists.{Statement as Marked}
-use Rattle.mz_logic.specs.declared.binder.Binder.{Binder}
-use Rattle.mz_mmu_forms.specs.Gaps.{SomeLeavesOnly}
-use Rattle.mz_mmu_forms.specs.Proof.{Proof}
-use Rattle.mz_type.specs.Meaning.{IsProvedAsStated}
-use Rattle.mz_type.specs.Weight.{params_of, dummy_count}
+use Rattle.mz_logic_theory.specs.Declaration.{dummies_of, Declaration, sort_decl, term_decl, assertion_decl, Term, Assertion, sorts}
+use Rattle.mz_logic_theory.specs.Legality.{IsLegalEnv}
+use Rattle.mz_logic_theory.specs.LegalLists.{Statement as Marked}
+use Rattle.mz_logic_theory.specs.declared.binder.Binder.{Binder}
+use Rattle.mz_mmu_theory.specs.Gaps.{SomeLeavesOnly}
+use Rattle.mz_mmu_theory.specs.Proof.{Proof}
+use Rattle.mz_mmu_theory.specs.Meaning.{IsProvedAsStated}
+use Rattle.mz_mmu_theory.specs.Weight.{params_of, dummy_count}
 use Rattle.mz_machine_theory.specs.MachineState.{Declares}
 use Rattle.mz_machine_theory.specs.Premises.{bound_count}
-use Rattle.mz_layout.specs.Heads.{body_bytes}
+use Rattle.mz_layout_tables.specs.Heads.{body_bytes}
 use Rattle.mz_machine_theory.specs.FileRows.{taken_by, rows_taken}
 use Rattle.mz_binary_theory.specs.Chains.{IsGoodStatement}
 use Rattle.mz_binary_theory.specs.Standards.{strict_standard}

@@ -5,14 +5,14 @@ use Rattle.mz_base_theory.specs.Checks.{AllHold}
 use Rattle.mz_base_theory.proofs.Offered.{all_hold-both, all_hold-first, all_hold-rest}
 use Rattle.mz_cmd.specs.declared.statement.StmtAt.{StmtAt}
 use Rattle.mz_cmd.specs.declared.statement.StmtFault.{StmtFault}
-use Rattle.mz_logic.specs.Declaration.{Declaration, sort_decl, term_decl, assertion_decl, sorts}
-use Rattle.mz_logic.specs.LegalLists.{Statement as Marked, declarations}
-use Rattle.mz_mmu_statements.specs.Statements.{Statement}
-use Rattle.mz_type.specs.Meaning.{marked}
-use Rattle.mz_type.specs.TextOf.{TextOf}
-use Rattle.mz_type.specs.Weight.{sort_count, byte_bound, parameter_limit, bound_limit, byte_limit, parameter_count, bound_count, within, each_within, IsWithinLimits}
-use Rattle.mz_layout.specs.Tables.{list_at}
-use Rattle.mz_layout.proofs.Offered.{parts-of_layout}
+use Rattle.mz_logic_theory.specs.Declaration.{Declaration, sort_decl, term_decl, assertion_decl, sorts}
+use Rattle.mz_logic_theory.specs.LegalLists.{Statement as Marked, declarations}
+use Rattle.mz_mmu_theory.specs.Statements.{Statement}
+use Rattle.mz_mmu_theory.specs.Meaning.{marked}
+use Rattle.mz_mmu_theory.specs.TextOf.{TextOf}
+use Rattle.mz_mmu_theory.specs.Weight.{sort_count, byte_bound, parameter_limit, bound_limit, byte_limit, parameter_count, bound_count, within, each_within, IsWithinLimits}
+use Rattle.mz_layout_tables.specs.Tables.{list_at}
+use Rattle.mz_layout_tables.proofs.Offered.{parts-of_layout}
 use Rattle.mz_machine_theory.specs.FileRows.{taken_by}
 use Rattle.mz_binary_theory.specs.Checking.{checks_of}
 use Rattle.mz_binary_theory.specs.Chains.{Statements, IsGoodStatement}
@@ -20,16 +20,16 @@ use Rattle.mz_binary_theory.specs.Good.{Good}
 use Rattle.mz_binary_theory.specs.WholeLaws.{GoodFilesSpell}
 use Rattle.mz_binary_theory.specs.Standards.{strict_standard}
 use Rattle.mz_binary_theory.proofs.Offered.{chain-declares, good-legal}
-use Rattle.mz_spec.specs.State.{env_of}
-use Rattle.mz_spec.specs.Laws.{OneReading}
-use Rattle.mz_match_theory.specs.Match.{publics, Agrees}
+use Rattle.mz_spec_theory.specs.State.{env_of}
+use Rattle.mz_spec_theory.specs.Laws.{OneReading}
+use Rattle.mz_spec_proved_theory.specs.Match.{publics, Agrees}
 use Rattle.mz_trace_theory.specs.Laws.{MadeProofsProve}
 use Rattle.mz_decompile_text_theory.specs.Laws.{StatedTextsAreRead}
 use Rattle.mz_decompile_text_theory.specs.Phrasing.{Vocabulary, text_of}
 use Rattle.mz_decompile_text_theory.specs.Phrasable.{HasNames}
 use Rattle.mz_decompile_theory.specs.Laws.{PlainTextsAreTexts}
-use Rattle.mz_mmu_statements.specs.DeclaredNames.{longest_run}
-use Rattle.mz_decompile_names.specs.Names.{declared_names, statement_names, vocabulary_of}
+use Rattle.mz_mmu_theory.specs.DeclaredNames.{longest_run}
+use Rattle.mz_decompile_text_theory.specs.Names.{declared_names, statement_names, vocabulary_of}
 use Rattle.mz_prefix_theory.specs.Wording.{longest}
 use Rattle.mz_decompile_theory.specs.Restated.{depth_checks, stating_checks, greater_length}
 use Rattle.mz_decompile_theory.proofs.Prefixed.{prefix_of, prefixed-named, same-number, same-letter}

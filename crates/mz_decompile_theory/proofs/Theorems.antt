@@ -6,20 +6,20 @@ use Rattle.mz_cmd.specs.declared.statement.StmtAt.{StmtAt}
 use Rattle.mz_cmd.specs.declared.statement.StmtFault.{StmtFault}
 use Rattle.std.specs.Prelude.{Result, MatchBool}
 use Rattle.mz_cmd.specs.Codes.{statement_code}
-use Rattle.mz_logic.specs.Declaration.{Assertion, Declaration, assertion_decl, sorts, signatures, assertions}
-use Rattle.mz_logic.specs.Legality.{IsLegalEnv}
-use Rattle.mz_logic.specs.LegalLists.{Statement}
-use Rattle.mz_logic.specs.declared.binder.Binder.{Binder}
-use Rattle.mz_mmu_forms.specs.Proof.{Proof}
+use Rattle.mz_logic_theory.specs.Declaration.{Assertion, Declaration, assertion_decl, sorts, signatures, assertions}
+use Rattle.mz_logic_theory.specs.Legality.{IsLegalEnv}
+use Rattle.mz_logic_theory.specs.LegalLists.{Statement}
+use Rattle.mz_logic_theory.specs.declared.binder.Binder.{Binder}
+use Rattle.mz_mmu_theory.specs.Proof.{Proof}
 use Rattle.mz_trace_theory.specs.Traces.{under_lets, Made}
 use Rattle.mz_unify_theory.specs.Profile.{strict}
 use Rattle.mz_unify_theory.specs.Spells.{SpellsThm}
 use Rattle.mz_machine_theory.specs.MachineState.{Heading, Declares}
 use Rattle.mz_machine_theory.specs.Bodies.{Runs}
 use Rattle.mz_machine_theory.specs.Sound.{AreRowParams, thm_row}
-use Rattle.mz_layout.specs.Heads.{body_bytes}
+use Rattle.mz_layout_tables.specs.Heads.{body_bytes}
 use Rattle.mz_machine_theory.specs.FileRows.{taken_by, rows_taken}
-use Rattle.mz_machine_env.specs.OwnRow.{heading_of}
+use Rattle.mz_machine_theory.specs.Headings.{heading_of}
 use Rattle.mz_binary_theory.specs.Checking.{checks_of, kind_checks}
 use Rattle.mz_binary_theory.specs.Chains.{IsGoodStatement}
 use Rattle.mz_binary_theory.specs.Spelling.{IsKindOf, SpellsRow}

@@ -1,21 +1,21 @@
 -- The names of restated statements: each is an identifier, that of the vocabulary, and new in its space.
 use Rattle.std.proofs.Common.{◌≡◌, ◌≤◌, ◌<◌, ◌+◌, ◌^◌, ◌∙◌, ℕ, zero, suc, List, [], ◌∷◌, ◌++◌, length, map, drop, get_or, Bool, true, false, refl, sym, ap, subst, arith, append_assoc, append-nil, length-append}
 use Rattle.std.specs.Prelude.{⊤, if◌then◌else◌}
-use Rattle.mz_logic.specs.Declaration.{Form, plain_form, abstract_form, defined, Declaration, sort_decl, term_decl, assertion_decl, sorts, signatures, assertions}
-use Rattle.mz_logic.specs.LegalLists.{Statement as Marked}
-use Rattle.mz_logic.proofs.Offered.{assertions-append, sorts-append, signatures-append}
-use Rattle.mz_mmu_forms.specs.Name.{Names, IsName, no_names, names_with}
-use Rattle.mz_mmu_statements.specs.Statements.{Statement}
-use Rattle.mz_type.specs.Meaning.{marked}
-use Rattle.mz_spec_variables.specs.Dependencies.{Every}
-use Rattle.mz_spec.proofs.Offered.{every-front, every-join}
-use Rattle.mz_match_theory.specs.declared.kind.Kind.{Kind}
-use Rattle.mz_match_theory.specs.declared.kind.Kind.TheVariants as kinds
-use Rattle.mz_match_theory.specs.Match.{partner_of, publics_after, publics, kind_of, kind_of_form, Agrees}
-use Rattle.mz_mmu_statements.specs.DeclaredNames.{underscores, sort_name, term_name, sort_names, term_names, assertion_name, assertion_names, longest_run}
+use Rattle.mz_logic_theory.specs.Declaration.{Form, plain_form, abstract_form, defined, Declaration, sort_decl, term_decl, assertion_decl, sorts, signatures, assertions}
+use Rattle.mz_logic_theory.specs.LegalLists.{Statement as Marked}
+use Rattle.mz_logic_theory.proofs.Offered.{assertions-append, sorts-append, signatures-append}
+use Rattle.mz_mmu_theory.specs.Name.{Names, IsName, no_names, names_with}
+use Rattle.mz_mmu_theory.specs.Statements.{Statement}
+use Rattle.mz_mmu_theory.specs.Meaning.{marked}
+use Rattle.mz_spec_theory.specs.Dependencies.{Every}
+use Rattle.mz_spec_theory.proofs.Offered.{every-front, every-join}
+use Rattle.mz_spec_proved_theory.specs.declared.kind.Kind.{Kind}
+use Rattle.mz_spec_proved_theory.specs.declared.kind.Kind.TheVariants as kinds
+use Rattle.mz_spec_proved_theory.specs.Match.{partner_of, publics_after, publics, kind_of, kind_of_form, Agrees}
+use Rattle.mz_mmu_theory.specs.DeclaredNames.{underscores, sort_name, term_name, sort_names, term_names, assertion_name, assertion_names, longest_run}
 use Rattle.mz_decompile_text_theory.specs.Phrasing.{Vocabulary}
 use Rattle.mz_decompile_text_theory.specs.Phrasable.{HasNewName}
-use Rattle.mz_decompile_names.specs.Names.{statement_names, vocabulary_of}
+use Rattle.mz_decompile_text_theory.specs.Names.{statement_names, vocabulary_of}
 use Rattle.mz_decompile_theory.proofs.Seen.{Seen, none_seen, seen_in, seen_with, IsOther, AreNew, seen_of, seen-with, other-new}
 use Rattle.mz_decompile_theory.proofs.Prefixed.{prefix_of, prefixed, all-short, prefixed-named, not-short, same-number, same-letter}
 

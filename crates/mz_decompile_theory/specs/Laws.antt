@@ -1,9 +1,9 @@
 -- What is promised of the text of a pair that is accepted (this project's own).
 use Rattle.std.specs.Prelude.{◌≡◌, ◌<◌, ◌^◌, ℕ, false, List, length, slice_index}
-use Rattle.mz_mmu_statements.specs.Statements.{Statement}
-use Rattle.mz_type.specs.Meaning.{marked}
-use Rattle.mz_type.specs.TextOf.{TextOf}
-use Rattle.mz_type.specs.Weight.{IsWithinLimits}
+use Rattle.mz_mmu_theory.specs.Statements.{Statement}
+use Rattle.mz_mmu_theory.specs.Meaning.{marked}
+use Rattle.mz_mmu_theory.specs.TextOf.{TextOf}
+use Rattle.mz_mmu_theory.specs.Weight.{IsWithinLimits}
 use Rattle.mz_binary_theory.specs.Chains.{Statements}
 use Rattle.mz_match_theory.specs.Verdict.{Accepts}
 use Rattle.mz_decompile_theory.specs.Restated.{Restates}

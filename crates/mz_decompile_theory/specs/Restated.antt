@@ -4,23 +4,23 @@ use Rattle.std.specs.Prelude.{◌≡◌, ◌≤◌, ◌++◌, ⊤, ℕ, suc, max
 use Rattle.mz_base_theory.specs.Checks.{Checks, nothing, demand, ◌>>◌}
 use Rattle.mz_cmd.specs.declared.statement.StmtAt.TheVariants.{Head}
 use Rattle.mz_cmd.specs.StatementList.{statement_at}
-use Rattle.mz_logic.specs.Declaration.{Declaration, sort_decl, term_decl, assertion_decl, assertions}
-use Rattle.mz_logic.specs.LegalLists.{Statement as Marked}
-use Rattle.mz_logic.specs.declared.binder.Binder.{Binder}
+use Rattle.mz_logic_theory.specs.Declaration.{Declaration, sort_decl, term_decl, assertion_decl, assertions}
+use Rattle.mz_logic_theory.specs.LegalLists.{Statement as Marked}
+use Rattle.mz_logic_theory.specs.declared.binder.Binder.{Binder}
 use Rattle.mz_sexpr.specs.Node.{depth_limit}
-use Rattle.mz_mmu_forms.specs.Proof.{Proof}
-use Rattle.mz_mmu_statements.specs.Statements.{Statement}
-use Rattle.mz_type.specs.Weight.{byte_bound}
-use Rattle.mz_layout.specs.Tables.{list_at}
-use Rattle.mz_layout.specs.Heads.{body_bytes}
+use Rattle.mz_mmu_theory.specs.Proof.{Proof}
+use Rattle.mz_mmu_theory.specs.Statements.{Statement}
+use Rattle.mz_mmu_theory.specs.Weight.{byte_bound}
+use Rattle.mz_layout_tables.specs.Tables.{list_at}
+use Rattle.mz_layout_tables.specs.Heads.{body_bytes}
 use Rattle.mz_machine_theory.specs.FileRows.{taken_by, rows_taken}
-use Rattle.mz_machine_env.specs.OwnRow.{heading_of}
-use Rattle.mz_spec.specs.State.{Entry}
-use Rattle.mz_spec.specs.Spec.{SpecMakes}
+use Rattle.mz_machine_theory.specs.Headings.{heading_of}
+use Rattle.mz_spec_theory.specs.State.{Entry}
+use Rattle.mz_spec_theory.specs.Spec.{SpecMakes}
 use Rattle.mz_match_theory.specs.Verdict.{Accepts}
 use Rattle.mz_prefix_theory.specs.Wording.{longest}
-use Rattle.mz_mmu_statements.specs.DeclaredNames.{prefix_beside}
-use Rattle.mz_decompile_names.specs.Names.{declared_names, statement_names}
+use Rattle.mz_mmu_theory.specs.DeclaredNames.{prefix_beside}
+use Rattle.mz_decompile_text_theory.specs.Names.{declared_names, statement_names}
 use Rattle.mz_trace_theory.specs.Traces.{Made, under_lets}
 use Rattle.mz_decompile_text_theory.specs.Phrases.{depth}
 use Rattle.mz_decompile_text_theory.specs.Phrasing.{Vocabulary, statement, text_of}

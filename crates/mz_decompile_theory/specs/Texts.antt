@@ -1,9 +1,9 @@
 -- The text of a pair that is accepted, or what stands first against it (this project's own).
 use Rattle.std.specs.Prelude.{◌≡◌, ℕ, List}
 use Rattle.mz_base_theory.specs.Checks.{AllHold, FailsFirst}
-use Rattle.mz_mmu_statements.specs.Statements.{Statement}
+use Rattle.mz_mmu_theory.specs.Statements.{Statement}
 use Rattle.mz_decompile_text_theory.specs.Phrasing.{text_of}
-use Rattle.mz_decompile_names.specs.Names.{vocabulary_of}
+use Rattle.mz_decompile_text_theory.specs.Names.{vocabulary_of}
 use Rattle.mz_decompile_theory.specs.Restated.{Restates, Unstated, stating_checks}
 
 -- the text that states the binary's statements, and nothing stands against it

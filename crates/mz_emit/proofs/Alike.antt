@@ -1,21 +1,22 @@
 -- A text without gaps is compiled alike in both modes.
 use Rattle.std.proofs.Common.{◌≡◌, ◌≤◌, ◌∙◌, Bool, true, false, List, ℕ, length, sym, subst}
 use Rattle.std.specs.Prelude.{◌↔◌}
-use Rattle.mz_logic.specs.LegalLists.{Statement as Marked, LegalBy, allowed_with}
-use Rattle.mz_layout.specs.Normal.{file_of}
+use Rattle.mz_logic_theory.specs.LegalLists.{Statement as Marked, LegalBy, allowed_with}
+use Rattle.mz_layout_tables.specs.Normal.{file_of}
 use Rattle.mz_binary_theory.specs.Chains.{Statements}
 use Rattle.mz_binary_theory.specs.Gapped.{GappedIn}
 use Rattle.mz_binary_theory.proofs.Offered.{one-list}
-use Rattle.mz_mmu_statements.specs.Statements.{Statement}
+use Rattle.mz_mmu_theory.specs.Statements.{Statement}
 use Rattle.mz_sexpr.specs.declared.rule.TextRefusal.{TextRefusal}
-use Rattle.mz_type.specs.Laws.{IsTypedOrFaulty}
-use Rattle.mz_type.specs.Meaning.{marked}
-use Rattle.mz_type.specs.TextOf.{TextOf, TextFault}
-use Rattle.mz_type.specs.Weight.{Passes, IsWithinLimits, byte_bound}
-use Rattle.mz_type.proofs.Offered.{modes_agree, stated_is_legal}
+use Rattle.mz_mmu_theory.specs.TypeLaws.{IsTypedOrFaulty}
+use Rattle.mz_mmu_theory.specs.Meaning.{marked}
+use Rattle.mz_mmu_theory.specs.TextOf.{TextOf, TextFault}
+use Rattle.mz_mmu_theory.specs.Weight.{Passes, IsWithinLimits, byte_bound}
+use Rattle.mz_type.proofs.Offered.{modes_agree}
+use Rattle.mz_mmu_theory.proofs.Offered.{stated_is_legal}
 use Rattle.mz_emit_theory.proofs.Offered.{finished-is-draft, files-spell}
-use Rattle.mz_emit.specs.Gapped.{proofs_of, IsGappedIn}
-use Rattle.mz_emit.specs.Compiling.{IsBinaryOf, ModesCompileAlike}
+use Rattle.mz_emit_accepted_theory.specs.Gapped.{proofs_of, IsGappedIn}
+use Rattle.mz_emit_accepted_theory.specs.Compiling.{IsBinaryOf, ModesCompileAlike}
 use Rattle.mz_emit.proofs.Finished.{binary_of}
 
 -- ---- the statements are the same

@@ -1,25 +1,26 @@
 -- What is written of a whole text is its binary.
 use Rattle.std.proofs.Common.{Bool, ℕ, ◌≡◌, ◌≤◌, List, [], ◌∷◌, ◌++◌, length, length-append, refl, sym, subst, ap, arith}
 use Rattle.std.specs.Prelude.{◌↔◌}
-use Rattle.mz_logic.specs.Declaration.{sorts}
-use Rattle.mz_logic.specs.LegalLists.{Statement as Marked, LegalBy, allowed_with}
-use Rattle.mz_logic.proofs.Offered.{sorts-append}
-use Rattle.mz_layout.specs.Normal.{Parts, file_of, file_length}
-use Rattle.mz_layout.specs.Standing.{Fit}
-use Rattle.mz_layout.proofs.Offered.{file-bound, file-length}
+use Rattle.mz_logic_theory.specs.Declaration.{sorts}
+use Rattle.mz_logic_theory.specs.LegalLists.{Statement as Marked, LegalBy, allowed_with}
+use Rattle.mz_logic_theory.proofs.Offered.{sorts-append}
+use Rattle.mz_layout_tables.specs.Normal.{Parts, file_of, file_length}
+use Rattle.mz_layout_tables.specs.Standing.{Fit}
+use Rattle.mz_layout_tables.proofs.Offered.{file-bound, file-length}
 use Rattle.mz_binary_theory.specs.Gapped.{GappedIn}
-use Rattle.mz_mmu_statements.specs.Statements.{Statement}
-use Rattle.mz_type.specs.Meaning.{LegalAsStated, marked}
+use Rattle.mz_mmu_theory.specs.Statements.{Statement}
+use Rattle.mz_mmu_theory.specs.Meaning.{LegalAsStated, marked}
 use Rattle.mz_type.specs.TypedText.{declared}
-use Rattle.mz_type.specs.Weight.{sort_count, byte_bound, IsWithinLimits}
-use Rattle.mz_type.proofs.Offered.{stated_is_legal}
+use Rattle.mz_mmu_theory.specs.Weight.{sort_count, byte_bound, IsWithinLimits}
+use Rattle.mz_mmu_theory.proofs.Offered.{stated_is_legal}
 use Rattle.mz_emit_theory.specs.SpelledLists.{list_spelled}
 use Rattle.mz_emit_theory.specs.FileWriting.{IsWrittenAs}
 use Rattle.mz_emit_theory.proofs.Offered.{written-gapped, files-good, files-spell, written-same}
 use Rattle.mz_emit_accepted_theory.proofs.Offered.{files-accepted, accepted-by-address}
-use Rattle.mz_emit.specs.Compiling.{IsBinaryOf}
-use Rattle.mz_emit.specs.Emitting.{compiled_file, HasWritten}
-use Rattle.mz_emit.specs.Gapped.{proofs_of, IsGappedIn}
+use Rattle.mz_emit_accepted_theory.specs.Compiling.{IsBinaryOf}
+use Rattle.mz_emit.specs.Emitting.{HasWritten}
+use Rattle.mz_emit_accepted_theory.specs.CompiledFile.{compiled_file}
+use Rattle.mz_emit_accepted_theory.specs.Gapped.{proofs_of, IsGappedIn}
 use Rattle.mz_emit.proofs.Following.{short_enough}
 use Rattle.mz_emit.proofs.Gapped.{gapped_same}
 use Rattle.mz_emit.proofs.Lengths.{short_file}

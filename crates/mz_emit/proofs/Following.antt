@@ -3,16 +3,16 @@ use Rattle.std.proofs.Common.{ℕ, zero, suc, ◌≡◌, Bool, true, ◌≤◌, 
 use Rattle.std.proofs.lemmas.List.Elements.{All-get_or}
 use Rattle.mz_base_theory.specs.Checks.{AllHold}
 use Rattle.mz_base_theory.proofs.Offered.{all_hold-first, all_hold-rest}
-use Rattle.mz_logic.specs.Declaration.{Declaration, sorts}
-use Rattle.mz_logic.specs.Legality.{LegalEnvAfter}
-use Rattle.mz_logic.specs.WordsWritten.{CanBeWords}
-use Rattle.mz_mmu_statements.specs.Statements.{HasGapsOnly, Statement}
-use Rattle.mz_mmu.specs.Laws.{IsWhole}
-use Rattle.mz_type_rules.specs.Names.{StatementThere, StatementsThere}
-use Rattle.mz_type.specs.Meaning.{IsLegalAsStated, LegalAsStatedAfter, LegalAsStated}
+use Rattle.mz_logic_theory.specs.Declaration.{Declaration, sorts}
+use Rattle.mz_logic_theory.specs.Legality.{LegalEnvAfter}
+use Rattle.mz_logic_theory.specs.WordsWritten.{CanBeWords}
+use Rattle.mz_mmu_theory.specs.Statements.{HasGapsOnly, Statement}
+use Rattle.mz_mmu_theory.specs.ReadingLaws.{IsWhole}
+use Rattle.mz_mmu_theory.specs.Names.{StatementThere, StatementsThere}
+use Rattle.mz_mmu_theory.specs.Meaning.{IsLegalAsStated, LegalAsStatedAfter, LegalAsStated}
 use Rattle.mz_type.specs.Ready.{CanBeWordsAfter}
 use Rattle.mz_type.specs.TypedText.{statement_at, declared}
-use Rattle.mz_type.specs.Weight.{Limit, parameter_limit, bound_limit, params_of, parameter_count, bound_count, statement_weight, weight_after, weight_of, byte_bound, each_within, IsWithinLimits}
+use Rattle.mz_mmu_theory.specs.Weight.{Limit, parameter_limit, bound_limit, params_of, parameter_count, bound_count, statement_weight, weight_after, weight_of, byte_bound, each_within, IsWithinLimits}
 use Rattle.mz_emit.specs.Emitting.{IsStated, MayFollow}
 
 legal_at : (gaps : Bool) (env : List Declaration) (ss : List Statement) (i : ℕ) → LegalAsStatedAfter gaps env ss → i < length ss

@@ -1,14 +1,14 @@
 -- The gapped theorems of what is written are those of the text.
 use Rattle.std.proofs.Common.{◌≡◌, ℕ, zero, suc, Bool, true, false, List, [], ◌∷◌, ◌++◌, Some, None, refl, sym, ap, subst, ◌∙◌}
 use Rattle.std.specs.Prelude.{Option, ◌↔◌}
-use Rattle.mz_logic.specs.Declaration.{Declaration, sort_decl, term_decl, assertion_decl}
-use Rattle.mz_layout.specs.Normal.{Written}
+use Rattle.mz_logic_theory.specs.Declaration.{Declaration, sort_decl, term_decl, assertion_decl}
+use Rattle.mz_layout_tables.specs.Normal.{Written}
 use Rattle.mz_binary_theory.specs.Gapped.{AssertionBody, IsTheoremBody, IsGapped, leaves_gap, rests_on}
-use Rattle.mz_mmu_forms.specs.Proof.{Proof}
-use Rattle.mz_mmu_statements.specs.Statements.{Statement}
-use Rattle.mz_type.specs.Meaning.{marked}
+use Rattle.mz_mmu_theory.specs.Proof.{Proof}
+use Rattle.mz_mmu_theory.specs.Statements.{Statement}
+use Rattle.mz_mmu_theory.specs.Meaning.{marked}
 use Rattle.mz_emit_theory.specs.Gaps.{body_written, bodies_written}
-use Rattle.mz_emit.specs.Gapped.{proof_of, proofs_of, IsTheoremOf, IsGappedIn, leaves_gap as gap_stated, rests_on as rest_stated, UsesAsStated, StatementUses, SayTheirUses}
+use Rattle.mz_emit_accepted_theory.specs.Gapped.{proof_of, proofs_of, IsTheoremOf, IsGappedIn, leaves_gap as gap_stated, rests_on as rest_stated, UsesAsStated, StatementUses, SayTheirUses}
 
 -- ---- one statement more
 

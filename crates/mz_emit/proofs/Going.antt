@@ -6,20 +6,20 @@ use Rattle.std.proofs.lemmas.List.{map-append, reverse-append}
 use Rattle.std.proofs.lemmas.List.Elements.{Contains-append_left, Contains-append_cases, Contains-push}
 use Rattle.std.proofs.lemmas.Option.{slice_get-get_or, none-some}
 use Rattle.mz_cmd.specs.Spelling.{shortest}
-use Rattle.mz_logic.specs.Tree.{Tree, Trees, var, app, none, more, followed_by, size, trees_size}
-use Rattle.mz_logic.specs.Legality.{binder_at}
-use Rattle.mz_logic.specs.Signature.{Signature}
-use Rattle.mz_logic.specs.Sorts.{HasSort}
-use Rattle.mz_logic.specs.Variables.{InV, IsBoundAt}
-use Rattle.mz_logic.specs.declared.binder.Binder.{Binder}
-use Rattle.mz_logic.proofs.Offered.{extends_append, one_at, trees_size-followed}
+use Rattle.mz_logic_theory.specs.Tree.{Tree, Trees, var, app, none, more, followed_by, size, trees_size}
+use Rattle.mz_logic_theory.specs.Legality.{binder_at}
+use Rattle.mz_logic_theory.specs.Signature.{Signature}
+use Rattle.mz_logic_theory.specs.Sorts.{HasSort}
+use Rattle.mz_logic_theory.specs.Variables.{InV, IsBoundAt}
+use Rattle.mz_logic_theory.specs.declared.binder.Binder.{Binder}
+use Rattle.mz_logic_theory.proofs.Offered.{extends_append, one_at, trees_size-followed}
 use Rattle.mz_store.specs.Bits.{Tells, bound_vars}
 use Rattle.mz_store.specs.Sharing.{AreIn, Sharing, IsIn, IsOver, IsTold, head_of as head_term, operands_of, tree_of, trees_of}
 use Rattle.mz_store.specs.declared.item.Id.{Id}
 use Rattle.mz_emit_theory.specs.Works.{from_to}
 use Rattle.mz_unify_theory.specs.Streams.{UnifyCommand, u_ref, u_dummy, u_hyp}
 use Rattle.mz_emit_theory.specs.StreamWriting.{Writing, Written, are_met, head_of, headed, marked_if, meeting, place_in, referred, unify_bytes, write, write_all, write_hyps, and_then}
-use Rattle.mz_emit_bodies.specs.Instances.{InReach, AllInReach}
+use Rattle.mz_emit_theory.specs.InReach.{InReach, AllInReach}
 use Rattle.mz_emit_bodies.specs.Places.{place_of}
 use Rattle.mz_emit_bodies.proofs.Offered.{in_push, is_var}
 use Rattle.mz_emit.specs.declared.stream.Stream.{Stream}

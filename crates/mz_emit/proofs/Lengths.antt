@@ -1,12 +1,12 @@
 -- How much the parts of a text cost, statement by statement.
 use Rattle.std.proofs.Common.{ℕ, ◌≡◌, ◌≤◌, ◌+◌, ◌*◌, List, [], ◌∷◌, ◌++◌, length, ap, arith, append_assoc, append-nil, length-append}
-use Rattle.mz_logic.specs.Declaration.{Declaration}
-use Rattle.mz_layout.specs.Normal.{Row, Written, Parts, file_length}
-use Rattle.mz_layout.specs.NormalLaws.{rows_cost, statements_cost, LengthIsBounded}
-use Rattle.mz_mmu_statements.specs.Statements.{Statement}
+use Rattle.mz_logic_theory.specs.Declaration.{Declaration}
+use Rattle.mz_layout_tables.specs.Normal.{Row, Written, Parts, file_length}
+use Rattle.mz_layout_tables.specs.NormalLaws.{rows_cost, statements_cost, LengthIsBounded}
+use Rattle.mz_mmu_theory.specs.Statements.{Statement}
 use Rattle.mz_type.specs.TypedText.{declared}
 use Rattle.mz_emit.specs.Emitting.{cost_of}
-use Rattle.mz_type.specs.Weight.{statement_weight, weight_after, weight_of, byte_bound}
+use Rattle.mz_mmu_theory.specs.Weight.{statement_weight, weight_after, weight_of, byte_bound}
 
 -- ---- the weight of one more statement
 

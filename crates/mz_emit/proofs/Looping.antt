@@ -3,18 +3,17 @@ use Rattle.std.proofs.Common.{Bool, ℕ, zero, suc, ◌≡◌, ◌≤◌, ◌<�
 use Rattle.std.specs.Prelude.{Some, None, slice_get}
 use Rattle.std.proofs.lemmas.List.{take_more, take_all}
 use Rattle.std.proofs.Math.Seq.{drop-nil}
-use Rattle.mz_logic.specs.Declaration.{Declaration}
-use Rattle.mz_mmu_statements.specs.Statements.{Statement}
-use Rattle.mz_mmu_forms.specs.Name.{no_names}
-use Rattle.mz_mmu.proofs.Offered.{only_drafts, are_whole}
-use Rattle.mz_type.specs.Meaning.{LegalAsStated}
-use Rattle.mz_type.specs.TextOf.{TextOf}
+use Rattle.mz_logic_theory.specs.Declaration.{Declaration}
+use Rattle.mz_mmu_theory.specs.Statements.{Statement}
+use Rattle.mz_mmu_theory.specs.Name.{no_names}
+use Rattle.mz_mmu_theory.proofs.Offered.{only_drafts, are_whole, statements_there}
+use Rattle.mz_mmu_theory.specs.Meaning.{LegalAsStated}
+use Rattle.mz_mmu_theory.specs.TextOf.{TextOf}
 use Rattle.mz_type.specs.StatedView.{AreRead, with_decl, statements_of}
 use Rattle.mz_type.specs.declared.typed.Beside.{Beside}
 use Rattle.mz_type.specs.TypedText.{statement_at, declared}
-use Rattle.mz_type.specs.Weight.{IsWithinLimits}
+use Rattle.mz_mmu_theory.specs.Weight.{IsWithinLimits}
 use Rattle.mz_type.specs.Ready.{StatementsCanBeWords}
-use Rattle.mz_type.proofs.Offered.{statements_there}
 use Rattle.mz_emit.specs.Emitting.{IsLegalWith, HasRows, HasEmitted, IsNext, EmitsNext}
 use Rattle.mz_emit.specs.declared.emitter.Emitter.{Emitter}
 use Rattle.mz_emit.proofs.Following.{follows}

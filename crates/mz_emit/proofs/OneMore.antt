@@ -1,27 +1,28 @@
 -- One statement more is written, by the next row of its kind.
 use Rattle.std.proofs.Common.{ℕ, suc, Bool, if◌then◌else◌, length-append, ◌≡◌, ◌≤◌, ◌+◌, ◌*◌, false, ◌⊎◌, inl, List, [], ◌∷◌, ◌++◌, length, refl, sym, ap, subst, ◌∙◌, arith, append_assoc, append-nil}
 use Rattle.std.specs.Prelude.{Some, None}
-use Rattle.mz_logic.specs.Tree.{Tree, listed}
-use Rattle.mz_logic.specs.Signature.{Signature}
-use Rattle.mz_logic.specs.Declaration.{plain_form, defined, Assertion, Declaration, sort_decl, term_decl, assertion_decl, sorts}
-use Rattle.mz_logic.specs.Legality.{Each}
-use Rattle.mz_logic.specs.LegalLists.{Statement as Marked, declarations}
-use Rattle.mz_logic.specs.WordsWritten.{words_of, words_from, result_word}
-use Rattle.mz_logic.specs.declared.binder.Binder.{Binder}
-use Rattle.mz_logic.specs.declared.binder.SortMods.{SortMods}
-use Rattle.mz_layout.specs.Normal.{Row, Written, Parts, no_parts, row_of_term, row_of_thm}
+use Rattle.mz_logic_theory.specs.Tree.{Tree, listed}
+use Rattle.mz_logic_theory.specs.Signature.{Signature}
+use Rattle.mz_logic_theory.specs.Declaration.{plain_form, defined, Assertion, Declaration, sort_decl, term_decl, assertion_decl, sorts}
+use Rattle.mz_logic_theory.specs.Legality.{Each}
+use Rattle.mz_logic_theory.specs.LegalLists.{Statement as Marked, declarations}
+use Rattle.mz_logic_theory.specs.WordsWritten.{words_of, words_from, result_word}
+use Rattle.mz_logic_theory.specs.declared.binder.Binder.{Binder}
+use Rattle.mz_logic_theory.specs.declared.binder.SortMods.{SortMods}
+use Rattle.mz_layout_tables.specs.Normal.{Row, Written, Parts, no_parts, row_of_term, row_of_thm}
 use Rattle.mz_binary_theory.specs.Spelling.{HasKind, is_local_code}
-use Rattle.mz_mmu_statements.specs.Statements.{Statement}
-use Rattle.mz_type.specs.Meaning.{marked}
+use Rattle.mz_mmu_theory.specs.Statements.{Statement}
+use Rattle.mz_mmu_theory.specs.Meaning.{marked}
 use Rattle.mz_type.specs.TypedText.{declared}
-use Rattle.mz_type.specs.Weight.{declaration_weight, statement_weight}
+use Rattle.mz_mmu_theory.specs.Weight.{declaration_weight, statement_weight}
 use Rattle.mz_emit_theory.specs.Sameness.{IsSameForm}
 use Rattle.mz_emit_theory.specs.SpelledLists.{form_spelled, decl_spelled, statement_spelled, list_spelled}
 use Rattle.mz_emit_theory.specs.FileGrowing.{HasOneMore}
 use Rattle.mz_emit_theory.specs.FileWriting.{SayParams, SaySignature, IsWrittenDeclaration, IsWrittenStatement, IsWrittenAssertion, HaveNoMore, IsWrittenAs}
 use Rattle.mz_emit_theory.proofs.Offered.{writing-grows, rows-counted, appended-next}
-use Rattle.mz_emit.specs.Emitting.{with_sort, with_term, with_thm, term_row, thm_row, definition_code, assertion_code, definition_stream_of, definition_body_of, assertion_stream_of, assertion_body_of, with_declaration, parts_after, SaysDefinition, SaysAssertion, cost_of, HasWritten}
-use Rattle.mz_emit.specs.Gapped.{StatementUses, SayTheirUses}
+use Rattle.mz_emit.specs.Emitting.{SaysDefinition, SaysAssertion, cost_of, HasWritten}
+use Rattle.mz_emit_accepted_theory.specs.CompiledFile.{with_sort, with_term, with_thm, term_row, thm_row, definition_code, assertion_code, definition_stream_of, definition_body_of, assertion_stream_of, assertion_body_of, with_declaration, parts_after}
+use Rattle.mz_emit_accepted_theory.specs.Gapped.{StatementUses, SayTheirUses}
 use Rattle.mz_emit.proofs.Gapped.{uses_more}
 use Rattle.mz_emit.proofs.Lengths.{sort_more, term_more, thm_more, short_more}
 use Rattle.mz_emit.proofs.Weights.{stated_same}

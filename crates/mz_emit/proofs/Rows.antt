@@ -1,23 +1,24 @@
 -- The rows of one statement more.
 use Rattle.std.proofs.Common.{ℕ, ◌≡◌, Bool, List, [], ◌∷◌, ◌++◌, ◌∙◌, ◌⊎◌, map, refl, sym, subst, ap, append-nil}
 use Rattle.std.specs.Prelude.{Option, Some, None}
-use Rattle.mz_logic.specs.Tree.{Tree, none, more}
-use Rattle.mz_logic.specs.Signature.{Signature}
-use Rattle.mz_logic.specs.Declaration.{Form, plain_form, abstract_form, defined, body_of, dummies_of, Assertion, Declaration, sort_decl, term_decl, assertion_decl, sorts, signatures}
-use Rattle.mz_logic.specs.Legality.{IsDummy}
-use Rattle.mz_logic.specs.declared.binder.Binder.{Binder}
-use Rattle.mz_logic.specs.declared.binder.SortMods.{SortMods}
-use Rattle.mz_logic.proofs.Offered.{sorts-append, each_from_all, signatures-append}
-use Rattle.mz_mmu_forms.specs.Proof.{Proof}
-use Rattle.mz_mmu_statements.specs.Statements.{Statement}
+use Rattle.mz_logic_theory.specs.Tree.{Tree, none, more}
+use Rattle.mz_logic_theory.specs.Signature.{Signature}
+use Rattle.mz_logic_theory.specs.Declaration.{Form, plain_form, abstract_form, defined, body_of, dummies_of, Assertion, Declaration, sort_decl, term_decl, assertion_decl, sorts, signatures}
+use Rattle.mz_logic_theory.specs.Legality.{IsDummy}
+use Rattle.mz_logic_theory.specs.declared.binder.Binder.{Binder}
+use Rattle.mz_logic_theory.specs.declared.binder.SortMods.{SortMods}
+use Rattle.mz_logic_theory.proofs.Offered.{sorts-append, each_from_all, signatures-append}
+use Rattle.mz_mmu_theory.specs.Proof.{Proof}
+use Rattle.mz_mmu_theory.specs.Statements.{Statement}
 use Rattle.mz_type.specs.TypedText.{declared}
 use Rattle.mz_binary_theory.specs.Spelling.{HasKind, is_local_code}
 use Rattle.mz_emit_theory.proofs.Offered.{words-say-params}
-use Rattle.mz_logic.specs.Words.{signatures_of}
+use Rattle.mz_logic_theory.specs.Words.{signatures_of}
 use Rattle.mz_emit_bodies.specs.Rows.{words_of_row}
 use Rattle.mz_emit_bodies.specs.declared.table.Table.{Table}
 use Rattle.mz_emit_accepted_theory.specs.ClaimsLaws.{StatedProofsAreSound}
-use Rattle.mz_emit.specs.Emitting.{IsConcrete, MayFollow, with_sort, with_term, with_thm, term_row, thm_row, definition_code, assertion_code, SaysDefinition, SaysAssertion, IsProvedBy, HasWritten, table_of, HasRows, IsNext}
+use Rattle.mz_emit.specs.Emitting.{IsConcrete, MayFollow, SaysDefinition, SaysAssertion, IsProvedBy, HasWritten, table_of, HasRows, IsNext}
+use Rattle.mz_emit_accepted_theory.specs.CompiledFile.{with_sort, with_term, with_thm, term_row, thm_row, definition_code, assertion_code}
 use Rattle.mz_emit.specs.declared.emitter.Emitter.{Emitter}
 use Rattle.mz_emit.proofs.Saying.{definition_kind, term_words, same_form, thm_words, sort_unmarked, plain_unmarked, thm_kind, definition_can, assertion_can, proof_can, axiom_is}
 use Rattle.mz_emit.proofs.OneMore.{sort_next, plain_next, definition_next, assertion_next}

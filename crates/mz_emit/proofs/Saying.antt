@@ -5,33 +5,34 @@ use Rattle.std.proofs.lemmas.List.Elements.{All-nil, All-append, All-weaker}
 use Rattle.std.proofs.lemmas.Option.{slice_get_within}
 use Rattle.std.proofs.lemmas.List.Sums.{sum_by-cons}
 use Rattle.std.proofs.lemmas.Bool.{false_from_ne_true}
-use Rattle.mz_logic.specs.Tree.{Tree, Trees, var, app, none, more, listed, size, trees_size}
-use Rattle.mz_logic.specs.Signature.{Signature}
-use Rattle.mz_logic.specs.Declaration.{Form, plain_form, defined, Assertion, Declaration, sort_decl, term_decl, assertion_decl, sorts, signatures, assertions}
-use Rattle.mz_logic.specs.Laws.{SortsThere}
-use Rattle.mz_logic.specs.Legality.{Each, IsDummy, AreParams, IsLegalDecl}
-use Rattle.mz_logic.specs.LegalLists.{MayBeLocal, AreDummies}
-use Rattle.mz_logic.specs.Modifiers.{MayBeDummySort}
-use Rattle.mz_logic.specs.Variables.{IsBoundAt}
-use Rattle.mz_logic.specs.WordsWritten.{CanBeWords}
-use Rattle.mz_logic.specs.declared.binder.Binder.{Binder}
-use Rattle.mz_logic.specs.declared.binder.SortMods.{SortMods}
-use Rattle.mz_logic.proofs.Offered.{each_from_all, assertions_are_sorted, terms_are_sorted}
+use Rattle.mz_logic_theory.specs.Tree.{Tree, Trees, var, app, none, more, listed, size, trees_size}
+use Rattle.mz_logic_theory.specs.Signature.{Signature}
+use Rattle.mz_logic_theory.specs.Declaration.{Form, plain_form, defined, Assertion, Declaration, sort_decl, term_decl, assertion_decl, sorts, signatures, assertions}
+use Rattle.mz_logic_theory.specs.Laws.{SortsThere}
+use Rattle.mz_logic_theory.specs.Legality.{Each, IsDummy, AreParams, IsLegalDecl}
+use Rattle.mz_logic_theory.specs.LegalLists.{MayBeLocal, AreDummies}
+use Rattle.mz_logic_theory.specs.Modifiers.{MayBeDummySort}
+use Rattle.mz_logic_theory.specs.Variables.{IsBoundAt}
+use Rattle.mz_logic_theory.specs.WordsWritten.{CanBeWords}
+use Rattle.mz_logic_theory.specs.declared.binder.Binder.{Binder}
+use Rattle.mz_logic_theory.specs.declared.binder.SortMods.{SortMods}
+use Rattle.mz_logic_theory.proofs.Offered.{each_from_all, assertions_are_sorted, terms_are_sorted}
 use Rattle.mz_machine_theory.specs.Premises.{bound_count as bound_in}
-use Rattle.mz_mmu_forms.specs.Gaps.{LeavesOnly, SomeLeavesOnly}
-use Rattle.mz_mmu_statements.specs.Statements.{Statement}
-use Rattle.mz_mmu_forms.specs.Proof.{Proof}
-use Rattle.mz_mmu.specs.Laws.{Ascends, HasNoProof, HasItsProof}
-use Rattle.mz_type_rules.specs.Names.{ProofThere, DummiesThere, TermThere, StatedProofThere, DeclThere}
-use Rattle.mz_type.specs.Meaning.{IsProofOf, IsProvedAsStated}
+use Rattle.mz_mmu_theory.specs.Gaps.{LeavesOnly, SomeLeavesOnly}
+use Rattle.mz_mmu_theory.specs.Statements.{Statement}
+use Rattle.mz_mmu_theory.specs.Proof.{Proof}
+use Rattle.mz_mmu_theory.specs.ReadingLaws.{Ascends, HasNoProof, HasItsProof}
+use Rattle.mz_mmu_theory.specs.Names.{ProofThere, DummiesThere, TermThere, StatedProofThere, DeclThere}
+use Rattle.mz_mmu_theory.specs.Meaning.{IsProofOf, IsProvedAsStated}
 use Rattle.mz_type.specs.TypedText.{declared}
-use Rattle.mz_type.specs.Weight.{params_of, dummy_count, declaration_weight, weight_after}
+use Rattle.mz_mmu_theory.specs.Weight.{params_of, dummy_count, declaration_weight, weight_after}
 use Rattle.mz_emit_theory.specs.Sameness.{IsSameForm}
 use Rattle.mz_emit_theory.specs.SpelledLists.{form_spelled}
 use Rattle.mz_emit_theory.proofs.Offered.{bodies-same, words-say-signatures}
 use Rattle.mz_binary_theory.specs.Spelling.{HasKind, is_local_code}
 use Rattle.mz_spec.proofs.Offered.{terms-few}
-use Rattle.mz_emit.specs.Emitting.{MayFollow, HasWords, AreReady, CanBeDefined, CanBeAsserted, definition_code, assertion_code}
+use Rattle.mz_emit.specs.Emitting.{MayFollow, HasWords, AreReady, CanBeDefined, CanBeAsserted}
+use Rattle.mz_emit_accepted_theory.specs.CompiledFile.{definition_code, assertion_code}
 
 -- ---- counts
 

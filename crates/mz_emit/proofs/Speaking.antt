@@ -2,15 +2,15 @@
 use Rattle.std.proofs.Common.{ℕ, zero, suc, ◌≡◌, ◌≤◌, ◌+◌, ◌*◌, length-append, append-nil, Bool, true, false, if◌then◌else◌, List, [], ◌∷◌, ◌++◌, length, All, refl, sym, subst, ap, ◌∙◌, arith}
 use Rattle.std.specs.Prelude.{Option, Some, None, slice_get}
 use Rattle.std.proofs.lemmas.List.Elements.{All-head, All-tail}
-use Rattle.mz_logic.specs.Tree.{Tree, Trees, none, more, listed, size, trees_size}
-use Rattle.mz_logic.specs.Signature.{Signature}
-use Rattle.mz_logic.specs.Declaration.{Assertion, Declaration, sorts, signatures}
-use Rattle.mz_logic.specs.Legality.{IsDummy}
-use Rattle.mz_logic.specs.Sorts.{HasSort, HasProvable, AreProvable}
-use Rattle.mz_logic.specs.Words.{binders_of}
-use Rattle.mz_logic.specs.declared.binder.Binder.{Binder}
-use Rattle.mz_logic.specs.declared.word.Word.{Word}
-use Rattle.mz_logic.proofs.Offered.{extends_append, each_from_all, keep_sorts}
+use Rattle.mz_logic_theory.specs.Tree.{Tree, Trees, none, more, listed, size, trees_size}
+use Rattle.mz_logic_theory.specs.Signature.{Signature}
+use Rattle.mz_logic_theory.specs.Declaration.{Assertion, Declaration, sorts, signatures}
+use Rattle.mz_logic_theory.specs.Legality.{IsDummy}
+use Rattle.mz_logic_theory.specs.Sorts.{HasSort, HasProvable, AreProvable}
+use Rattle.mz_logic_theory.specs.Words.{binders_of}
+use Rattle.mz_logic_theory.specs.declared.binder.Binder.{Binder}
+use Rattle.mz_logic_theory.specs.declared.word.Word.{Word}
+use Rattle.mz_logic_theory.proofs.Offered.{extends_append, each_from_all, keep_sorts}
 use Rattle.mz_store.specs.Bits.{bound_from, bound_vars}
 use Rattle.mz_store.specs.Sharing.{Sharing, Holds, tree_of}
 use Rattle.mz_store.specs.declared.item.Id.{Id}
@@ -21,22 +21,24 @@ use Rattle.mz_machine_theory.specs.Lists.{kind_of}
 use Rattle.mz_machine_theory.specs.Premises.{bound_count as bound_in}
 use Rattle.mz_machine_theory.specs.MachineState.{is_theorem, is_definition}
 use Rattle.mz_machine_env.proofs.Offered.{binders_many}
-use Rattle.mz_mmu_forms.specs.Proof.{Proof}
+use Rattle.mz_mmu_theory.specs.Proof.{Proof}
 use Rattle.mz_emit_theory.specs.SharedBodies.{IsSharedBody}
 use Rattle.mz_emit_theory.specs.StreamLaws.{IsSmall}
 use Rattle.mz_emit_theory.specs.SharedTexts.{IsSharedText}
 use Rattle.mz_emit_theory.specs.StreamWriting.{assertion_written, definition_written, body_spelled, dummies_spelled, stream_of}
-use Rattle.mz_emit_theory.proofs.Offered.{assertions-short, definitions-short, assertions-bounded, definitions-bounded, assertions-written, definitions-written, assertions-shared, definitions-shared}
-use Rattle.mz_emit_bodies.specs.Instances.{Grows, InReach, AllInReach, AreSorted}
+use Rattle.mz_emit_theory.proofs.Offered.{assertions-short, definitions-short, assertions-bounded, definitions-bounded, assertions-written, definitions-written, assertions-shared, definitions-shared, reach_of_sort}
+use Rattle.mz_emit_bodies.specs.Instances.{Grows}
+use Rattle.mz_emit_theory.specs.InReach.{InReach, AllInReach, AreSorted}
 use Rattle.mz_emit_bodies.specs.Variables.{IsShared}
-use Rattle.mz_emit_bodies.proofs.Offered.{tree_grown, reach_of_sort}
+use Rattle.mz_emit_bodies.proofs.Offered.{tree_grown}
 use Rattle.mz_emit.specs.Params.{HasParams}
-use Rattle.mz_emit_bodies.specs.Claims.{IsSound, proved}
+use Rattle.mz_emit_theory.specs.Claims.{IsSound, proved}
 use Rattle.mz_emit_bodies.specs.Stages.{HasDummiesBehind}
 use Rattle.mz_emit.proofs.Saying.{few_nodes}
 use Rattle.mz_emit.proofs.Using.{used_as_stated}
-use Rattle.mz_emit.specs.Gapped.{SaysItsUses}
-use Rattle.mz_emit.specs.Emitting.{AreReady, CanBeDefined, CanBeAsserted, SaysDefinition, SaysAssertion, IsProvedBy, IsSoundIfStated, body_weight, MakesBody, definition_body_of, assertion_body_of}
+use Rattle.mz_emit_accepted_theory.specs.Gapped.{SaysItsUses}
+use Rattle.mz_emit.specs.Emitting.{AreReady, CanBeDefined, CanBeAsserted, SaysDefinition, SaysAssertion, IsProvedBy, IsSoundIfStated, body_weight, MakesBody}
+use Rattle.mz_emit_accepted_theory.specs.CompiledFile.{definition_body_of, assertion_body_of}
 
 -- ---- counts of bound variables
 

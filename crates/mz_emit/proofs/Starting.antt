@@ -5,13 +5,13 @@ use Rattle.std.proofs.lemmas.List.{length-append, map-append, reverse-append}
 use Rattle.std.proofs.lemmas.List.Elements.{All-contains}
 use Rattle.std.proofs.lemmas.Option.{get_or_from_slice_get, slice_get_within, none-some}
 use Rattle.std.proofs.lemmas.Bool.{cases_eq}
-use Rattle.mz_logic.specs.Tree.{Tree, var, listed}
-use Rattle.mz_logic.specs.Legality.{AreParams, IsDummy}
-use Rattle.mz_logic.specs.Signature.{Signature}
-use Rattle.mz_logic.specs.Variables.{InV, IsBoundAt}
-use Rattle.mz_logic.specs.declared.binder.SortMods.{SortMods}
-use Rattle.mz_logic.specs.declared.binder.Binder.{Binder}
-use Rattle.mz_logic.proofs.Offered.{split_at, one_at}
+use Rattle.mz_logic_theory.specs.Tree.{Tree, var, listed}
+use Rattle.mz_logic_theory.specs.Legality.{AreParams, IsDummy}
+use Rattle.mz_logic_theory.specs.Signature.{Signature}
+use Rattle.mz_logic_theory.specs.Variables.{InV, IsBoundAt}
+use Rattle.mz_logic_theory.specs.declared.binder.SortMods.{SortMods}
+use Rattle.mz_logic_theory.specs.declared.binder.Binder.{Binder}
+use Rattle.mz_logic_theory.proofs.Offered.{split_at, one_at}
 use Rattle.mz_store.specs.Bits.{Tells, bound_vars}
 use Rattle.mz_store.specs.Sharing.{Sharing, Holds, IsIn, IsOver, IsTold, tree_of, trees_of}
 use Rattle.mz_store.specs.declared.item.Id.{Id}

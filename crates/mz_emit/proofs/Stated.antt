@@ -2,10 +2,10 @@
 use Rattle.std.proofs.Common.{ℕ, ◌<◌, ◌≤◌, Bool, true, false, List, ◌+◌, All, sym, subst, arith}
 use Rattle.std.proofs.lemmas.List.Elements.{All-nil, All-cons}
 use Rattle.mz_sexpr.specs.Node.{Node, Nodes, atom, list, no_nodes, node}
-use Rattle.mz_mmu_forms.specs.Name.{Names, names_with}
-use Rattle.mz_mmu_statements.specs.Statements.{Statement, kind_of, is_local_word, Modifiers, bit, modifier_bits, IsDeclared, IsLocal, IsMarked, IsStatement, AreStatements}
-use Rattle.mz_mmu_statements.specs.declared.kind.Kind.{Kind}
-use Rattle.mz_mmu_statements.specs.declared.kind.Kind.TheVariants.{Sort as sort_kind, Term as term_kind, Axiom as axiom_kind, Def as def_kind, Theorem as theorem_kind}
+use Rattle.mz_mmu_theory.specs.Name.{Names, names_with}
+use Rattle.mz_mmu_theory.specs.Statements.{Statement, kind_of, is_local_word, Modifiers, bit, modifier_bits, IsDeclared, IsLocal, IsMarked, IsStatement, AreStatements}
+use Rattle.mz_mmu_theory.specs.declared.kind.Kind.{Kind}
+use Rattle.mz_mmu_theory.specs.declared.kind.Kind.TheVariants.{Sort as sort_kind, Term as term_kind, Axiom as axiom_kind, Def as def_kind, Theorem as theorem_kind}
 use Rattle.mz_emit.specs.Emitting.{IsStated}
 
 at_most : (b : Bool) (n : ℕ) → bit b n ≤ n

@@ -5,16 +5,16 @@ use Rattle.std.specs.Int.{bit_at, bit_not}
 use Rattle.std.proofs.lemmas.Nat.Bits.{bit_at_or, bit_at_and, bit_at_not, bit_at_above, bit_at-zero, bit_at-lt, same_from_bits}
 use Rattle.std.proofs.lemmas.Option.{none-some}
 use Rattle.std.proofs.lemmas.Bool.{cases_lt}
-use Rattle.mz_logic.specs.Tree.{Tree, Trees, var, app, none, more}
-use Rattle.mz_logic.specs.Variables.{InV, InSomeV, IsBoundAt, Occurs, OccursIn}
-use Rattle.mz_logic.specs.declared.binder.Binder.{Binder}
-use Rattle.mz_logic.proofs.Offered.{one_at}
+use Rattle.mz_logic_theory.specs.Tree.{Tree, Trees, var, app, none, more}
+use Rattle.mz_logic_theory.specs.Variables.{InV, InSomeV, IsBoundAt, Occurs, OccursIn}
+use Rattle.mz_logic_theory.specs.declared.binder.Binder.{Binder}
+use Rattle.mz_logic_theory.proofs.Offered.{one_at}
 use Rattle.mz_store.specs.Bits.{HasAt, Tells, bound_from, bound_vars}
 use Rattle.mz_store.proofs.Offered.{bound-has, zero-or-one}
 use Rattle.mz_emit_theory.specs.Works.{from_to}
 use Rattle.mz_emit_theory.specs.StreamWriting.{are_met}
 use Rattle.mz_emit_theory.proofs.Offered.{all-met, met-all, has-place, own-below}
-use Rattle.mz_emit_bodies.specs.Instances.{InReach, AllInReach}
+use Rattle.mz_emit_theory.specs.InReach.{InReach, AllInReach}
 
 -- ---- words
 

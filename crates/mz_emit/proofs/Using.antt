@@ -3,15 +3,15 @@ use Rattle.std.proofs.Common.{◌≡◌, ◌⊎◌, ℕ, zero, suc, Bool, true, 
 use Rattle.std.proofs.lemmas.Bool.{or_cases, or_left, or_right, eqb-true}
 use Rattle.mz_cmd.specs.declared.code.ProofCode.{ProofCode}
 use Rattle.mz_cmd.specs.declared.code.ProofCode.TheVariants as code
-use Rattle.mz_logic.specs.Tree.{Tree}
-use Rattle.mz_logic.specs.Declaration.{Declaration}
-use Rattle.mz_logic.specs.declared.binder.Binder.{Binder}
+use Rattle.mz_logic_theory.specs.Tree.{Tree}
+use Rattle.mz_logic_theory.specs.Declaration.{Declaration}
+use Rattle.mz_logic_theory.specs.declared.binder.Binder.{Binder}
 use Rattle.mz_machine_theory.specs.MachineState.{Kind}
-use Rattle.mz_mmu_forms.specs.Proof.{Proof}
-use Rattle.mz_emit_bodies.specs.Uses.{Use, a_gap, assertion, uses, command_uses, commands_use, IsBodyUsing}
+use Rattle.mz_mmu_theory.specs.Proof.{Proof}
+use Rattle.mz_emit_theory.specs.Uses.{Use, a_gap, assertion, uses, command_uses, commands_use, IsBodyUsing}
 use Rattle.mz_emit_theory.specs.Gaps.{LeaveGap, Cite, SaysItsGaps}
 use Rattle.mz_emit_theory.proofs.Offered.{bodies-say-gaps, in-none}
-use Rattle.mz_emit.specs.Gapped.{UsesAsStated}
+use Rattle.mz_emit_accepted_theory.specs.Gapped.{UsesAsStated}
 
 -- ---- commands that use something
 

@@ -1,10 +1,10 @@
 -- A body is written in proportion to the weight of its proof.
 use Rattle.std.proofs.Common.{◌≡◌, List, Option, Some, None, refl, arith}
-use Rattle.mz_logic.specs.Declaration.{Declaration}
-use Rattle.mz_logic.specs.Conversions.{Conversion, Conversions, refl_conv, sym_conv, cong_conv, unfold_conv, gap_conv, no_convs, more_convs}
-use Rattle.mz_mmu_forms.specs.Proof.{Proof, Proofs, by_hyp, by_name, by_citation, by_conv, by_let, by_gap, no_proofs, more_proofs}
-use Rattle.mz_type.specs.Weight.{conv_weight, convs_weight, proof_weight, proofs_weight, stated_weight}
-use Rattle.mz_emit_bodies.specs.Weights.{conv_weight as conv_written, convs_weight as convs_written, proof_weight as proof_written, proofs_weight as proofs_written}
+use Rattle.mz_logic_theory.specs.Declaration.{Declaration}
+use Rattle.mz_logic_theory.specs.Conversions.{Conversion, Conversions, refl_conv, sym_conv, cong_conv, unfold_conv, gap_conv, no_convs, more_convs}
+use Rattle.mz_mmu_theory.specs.Proof.{Proof, Proofs, by_hyp, by_name, by_citation, by_conv, by_let, by_gap, no_proofs, more_proofs}
+use Rattle.mz_mmu_theory.specs.Weight.{conv_weight, convs_weight, proof_weight, proofs_weight, stated_weight}
+use Rattle.mz_emit_theory.specs.Weights.{conv_weight as conv_written, convs_weight as convs_written, proof_weight as proof_written, proofs_weight as proofs_written}
 use Rattle.mz_emit.specs.Emitting.{body_weight}
 
 module _ (env : List Declaration) where

@@ -1,43 +1,42 @@
--- Statements as they are written into a binary.
+-- Statements as they are written into a binary (this project's own choice among the files that the .mmb format allows).
 use Rattle.std.specs.Prelude.{Bool, true, false, ◌≡◌, ◌≤◌, ◌<◌, ◌+◌, ◌*◌, ◌^◌, ⊤, ℕ, List, [], ◌∷◌, ◌++◌, length, map, All, Option, Some, None}
-use Rattle.mz_logic.specs.Tree.{Tree, none, listed, size, trees_size}
-use Rattle.mz_logic.specs.Signature.{Signature}
-use Rattle.mz_logic.specs.Declaration.{Form, plain_form, abstract_form, defined, Assertion, Declaration, sort_decl, term_decl, assertion_decl, sorts, signatures}
-use Rattle.mz_logic.specs.Legality.{Each, IsDummy, AreParams, IsLegalEnv}
-use Rattle.mz_logic.specs.Modifiers.{MayBeDummySort}
-use Rattle.mz_logic.specs.Sorts.{HasProvable, AreProvable}
-use Rattle.mz_logic.specs.Words.{signatures_of}
-use Rattle.mz_logic.specs.WordsWritten.{CanBeWords, words_of, result_word}
-use Rattle.mz_logic.specs.declared.binder.Binder.{Binder}
-use Rattle.mz_logic.specs.declared.binder.SortMods.{SortMods}
-use Rattle.mz_layout.specs.Normal.{Row, Written, Parts, no_parts, row_of_term, row_of_thm, file_of}
-use Rattle.mz_layout.specs.NormalLaws.{rows_cost, statements_cost}
+use Rattle.mz_logic_theory.specs.Tree.{Tree, none, listed, size, trees_size}
+use Rattle.mz_logic_theory.specs.Signature.{Signature}
+use Rattle.mz_logic_theory.specs.Declaration.{Form, plain_form, abstract_form, defined, Assertion, Declaration, sort_decl, term_decl, assertion_decl, sorts, signatures}
+use Rattle.mz_logic_theory.specs.Legality.{Each, IsDummy, AreParams, IsLegalEnv}
+use Rattle.mz_logic_theory.specs.Modifiers.{MayBeDummySort}
+use Rattle.mz_logic_theory.specs.Sorts.{HasProvable, AreProvable}
+use Rattle.mz_logic_theory.specs.Words.{signatures_of}
+use Rattle.mz_logic_theory.specs.WordsWritten.{CanBeWords, words_of, result_word}
+use Rattle.mz_logic_theory.specs.declared.binder.Binder.{Binder}
+use Rattle.mz_logic_theory.specs.declared.binder.SortMods.{SortMods}
+use Rattle.mz_layout_tables.specs.Normal.{Parts}
+use Rattle.mz_layout_tables.specs.NormalLaws.{rows_cost, statements_cost}
 use Rattle.mz_unify_theory.specs.Sorted.{Sorted}
 use Rattle.mz_unify_theory.specs.Streams.{of_assertion, of_definition}
 use Rattle.mz_machine_theory.specs.Lists.{kind_of}
 use Rattle.mz_machine_theory.specs.Premises.{bound_count as bound_in}
 use Rattle.mz_machine_theory.specs.MachineState.{is_axiom, is_theorem, is_definition}
-use Rattle.mz_mmu_statements.specs.Statements.{HasGapsOnly, Statement}
-use Rattle.mz_mmu_forms.specs.Proof.{Proof}
-use Rattle.mz_mmu.specs.Laws.{IsWhole}
-use Rattle.mz_type_rules.specs.Names.{StatementThere}
-use Rattle.mz_type.specs.Meaning.{IsLegalAsStated, LegalAsStated, marked}
+use Rattle.mz_mmu_theory.specs.Statements.{HasGapsOnly, Statement}
+use Rattle.mz_mmu_theory.specs.Proof.{Proof}
+use Rattle.mz_mmu_theory.specs.ReadingLaws.{IsWhole}
+use Rattle.mz_mmu_theory.specs.Names.{StatementThere}
+use Rattle.mz_mmu_theory.specs.Meaning.{IsLegalAsStated, LegalAsStated, marked}
 use Rattle.mz_type.specs.TypedText.{declared}
-use Rattle.mz_type.specs.Weight.{params_of, parameter_count, bound_count, statement_weight, weight_of}
+use Rattle.mz_mmu_theory.specs.Weight.{params_of, parameter_count, bound_count, statement_weight, weight_of}
 use Rattle.mz_emit_theory.specs.SharedBodies.{IsSharedBody}
 use Rattle.mz_emit_theory.specs.StreamLaws.{IsSmall}
 use Rattle.mz_emit_theory.specs.SharedTexts.{IsSharedText}
 use Rattle.mz_emit_theory.specs.SpelledLists.{list_spelled}
-use Rattle.mz_emit_theory.specs.StreamWriting.{stream_of, body_spelled, dummies_spelled, assertion_written as assertion_streamed, definition_written as definition_streamed}
-use Rattle.mz_emit_theory.specs.Endings.{spelled_body}
-use Rattle.mz_emit_bodies.specs.Writing.{definition_written, axiom_written, theorem_written}
+use Rattle.mz_emit_theory.specs.StreamWriting.{body_spelled, dummies_spelled}
 use Rattle.mz_emit_theory.specs.FileWriting.{SaySignature, IsWrittenAs}
 use Rattle.mz_emit_bodies.specs.Rows.{words_of_row}
-use Rattle.mz_emit_bodies.specs.Claims.{IsSound, proved}
-use Rattle.mz_emit_bodies.specs.Uses.{uses, IsBodyUsing}
-use Rattle.mz_emit_bodies.specs.Weights.{proof_weight}
-use Rattle.mz_emit.specs.Gapped.{SaysItsUses, SayTheirUses}
+use Rattle.mz_emit_theory.specs.Claims.{IsSound, proved}
+use Rattle.mz_emit_theory.specs.Uses.{uses, IsBodyUsing}
+use Rattle.mz_emit_theory.specs.Weights.{proof_weight}
+use Rattle.mz_emit_accepted_theory.specs.Gapped.{SaysItsUses, SayTheirUses}
 use Rattle.mz_emit.specs.declared.emitter.Emitter.{Emitter}
+use Rattle.mz_emit_accepted_theory.specs.CompiledFile.{definition_stream_of, definition_body_of, assertion_stream_of, assertion_body_of, compiled_parts}
 
 -- ---- what is asked of a statement
 
@@ -99,76 +98,6 @@ pub record CanBeAsserted (env : List Declaration) (a : Assertion) (dummies : Lis
   pub hyps : AreProvable env a.params a.hyps
   pub conclusion : HasProvable env a.params a.conclusion
   pub short : length a.params + (size a.conclusion + (trees_size a.hyps + length (listed a.hyps))) ≤ 2 ^ 32
-
--- ---- what is added to the parts
-
-abbrev pub with_sort : Parts → ℕ → Parts
-with_sort p m = record p { sorts = p.sorts ++ m ∷ []; statements = p.statements ++ record { code = 0x04; body = [] } ∷ [] }
-
-abbrev pub with_term : Parts → Row → Written → Parts
-with_term p r w = record p { terms = p.terms ++ r ∷ []; statements = p.statements ++ w ∷ [] }
-
-abbrev pub with_thm : Parts → Row → Written → Parts
-with_thm p r w = record p { thms = p.thms ++ r ∷ []; statements = p.statements ++ w ∷ [] }
-
--- the row of a term that has this stream, if it has one, and of an axiom or theorem
-abbrev pub term_row : Signature → Option (List ℕ) → Row
-term_row sg stream = row_of_term (words_of sg.params) (result_word sg.params sg.result) stream
-
-abbrev pub thm_row : Assertion → List ℕ → Row
-thm_row a stream = row_of_thm (words_of a.params) stream
-
--- the code of a definition's statement, which may be local
-abbrev pub definition_code : Bool → ℕ
-definition_code true = 0x0D
-definition_code false = 0x05
-
--- of an axiom's or a theorem's
-abbrev pub assertion_code : Bool → Bool → ℕ
-assertion_code true is_local = 0x02
-assertion_code false true = 0x0E
-assertion_code false false = 0x06
-
--- ---- what is written of a text, as a function of its statements
-
-abbrev pub definition_stream_of : List Binder → List Binder → Tree → List ℕ
-definition_stream_of params dummies e = stream_of (definition_streamed params dummies e).commands
-
-abbrev pub definition_body_of : List Binder → List Binder → Tree → List ℕ
-definition_body_of params dummies e = spelled_body (definition_written params dummies e).commands
-
-abbrev pub assertion_stream_of : Assertion → List ℕ
-assertion_stream_of a = stream_of (assertion_streamed a.params a.hyps a.conclusion).commands
-
--- the body of an axiom, or of a theorem with this proof
-abbrev pub assertion_body_of : List Declaration → List Binder → List Binder → List Tree → Tree → Option Proof → List ℕ
-assertion_body_of env params dummies hyps e None = spelled_body (axiom_written params dummies hyps e).commands
-assertion_body_of env params dummies hyps e (Some p) = spelled_body (theorem_written env params dummies hyps p).commands
-
--- a term more; a text has none whose body is left open
-abbrev pub with_form : Parts → Bool → Signature → Form → Parts
-with_form p is_local sg plain_form = with_term p (term_row sg None) (record { code = 0x05; body = [] })
-with_form p is_local sg abstract_form = p
-with_form p is_local sg (defined dummies e) =
-    with_term p (term_row sg (Some (definition_stream_of sg.params dummies e))) (record { code = definition_code is_local; body = definition_body_of sg.params dummies e })
-
--- a statement more, local or not, with these dummies and this proof, after env
-abbrev pub with_declaration : List Declaration → Parts → Bool → List Binder → Option Proof → Declaration → Parts
-with_declaration env p is_local dummies q (sort_decl m) = with_sort p m.0
-with_declaration env p is_local dummies q (term_decl t) = with_form p is_local t.signature t.form
-with_declaration env p is_local dummies q (assertion_decl a) =
-    with_thm p (thm_row a (assertion_stream_of a)) (record { code = assertion_code a.is_axiom is_local; body = assertion_body_of env a.params dummies (listed a.hyps) a.conclusion q })
-
-abbrev pub parts_after : List Declaration → Parts → List Statement → Parts
-parts_after env p [] = p
-parts_after env p (s ∷ ss) = parts_after (env ++ s.decl ∷ []) (with_declaration env p s.is_local s.dummies s.proof s.decl) ss
-
-abbrev pub compiled_parts : List Statement → Parts
-compiled_parts ss = parts_after [] no_parts ss
-
--- the file that the statements are compiled to
-abbrev pub compiled_file : List Statement → List ℕ
-compiled_file ss = file_of (compiled_parts ss)
 
 -- ---- what that says
 

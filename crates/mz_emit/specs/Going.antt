@@ -1,9 +1,9 @@
 -- What holds while a unify stream is written: the commands so far, followed by those of what is to do, are the
 -- commands of the whole.
 use Rattle.std.specs.Prelude.{ℕ, ◌≡◌, ◌<◌, ◌++◌, ◌∷◌, [], false, Contains, List, Option, Some, length, map, slice_get}
-use Rattle.mz_logic.specs.Tree.{Tree, Trees, var, none, more, followed_by}
-use Rattle.mz_logic.specs.Signature.{Signature}
-use Rattle.mz_logic.specs.declared.binder.Binder.{Binder}
+use Rattle.mz_logic_theory.specs.Tree.{Tree, Trees, var, none, more, followed_by}
+use Rattle.mz_logic_theory.specs.Signature.{Signature}
+use Rattle.mz_logic_theory.specs.declared.binder.Binder.{Binder}
 use Rattle.mz_emit_theory.specs.Works.{from_to}
 use Rattle.mz_store.specs.Bits.{Tells, bound_vars}
 use Rattle.mz_store.specs.Sharing.{AreIn, Holds, IsIn, IsOver, Sharing, tree_of, trees_of}
@@ -11,7 +11,7 @@ use Rattle.mz_store.specs.declared.item.DepsMode.TheVariants as of
 use Rattle.mz_store.specs.declared.item.Id.{Id}
 use Rattle.mz_unify_theory.specs.Streams.{UnifyCommand}
 use Rattle.mz_emit_theory.specs.StreamWriting.{Writing, Written, unify_bytes, write_all, write_hyps}
-use Rattle.mz_emit_bodies.specs.Instances.{AllInReach}
+use Rattle.mz_emit_theory.specs.InReach.{AllInReach}
 use Rattle.mz_emit_bodies.specs.Places.{place_of}
 use Rattle.mz_emit.specs.declared.stream.Stream.{Stream}
 

@@ -1,22 +1,21 @@
 // From a text to a binary.
 ghost use Rattle.std.specs.Prelude.{Bool, false, ◌≡◌, ◌<◌, ◌^◌, IfOk, ℕ, List, length};
 ghost use Rattle.mz_base.specs.Gaps.{gaps_of};
-ghost use Rattle.mz_mmu_statements.specs.Statements.{Statement};
-ghost use Rattle.mz_type.specs.Meaning.{LegalAsStated};
+ghost use Rattle.mz_mmu_theory.specs.Statements.{Statement};
+ghost use Rattle.mz_mmu_theory.specs.Meaning.{LegalAsStated};
 ghost use Rattle.mz_type.specs.StatedView.{AreRead, statements_of};
-ghost use Rattle.mz_type.specs.TextOf.{TextOf};
-ghost use Rattle.mz_type.specs.Weight.{IsWithinLimits};
+ghost use Rattle.mz_mmu_theory.specs.TextOf.{TextOf};
+ghost use Rattle.mz_mmu_theory.specs.Weight.{IsWithinLimits};
 ghost use Rattle.mz_emit.specs.Emitting.{IsLegalWith, HasEmitted};
-ghost use Rattle.mz_emit.specs.Compiling.{IsBinaryOf, IsCompilation, IsDecided, ModesCompileAlike};
+ghost use Rattle.mz_emit_accepted_theory.specs.Compiling.{IsBinaryOf, IsCompilation, IsDecided, ModesCompileAlike};
 
-use crate::compiled::Compiled;
 use crate::emitter::Emitter;
-use crate::limit::{Passed, limit_of};
-use mz_base::Mode;
+use crate::limit::limit_of;
+use mz_base::{Hashing, Mode};
 use mz_cmd::Mem;
-use mz_logic::Env;
+use mz_emit_accepted_theory::{Compiled, Passed};
+use mz_logic_theory::Env;
 use mz_mmu::{TextRead, read_text};
-use mz_mmu_forms::Hashing;
 use mz_type::{
     Beside, Typed, TypedRead, check_text, limits_are_decided, statements_can_be_words, take_last,
     typed_or_faulty,

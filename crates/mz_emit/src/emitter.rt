@@ -1,40 +1,42 @@
 // The statements of a text, one after another, as rows, streams and bodies of a binary.
 ghost use Rattle.std.specs.Prelude.{ℕ, Bool, List, ◌≡◌, ◌<◌, ◌≤◌, ◌+◌, ◌*◌, ◌++◌, ◌∷◌, [], ◌⊎◌, OnOk, IfOk, None, Some, Option, length, map, take, IsTrue};
 ghost use Rattle.mz_cmd.specs.Codes.{begins_statement};
-ghost use Rattle.mz_logic.specs.DeclView.{declaration, term_of, assertion_of, assertion_view, signature, form, is_axiom as is_axiom_form};
-ghost use Rattle.mz_logic.specs.Declaration.{Assertion, sort_decl, term_decl, assertion_decl, plain_form, defined, dummies_of, sorts, signatures};
-ghost use Rattle.mz_logic.specs.Legality.{IsLegalEnv};
-ghost use Rattle.mz_logic.specs.Modifiers.{MayBeResultSort};
-ghost use Rattle.mz_logic.specs.Sorts.{AreProvable};
-ghost use Rattle.mz_logic.specs.Tree.{listed, size, trees_size};
-ghost use Rattle.mz_logic.specs.View.{tree};
-ghost use Rattle.mz_logic.specs.Words.{BitsRight, binders_of, signatures_of};
-ghost use Rattle.mz_logic.specs.WordsWritten.{CanBeWords, words_of, result_word};
-ghost use Rattle.mz_logic.specs.declared.binder.Binder.{Binder as BinderOf};
-ghost use Rattle.mz_logic.specs.declared.binder.SortMods.{SortMods as Modifiers};
-ghost use Rattle.mz_layout.specs.Normal.{row_of_term, row_of_thm};
-ghost use Rattle.mz_mmu_forms.specs.ProofView.{proof_view};
-ghost use Rattle.mz_mmu_statements.specs.Statements.{Statement};
+ghost use Rattle.mz_logic_theory.specs.DeclView.{declaration, term_of, assertion_of, assertion_view, signature, form, is_axiom as is_axiom_form};
+ghost use Rattle.mz_logic_theory.specs.Declaration.{Assertion, sort_decl, term_decl, assertion_decl, plain_form, defined, dummies_of, sorts, signatures};
+ghost use Rattle.mz_logic_theory.specs.Legality.{IsLegalEnv};
+ghost use Rattle.mz_logic_theory.specs.Modifiers.{MayBeResultSort};
+ghost use Rattle.mz_logic_theory.specs.Sorts.{AreProvable};
+ghost use Rattle.mz_logic_theory.specs.Tree.{listed, size, trees_size};
+ghost use Rattle.mz_logic_theory.specs.View.{tree};
+ghost use Rattle.mz_logic_theory.specs.Words.{BitsRight, binders_of, signatures_of};
+ghost use Rattle.mz_logic_theory.specs.WordsWritten.{CanBeWords, words_of, result_word};
+ghost use Rattle.mz_logic_theory.specs.declared.binder.Binder.{Binder as BinderOf};
+ghost use Rattle.mz_logic_theory.specs.declared.binder.SortMods.{SortMods as Modifiers};
+ghost use Rattle.mz_layout_tables.specs.Normal.{row_of_term, row_of_thm};
+ghost use Rattle.mz_mmu_theory.specs.ProofView.{proof_view};
+ghost use Rattle.mz_mmu_theory.specs.Statements.{Statement};
 ghost use Rattle.mz_type_rules.specs.Answers.{stated};
-ghost use Rattle.mz_type.specs.Meaning.{LegalAsStated};
+ghost use Rattle.mz_mmu_theory.specs.Meaning.{LegalAsStated};
 ghost use Rattle.mz_type.specs.StatedView.{with_decl};
-ghost use Rattle.mz_type.specs.Weight.{IsWithinLimits};
-ghost use Rattle.mz_emit.specs.Compiling.{IsBinaryOf};
+ghost use Rattle.mz_mmu_theory.specs.Weight.{IsWithinLimits};
+ghost use Rattle.mz_emit_accepted_theory.specs.Compiling.{IsBinaryOf};
 ghost use Rattle.mz_store.specs.Sharing.{AreIn, IsIn, tree_of, trees_of};
 ghost use Rattle.mz_machine_theory.specs.Premises.{bound_count as bound_in};
 ghost use Rattle.mz_emit_bodies.specs.Rows.{words_of_row};
 ghost use Rattle.mz_emit_bodies.specs.Stages.{HasDummiesBehind};
 ghost use Rattle.mz_emit.specs.Emitting;
-ghost use Rattle.mz_emit.specs.Emitting.{CanBeNext, WritesNext, EmitsNext, MayFollow, CanBeDefined, CanBeAsserted, HasWords, table_of, term_row, thm_row, SaysDefinition, SaysAssertion, IsProvedBy, IsSoundIfStated, MakesBody, body_weight, assertion_body_of, HasEmitted, with_sort, with_term, with_thm};
+ghost use Rattle.mz_emit.specs.Emitting.{CanBeNext, WritesNext, EmitsNext, MayFollow, CanBeDefined, CanBeAsserted, HasWords, table_of, SaysDefinition, SaysAssertion, IsProvedBy, IsSoundIfStated, MakesBody, body_weight, HasEmitted};
+ghost use Rattle.mz_emit_accepted_theory.specs.CompiledFile;
+ghost use Rattle.mz_emit_accepted_theory.specs.CompiledFile.{term_row, thm_row, assertion_body_of, with_sort, with_term, with_thm};
 
 use crate::statement::{assertion_stream, definition_stream};
 use mz_cmd::{Mem, StatementCode};
 use mz_emit_accepted_theory::stated_proofs_are_sound;
 use mz_emit_bodies::{Before, Shared, Table, Words, axiom_body, definition_body, theorem_body};
 use mz_layout::LayoutWriter;
-use mz_logic::{Binder, Decl, Env, Expr, SortMods, TermDecl, ThmDecl, ThmForm};
 use mz_logic_copy::copy_of_decl;
-use mz_mmu_forms::Proof;
+use mz_logic_theory::{Binder, Decl, Env, Expr, SortMods, TermDecl, ThmDecl, ThmForm};
+use mz_mmu_theory::Proof;
 use mz_store::Id;
 use mz_type::Beside;
 use std::alloc::Global;
@@ -57,7 +59,7 @@ struct Emitted {
 
 /// The code of a definition's statement.
 fn definition_code(is_local: bool) -> u8
-    ensures code { result ≡ Emitting.definition_code is_local }
+    ensures code { result ≡ CompiledFile.definition_code is_local }
     ensures known { IsTrue (begins_statement result) }
 {
     if is_local {
@@ -69,7 +71,7 @@ fn definition_code(is_local: bool) -> u8
 
 /// The code of an axiom's or a theorem's statement.
 fn assertion_code(form: ThmForm, is_local: bool) -> u8
-    ensures code { result ≡ Emitting.assertion_code (is_axiom_form form) is_local }
+    ensures code { result ≡ CompiledFile.assertion_code (is_axiom_form form) is_local }
     ensures known { IsTrue (begins_statement result) }
 {
     match form {

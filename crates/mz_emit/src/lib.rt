@@ -1,20 +1,17 @@
 //! The compiler: a well-typed proof text within the limits becomes a binary that is accepted
-//! against each specification with which the text's public statements agree.
+//! against each specification with which the text's public statements agree. What it answers is said in
+//! `mz_emit_accepted_theory`.
 //!
 //! Bodies are those of `mz_emit_bodies`; a unify stream spells a statement's conclusion and hypotheses, or a definition's
 //! body, and builds each expression once (`src/stream.rt`).
 #![tactic(auto)]
 
 mod compile;
-mod compiled;
 mod emitter;
 mod limit;
 mod line;
-mod rule;
 mod statement;
 mod stream;
 
 pub use compile::{compilation_is_decided, compile_bytes, modes_compile_alike};
-pub use compiled::Compiled;
 pub use line::compiled_line;
-pub use rule::L;

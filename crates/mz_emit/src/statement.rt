@@ -1,10 +1,10 @@
 //! The unify streams of statements.
 ghost use Rattle.std.specs.Prelude.{ℕ, ◌≡◌, ◌<◌, ◌++◌, IfOk, List, length};
-ghost use Rattle.mz_logic.specs.Signature.{Signature};
-ghost use Rattle.mz_logic.specs.declared.binder.Binder.{Binder};
+ghost use Rattle.mz_logic_theory.specs.Signature.{Signature};
+ghost use Rattle.mz_logic_theory.specs.declared.binder.Binder.{Binder};
 ghost use Rattle.mz_store.specs.Sharing.{AreIn, IsIn, tree_of, trees_of};
 ghost use Rattle.mz_emit_theory.specs.StreamWriting.{assertion_written, definition_written, stream_of};
-ghost use Rattle.mz_emit_bodies.specs.Instances.{AllInReach, InReach};
+ghost use Rattle.mz_emit_theory.specs.InReach.{AllInReach, InReach};
 ghost use Rattle.mz_emit_bodies.specs.Variables.{IsShared};
 ghost use Rattle.mz_emit.specs.Params.{HasParams};
 

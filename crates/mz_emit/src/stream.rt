@@ -3,13 +3,13 @@ ghost use Rattle.std.specs.Prelude.{ℕ, ◌≡◌, ◌<◌, ◌↔◌, ◌∷�
 ghost use Rattle.std.specs.Int.{bit_at};
 ghost use Rattle.mz_cmd.specs.Codes.{unify_byte};
 ghost use Rattle.mz_cmd.specs.Spelling.{shortest};
-ghost use Rattle.mz_logic.specs.Tree.{more, trees_size};
-ghost use Rattle.mz_logic.specs.declared.binder.Binder.{Binder};
+ghost use Rattle.mz_logic_theory.specs.Tree.{more, trees_size};
+ghost use Rattle.mz_logic_theory.specs.declared.binder.Binder.{Binder};
 ghost use Rattle.mz_emit_theory.specs.Works.{from_to};
 ghost use Rattle.mz_store.specs.Bits.{Tells, bound_vars};
 ghost use Rattle.mz_store.specs.Sharing.{AreIn, IsIn, head_of, tree_of, trees_of};
 ghost use Rattle.mz_emit_theory.specs.StreamWriting.{Writing, are_met, write, writing_start};
-ghost use Rattle.mz_emit_bodies.specs.Instances.{AllInReach, InReach};
+ghost use Rattle.mz_emit_theory.specs.InReach.{AllInReach, InReach};
 ghost use Rattle.mz_emit_bodies.specs.Places.{place_of};
 ghost use Rattle.mz_emit.specs.Going.{Going, HasWritten, IsReady, IsStatement, Job, hyps_written, met_so_far, to_do};
 

@@ -5,14 +5,14 @@ use Rattle.mz_base_theory.specs.Checks.{Checks, AllHold}
 use Rattle.mz_base_theory.proofs.Offered.{all_hold-both, all_hold-first, all_hold-rest}
 use Rattle.mz_cmd.specs.declared.rule.K.{K}
 use Rattle.mz_cmd.specs.Codes.{statement_code}
-use Rattle.mz_logic.specs.Declaration.{Declaration, sort_decl, term_decl, assertion_decl}
-use Rattle.mz_layout.specs.Tables.{term_row, thm_row}
+use Rattle.mz_logic_theory.specs.Declaration.{Declaration, sort_decl, term_decl, assertion_decl}
+use Rattle.mz_layout_tables.specs.Tables.{term_row, thm_row}
 use Rattle.mz_unify_theory.specs.Profile.{strict}
 use Rattle.mz_machine_theory.specs.Bodies.{Runs, body_checks}
-use Rattle.mz_layout.specs.Heads.{body_bytes}
+use Rattle.mz_layout_tables.specs.Heads.{body_bytes}
 use Rattle.mz_machine_theory.specs.FileRows.{Taken, term_of_file, thm_of_file, rows_taken}
 use Rattle.mz_machine_theory.specs.Lists.{definition_of, assertion_of}
-use Rattle.mz_layout_words.specs.RowWords.{param_checks, word_checks}
+use Rattle.mz_layout_tables.specs.RowWords.{param_checks, word_checks}
 use Rattle.mz_machine_theory.specs.MachineState.{RowsBefore, Heading}
 use Rattle.mz_machine_theory.proofs.Offered.{bodies-checked}
 use Rattle.mz_pmachine_theory.specs.Numbered.{portable}

@@ -5,14 +5,14 @@ use Rattle.mz_cmd.specs.declared.statement.StmtAt.{StmtAt}
 use Rattle.mz_cmd.specs.declared.statement.StmtAt.TheVariants.{Head}
 use Rattle.mz_cmd.specs.declared.statement.StmtFault.{StmtFault}
 use Rattle.mz_cmd.specs.StatementList.{statement_at}
-use Rattle.mz_logic.specs.Declaration.{Declaration}
-use Rattle.mz_logic.specs.Legality.{IsLegalEnv}
-use Rattle.mz_logic.specs.LegalLists.{Statement, LegalAfter, gap_free}
-use Rattle.mz_layout.specs.Normal.{Written, Parts, file_of}
-use Rattle.mz_layout.specs.Standing.{Fit, AreListed, body_place, next_place}
-use Rattle.mz_layout.specs.Tables.{list_at}
-use Rattle.mz_layout.proofs.Offered.{all-listed, counts-said}
-use Rattle.mz_layout.specs.Heads.{body_bytes}
+use Rattle.mz_logic_theory.specs.Declaration.{Declaration}
+use Rattle.mz_logic_theory.specs.Legality.{IsLegalEnv}
+use Rattle.mz_logic_theory.specs.LegalLists.{Statement, LegalAfter, gap_free}
+use Rattle.mz_layout_tables.specs.Normal.{Written, Parts, file_of}
+use Rattle.mz_layout_tables.specs.Standing.{Fit, AreListed, body_place, next_place}
+use Rattle.mz_layout_tables.specs.Tables.{list_at}
+use Rattle.mz_layout_tables.proofs.Offered.{all-listed, counts-said}
+use Rattle.mz_layout_tables.specs.Heads.{body_bytes}
 use Rattle.mz_machine_theory.specs.FileRows.{taken_by, rows_taken}
 use Rattle.mz_machine_theory.specs.MachineState.{Declares}
 use Rattle.mz_binary_theory.specs.declared.standard.Standard.{Standard}

@@ -1,12 +1,12 @@
 -- A body is the same as itself.
 use Rattle.std.proofs.Common.{◌≡◌, ℕ, zero, suc, ◌+◌, ◌<◌, List, ◌++◌, length, Some, slice_get, ap, ◌∙◌, arith}
 use Rattle.std.specs.List.{range_with_len}
-use Rattle.mz_logic.specs.Tree.{Tree, Trees, var, app, none, more}
-use Rattle.mz_logic.specs.Signature.{Signature}
-use Rattle.mz_logic.specs.Legality.{InRange, AllInRange}
-use Rattle.mz_logic.specs.declared.binder.Binder.{Binder}
-use Rattle.mz_match_theory.specs.Trees.{SameOver, AllSameOver, IsPaired}
-use Rattle.mz_match_theory.proofs.Offered.{own_pairs, pairs-own, paired-own}
+use Rattle.mz_logic_theory.specs.Tree.{Tree, Trees, var, app, none, more}
+use Rattle.mz_logic_theory.specs.Signature.{Signature}
+use Rattle.mz_logic_theory.specs.Legality.{InRange, AllInRange}
+use Rattle.mz_logic_theory.specs.declared.binder.Binder.{Binder}
+use Rattle.mz_spec_proved_theory.specs.Trees.{SameOver, AllSameOver, IsPaired}
+use Rattle.mz_spec_proved_theory.proofs.Offered.{own_pairs, pairs-own, paired-own}
 use Rattle.mz_emit_accepted_theory.specs.AcceptedLaws.{SameFormsHaveSameBodies}
 use Rattle.mz_emit_accepted_theory.proofs.SameBodies.{same-body-back}
 

@@ -4,16 +4,16 @@ use Rattle.std.specs.Option.{option_map}
 use Rattle.std.proofs.lemmas.Bool.{ltb-true, ltb-false}
 use Rattle.std.proofs.lemmas.Option.{slice_get-map, slice_get_within, get_or_from_slice_get}
 use Rattle.mz_base_theory.proofs.Offered.{slice_get-some as there, slice_get-map_back}
-use Rattle.mz_logic.specs.Tree.{Tree, Trees, var, app, none, more, operand, instance, instances, followed_by, variables}
-use Rattle.mz_logic.specs.Variables.{Occurs, OccursIn, InSomeV}
-use Rattle.mz_logic.specs.Conversions.{IsBoundOf, AreFresh}
-use Rattle.mz_logic.specs.declared.binder.Binder.{Binder}
-use Rattle.mz_logic.proofs.Offered.{split_at}
+use Rattle.mz_logic_theory.specs.Tree.{Tree, Trees, var, app, none, more, operand, instance, instances, followed_by, variables}
+use Rattle.mz_logic_theory.specs.Variables.{Occurs, OccursIn, InSomeV}
+use Rattle.mz_logic_theory.specs.Conversions.{IsBoundOf, AreFresh}
+use Rattle.mz_logic_theory.specs.declared.binder.Binder.{Binder}
+use Rattle.mz_logic_theory.proofs.Offered.{split_at}
 use Rattle.mz_unify_theory.specs.Spells.{variables_from}
 use Rattle.mz_unify_theory.proofs.Offered.{some_is, distinct, in-some, operand-trees_of, length-params}
 use Rattle.mz_emit_theory.specs.Sameness.{own}
-use Rattle.mz_emit_theory.proofs.Offered.{operand-front, operand-behind, operand-variables, get-own}
-use Rattle.mz_match_theory.specs.Trees.{SameOver, AllSameOver, Pairs, IsPaired, SameBody}
+use Rattle.mz_emit_theory.proofs.Offered.{fresh_long, operand-front, operand-behind, operand-variables, get-own}
+use Rattle.mz_spec_proved_theory.specs.Trees.{SameOver, AllSameOver, Pairs, IsPaired, SameBody}
 
 -- ---- parameters
 
@@ -30,12 +30,6 @@ fresh-back ctx es (z ∷ ys) (b ∷ bs) (bound, out, _, h) zero y at =
     let is : z ≡ y = cc in
     (b, refl, subst (λ (v : ℕ). IsBoundOf ctx v b.sort) is bound, subst (λ (v : ℕ). InSomeV ctx v es → ⊥) is out)
 fresh-back ctx es (z ∷ ys) (b ∷ bs) (_, _, _, h) (suc k) y at = fresh-back ctx es ys bs h k y at
-
-fresh-long : (ctx : List Binder) (es : Trees) (ys : List ℕ) (bs : List Binder) → AreFresh ctx es ys bs → length ys ≡ length bs
-fresh-long ctx es [] [] h = refl
-fresh-long ctx es [] (b ∷ bs) h = absurd h
-fresh-long ctx es (y ∷ ys) [] h = absurd h
-fresh-long ctx es (y ∷ ys) (b ∷ bs) (_, _, _, h) = ap suc (fresh-long ctx es ys bs h)
 
 -- one of the list, or the default
 get-at : (ps : List (Option ℕ)) (i p : ℕ) → get_or ps i None ≡ Some p → slice_get ps i ≡ Some (Some p)
@@ -137,7 +131,7 @@ module _ (rows : List ℕ) (params ds es fs : List Binder) (ys : List ℕ) (fres
           low less e (as-var e z is-own same)
       go false is =
           let over = ltb-false z (length params) is in
-          let long = fresh-long ctx (own params) ys fs fresh in
+          let long = fresh_long ctx (own params) ys fs fresh in
           let k : ℕ = z - length params in
           let z-is : z ≡ length params + k = omega (arith, over) in
           let (y, at) = there ys k (omega (arith, lt, over, long)) in

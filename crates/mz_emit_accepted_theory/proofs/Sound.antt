@@ -3,22 +3,22 @@ use Rattle.std.specs.Prelude.{ℕ, suc, zero, ◌≡◌, ◌<◌, ⊤, Bool, tru
 use Rattle.std.proofs.Common.{refl, sym, ap, ◌∙◌, subst, arith}
 use Rattle.std.proofs.lemmas.Option.{get_or_from_slice_get, slice_get_within}
 use Rattle.std.proofs.lemmas.List.{length-append}
-use Rattle.mz_logic.specs.Tree.{Tree, Trees, none, more, listed, instance, instances}
-use Rattle.mz_logic.specs.Declaration.{Assertion, Declaration, signatures, assertions}
-use Rattle.mz_logic.specs.Legality.{IsLegalEnv}
-use Rattle.mz_logic.specs.Conversions.{Between}
-use Rattle.mz_logic.specs.Derivations.{Derivation, Derivations, hypothesis, cite, convert, gap, no_derivs, more_derivs, Derives, AllDerive, derivation_at}
-use Rattle.mz_logic.specs.declared.binder.Binder.{Binder}
-use Rattle.mz_logic.proofs.Offered.{one_at, sort_of_instance, legal_env_is_right}
-use Rattle.mz_logic.specs.Sorts.{HasProvable}
-use Rattle.mz_mmu_forms.specs.Gaps.{LeavesOnly, AllLeaveOnly}
-use Rattle.mz_mmu_forms.specs.Proof.{Proof, Proofs, by_hyp, by_name, by_citation, by_conv, by_let, by_gap, no_proofs, more_proofs}
-use Rattle.mz_type_rules.specs.Names.{ProofThere, ProofsThere}
-use Rattle.mz_type.specs.Meaning.{then_deriv, derivation, derivations, LetsDerive, AllLetsDerive}
+use Rattle.mz_logic_theory.specs.Tree.{Tree, Trees, none, more, listed, instance, instances}
+use Rattle.mz_logic_theory.specs.Declaration.{Assertion, Declaration, signatures, assertions}
+use Rattle.mz_logic_theory.specs.Legality.{IsLegalEnv}
+use Rattle.mz_logic_theory.specs.Conversions.{Between}
+use Rattle.mz_logic_theory.specs.Derivations.{Derivation, Derivations, hypothesis, cite, convert, gap, no_derivs, more_derivs, Derives, AllDerive, derivation_at}
+use Rattle.mz_logic_theory.specs.declared.binder.Binder.{Binder}
+use Rattle.mz_logic_theory.proofs.Offered.{one_at, sort_of_instance, legal_env_is_right}
+use Rattle.mz_logic_theory.specs.Sorts.{HasProvable}
+use Rattle.mz_mmu_theory.specs.Gaps.{LeavesOnly, AllLeaveOnly}
+use Rattle.mz_mmu_theory.specs.Proof.{Proof, Proofs, by_hyp, by_name, by_citation, by_conv, by_let, by_gap, no_proofs, more_proofs}
+use Rattle.mz_mmu_theory.specs.Names.{ProofThere, ProofsThere}
+use Rattle.mz_mmu_theory.specs.Meaning.{then_deriv, derivation, derivations, LetsDerive, AllLetsDerive}
 use Rattle.mz_unify_theory.proofs.Offered.{count-fits}
-use Rattle.mz_emit_bodies.specs.Instances.{InReach}
-use Rattle.mz_emit_bodies.specs.Claims.{claim_at, conclusion_of, proved, all_proved, IsCitable, IsSound, AreSound}
-use Rattle.mz_emit_bodies.proofs.Offered.{reach_of_sort}
+use Rattle.mz_emit_theory.specs.InReach.{InReach}
+use Rattle.mz_emit_theory.specs.Claims.{claim_at, conclusion_of, proved, all_proved, IsCitable, IsSound, AreSound}
+use Rattle.mz_emit_theory.proofs.Offered.{reach_of_sort}
 use Rattle.mz_emit_accepted_theory.specs.ClaimsLaws.{StatedProofsAreSound}
 
 module _ (env : List Declaration) (ctx : List Binder) (hyps : Trees) where

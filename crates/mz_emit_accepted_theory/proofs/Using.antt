@@ -4,11 +4,11 @@ use Rattle.std.proofs.Common.{refl, sym, ap, ◌∙◌, arith, inl, inr, eq-eqb}
 use Rattle.std.proofs.lemmas.Bool.{eqb-true, or_right, or_left}
 use Rattle.std.proofs.lemmas.List.{map-append}
 use Rattle.mz_base_theory.proofs.Offered.{or-cases}
-use Rattle.mz_logic.specs.Conversions.{Conversion, Conversions, refl_conv, sym_conv, cong_conv, unfold_conv, gap_conv, no_convs, more_convs, GapsOnly, AllGapsOnly}
-use Rattle.mz_logic.specs.Derivations.{Derivation, Derivations, no_derivs, more_derivs, CitesOnly, AllCiteOnly, derivation_at}
-use Rattle.mz_mmu_forms.specs.Proof.{Proof, Proofs, by_hyp, by_name, by_citation, by_conv, by_let, by_gap, no_proofs, more_proofs}
-use Rattle.mz_type.specs.Meaning.{then_deriv, derivation, derivations}
-use Rattle.mz_emit_bodies.specs.Uses.{Use, a_gap, assertion, is_gap, is_assertion, conv_uses, convs_use, uses, some_use}
+use Rattle.mz_logic_theory.specs.Conversions.{Conversion, Conversions, refl_conv, sym_conv, cong_conv, unfold_conv, gap_conv, no_convs, more_convs, GapsOnly, AllGapsOnly}
+use Rattle.mz_logic_theory.specs.Derivations.{Derivation, Derivations, no_derivs, more_derivs, CitesOnly, AllCiteOnly, derivation_at}
+use Rattle.mz_mmu_theory.specs.Proof.{Proof, Proofs, by_hyp, by_name, by_citation, by_conv, by_let, by_gap, no_proofs, more_proofs}
+use Rattle.mz_mmu_theory.specs.Meaning.{then_deriv, derivation, derivations}
+use Rattle.mz_emit_theory.specs.Uses.{Use, a_gap, assertion, is_gap, is_assertion, conv_uses, convs_use, uses, some_use}
 use Rattle.mz_emit_accepted_theory.specs.ClaimsLaws.{may_use, allowing, StatedProofsUseWhatTheyMean}
 
 no_use : (A : Type 0) → ◌≡◌ {A = Bool} false true → A

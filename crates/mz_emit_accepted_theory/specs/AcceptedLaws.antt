@@ -1,17 +1,17 @@
 -- What is promised of a written file beside a specification.
 use Rattle.std.specs.Prelude.{◌++◌, ℕ, Bool, List, length}
 use Rattle.std.specs.List.{range_with_len}
-use Rattle.mz_logic.specs.Tree.{Tree}
-use Rattle.mz_logic.specs.Signature.{Signature}
-use Rattle.mz_logic.specs.Declaration.{defined, Declaration}
-use Rattle.mz_logic.specs.Legality.{InRange, IsLegalEnv}
-use Rattle.mz_logic.specs.LegalLists.{Statement, LegalBy, allowed_with, declarations}
-use Rattle.mz_logic.specs.declared.binder.Binder.{Binder}
-use Rattle.mz_layout.specs.Normal.{Parts, file_of}
-use Rattle.mz_layout.specs.Standing.{Fit}
-use Rattle.mz_spec.specs.Spec.{SpecOf}
-use Rattle.mz_match_theory.specs.Match.{publics, Agrees}
-use Rattle.mz_match_theory.specs.Trees.{SameBody}
+use Rattle.mz_logic_theory.specs.Tree.{Tree}
+use Rattle.mz_logic_theory.specs.Signature.{Signature}
+use Rattle.mz_logic_theory.specs.Declaration.{defined, Declaration}
+use Rattle.mz_logic_theory.specs.Legality.{InRange, IsLegalEnv}
+use Rattle.mz_logic_theory.specs.LegalLists.{Statement, LegalBy, allowed_with, declarations}
+use Rattle.mz_logic_theory.specs.declared.binder.Binder.{Binder}
+use Rattle.mz_layout_tables.specs.Normal.{Parts, file_of}
+use Rattle.mz_layout_tables.specs.Standing.{Fit}
+use Rattle.mz_spec_theory.specs.Spec.{SpecOf}
+use Rattle.mz_spec_proved_theory.specs.Match.{publics, Agrees}
+use Rattle.mz_spec_proved_theory.specs.Trees.{SameBody}
 use Rattle.mz_match_theory.specs.Verdict.{AcceptsBy}
 use Rattle.mz_emit_theory.specs.Sameness.{IsSameForm}
 use Rattle.mz_emit_theory.specs.SameLists.{IsSameList}

@@ -1,18 +1,18 @@
 -- Stated proofs, as a body is written for them.
 use Rattle.std.specs.Prelude.{ℕ, ◌≡◌, Bool, true, List, [], length}
-use Rattle.mz_logic.specs.Tree.{listed}
-use Rattle.mz_logic.specs.Declaration.{Assertion, Declaration, signatures, assertions}
-use Rattle.mz_logic.specs.Legality.{IsLegalEnv}
-use Rattle.mz_logic.specs.Derivations.{no_derivs, Uses, CitesOnly}
-use Rattle.mz_logic.specs.declared.binder.Binder.{Binder}
-use Rattle.mz_mmu_forms.specs.Gaps.{LeavesOnly}
-use Rattle.mz_mmu_forms.specs.Proof.{Proof}
-use Rattle.mz_type_rules.specs.Names.{ProofThere}
-use Rattle.mz_type.specs.Meaning.{derivation, IsProofOf}
-use Rattle.mz_type.specs.Weight.{proof_weight as text_weight}
-use Rattle.mz_emit_bodies.specs.Claims.{proved, IsSound}
-use Rattle.mz_emit_bodies.specs.Uses.{Use, a_gap, assertion, uses}
-use Rattle.mz_emit_bodies.specs.Weights.{proof_weight}
+use Rattle.mz_logic_theory.specs.Tree.{listed}
+use Rattle.mz_logic_theory.specs.Declaration.{Assertion, Declaration, signatures, assertions}
+use Rattle.mz_logic_theory.specs.Legality.{IsLegalEnv}
+use Rattle.mz_logic_theory.specs.Derivations.{no_derivs, Uses, CitesOnly}
+use Rattle.mz_logic_theory.specs.declared.binder.Binder.{Binder}
+use Rattle.mz_mmu_theory.specs.Gaps.{LeavesOnly}
+use Rattle.mz_mmu_theory.specs.Proof.{Proof}
+use Rattle.mz_mmu_theory.specs.Names.{ProofThere}
+use Rattle.mz_mmu_theory.specs.Meaning.{derivation, IsProofOf}
+use Rattle.mz_mmu_theory.specs.Weight.{proof_weight as text_weight}
+use Rattle.mz_emit_theory.specs.Claims.{proved, IsSound}
+use Rattle.mz_emit_theory.specs.Uses.{Use, a_gap, assertion, uses}
+use Rattle.mz_emit_theory.specs.Weights.{proof_weight}
 
 -- over a legal environment a stated proof of an assertion, whose names are there, and which has gaps only where
 -- they are let through, is sound and proves the conclusion

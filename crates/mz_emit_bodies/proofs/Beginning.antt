@@ -1,9 +1,9 @@
 -- A body at its beginning.
 use Rattle.std.specs.Prelude.{ℕ, ◌≡◌, ◌<◌, List, [], ◌∷◌, length, map, take, slice_get, Contains, Option, Some}
 use Rattle.std.proofs.Common.{suc, refl, sym, ap, ◌∙◌, subst, arith, inr}
-use Rattle.mz_logic.specs.Tree.{Tree, var}
-use Rattle.mz_logic.specs.Declaration.{Declaration}
-use Rattle.mz_logic.specs.declared.binder.Binder.{Binder}
+use Rattle.mz_logic_theory.specs.Tree.{Tree, var}
+use Rattle.mz_logic_theory.specs.Declaration.{Declaration}
+use Rattle.mz_logic_theory.specs.declared.binder.Binder.{Binder}
 use Rattle.mz_store.specs.Sharing.{Sharing, IsIn, Holds, tree_of}
 use Rattle.mz_store.specs.declared.item.Id.{Id}
 use Rattle.mz_unify_theory.specs.Profile.{expr, proof}
@@ -19,7 +19,7 @@ use Rattle.mz_emit_bodies.specs.Stages.{HasDummiesBehind, Begins}
 use Rattle.mz_emit_bodies.proofs.Building.{nothing_built, none_of}
 use Rattle.mz_emit_bodies.proofs.Using.{using_begun}
 use Rattle.mz_emit_bodies.proofs.Heaps.{kept_at_first}
-use Rattle.mz_emit_bodies.specs.Writing.{variables_below, at_first}
+use Rattle.mz_emit_theory.specs.BodyWriting.{variables_below, at_first}
 use Rattle.mz_emit_bodies.specs.Writers.{IsKept}
 use Rattle.mz_emit_bodies.proofs.Making.{grows_self}
 use Rattle.mz_emit_bodies.proofs.Owned.{variable_id}

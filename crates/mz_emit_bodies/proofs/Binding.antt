@@ -3,14 +3,14 @@ use Rattle.std.specs.Prelude.{ℕ, ◌≡◌, ◌<◌, ◌+◌, Bool, true, ◌|
 use Rattle.std.proofs.Common.{zero, suc, sym, ap, ◌∙◌, subst, arith, inl, inr}
 use Rattle.std.proofs.lemmas.List.{length-append}
 use Rattle.std.proofs.lemmas.Bool.{cases_eq}
-use Rattle.mz_logic.specs.Tree.{Tree}
-use Rattle.mz_logic.specs.Declaration.{Declaration}
+use Rattle.mz_logic_theory.specs.Tree.{Tree}
+use Rattle.mz_logic_theory.specs.Declaration.{Declaration}
 use Rattle.mz_store.specs.Sharing.{Sharing}
 use Rattle.mz_store.specs.declared.item.Id.{Id}
 use Rattle.mz_unify_theory.specs.Profile.{proof}
-use Rattle.mz_mmu_forms.specs.Proof.{Proof, by_let}
-use Rattle.mz_emit_bodies.specs.Claims.{proved, IsSound}
-use Rattle.mz_emit_bodies.specs.Costs.{cost}
+use Rattle.mz_mmu_theory.specs.Proof.{Proof, by_let}
+use Rattle.mz_emit_theory.specs.Claims.{proved, IsSound}
+use Rattle.mz_emit_theory.specs.Costs.{cost}
 use Rattle.mz_emit_bodies.specs.Scopes.{in_sight}
 use Rattle.mz_emit_bodies.specs.Owes.{Task, prove, claims, claim_of, let_costs, Owes, left}
 use Rattle.mz_emit_bodies.specs.Sight.{Part, links, parts, part_at, place_at, AreRight, IsThere}
@@ -20,7 +20,7 @@ use Rattle.mz_emit_bodies.proofs.Lists.{get_end}
 use Rattle.mz_emit_bodies.proofs.Opening.{strict}
 use Rattle.mz_emit_bodies.proofs.Scoping.{parts_long, outer_there, sight_new}
 use Rattle.mz_emit_bodies.specs.Lengths.{begun, is_one_of, waits, IsOutside, IsClear}
-use Rattle.mz_emit_bodies.specs.Uses.{uses, commands_use}
+use Rattle.mz_emit_theory.specs.Uses.{uses, commands_use}
 use Rattle.mz_emit_bodies.specs.Using.{part_uses, task_uses, ComesTo}
 use Rattle.mz_emit_bodies.specs.Making.{IsFresh}
 use Rattle.mz_emit_bodies.proofs.Shortening.{outside_new, clear_opened, waits_opened, begun_there}

@@ -8,13 +8,13 @@ use Rattle.std.proofs.lemmas.Bool.{eqb-true}
 use Rattle.std.proofs.lemmas.Nat.Bits.{bit_at-suc, bit_at_lowest, bit_at_or, bit_at-zero, same_from_bits}
 use Rattle.std.proofs.lemmas.List.{length-append, take_more, drop_more, take-append-drop}
 use Rattle.std.proofs.lemmas.Option.{get_or_from_slice_get, slice_get_read, slice_get_within}
-use Rattle.mz_logic.specs.Words.{BitsRight, BitsRightAfter, binders_of}
-use Rattle.mz_logic.specs.Variables.{is_member}
-use Rattle.mz_logic.specs.WordsWritten.{bits_of, bound_from, word_of, words_from, words_of, CanBeWords}
-use Rattle.mz_logic.specs.declared.binder.SortMods.{SortMods}
-use Rattle.mz_logic.specs.declared.binder.Binder.{Binder}
-use Rattle.mz_logic.specs.declared.word.Word.{Word}
-use Rattle.mz_logic.proofs.Offered.{bits-few, params-back}
+use Rattle.mz_logic_theory.specs.Words.{BitsRight, BitsRightAfter, binders_of}
+use Rattle.mz_logic_theory.specs.Variables.{is_member}
+use Rattle.mz_logic_theory.specs.WordsWritten.{bits_of, bound_from, word_of, words_from, words_of, CanBeWords}
+use Rattle.mz_logic_theory.specs.declared.binder.SortMods.{SortMods}
+use Rattle.mz_logic_theory.specs.declared.binder.Binder.{Binder}
+use Rattle.mz_logic_theory.specs.declared.word.Word.{Word}
+use Rattle.mz_logic_theory.proofs.Offered.{bits-few, params-back}
 use Rattle.mz_emit_bodies.specs.Bits.{place_bits}
 
 -- ---- one dependency more

@@ -3,9 +3,9 @@ use Rattle.std.specs.Prelude.{ℕ, ◌≡◌, ◌<◌, Bool, true, false, ◌||�
 use Rattle.std.proofs.Common.{refl, sym, ap, ◌∙◌, subst, arith, append_assoc, append-nil, inl, inr, eq-eqb}
 use Rattle.std.proofs.lemmas.Bool.{cases_eq}
 use Rattle.mz_cmd.specs.declared.code.ProofCode.{ProofCode}
-use Rattle.mz_logic.specs.Tree.{Tree, size, trees_size}
-use Rattle.mz_logic.specs.Declaration.{Declaration}
-use Rattle.mz_logic.specs.declared.binder.Binder.{Binder}
+use Rattle.mz_logic_theory.specs.Tree.{Tree, size, trees_size}
+use Rattle.mz_logic_theory.specs.Declaration.{Declaration}
+use Rattle.mz_logic_theory.specs.declared.binder.Binder.{Binder}
 use Rattle.mz_store.specs.Sharing.{Sharing, IsIn, tree_of, trees_of}
 use Rattle.mz_store.specs.declared.item.Id.{Id}
 use Rattle.mz_unify_theory.specs.Profile.{Item}
@@ -60,7 +60,7 @@ distinct_last bs e distinct new i j x i-at j-at = elim (last_or_before Tree bs e
 
 -- ---- what is built
 
-no_tree : (A : Type 0) (k : ℕ) (e : Tree) → slice_get [] k ≡ Some e → A
+pub no_tree : (A : Type 0) (k : ℕ) (e : Tree) → slice_get [] k ≡ Some e → A
 no_tree A k e is = absurd (grind (arith, is))
 
 pub nothing_built : (gaps : Bool) (env : List Declaration) (params : List Binder) (s : Sharing) (places : List (Option ℕ)) → HasBuilt gaps env params s places [] (work_start params)

@@ -4,11 +4,11 @@ use Rattle.std.proofs.Common.{zero, suc, refl, sym, ap, ◌∙◌, subst, arith,
 use Rattle.std.proofs.lemmas.List.{length-append}
 use Rattle.std.proofs.lemmas.List.Elements.{Contains-append_left, Contains-append_cases}
 use Rattle.mz_cmd.specs.declared.code.ProofCode.TheVariants as code
-use Rattle.mz_logic.specs.Tree.{Tree, var}
-use Rattle.mz_logic.specs.Declaration.{Declaration, sorts, signatures}
-use Rattle.mz_logic.specs.Modifiers.{MayBeDummySort}
-use Rattle.mz_logic.specs.Sorts.{HasSort}
-use Rattle.mz_logic.specs.declared.binder.Binder.{Binder}
+use Rattle.mz_logic_theory.specs.Tree.{Tree, var}
+use Rattle.mz_logic_theory.specs.Declaration.{Declaration, sorts, signatures}
+use Rattle.mz_logic_theory.specs.Modifiers.{MayBeDummySort}
+use Rattle.mz_logic_theory.specs.Sorts.{HasSort}
+use Rattle.mz_logic_theory.specs.declared.binder.Binder.{Binder}
 use Rattle.mz_store.specs.Sharing.{Sharing, IsIn, tree_of, head_of}
 use Rattle.mz_store.specs.declared.item.Id.{Id}
 use Rattle.mz_unify_theory.specs.Profile.{Item, expr}
@@ -28,7 +28,7 @@ use Rattle.mz_emit_bodies.proofs.Shortening.{command_short}
 use Rattle.mz_emit_bodies.proofs.Using.{using_last}
 use Rattle.mz_emit_bodies.proofs.Standing.{may_last, may_rest}
 use Rattle.mz_emit_bodies.proofs.Moves.{more_written, size_some}
-use Rattle.mz_emit_bodies.specs.Writing.{expression}
+use Rattle.mz_emit_theory.specs.BodyWriting.{expression}
 use Rattle.mz_emit_bodies.proofs.Heaps.{expr_kept}
 use Rattle.mz_emit_bodies.proofs.Writers.{writing_on, dummy_written}
 

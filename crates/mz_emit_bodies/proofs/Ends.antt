@@ -4,34 +4,34 @@ use Rattle.std.proofs.Common.{zero, suc, refl, sym, ap, ◌∙◌, subst, arith,
 use Rattle.std.proofs.lemmas.List.{length-append}
 use Rattle.mz_cmd.specs.declared.code.ProofCode.{ProofCode}
 use Rattle.mz_cmd.specs.declared.code.ProofCode.TheVariants as code
-use Rattle.mz_logic.specs.Tree.{Tree, listed, size, trees_size}
-use Rattle.mz_logic.specs.Declaration.{Declaration}
-use Rattle.mz_logic.specs.Sorts.{HasProvable, AreProvable}
-use Rattle.mz_logic.specs.declared.binder.Binder.{Binder}
+use Rattle.mz_logic_theory.specs.Tree.{Tree, listed, size, trees_size}
+use Rattle.mz_logic_theory.specs.Declaration.{Declaration}
+use Rattle.mz_logic_theory.specs.Sorts.{HasProvable, AreProvable}
+use Rattle.mz_logic_theory.specs.declared.binder.Binder.{Binder}
 use Rattle.mz_store.specs.Sharing.{Sharing, IsIn, AreIn, tree_of, trees_of}
 use Rattle.mz_store.specs.declared.item.Id.{Id}
 use Rattle.mz_unify_theory.specs.Profile.{Item, expr, proof, plain}
 use Rattle.mz_machine_theory.specs.Bodies.{stands_in}
 use Rattle.mz_machine_theory.specs.Premises.{bound_count}
 use Rattle.mz_machine_theory.specs.MachineState.{Kind}
-use Rattle.mz_mmu_forms.specs.Proof.{Proof}
+use Rattle.mz_mmu_theory.specs.Proof.{Proof}
 use Rattle.mz_emit_theory.specs.Works.{Work, work_start}
 use Rattle.mz_emit_theory.specs.Steps.{Step, command_bytes}
 use Rattle.mz_emit_theory.specs.SharedBodies.{Builds}
 use Rattle.mz_emit_theory.specs.Endings.{spelled_body}
 use Rattle.mz_emit_theory.specs.Bodies.{last_item}
-use Rattle.mz_emit_bodies.specs.Claims.{proved, IsSound}
+use Rattle.mz_emit_theory.specs.Claims.{proved, IsSound}
 use Rattle.mz_emit_bodies.specs.Owes.{Task, prove, push, IsOfExpressions, Owes}
 use Rattle.mz_emit_bodies.specs.Sight.{parts}
 use Rattle.mz_emit_bodies.specs.Going.{Job, MayProve, MayDo, PlacesRight, HasPlace, spelled, still, IsGoing}
 use Rattle.mz_emit_bodies.specs.Making.{IsFresh}
 use Rattle.mz_emit_bodies.specs.Lengths.{IsClear}
-use Rattle.mz_emit_bodies.specs.Weights.{proof_weight}
+use Rattle.mz_emit_theory.specs.Weights.{proof_weight}
 use Rattle.mz_emit_bodies.proofs.Shortening.{command_one}
-use Rattle.mz_emit_bodies.specs.Uses.{Use, uses, commands_use, IsBodyUsing}
+use Rattle.mz_emit_theory.specs.Uses.{Use, uses, commands_use, IsBodyUsing}
 use Rattle.mz_emit_bodies.specs.Using.{ComesTo}
 use Rattle.mz_emit_bodies.specs.Stages.{job, Begins, Rests, leaving, to_use, spending, writing_too, assuming, with_hyps, Assumes, AssumesAll}
-use Rattle.mz_emit_bodies.specs.Writing.{hypothesis, Writing, Written, Writer, and_then, nothing, keeping, write_expr, write_proof, write_hyp, write_hyps}
+use Rattle.mz_emit_theory.specs.BodyWriting.{hypothesis, Writing, Written, Writer, and_then, nothing, keeping, write_expr, write_proof, write_hyp, write_hyps}
 use Rattle.mz_emit_bodies.specs.Writers.{write_tasks, behind, IsWriting}
 use Rattle.mz_emit_bodies.specs.declared.body.Before.{Before}
 use Rattle.mz_emit_bodies.specs.declared.body.Body.{Body}

@@ -1,13 +1,13 @@
 -- Variables that are entered: the parameters, and dummies behind them.
 use Rattle.std.proofs.Common.{ℕ, zero, suc, ◌≡◌, ◌<◌, ◌+◌, Bool, true, false, List, [], ◌∷◌, ◌++◌, length, slice_get, Some, refl, ap, sym, ◌∙◌, subst, inl, inr, arith, if◌then◌else◌}
 use Rattle.std.proofs.lemmas.Option.{none-some}
-use Rattle.mz_logic.specs.Tree.{Tree, Trees, var, none, more, followed_by}
-use Rattle.mz_logic.specs.Signature.{Signature}
-use Rattle.mz_logic.specs.Legality.{Each, IsDummy}
-use Rattle.mz_logic.specs.Words.{binders_of}
-use Rattle.mz_logic.specs.declared.binder.Binder.{Binder}
-use Rattle.mz_logic.specs.declared.word.Word.{Word}
-use Rattle.mz_logic.proofs.Offered.{one_at, split_at, length-binders}
+use Rattle.mz_logic_theory.specs.Tree.{Tree, Trees, var, none, more, followed_by}
+use Rattle.mz_logic_theory.specs.Signature.{Signature}
+use Rattle.mz_logic_theory.specs.Legality.{Each, IsDummy}
+use Rattle.mz_logic_theory.specs.Words.{binders_of}
+use Rattle.mz_logic_theory.specs.declared.binder.Binder.{Binder}
+use Rattle.mz_logic_theory.specs.declared.word.Word.{Word}
+use Rattle.mz_logic_theory.proofs.Offered.{one_at, split_at, length-binders}
 use Rattle.mz_store.specs.Bits.{bound_from, bound_vars}
 use Rattle.mz_store.specs.Sharing.{Sharing, AreIn, Holds, IsOver, KeepsIds, tree_of, trees_of, dummy_binder}
 use Rattle.mz_store.specs.declared.item.DepsMode.TheVariants as of

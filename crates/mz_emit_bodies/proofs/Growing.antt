@@ -3,31 +3,32 @@ use Rattle.std.specs.Prelude.{Bool, ℕ, ◌≡◌, ◌<◌, ◌+◌, ◌*◌, L
 use Rattle.std.proofs.Common.{suc, refl, sym, ap, ◌∙◌, subst, arith, inl}
 use Rattle.std.proofs.lemmas.Option.{get_or_from_slice_get}
 use Rattle.mz_cmd.specs.declared.code.ProofCode.TheVariants as code
-use Rattle.mz_logic.specs.Tree.{Tree, Trees, listed, instance, instances, size, trees_size}
-use Rattle.mz_logic.specs.Signature.{Signature}
-use Rattle.mz_logic.specs.Declaration.{Assertion, Declaration, signatures, assertions}
-use Rattle.mz_logic.specs.Sorts.{Fits}
-use Rattle.mz_logic.specs.Variables.{Apart}
-use Rattle.mz_logic.specs.Conversions.{Conversion}
-use Rattle.mz_logic.specs.declared.binder.Binder.{Binder}
+use Rattle.mz_logic_theory.specs.Tree.{Tree, Trees, listed, instance, instances, size, trees_size}
+use Rattle.mz_logic_theory.specs.Signature.{Signature}
+use Rattle.mz_logic_theory.specs.Declaration.{Assertion, Declaration, signatures, assertions}
+use Rattle.mz_logic_theory.specs.Sorts.{Fits}
+use Rattle.mz_logic_theory.specs.Variables.{Apart}
+use Rattle.mz_logic_theory.specs.Conversions.{Conversion}
+use Rattle.mz_logic_theory.specs.declared.binder.Binder.{Binder}
 use Rattle.mz_store.specs.Sharing.{Sharing, AreIn, Holds, tree_of, trees_of}
 use Rattle.mz_store.specs.declared.item.Id.{Id}
 use Rattle.mz_unify_theory.specs.Profile.{Item, expr, proof, obligation}
 use Rattle.mz_unify_theory.specs.Spells.{trees_of as listed_back}
 use Rattle.mz_unify_theory.proofs.Offered.{trees_of-listed}
-use Rattle.mz_mmu_forms.specs.Proof.{Proof, by_conv, by_gap}
+use Rattle.mz_mmu_theory.specs.Proof.{Proof, by_conv, by_gap}
 use Rattle.mz_emit_theory.specs.Works.{Work}
 use Rattle.mz_emit_theory.specs.Steps.{stacked, above, Step, IsCited}
-use Rattle.mz_emit_bodies.specs.Instances.{Grows, InReach}
+use Rattle.mz_emit_bodies.specs.Instances.{Grows}
+use Rattle.mz_emit_theory.specs.InReach.{InReach}
 use Rattle.mz_emit_bodies.specs.Variables.{IsShared}
 use Rattle.mz_emit_bodies.specs.Sight.{parts, place_at}
 use Rattle.mz_emit_bodies.specs.Scopes.{in_sight}
-use Rattle.mz_emit_bodies.specs.Claims.{proved, conclusion_of, IsCitable}
-use Rattle.mz_emit_bodies.specs.Costs.{cost, pay_cost}
+use Rattle.mz_emit_theory.specs.Claims.{proved, conclusion_of, IsCitable}
+use Rattle.mz_emit_theory.specs.Costs.{cost, pay_cost}
 use Rattle.mz_emit_bodies.specs.Owes.{Task, prove, cite, push, pay, give, claims, let_costs, Owes, left}
 use Rattle.mz_emit_bodies.specs.Pushing.{pushes}
 use Rattle.mz_emit_bodies.specs.Going.{Job, CellsRight, IsGoing}
-use Rattle.mz_emit_bodies.specs.Uses.{conv_uses, uses, commands_use}
+use Rattle.mz_emit_theory.specs.Uses.{conv_uses, uses, commands_use}
 use Rattle.mz_emit_bodies.specs.Using.{let_uses, ComesTo}
 use Rattle.mz_emit_bodies.proofs.Using.{or_assoc, pushes_come}
 use Rattle.mz_emit_bodies.specs.declared.cells.Cell.{Cell}
@@ -36,7 +37,7 @@ use Rattle.mz_emit_bodies.proofs.Making.{in_grown, tree_grown, grows_on}
 use Rattle.mz_emit_bodies.specs.Lengths.{waits}
 use Rattle.mz_emit_bodies.proofs.Shortening.{command_short, command_one, bytes_grown, pushes_bytes, pushes_begun, pushes_clear}
 use Rattle.mz_emit_bodies.proofs.Standing.{proving}
-use Rattle.mz_emit_bodies.specs.Writing.{◌>>◌, command, write_expr, write_exprs, write_payment}
+use Rattle.mz_emit_theory.specs.BodyWriting.{◌>>◌, command, write_expr, write_exprs, write_payment}
 use Rattle.mz_emit_bodies.specs.Writers.{write_task, write_tasks}
 use Rattle.mz_emit_bodies.proofs.Heaps.{then_assoc}
 use Rattle.mz_emit_bodies.proofs.Writers.{then_assoc3, then_assoc4, writing_grown, operands_written}

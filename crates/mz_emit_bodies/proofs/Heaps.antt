@@ -1,21 +1,21 @@
 -- Writers one after another, and what stands in the heap.
 use Rattle.std.specs.Prelude.{ℕ, ◌≡◌, ◌<◌, ◌+◌, ◌⊎◌, ◌==◌, if◌then◌else◌, Bool, true, false, List, [], ◌∷◌, ◌++◌, length, slice_get, get_or, Option, Some, None}
 use Rattle.std.proofs.Common.{zero, suc, refl, sym, ap, ◌∙◌, subst, arith, append_assoc, append-nil, inl, inr, eq-eqb}
-use Rattle.std.proofs.lemmas.Bool.{cases_eq, eqb-true}
+use Rattle.std.proofs.lemmas.Bool.{cases_eq, eqb-true, cases_Bool}
 use Rattle.std.proofs.lemmas.Option.{none-some}
 use Rattle.mz_cmd.specs.declared.code.ProofCode.{ProofCode}
 use Rattle.mz_cmd.specs.declared.code.ProofCode.TheVariants as code
-use Rattle.mz_logic.specs.Tree.{Tree, Trees, var, app}
-use Rattle.mz_logic.specs.Legality.{binder_at}
-use Rattle.mz_logic.specs.declared.binder.Binder.{Binder}
+use Rattle.mz_logic_theory.specs.Tree.{Tree, Trees, var, app}
+use Rattle.mz_logic_theory.specs.Legality.{binder_at}
+use Rattle.mz_logic_theory.specs.declared.binder.Binder.{Binder}
 use Rattle.mz_store.specs.Sharing.{Sharing, IsIn, Holds, tree_of}
 use Rattle.mz_unify_theory.specs.Tests.{same_tree}
-use Rattle.mz_unify_theory.proofs.Offered.{same_tree-refl, same_tree-true}
+use Rattle.mz_unify_theory.proofs.Offered.{same_tree-refl, same_tree-true, not-both}
 use Rattle.mz_emit_bodies.specs.Instances.{Grows}
 use Rattle.mz_emit_bodies.specs.Places.{place_of}
 use Rattle.mz_emit_bodies.proofs.Making.{in_grown, tree_grown}
 use Rattle.mz_emit_bodies.specs.Sight.{place_at}
-use Rattle.mz_emit_bodies.specs.Writing.{Kept, expression, hypothesis, first_part, is_same, Writing, place_in, Written, Writer, and_then, nothing, ◌>>◌, command, keeping, referring, unless_kept, write_expr, write_exprs, variables_below}
+use Rattle.mz_emit_theory.specs.BodyWriting.{Kept, expression, hypothesis, first_part, is_same, Writing, place_in, Written, Writer, and_then, nothing, ◌>>◌, command, keeping, referring, unless_kept, write_expr, write_exprs, variables_below}
 use Rattle.mz_emit_bodies.specs.Writers.{IsKept, behind}
 use Rattle.mz_emit_bodies.specs.declared.cells.Cell.{Cell}
 use Rattle.mz_emit_bodies.proofs.Lists.{slice_last}
@@ -66,16 +66,9 @@ module _ (ctx : List Binder) (w : Writing) where
 
 -- ---- one item more
 
-pub true_or_false : (b : Bool) → (b ≡ true) ⊎ (b ≡ false)
-true_or_false true = inl refl
-true_or_false false = inr refl
-
 pub none_or_some : (o : Option ℕ) → (o ≡ None) ⊎ ((p : ℕ) × (o ≡ Some p))
 none_or_some None = inl refl
 none_or_some (Some p) = inr (p, refl)
-
-true_false : (b : Bool) → b ≡ true → b ≡ false → ⊥
-true_false b t f = absurd (grind (arith, t, f))
 
 pub place_new : (x y : Kept) (ys : List Kept) → is_same x y ≡ true → place_in x (y ∷ ys) ≡ Some (length ys)
 place_new x y ys is = ap (λ (b : Bool). if b then Some (length ys) else place_in x ys) is
@@ -84,7 +77,7 @@ pub place_old : (x y : Kept) (ys : List Kept) → is_same x y ≡ false → plac
 place_old x y ys is = ap (λ (b : Bool). if b then Some (length ys) else place_in x ys) is
 
 not_same : (a b : ℕ) → (a ≡ b → ⊥) → (a == b) ≡ false
-not_same a b other = elim (true_or_false (a == b)) [ inl is ↦ absurd (other (eqb-true a b is)) | inr is ↦ is ]
+not_same a b other = elim (cases_Bool (a == b)) [ inl is ↦ absurd (other (eqb-true a b is)) | inr is ↦ is ]
 
 slice_before : (A : Type 0) (xs : List A) (y : A) (k : ℕ) → (k ≡ length xs → ⊥) → slice_get (xs ++ y ∷ []) k ≡ slice_get xs k
 slice_before A [] y zero other = absurd (other refl)
@@ -121,16 +114,16 @@ module _ (s : Sharing) (places : List (Option ℕ)) (len : ℕ) (hps : List ℕ)
             ∙ place_new (expression (tree_of s i)) (expression (tree_of s i)) w.heap (same_tree-refl (tree_of s i))
             ∙ ap (λ (n : ℕ). Some n) k.long ∙ sym at ∙ ap (place_of places') (sym is) ∙ j-at,
       )
-      | inr other ↦ (let old = k.placed j p (sym (others j other) ∙ j-at) in elim (true_or_false (same_tree (tree_of s j) (tree_of s i))) [
+      | inr other ↦ (let old = k.placed j p (sym (others j other) ∙ j-at) in elim (cases_Bool (same_tree (tree_of s j) (tree_of s i))) [
         | inl same ↦ absurd (other (once j i old.0 inside (same_tree-true (tree_of s j) (tree_of s i) same)))
         | inr differs ↦ (old.0, place_old (expression (tree_of s j)) (expression (tree_of s i)) w.heap differs ∙ old.1)
       ])
     ];
-    found = λ e p e-at. elim (true_or_false (same_tree e (tree_of s i))) [
+    found = λ e p e-at. elim (cases_Bool (same_tree e (tree_of s i))) [
       | inl same ↦ (let n-is : length w.heap ≡ p = some_get (length w.heap) p (sym (place_new (expression e) (expression (tree_of s i)) w.heap same) ∙ e-at) in
           (i, (inside, sym (same_tree-true e (tree_of s i) same)), at ∙ ap (λ (n : ℕ). Some n) (sym k.long ∙ n-is)))
       | inr differs ↦ (let (j, holds, j-at) = k.found e p (sym (place_old (expression e) (expression (tree_of s i)) w.heap differs) ∙ e-at) in
-          (j, holds, others j (λ is. true_false (same_tree e (tree_of s i)) (ap (same_tree e) (ap (tree_of s) (sym is) ∙ holds.1) ∙ same_tree-refl e) differs) ∙ j-at))
+          (j, holds, others j (λ is. not-both (same_tree e (tree_of s i)) (ap (same_tree e) (ap (tree_of s) (sym is) ∙ holds.1) ∙ same_tree-refl e) differs) ∙ j-at))
     ];
     hypotheses = k.hypotheses;
     saved = k.saved;
@@ -210,7 +203,7 @@ below_at (suc n) x lt = elim (cases_eq x n) [
 
 pub below_is : (n : ℕ) (e : Tree) (p : ℕ) → place_in (expression e) (variables_below n) ≡ Some p → (e ≡ var p) × (p < n)
 below_is zero e p at = absurd (none-some p at)
-below_is (suc n) e p at = elim (true_or_false (same_tree e (var n))) [
+below_is (suc n) e p at = elim (cases_Bool (same_tree e (var n))) [
   | inl same ↦ (let p-is : n ≡ p = sym (below_long n) ∙ some_get (length (variables_below n)) p (sym (place_new (expression e) (expression (var n)) (variables_below n) same) ∙ at) in
       (same_tree-true e (var n) same ∙ ap var p-is, omega (arith, p-is)))
   | inr differs ↦ (let old = below_is n e p (sym (place_old (expression e) (expression (var n)) (variables_below n) differs) ∙ at) in (old.0, (let h = old.1 in omega (arith, h))))

@@ -4,10 +4,10 @@ use Rattle.std.proofs.Common.{refl, sym, ap, ◌∙◌, subst, arith, inl, inr}
 use Rattle.std.proofs.lemmas.List.{length-append}
 use Rattle.std.proofs.lemmas.Bool.{cases_eq}
 use Rattle.mz_cmd.specs.declared.code.ProofCode.TheVariants as code
-use Rattle.mz_logic.specs.Tree.{Tree, var, app, listed}
-use Rattle.mz_logic.specs.Declaration.{Declaration, signatures}
-use Rattle.mz_logic.specs.declared.binder.Binder.{Binder}
-use Rattle.mz_logic.proofs.Offered.{extends_append}
+use Rattle.mz_logic_theory.specs.Tree.{Tree, var, app, listed}
+use Rattle.mz_logic_theory.specs.Declaration.{Declaration, signatures}
+use Rattle.mz_logic_theory.specs.declared.binder.Binder.{Binder}
+use Rattle.mz_logic_theory.proofs.Offered.{extends_append}
 use Rattle.mz_store.specs.Sharing.{Sharing, IsIn, tree_of, head_of, operands_of, sort_of}
 use Rattle.mz_store.specs.declared.item.Id.{Id}
 use Rattle.mz_unify_theory.specs.Profile.{Item, expr}
@@ -27,16 +27,9 @@ use Rattle.mz_emit_bodies.proofs.Shortening.{command_short}
 use Rattle.mz_emit_bodies.proofs.Using.{using_last}
 use Rattle.mz_emit_bodies.proofs.Standing.{may_last, may_rest}
 use Rattle.mz_emit_bodies.proofs.Moves.{more_written}
-use Rattle.mz_emit_bodies.specs.Writing.{expression}
-use Rattle.mz_emit_bodies.proofs.Heaps.{expr_kept}
+use Rattle.mz_emit_theory.specs.BodyWriting.{expression}
+use Rattle.mz_emit_bodies.proofs.Heaps.{expr_kept, some_get}
 use Rattle.mz_emit_bodies.proofs.Writers.{writing_on, made_written}
-
-pub some_is : (a b : ℕ) → ◌≡◌ {A = Option ℕ} (Some a) (Some b) → a ≡ b
-some_is a b e = ap get_some e
-  where
-    get_some : Option ℕ → ℕ
-    get_some None = 0
-    get_some (Some x) = x
 
 pub cells_kept : (gaps : Bool) (env : List Declaration) (ctx : List Binder) (hyps : List Tree) (cells : List Cell) (heap : List (Item Tree)) (y : Item Tree)
     → CellsRight gaps env ctx hyps cells heap → CellsRight gaps env ctx hyps cells (heap ++ y ∷ [])
@@ -53,7 +46,7 @@ module _ (env : List Declaration) (n : ℕ) (hyps : List Tree) (s : Sharing) (va
     expressions = λ j p j-at. elim (cases_eq j i) [
       | inl is ↦ (
         subst (IsIn s) (sym is) inside,
-        (let p-is : len ≡ p = some_is len p (sym (ap (place_of places') is ∙ at) ∙ j-at) in
+        (let p-is : len ≡ p = some_get len p (sym (ap (place_of places') is ∙ at) ∙ j-at) in
             slice_last (Item Tree) heap (expr (tree_of s i)) p (sym p-is ∙ sym long) ∙ ap (λ (k : ℕ). Some (expr (tree_of s k))) (sym is)),
       )
       | inr other ↦ (let k = h.expressions j p (sym (others j other) ∙ j-at) in (k.0, extends_append heap (expr (tree_of s i) ∷ []) p _ k.1))
@@ -68,7 +61,7 @@ module _ (env : List Declaration) (n : ℕ) (hyps : List Tree) (s : Sharing) (va
   }
 
 whole : (t : ℕ) (e : Tree) → Some t ≡ head_of e → app t (listed_back (listed (operands_of e))) ≡ e
-whole t (app u es) is = ap (λ (z : ℕ). app z (listed_back (listed es))) (some_is t u is) ∙ ap (app u) (trees_of-listed es)
+whole t (app u es) is = ap (λ (z : ℕ). app z (listed_back (listed es))) (some_get t u is) ∙ ap (app u) (trees_of-listed es)
 whole t (var x) is = absurd (no_head is)
   where
     no_head : ◌≡◌ {A = Option ℕ} (Some t) None → ⊥

@@ -1,17 +1,18 @@
 -- Instances made in a store, one after the other.
 use Rattle.std.proofs.Common.{ℕ, zero, suc, ◌≡◌, ◌<◌, ◌≤◌, ◌+◌, List, [], ◌∷◌, ◌++◌, length, get_or, slice_get, Some, drop, refl, ap, sym, ◌∙◌, subst, arith}
 use Rattle.std.proofs.lemmas.List.{get_or_append_left, length-append, drop_more, append_assoc}
-use Rattle.mz_logic.specs.Tree.{Tree, Trees, app, none, more, followed_by, instance, instances, operand, size, trees_size}
-use Rattle.mz_logic.specs.View.{tree, trees}
-use Rattle.mz_logic.specs.Signature.{Signature}
-use Rattle.mz_logic.specs.Sorts.{HasSort, Fits}
-use Rattle.mz_logic.specs.Words.{TermWords, signature_of, signatures_of, term_at}
-use Rattle.mz_logic.specs.declared.binder.Binder.{Binder}
-use Rattle.mz_logic.specs.declared.expr.Expr.{Expr}
-use Rattle.mz_logic.proofs.Offered.{followed_by_push}
+use Rattle.mz_logic_theory.specs.Tree.{Tree, Trees, app, none, more, followed_by, instance, instances, operand, size, trees_size}
+use Rattle.mz_logic_theory.specs.View.{tree, trees}
+use Rattle.mz_logic_theory.specs.Signature.{Signature}
+use Rattle.mz_logic_theory.specs.Sorts.{HasSort, Fits}
+use Rattle.mz_logic_theory.specs.Words.{TermWords, signature_of, signatures_of, term_at}
+use Rattle.mz_logic_theory.specs.declared.binder.Binder.{Binder}
+use Rattle.mz_logic_theory.specs.declared.expr.Expr.{Expr}
+use Rattle.mz_logic_theory.proofs.Offered.{followed_by_push}
 use Rattle.mz_store.specs.Sharing.{Shared, Sharing, tree_of, trees_of, IsIn, AreIn, Holds, IsOver, CanTake}
 use Rattle.mz_store.specs.declared.item.Id.{Id}
-use Rattle.mz_emit_bodies.specs.Instances.{Grows, InReach, AllInReach, AreSorted}
+use Rattle.mz_emit_bodies.specs.Instances.{Grows}
+use Rattle.mz_emit_theory.specs.InReach.{InReach, AllInReach, AreSorted}
 
 -- ---- a store that grew
 

@@ -4,28 +4,28 @@ use Rattle.std.proofs.Common.{refl, sym, ap, ◌∙◌, subst, arith, append_ass
 use Rattle.std.proofs.lemmas.List.{get_or_append_left, length-append, reverse-append, map-append}
 use Rattle.mz_cmd.specs.declared.code.ProofCode.{ProofCode}
 use Rattle.mz_cmd.specs.declared.code.ProofCode.TheVariants as code
-use Rattle.mz_logic.specs.Tree.{Tree, Trees, var, app, none, listed, size, trees_size}
-use Rattle.mz_logic.specs.Declaration.{Declaration}
-use Rattle.mz_logic.specs.declared.binder.Binder.{Binder}
+use Rattle.mz_logic_theory.specs.Tree.{Tree, Trees, var, app, none, listed, size, trees_size}
+use Rattle.mz_logic_theory.specs.Declaration.{Declaration}
+use Rattle.mz_logic_theory.specs.declared.binder.Binder.{Binder}
 use Rattle.mz_store.specs.Sharing.{Sharing, IsIn, AreIn, tree_of, trees_of, head_of, operands_of}
 use Rattle.mz_store.specs.declared.item.Id.{Id}
 use Rattle.mz_unify_theory.specs.Profile.{Item, expr, proof}
-use Rattle.mz_mmu_forms.specs.Proof.{Proof, Proofs, by_hyp, by_citation, no_proofs, more_proofs}
-use Rattle.mz_mmu_forms.specs.ProofView.{proof_view, proofs_view}
-use Rattle.mz_mmu_forms.specs.declared.proof.Proof.{Proof as Code}
+use Rattle.mz_mmu_theory.specs.Proof.{Proof, Proofs, by_hyp, by_citation, no_proofs, more_proofs}
+use Rattle.mz_mmu_theory.specs.ProofView.{proof_view, proofs_view}
+use Rattle.mz_mmu_theory.specs.declared.proof.Proof.{Proof as Code}
 use Rattle.mz_emit_theory.specs.Steps.{stacked, above, Step, command_bytes}
 use Rattle.mz_emit_bodies.specs.Instances.{Grows}
 use Rattle.mz_emit_bodies.specs.Places.{place_of}
 use Rattle.mz_emit_bodies.specs.Sight.{Part, part_at, parts, place_at, IsThere}
 use Rattle.mz_emit_bodies.specs.Scopes.{in_sight}
-use Rattle.mz_emit_bodies.specs.Claims.{claim_at, proved, all_proved, IsSound, AreSound}
-use Rattle.mz_emit_bodies.specs.Costs.{cost, costs}
+use Rattle.mz_emit_theory.specs.Claims.{claim_at, proved, all_proved, IsSound, AreSound}
+use Rattle.mz_emit_theory.specs.Costs.{cost, costs}
 use Rattle.mz_emit_bodies.specs.declared.task.Task.{Task as Coded}
 use Rattle.mz_emit_bodies.specs.Owes.{task_view, to_do, Task, prove, prove_all, cite, push, make, pay, pay_all, give, save, claims, claim_of, IsGiven, Turns, Owes, task_cost, left}
 use Rattle.mz_emit_bodies.specs.Lengths.{task_bytes, begun, waits, IsClear}
 use Rattle.mz_emit_bodies.specs.Making.{IsFresh}
 use Rattle.mz_emit_bodies.specs.Pushing.{pushes}
-use Rattle.mz_emit_bodies.specs.Uses.{Use, is_assertion, uses, some_use, command_uses, commands_use}
+use Rattle.mz_emit_theory.specs.Uses.{Use, is_assertion, uses, some_use, command_uses, commands_use}
 use Rattle.mz_emit_bodies.specs.Using.{let_uses, ComesTo}
 use Rattle.mz_emit_bodies.specs.Going.{Job, MayDo, spelled, still, IsGoing}
 use Rattle.mz_emit_bodies.specs.declared.cells.Cell.{Cell}
@@ -37,7 +37,7 @@ use Rattle.mz_emit_bodies.proofs.Shortening.{command_short, pushes_bytes, pushes
 use Rattle.mz_emit_bodies.proofs.Lists.{rest_whole}
 use Rattle.mz_emit_bodies.proofs.Standing.{MayBe, may_last, proving, may_rest, may_push, may_be}
 use Rattle.mz_emit_bodies.proofs.Scoping.{sight_more, there_more}
-use Rattle.mz_emit_bodies.specs.Writing.{◌>>◌, command, write_proof, write_proofs}
+use Rattle.mz_emit_theory.specs.BodyWriting.{◌>>◌, command, write_proof, write_proofs}
 use Rattle.mz_emit_bodies.specs.Writers.{let_writers, write_task, write_tasks}
 use Rattle.mz_emit_bodies.proofs.Heaps.{then_assoc}
 use Rattle.mz_emit_bodies.proofs.Writers.{writing_others, writing_given, place_written, parts_written, hyp_written}

@@ -3,20 +3,20 @@ use Rattle.std.specs.Prelude.{ℕ, Bool, false, ◌||◌, ◌≡◌, ◌<◌, �
 use Rattle.std.proofs.Common.{refl, sym, ap, ◌∙◌, subst, arith, inl}
 use Rattle.std.proofs.lemmas.Bool.{or_left}
 use Rattle.mz_cmd.specs.declared.code.ProofCode.TheVariants as code
-use Rattle.mz_logic.specs.Tree.{Tree, app, none}
-use Rattle.mz_logic.specs.Declaration.{Declaration}
+use Rattle.mz_logic_theory.specs.Tree.{Tree, app, none}
+use Rattle.mz_logic_theory.specs.Declaration.{Declaration}
 use Rattle.mz_store.specs.Sharing.{Sharing}
 use Rattle.mz_store.specs.declared.item.Id.{Id}
 use Rattle.mz_unify_theory.specs.Profile.{Item, proof}
-use Rattle.mz_mmu_forms.specs.Proof.{by_name}
+use Rattle.mz_mmu_theory.specs.Proof.{by_name}
 use Rattle.mz_emit_theory.specs.Steps.{command_bytes}
-use Rattle.mz_emit_bodies.specs.Claims.{proved}
-use Rattle.mz_emit_bodies.specs.Costs.{cost}
+use Rattle.mz_emit_theory.specs.Claims.{proved}
+use Rattle.mz_emit_theory.specs.Costs.{cost}
 use Rattle.mz_emit_bodies.specs.Scopes.{in_sight}
 use Rattle.mz_emit_bodies.specs.Owes.{Task, prove, save, claims, claim_of, let_costs, Owes, left}
 use Rattle.mz_emit_bodies.specs.Sight.{Part, links, link_at, parts, part_at, place_at, InSight, IsThere}
 use Rattle.mz_emit_bodies.specs.Going.{Job, IsGoing}
-use Rattle.mz_emit_bodies.specs.Uses.{Use, uses, commands_use}
+use Rattle.mz_emit_theory.specs.Uses.{Use, uses, commands_use}
 use Rattle.mz_emit_bodies.specs.Using.{part_uses, task_uses, ComesTo}
 use Rattle.mz_emit_bodies.specs.declared.cells.Cell.{Cell}
 use Rattle.mz_emit_bodies.proofs.Scoping.{long, named, outer_there, there_more, parts_long, links_long}

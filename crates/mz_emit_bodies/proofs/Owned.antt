@@ -2,17 +2,20 @@
 use Rattle.std.specs.Prelude.{ℕ, ◌≡◌, ◌<◌, ◌+◌, List, [], ◌∷◌, length, get_or, slice_get, Some, None}
 use Rattle.std.proofs.Common.{zero, suc, refl, sym, ap, ◌∙◌, subst, arith}
 use Rattle.std.proofs.lemmas.Option.{slice_get_within, get_or_from_slice_get, none-some}
-use Rattle.mz_logic.specs.Tree.{Tree, Trees, var, app, none, more, operand, instance, instances}
-use Rattle.mz_logic.specs.Signature.{Signature}
-use Rattle.mz_logic.specs.Sorts.{HasSort, Fits}
-use Rattle.mz_logic.specs.declared.binder.Binder.{Binder}
+use Rattle.mz_logic_theory.specs.Tree.{Tree, Trees, var, app, none, more, operand, instance, instances}
+use Rattle.mz_logic_theory.specs.Signature.{Signature}
+use Rattle.mz_logic_theory.specs.Sorts.{HasSort}
+use Rattle.mz_logic_theory.specs.declared.binder.Binder.{Binder}
 use Rattle.mz_unify_theory.specs.Spells.{trees_of as operands_of, variables_from}
 use Rattle.mz_store.specs.Sharing.{Sharing, AreIn, IsIn, IsOver, head_of, tree_of, trees_of}
 use Rattle.mz_store.specs.declared.item.Id.{Id}
 use Rattle.mz_unify_theory.proofs.Offered.{length-params}
-use Rattle.mz_emit_bodies.specs.Instances.{Grows, InReach, AllInReach, AreSorted}
+use Rattle.mz_emit_bodies.specs.Instances.{Grows}
+use Rattle.mz_emit_theory.specs.InReach.{InReach, AllInReach, AreSorted}
 use Rattle.mz_emit_bodies.specs.Variables.{IsShared}
 use Rattle.mz_emit_bodies.proofs.Making.{are_in_grown, trees_grown}
+use Rattle.mz_machine_theory.proofs.Offered.{first-operand}
+use Rattle.mz_emit_theory.proofs.Offered.{reach_of_sort, reach_of_sorted}
 
 pub is_var : (e : Tree) → head_of e ≡ None → (x : ℕ) × (e ≡ var x)
 is_var (var x) h = (x, refl)
@@ -21,35 +24,15 @@ is_var (app t es) h = absurd (none-some _ (sym h))
 abbrev own : List Binder → Trees
 own ctx = operands_of (variables_from 0 ctx)
 
-own_at : (j : ℕ) (ctx : List Binder) (x : ℕ) → x < length ctx → operand (operands_of (variables_from j ctx)) x ≡ var (j + x)
-own_at j [] x lt = absurd (omega (arith, lt))
-own_at j (b ∷ ctx) zero lt = ap var (omega arith)
-own_at j (b ∷ ctx) (suc x) lt = own_at (suc j) ctx x (omega (arith, lt)) ∙ ap var (omega arith)
-
 module _ (ctx : List Binder) where
   mutual
     pub own_instance : (e : Tree) → InReach (length ctx) e → instance (own ctx) e ≡ e
-    own_instance (var x) lt = own_at 0 ctx x lt ∙ ap var (omega arith)
+    own_instance (var x) lt = first-operand 0 ctx x lt ∙ ap var (omega arith)
     own_instance (app t es) reach = ap (app t) (own_instances es reach)
 
     pub own_instances : (es : Trees) → AllInReach (length ctx) es → instances (own ctx) es ≡ es
     own_instances none reach = refl
     own_instances (more e es) (r, rs) = ap (λ (z : Tree). more z (instances (own ctx) es)) (own_instance e r) ∙ ap (more e) (own_instances es rs)
-
-module _ (sigs : List Signature) (ctx : List Binder) where
-  mutual
-    pub reach_of_sort : (e : Tree) (k : ℕ) → HasSort sigs ctx e k → InReach (length ctx) e
-    reach_of_sort (var x) k (b, at, is) = slice_get_within ctx x b at
-    reach_of_sort (app t es) k (d, at, is, fits) = reach_of_fits es d.params fits
-
-    pub reach_of_fits : (es : Trees) (ps : List Binder) → Fits sigs ctx es ps → AllInReach (length ctx) es
-    reach_of_fits none ps fits = tt
-    reach_of_fits (more e es) [] fits = absurd fits
-    reach_of_fits (more e es) (p ∷ ps) (has, _, fits) = (reach_of_sort e p.sort has, reach_of_fits es ps fits)
-
-  pub reach_of_sorted : (es : Trees) → AreSorted sigs ctx es → AllInReach (length ctx) es
-  reach_of_sorted none h = tt
-  reach_of_sorted (more e es) ((k, has), hs) = (reach_of_sort e k has, reach_of_sorted es hs)
 
 pub shared_grown : (sigs : List Signature) (s s' : Sharing) (vars : List Id) → IsShared sigs s vars → Grows s s' → IsOver sigs s' → IsShared sigs s' vars
 shared_grown sigs s s' vars h g over = record {

@@ -4,14 +4,14 @@ use Rattle.std.proofs.Common.{zero, suc, refl, sym, ap, ◌∙◌, subst, arith,
 use Rattle.std.proofs.lemmas.List.{length-append}
 use Rattle.std.proofs.lemmas.Option.{get_or_from_slice_get, slice_get_within}
 use Rattle.mz_cmd.specs.declared.code.ProofCode.TheVariants as code
-use Rattle.mz_logic.specs.Tree.{Tree, Trees, app, none, more, listed, instance, followed_by, variables, size}
-use Rattle.mz_logic.specs.Signature.{Signature}
-use Rattle.mz_logic.specs.Declaration.{Form, plain_form, abstract_form, defined, body_of, Term, Declaration, terms, signatures, body_tree}
-use Rattle.mz_logic.specs.Sorts.{HasSort, IsSorted}
-use Rattle.mz_logic.specs.Legality.{IsLegalEnv}
-use Rattle.mz_logic.specs.Conversions.{Conversion, Conversions, refl_conv, sym_conv, cong_conv, unfold_conv, gap_conv, no_convs, more_convs, IsDefined, AreFresh, Between, AllBetween}
-use Rattle.mz_logic.specs.declared.binder.Binder.{Binder}
-use Rattle.mz_logic.proofs.Offered.{legal_env_is_right}
+use Rattle.mz_logic_theory.specs.Tree.{Tree, Trees, app, none, more, listed, instance, followed_by, variables, size}
+use Rattle.mz_logic_theory.specs.Signature.{Signature}
+use Rattle.mz_logic_theory.specs.Declaration.{Form, plain_form, abstract_form, defined, body_of, Term, Declaration, terms, signatures, body_tree}
+use Rattle.mz_logic_theory.specs.Sorts.{HasSort, IsSorted}
+use Rattle.mz_logic_theory.specs.Legality.{IsLegalEnv}
+use Rattle.mz_logic_theory.specs.Conversions.{Conversion, Conversions, refl_conv, sym_conv, cong_conv, unfold_conv, gap_conv, no_convs, more_convs, IsDefined, AreFresh, Between, AllBetween}
+use Rattle.mz_logic_theory.specs.declared.binder.Binder.{Binder}
+use Rattle.mz_logic_theory.proofs.Offered.{legal_env_is_right}
 use Rattle.mz_store.specs.Sharing.{Sharing, Holds, tree_of}
 use Rattle.mz_store.specs.declared.item.Id.{Id}
 use Rattle.mz_unify_theory.specs.Profile.{Item, expr, obligation}
@@ -19,15 +19,16 @@ use Rattle.mz_unify_theory.proofs.Offered.{trees_of-listed, count-fits}
 use Rattle.mz_machine_theory.specs.ProofMachine.{sides}
 use Rattle.mz_emit_theory.specs.Works.{Work}
 use Rattle.mz_emit_theory.specs.Steps.{stacked, Step, command_bytes}
-use Rattle.mz_emit_bodies.specs.Instances.{Grows, InReach}
+use Rattle.mz_emit_bodies.specs.Instances.{Grows}
+use Rattle.mz_emit_theory.specs.InReach.{InReach}
 use Rattle.mz_emit_bodies.specs.Variables.{IsShared}
 use Rattle.mz_emit_bodies.specs.Sight.{parts}
-use Rattle.mz_emit_bodies.specs.Costs.{body_at, pay_cost}
-use Rattle.mz_mmu_forms.specs.ConvView.{conversion, conversions}
-use Rattle.mz_mmu_forms.specs.declared.conv.Conv.{Conv}
-use Rattle.mz_emit_bodies.specs.Claims.{Goes, AllGo}
+use Rattle.mz_emit_theory.specs.Costs.{body_at, pay_cost}
+use Rattle.mz_mmu_theory.specs.ConvView.{conversion, conversions}
+use Rattle.mz_mmu_theory.specs.declared.conv.Conv.{Conv}
+use Rattle.mz_emit_theory.specs.Claims.{Goes, AllGo}
 use Rattle.mz_emit_bodies.specs.Owes.{Task, push, pay, pay_all, give, Owes, left}
-use Rattle.mz_emit_bodies.specs.Uses.{conv_uses, convs_use, commands_use}
+use Rattle.mz_emit_theory.specs.Uses.{conv_uses, convs_use, commands_use}
 use Rattle.mz_emit_bodies.specs.Using.{ComesTo}
 use Rattle.mz_emit_bodies.specs.Going.{Job, IsGoing}
 use Rattle.mz_emit_bodies.specs.declared.cells.Cell.{Cell}
@@ -36,10 +37,10 @@ use Rattle.mz_emit_bodies.proofs.Building.{rest_fresh}
 use Rattle.mz_emit_bodies.proofs.Lists.{rest_whole}
 use Rattle.mz_emit_bodies.proofs.Standing.{proving, may_rest, may_be}
 use Rattle.mz_emit_bodies.proofs.Using.{or_turn}
-use Rattle.mz_emit_bodies.proofs.Owned.{reach_of_sort}
+use Rattle.mz_emit_theory.proofs.Offered.{fresh_long, reach_of_sort}
 use Rattle.mz_emit_bodies.proofs.Moves.{at_last, replaced, given}
 use Rattle.mz_emit_bodies.proofs.Growing.{grown, rest_cost}
-use Rattle.mz_emit_bodies.specs.Writing.{◌>>◌, command, write_expr, write_payment, write_payments}
+use Rattle.mz_emit_theory.specs.BodyWriting.{◌>>◌, command, write_expr, write_payment, write_payments}
 use Rattle.mz_emit_bodies.specs.Writers.{write_tasks}
 use Rattle.mz_emit_bodies.proofs.Heaps.{then_assoc}
 use Rattle.mz_emit_bodies.proofs.Writers.{then_assoc4}
@@ -60,12 +61,6 @@ form_body (defined dummies body) e is = ap first is
 
 pub body_found : (env : List Declaration) (t : ℕ) (d : Term) (e : Tree) → Some d ≡ slice_get (terms env) t → body_of d.form ≡ more e none → body_at env t ≡ e
 body_found env t d e at is = ap (λ (x : Term). body_tree x.form) (get_or_from_slice_get (terms env) t d _ (sym at)) ∙ form_body d.form e is
-
-fresh_long : (ctx : List Binder) (es : Trees) (ys : List ℕ) (bs : List Binder) → AreFresh ctx es ys bs → length ys ≡ length bs
-fresh_long ctx es [] [] h = refl
-fresh_long ctx es [] (b ∷ bs) h = absurd h
-fresh_long ctx es (y ∷ ys) [] h = absurd h
-fresh_long ctx es (y ∷ ys) (b ∷ bs) (_, _, _, h) = ap suc (fresh_long ctx es ys bs h)
 
 pub fresh_below : (ctx : List Binder) (es : Trees) (ys : List ℕ) (bs : List Binder) → AreFresh ctx es ys bs → (k d : ℕ) → k < length ys → slice_index_or ys k d < length ctx
 fresh_below ctx es [] bs h k d lt = absurd (omega (arith, lt))

@@ -2,20 +2,20 @@
 -- no application twice.
 use Rattle.std.specs.Prelude.{ℕ, ◌≡◌, ◌<◌, ◌≤◌, ◌+◌, ◌⊎◌, ⊤, Bool, true, false, List, [], ◌∷◌, ◌++◌, length, map, reverse, get_or, slice_get, Contains, Option, Some, None}
 use Rattle.std.proofs.Common.{zero, suc, refl, sym, ap, ◌∙◌, subst, arith, append_assoc, append-nil, inl, inr, ltb, ltb-false, eq-eqb}
-use Rattle.std.proofs.lemmas.Bool.{cases_eq, eqb-true, ltb-true}
+use Rattle.std.proofs.lemmas.Bool.{cases_eq, eqb-true, ltb-true, cases_Bool}
 use Rattle.std.proofs.lemmas.List.{get_or_append_left, length-append}
 use Rattle.std.proofs.lemmas.List.Elements.{Contains-append_left, Contains-append_cases}
 use Rattle.std.proofs.lemmas.Option.{none-some, get_or_from_slice_get}
 use Rattle.mz_cmd.specs.declared.code.ProofCode.{ProofCode}
 use Rattle.mz_cmd.specs.declared.code.ProofCode.TheVariants as code
-use Rattle.mz_logic.specs.Tree.{Tree, Trees, var, app, none, more, listed, instance, instances, followed_by, variables, size, trees_size}
-use Rattle.mz_logic.specs.Declaration.{Assertion, Declaration, sorts, signatures, assertions}
-use Rattle.mz_logic.specs.Legality.{binder_at}
-use Rattle.mz_logic.specs.Modifiers.{MayBeDummySort}
-use Rattle.mz_logic.specs.Sorts.{HasSort, Fits, HasProvable}
-use Rattle.mz_logic.specs.Conversions.{GapsOnly, AllGapsOnly, Conversion, Conversions, refl_conv, sym_conv, cong_conv, unfold_conv, gap_conv, no_convs, more_convs, Between, AllBetween}
-use Rattle.mz_logic.specs.declared.binder.Binder.{Binder}
-use Rattle.mz_logic.proofs.Offered.{extends_append}
+use Rattle.mz_logic_theory.specs.Tree.{Tree, Trees, var, app, none, more, listed, instance, instances, followed_by, variables, size, trees_size}
+use Rattle.mz_logic_theory.specs.Declaration.{Assertion, Declaration, sorts, signatures, assertions}
+use Rattle.mz_logic_theory.specs.Legality.{binder_at}
+use Rattle.mz_logic_theory.specs.Modifiers.{MayBeDummySort}
+use Rattle.mz_logic_theory.specs.Sorts.{HasSort, Fits, HasProvable}
+use Rattle.mz_logic_theory.specs.Conversions.{GapsOnly, AllGapsOnly, Conversion, Conversions, refl_conv, sym_conv, cong_conv, unfold_conv, gap_conv, no_convs, more_convs, Between, AllBetween}
+use Rattle.mz_logic_theory.specs.declared.binder.Binder.{Binder}
+use Rattle.mz_logic_theory.proofs.Offered.{extends_append}
 use Rattle.mz_unify_theory.specs.Spells.{trees_of, variables_from, dummy_of}
 use Rattle.mz_unify_theory.specs.Sorted.{Sorted}
 use Rattle.mz_unify_theory.specs.Profile.{Item, expr, proof, obligation, conversion, plain}
@@ -23,22 +23,22 @@ use Rattle.mz_unify_theory.proofs.Offered.{trees_of-listed, same_tree-true, same
 use Rattle.mz_machine_theory.specs.MachineState.{Kind, is_axiom, is_theorem, is_definition}
 use Rattle.mz_machine_theory.specs.Bodies.{stands_in}
 use Rattle.mz_machine_theory.specs.ProofMachine.{sides}
-use Rattle.mz_mmu_forms.specs.Proof.{Proof, Proofs, by_hyp, by_name, by_citation, by_conv, by_let, by_gap, no_proofs, more_proofs}
+use Rattle.mz_mmu_theory.specs.Proof.{Proof, Proofs, by_hyp, by_name, by_citation, by_conv, by_let, by_gap, no_proofs, more_proofs}
 use Rattle.mz_emit_theory.specs.Works.{Work, from_to, work_start}
 use Rattle.mz_emit_theory.specs.Steps.{stacked, kept, above, IsReferred, Step, Steps}
 use Rattle.mz_emit_theory.specs.SharedBodies.{built, Builds, AreDistinct, IsPlain, ArePlain}
 use Rattle.mz_emit_theory.specs.Endings.{MayStand}
 use Rattle.mz_emit_theory.proofs.Offered.{above-more, proofs-more, has-place as meets, own-below, own-item-at}
-use Rattle.mz_emit_bodies.specs.Claims.{claim_at, conclusion_of, proved, all_proved, IsCitable, Goes, AllGo, IsSound, AreSound}
-use Rattle.mz_emit_bodies.specs.Costs.{body_at}
+use Rattle.mz_emit_theory.specs.Claims.{claim_at, conclusion_of, proved, all_proved, IsCitable, Goes, AllGo, IsSound, AreSound}
+use Rattle.mz_emit_theory.specs.Costs.{body_at}
 use Rattle.mz_emit_bodies.specs.Laws.{TakeFourBytes, DefinitionsAreWritten, AxiomsAreWritten, TheoremsAreWritten}
-use Rattle.mz_emit_bodies.specs.Writing.{Kept, expression, hypothesis, first_part, is_same, Writing, place_in, Written, Writer, and_then, nothing, ◌>>◌, command, keeping, unless_kept, meeting, write_expr, write_exprs, write_payment, write_payments, at_name, write_proof, write_proofs, write_hyp, write_hyps, at_first, variables_below, definition_written, axiom_written, theorem_written}
-use Rattle.mz_emit_bodies.proofs.Heaps.{below_long, below_at, below_is, no_hypothesis, no_part, none_or_some, true_or_false, place_new, place_old, some_get, kept_there, not_kept}
+use Rattle.mz_emit_theory.specs.BodyWriting.{Kept, expression, hypothesis, first_part, is_same, Writing, place_in, Written, Writer, and_then, nothing, ◌>>◌, command, keeping, unless_kept, meeting, write_expr, write_exprs, write_payment, write_payments, at_name, write_proof, write_proofs, write_hyp, write_hyps, at_first, variables_below, definition_written, axiom_written, theorem_written}
+use Rattle.mz_emit_bodies.proofs.Heaps.{below_long, below_at, below_is, no_hypothesis, no_part, none_or_some, place_new, place_old, some_get, kept_there, not_kept}
 use Rattle.mz_emit_bodies.proofs.Lists.{slice_last, get_end}
 use Rattle.mz_emit_bodies.proofs.Opening.{strict}
 use Rattle.mz_emit_bodies.proofs.Standing.{in_theorem}
 use Rattle.mz_emit_bodies.proofs.Beginning.{heap_long}
-use Rattle.mz_emit_bodies.proofs.Building.{builds_steps}
+use Rattle.mz_emit_bodies.proofs.Building.{builds_steps, no_tree}
 use Rattle.mz_emit_bodies.proofs.Growing.{thm_step}
 use Rattle.mz_emit_bodies.proofs.Paying.{body_is, between_sorted, left_sorted, unfolded_sorted, unfold_step}
 
@@ -72,9 +72,6 @@ number_same a b same = ap get same
     get (first_part j) = j
 
 -- ---- lists of what is built
-
-no_tree : (A : Type 0) (k : ℕ) (e : Tree) → slice_get [] k ≡ Some e → A
-no_tree A k e is = absurd (grind (arith, is))
 
 either : (xs ys : List Tree) (i : ℕ) (e : Tree) → slice_get (xs ++ ys) i ≡ Some e → (slice_get xs i ≡ Some e) ⊎ ((j : ℕ) × (i ≡ length xs + j) × (slice_get ys j ≡ Some e))
 either [] ys i e at = inr (i, omega arith, at)
@@ -260,7 +257,7 @@ module _ (gaps : Bool) (env : List Declaration) (ctx : List Binder) (n : ℕ) (h
       → ((m : ℕ) → x ≡ first_part m → m < length claims) → ((y : ℕ) → Contains k'.met y → Contains k.met y ⊎ (x ≡ expression (var y))) → ((y : ℕ) → Contains k.met y → Contains k'.met y)
       → Agrees count (record w { heap = x ∷ w.heap }) k' claims
   agrees_kept count w k k' claims x a heap-is inside meets keeps = record {
-    items = λ y p at. elim (true_or_false (is_same y x)) [
+    items = λ y p at. elim (cases_Bool (is_same y x)) [
       | inl same ↦ (let p-is : length w.heap ≡ p = some_get (length w.heap) p (sym (place_new y x w.heap same) ∙ at) in
           ap (λ (z : List (Item Tree)). slice_get z p) heap-is ∙ slice_last (Item Tree) k.heap (item_of claims x) p (sym p-is ∙ sym a.long)
           ∙ ap (λ (z : Kept). Some (item_of claims z)) (sym (same_is y x same)))
@@ -269,11 +266,11 @@ module _ (gaps : Bool) (env : List Declaration) (ctx : List Binder) (n : ℕ) (h
     ];
     long = (let l = ap length heap-is ∙ length-append k.heap (item_of claims x ∷ []) in let m = a.long in omega (arith, l, m));
     lets = a.lets;
-    below = λ m p at. elim (true_or_false (is_same (first_part m) x)) [
+    below = λ m p at. elim (cases_Bool (is_same (first_part m) x)) [
       | inl same ↦ inside m (sym (same_is (first_part m) x same))
       | inr differs ↦ a.below m p (sym (place_old (first_part m) x w.heap differs) ∙ at)
     ];
-    met = λ y has. elim (true_or_false (is_same (expression (var y)) x)) [
+    met = λ y has. elim (cases_Bool (is_same (expression (var y)) x)) [
       | inl same ↦ (length w.heap, place_new (expression (var y)) x w.heap same)
       | inr differs ↦ elim (meets y has) [
         | inl old ↦ (let q = a.met y old in (q.0, place_old (expression (var y)) x w.heap differs ∙ q.1))
@@ -281,7 +278,7 @@ module _ (gaps : Bool) (env : List Declaration) (ctx : List Binder) (n : ℕ) (h
       ]
     ];
     params = λ y lt. keeps y (a.params y lt);
-    there = λ i lt. elim (true_or_false (is_same (hypothesis i) x)) [
+    there = λ i lt. elim (cases_Bool (is_same (hypothesis i) x)) [
       | inl same ↦ (length w.heap, place_new (hypothesis i) x w.heap same)
       | inr differs ↦ (let q = a.there i lt in (q.0, place_old (hypothesis i) x w.heap differs ∙ q.1))
     ];
@@ -304,8 +301,8 @@ module _ (gaps : Bool) (env : List Declaration) (ctx : List Binder) (n : ℕ) (h
     distinct = distinct;
     fresh = λ j e at. (let h = are j e at in ap (λ (z : Kept). place_in z w.heap) (sym h.0) ∙ h.1);
     placed = λ j e at. (let h = are j e at in (length w.heap, place_new (expression e) x w.heap (ap (is_same (expression e)) h.0 ∙ same_tree-refl e)));
-    grows = λ y p at. elim (true_or_false (is_same y x)) [ inl same ↦ (length w.heap, place_new y x w.heap same) | inr differs ↦ (p, place_old y x w.heap differs ∙ at) ];
-    news = λ e p at. elim (true_or_false (is_same (expression e) x)) [
+    grows = λ y p at. elim (cases_Bool (is_same y x)) [ inl same ↦ (length w.heap, place_new y x w.heap same) | inr differs ↦ (p, place_old y x w.heap differs ∙ at) ];
+    news = λ e p at. elim (cases_Bool (is_same (expression e) x)) [
       | inl same ↦ inr (news e (sym (same_is (expression e) x same)))
       | inr differs ↦ inl (p, sym (place_old (expression e) x w.heap differs) ∙ at)
     ];

@@ -4,35 +4,34 @@ use Rattle.std.proofs.Common.{refl, sym, ap, ◌∙◌, subst, arith, inl, inr}
 use Rattle.std.proofs.lemmas.List.{length-append}
 use Rattle.std.proofs.lemmas.Bool.{cases_eq}
 use Rattle.mz_cmd.specs.declared.code.ProofCode.TheVariants as code
-use Rattle.mz_logic.specs.Tree.{Tree}
-use Rattle.mz_logic.specs.Declaration.{Declaration}
-use Rattle.mz_logic.specs.declared.binder.Binder.{Binder}
-use Rattle.mz_logic.proofs.Offered.{extends_append}
+use Rattle.mz_logic_theory.specs.Tree.{Tree}
+use Rattle.mz_logic_theory.specs.Declaration.{Declaration}
+use Rattle.mz_logic_theory.specs.declared.binder.Binder.{Binder}
+use Rattle.mz_logic_theory.proofs.Offered.{extends_append}
 use Rattle.mz_store.specs.Sharing.{Sharing}
 use Rattle.mz_store.specs.declared.item.Id.{Id}
 use Rattle.mz_unify_theory.specs.Profile.{Item, proof}
 use Rattle.mz_emit_theory.specs.Works.{Work}
 use Rattle.mz_emit_theory.specs.Steps.{kept, Step, command_bytes}
 use Rattle.mz_emit_bodies.specs.Scopes.{in_sight}
-use Rattle.mz_emit_bodies.specs.Claims.{IsSound}
+use Rattle.mz_emit_theory.specs.Claims.{IsSound}
 use Rattle.mz_emit_bodies.specs.Owes.{Task, save, claims, claim_of, Owes}
 use Rattle.mz_emit_bodies.specs.Sight.{Part, links, parts, part_at, place_at, AreRight}
 use Rattle.mz_emit_bodies.specs.Going.{Job, CellsRight, PlacesRight, HasPlace, IsGoing}
-use Rattle.mz_emit_bodies.specs.Uses.{commands_use}
+use Rattle.mz_emit_theory.specs.Uses.{commands_use}
 use Rattle.mz_emit_bodies.specs.Using.{IsUsing}
 use Rattle.mz_emit_bodies.specs.Making.{IsFresh}
 use Rattle.mz_emit_bodies.specs.declared.cells.Cell.{Cell}
 use Rattle.mz_emit_bodies.proofs.Building.{nothing_more}
 use Rattle.mz_emit_bodies.proofs.Lists.{slice_last}
-use Rattle.mz_emit_bodies.proofs.Keeping.{some_is}
+use Rattle.mz_emit_bodies.proofs.Heaps.{some_get, part_kept}
 use Rattle.mz_emit_bodies.specs.Lengths.{begun, waits, IsClear}
 use Rattle.mz_emit_bodies.proofs.Shortening.{command_one, waits_saved}
 use Rattle.mz_emit_bodies.proofs.Using.{uses_last, using_saved}
 use Rattle.mz_emit_bodies.proofs.Standing.{may_last, may_rest}
 use Rattle.mz_emit_bodies.proofs.Moves.{more_written}
-use Rattle.mz_emit_bodies.specs.Writing.{first_part, ◌>>◌, keeping}
+use Rattle.mz_emit_theory.specs.BodyWriting.{first_part, ◌>>◌, keeping}
 use Rattle.mz_emit_bodies.specs.Writers.{write_tasks, IsWriting}
-use Rattle.mz_emit_bodies.proofs.Heaps.{part_kept}
 use Rattle.mz_emit_bodies.proofs.Writers.{writing_on}
 
 pub places_kept : (env : List Declaration) (n : ℕ) (hyps : List Tree) (s : Sharing) (vars : List Id) (places : List (Option ℕ)) (hps : List ℕ) (met : List ℕ) (heap : List (Item Tree)) (y : Item Tree)
@@ -54,7 +53,7 @@ module _ (gaps : Bool) (env : List Declaration) (ctx : List Binder) (hyps : List
     sound = λ d lt. subst (λ (ps : List Part). IsSound gaps env ctx hyps (in_sight (claims env hyps ps) (part_at ps d).outer) (part_at ps d).proof) (sym parts-are) (h.sound d (omega (arith, lt, many)));
     placed = λ d p lt d-at. subst (λ (ps : List Part). slice_get (heap ++ proof (claim_of env hyps (parts cells) c) ∷ []) p ≡ Some (proof (claim_of env hyps ps d))) (sym parts-are)
         (elim (cases_eq d c) [
-          | inl is ↦ (let p-is : len ≡ p = some_is len p (sym (ap (place_at cells') is ∙ at) ∙ d-at) in
+          | inl is ↦ (let p-is : len ≡ p = some_get len p (sym (ap (place_at cells') is ∙ at) ∙ d-at) in
               slice_last (Item Tree) heap (proof (claim_of env hyps (parts cells) c)) p (sym p-is ∙ sym long) ∙ ap (λ (k : ℕ). Some (proof (claim_of env hyps (parts cells) k))) (sym is))
           | inr other ↦ extends_append heap (proof (claim_of env hyps (parts cells) c) ∷ []) p _ (h.placed d p (omega (arith, lt, many)) (sym (others d other) ∙ d-at))
         ]);

@@ -6,16 +6,16 @@ use Rattle.byteorder.specs.Numbers.{length-bytes_low_first}
 use Rattle.std.proofs.lemmas.Bool.{ne_eqb, cases_eq, false_from_ne_true}
 use Rattle.mz_cmd.specs.declared.code.ProofCode.{ProofCode}
 use Rattle.mz_cmd.specs.Spelling.{operand_len, shortest_size}
-use Rattle.mz_logic.specs.Tree.{Tree, size, trees_size}
-use Rattle.mz_logic.specs.Declaration.{Declaration}
-use Rattle.mz_logic.specs.declared.binder.Binder.{Binder}
+use Rattle.mz_logic_theory.specs.Tree.{Tree, size, trees_size}
+use Rattle.mz_logic_theory.specs.Declaration.{Declaration}
+use Rattle.mz_logic_theory.specs.declared.binder.Binder.{Binder}
 use Rattle.mz_store.specs.Sharing.{Sharing, trees_of}
 use Rattle.mz_store.specs.declared.item.Id.{Id}
 use Rattle.mz_unify_theory.specs.Profile.{Item}
 use Rattle.mz_emit_theory.specs.Steps.{command_bytes}
 use Rattle.mz_emit_bodies.specs.Instances.{Grows}
 use Rattle.mz_emit_bodies.specs.Sight.{Part, parts, part_at, links, InSight, here, out, IsRightAt, AreRight, IsThere}
-use Rattle.mz_emit_bodies.specs.Weights.{proof_weight}
+use Rattle.mz_emit_theory.specs.Weights.{proof_weight}
 use Rattle.mz_emit_bodies.specs.Owes.{Task, prove, prove_all, cite, push, make, pay, pay_all, give, save, Turns, Owes}
 use Rattle.mz_emit_bodies.specs.Pushing.{pushes}
 use Rattle.mz_emit_bodies.specs.Lengths.{task_bytes, tasks_bytes, begun, is_one_of, waits_at, waits, IsOutside, itself, farther, IsSeen, Sees, IsClear}

@@ -2,9 +2,9 @@
 use Rattle.std.specs.Prelude.{ℕ, ◌≡◌, ◌<◌, Bool, true, false, ◌||◌, List, [], ◌∷◌, ◌++◌, length, Option, Some}
 use Rattle.std.proofs.Common.{refl, sym, ap, ◌∙◌, subst, arith, inl, inr}
 use Rattle.mz_cmd.specs.declared.code.ProofCode.{ProofCode}
-use Rattle.mz_logic.specs.Tree.{Tree}
-use Rattle.mz_logic.specs.Declaration.{Declaration}
-use Rattle.mz_logic.specs.declared.binder.Binder.{Binder}
+use Rattle.mz_logic_theory.specs.Tree.{Tree}
+use Rattle.mz_logic_theory.specs.Declaration.{Declaration}
+use Rattle.mz_logic_theory.specs.declared.binder.Binder.{Binder}
 use Rattle.mz_store.specs.Sharing.{Sharing}
 use Rattle.mz_store.specs.declared.item.Id.{Id}
 use Rattle.mz_unify_theory.specs.Profile.{Item}
@@ -12,7 +12,7 @@ use Rattle.mz_emit_bodies.specs.Sight.{Part, part_at, parts, place_at, IsThere}
 use Rattle.mz_emit_bodies.specs.Scopes.{in_sight}
 use Rattle.mz_emit_bodies.specs.Owes.{Task, prove, prove_all, cite, push, make, pay, pay_all, give, save, Turns, Owes}
 use Rattle.mz_emit_bodies.specs.Pushing.{pushes}
-use Rattle.mz_emit_bodies.specs.Uses.{Use, uses, some_use, command_uses, commands_use}
+use Rattle.mz_emit_theory.specs.Uses.{Use, uses, some_use, command_uses, commands_use}
 use Rattle.mz_emit_bodies.specs.Using.{let_uses, part_uses, task_uses, IsUsed, ComesTo, IsUsing}
 use Rattle.mz_emit_bodies.specs.declared.cells.Cell.{Cell}
 use Rattle.mz_emit_bodies.proofs.Scoping.{sight_more, there_more}

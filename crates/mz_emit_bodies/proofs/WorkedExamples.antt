@@ -1,12 +1,12 @@
 -- The bodies of worked texts, as the program has compiled them.
 use Rattle.std.specs.Prelude.{ℕ, ◌≡◌, List, [], ◌∷◌}
 use Rattle.std.proofs.Common.{refl}
-use Rattle.mz_logic.specs.Tree.{Tree, var, app, none, more}
-use Rattle.mz_logic.specs.Conversions.{refl_conv, cong_conv, unfold_conv, no_convs, more_convs}
-use Rattle.mz_logic.specs.Examples.{wff, two, im, implication, neg, negation}
-use Rattle.mz_mmu_forms.specs.Proof.{Proof, by_hyp, by_name, by_citation, by_conv, by_let, no_proofs, more_proofs}
+use Rattle.mz_logic_theory.specs.Tree.{Tree, var, app, none, more}
+use Rattle.mz_logic_theory.specs.Conversions.{refl_conv, cong_conv, unfold_conv, no_convs, more_convs}
+use Rattle.mz_logic_theory.specs.Examples.{wff, two, im, implication, neg, negation}
+use Rattle.mz_mmu_theory.specs.Proof.{Proof, by_hyp, by_name, by_citation, by_conv, by_let, no_proofs, more_proofs}
 use Rattle.mz_emit_theory.specs.Endings.{spelled_body}
-use Rattle.mz_emit_bodies.specs.Writing.{Written, definition_written, axiom_written, theorem_written}
+use Rattle.mz_emit_theory.specs.BodyWriting.{Written, definition_written, axiom_written, theorem_written}
 
 abbrev body_of : Written → List ℕ
 body_of w = spelled_body w.commands

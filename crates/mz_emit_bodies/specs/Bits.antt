@@ -1,7 +1,7 @@
 -- The words of binders, and the bit of each of their places.
 use Rattle.std.specs.Prelude.{ℕ, suc, ◌≡◌, ◌≤◌, ◌^◌, List, [], ◌∷◌, length, if◌then◌else◌}
-use Rattle.mz_logic.specs.WordsWritten.{bound_from, words_of}
-use Rattle.mz_logic.specs.declared.binder.Binder.{Binder}
+use Rattle.mz_logic_theory.specs.WordsWritten.{bound_from, words_of}
+use Rattle.mz_logic_theory.specs.declared.binder.Binder.{Binder}
 use Rattle.mz_emit_bodies.specs.declared.words.Words.{Words}
 
 -- after k bound binders: a bound one has the next bit, a regular one none

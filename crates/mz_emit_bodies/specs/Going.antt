@@ -1,12 +1,12 @@
 -- A body that is being written: what is made so far, and what is owed.
 use Rattle.std.specs.Prelude.{ℕ, ◌≡◌, ◌<◌, ◌≤◌, ◌+◌, ◌⊎◌, Bool, List, [], ◌∷◌, ◌++◌, length, map, take, slice_get, Contains, Option, Some}
 use Rattle.mz_cmd.specs.declared.code.ProofCode.{ProofCode}
-use Rattle.mz_logic.specs.Tree.{Tree}
-use Rattle.mz_logic.specs.Declaration.{Declaration, sorts, signatures}
-use Rattle.mz_logic.specs.Legality.{IsLegalEnv}
-use Rattle.mz_logic.specs.Modifiers.{MayBeDummySort}
-use Rattle.mz_logic.specs.Words.{signatures_of}
-use Rattle.mz_logic.specs.declared.binder.Binder.{Binder}
+use Rattle.mz_logic_theory.specs.Tree.{Tree}
+use Rattle.mz_logic_theory.specs.Declaration.{Declaration, sorts, signatures}
+use Rattle.mz_logic_theory.specs.Legality.{IsLegalEnv}
+use Rattle.mz_logic_theory.specs.Modifiers.{MayBeDummySort}
+use Rattle.mz_logic_theory.specs.Words.{signatures_of}
+use Rattle.mz_logic_theory.specs.declared.binder.Binder.{Binder}
 use Rattle.mz_store.specs.Sharing.{Sharing, IsIn, Holds, tree_of}
 use Rattle.mz_store.specs.declared.item.Id.{Id}
 use Rattle.mz_unify_theory.specs.Spells.{dummy_of}
@@ -22,13 +22,13 @@ use Rattle.mz_emit_bodies.specs.Rows.{words_of_row}
 use Rattle.mz_emit_bodies.specs.Variables.{IsShared}
 use Rattle.mz_emit_bodies.specs.Sight.{links, parts, part_at, place_at, AreRight}
 use Rattle.mz_emit_bodies.specs.Scopes.{in_sight}
-use Rattle.mz_emit_bodies.specs.Claims.{IsSound}
+use Rattle.mz_emit_theory.specs.Claims.{IsSound}
 use Rattle.mz_emit_bodies.specs.Owes.{Task, IsOfExpressions, claims, claim_of, Owes, to_do, left}
 use Rattle.mz_emit_bodies.specs.Lengths.{tasks_bytes, begun, waits, IsClear}
 use Rattle.mz_emit_bodies.specs.Making.{IsFresh}
-use Rattle.mz_emit_bodies.specs.Uses.{Use, commands_use}
+use Rattle.mz_emit_theory.specs.Uses.{Use, commands_use}
 use Rattle.mz_emit_bodies.specs.Using.{IsUsing}
-use Rattle.mz_emit_bodies.specs.Writing.{Written}
+use Rattle.mz_emit_theory.specs.BodyWriting.{Written}
 use Rattle.mz_emit_bodies.specs.Writers.{IsWriting}
 use Rattle.mz_emit_bodies.specs.declared.cells.Cell.{Cell}
 use Rattle.mz_emit_bodies.specs.declared.body.Before.{Before}

@@ -1,20 +1,20 @@
 -- What is promised of the bodies that are written: they are bodies of their statements.
 use Rattle.std.specs.Prelude.{ℕ, ◌≡◌, ◌<◌, ◌≤◌, ◌^◌, ⊤, Bool, List, [], ◌∷◌, ◌++◌, length, slice_get, Some}
 use Rattle.mz_cmd.specs.declared.code.ProofCode.{ProofCode}
-use Rattle.mz_logic.specs.Tree.{Tree}
-use Rattle.mz_logic.specs.Declaration.{Declaration, sorts, signatures}
-use Rattle.mz_logic.specs.Modifiers.{MayBeDummySort}
-use Rattle.mz_logic.specs.Sorts.{HasProvable}
-use Rattle.mz_logic.specs.declared.binder.Binder.{Binder}
+use Rattle.mz_logic_theory.specs.Tree.{Tree}
+use Rattle.mz_logic_theory.specs.Declaration.{Declaration, sorts, signatures}
+use Rattle.mz_logic_theory.specs.Modifiers.{MayBeDummySort}
+use Rattle.mz_logic_theory.specs.Sorts.{HasProvable}
+use Rattle.mz_logic_theory.specs.declared.binder.Binder.{Binder}
 use Rattle.mz_unify_theory.specs.Sorted.{Sorted}
 use Rattle.mz_unify_theory.specs.Spells.{dummy_of}
 use Rattle.mz_machine_theory.specs.MachineState.{is_axiom, is_theorem, is_definition}
 use Rattle.mz_machine_theory.specs.Premises.{bound_count}
-use Rattle.mz_mmu_forms.specs.Proof.{Proof}
+use Rattle.mz_mmu_theory.specs.Proof.{Proof}
 use Rattle.mz_emit_theory.specs.SharedBodies.{IsSharedBody}
 use Rattle.mz_emit_theory.specs.Endings.{spelled_body}
-use Rattle.mz_emit_bodies.specs.Claims.{proved, IsSound}
-use Rattle.mz_emit_bodies.specs.Writing.{definition_written, axiom_written, theorem_written}
+use Rattle.mz_emit_theory.specs.Claims.{proved, IsSound}
+use Rattle.mz_emit_theory.specs.BodyWriting.{definition_written, axiom_written, theorem_written}
 
 -- behind the first n variables stand dummies, of sorts that may have some
 abbrev pub AreDummiesBehind : List Declaration → ℕ → List Binder → Type 0

@@ -1,14 +1,14 @@
 -- How many bytes the tasks and the lets that aren't begun take at the most. A let's part is emitted once: its
 -- name doesn't come where it is begun.
 use Rattle.std.specs.Prelude.{ℕ, suc, ◌≡◌, ◌+◌, ◌*◌, ⊤, Bool, true, false, ◌||◌, ◌==◌, if◌then◌else◌, List, [], ◌∷◌, length, Option, Some, None}
-use Rattle.mz_logic.specs.Tree.{instance, size, trees_size}
-use Rattle.mz_logic.specs.Declaration.{Declaration}
+use Rattle.mz_logic_theory.specs.Tree.{instance, size, trees_size}
+use Rattle.mz_logic_theory.specs.Declaration.{Declaration}
 use Rattle.mz_store.specs.Sharing.{Sharing, tree_of}
 use Rattle.mz_emit_theory.specs.Steps.{command_bytes}
-use Rattle.mz_emit_bodies.specs.Claims.{conclusion_of}
+use Rattle.mz_emit_theory.specs.Claims.{conclusion_of}
 use Rattle.mz_emit_bodies.specs.Sight.{Part, part_at}
 use Rattle.mz_emit_bodies.specs.Owes.{Task, prove, prove_all, cite, push, make, pay, pay_all, give, save}
-use Rattle.mz_emit_bodies.specs.Weights.{conv_weight, convs_weight, proof_weight, proofs_weight}
+use Rattle.mz_emit_theory.specs.Weights.{conv_weight, convs_weight, proof_weight, proofs_weight}
 
 -- each command takes five bytes at most, and one where it has no operand
 abbrev pub task_bytes : List Declaration → Sharing → Task → ℕ

@@ -1,16 +1,11 @@
 pub mod Sight
 pub mod Scopes
-pub mod Claims
-pub mod Costs
-pub mod Uses
-pub mod Writing
 pub mod Owes
 pub mod Writers
 pub mod Using
 pub mod Pushing
 pub mod Going
 pub mod Stages
-pub mod Weights
 pub mod Lengths
 pub mod Making
 pub mod Laws

@@ -1,6 +1,6 @@
 -- Expressions that are to be made: none of them stands in the heap, and those before one are smaller.
 use Rattle.std.specs.Prelude.{ℕ, ◌≡◌, ◌<◌, ⊤, true, List, [], ◌∷◌, Option, None}
-use Rattle.mz_logic.specs.Tree.{size}
+use Rattle.mz_logic_theory.specs.Tree.{size}
 use Rattle.mz_store.specs.Sharing.{Sharing, tree_of}
 use Rattle.mz_emit_bodies.specs.Places.{place_of}
 use Rattle.mz_emit_bodies.specs.Owes.{Task, prove, prove_all, cite, push, make, pay, pay_all, give, save}

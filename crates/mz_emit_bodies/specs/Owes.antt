@@ -1,23 +1,23 @@
 -- What a list of tasks owes: each task takes one stack to the next.
 use Rattle.std.specs.Prelude.{ℕ, ◌≡◌, ◌<◌, ◌+◌, ◌*◌, ⊤, Bool, List, [], ◌∷◌, ◌++◌, length, map, reverse, Option, Some}
 use Rattle.mz_cmd.specs.declared.code.ProofCode.{ProofCode}
-use Rattle.mz_logic.specs.Tree.{Tree, Trees, listed, instance, size, trees_size}
-use Rattle.mz_logic.specs.Declaration.{Declaration}
-use Rattle.mz_logic.specs.Conversions.{Conversion, Conversions}
-use Rattle.mz_logic.specs.declared.binder.Binder.{Binder}
+use Rattle.mz_logic_theory.specs.Tree.{Tree, Trees, listed, instance, size, trees_size}
+use Rattle.mz_logic_theory.specs.Declaration.{Declaration}
+use Rattle.mz_logic_theory.specs.Conversions.{Conversion, Conversions}
+use Rattle.mz_logic_theory.specs.declared.binder.Binder.{Binder}
 use Rattle.mz_store.specs.Sharing.{Sharing, IsIn, tree_of, head_of, operands_of}
 use Rattle.mz_unify_theory.specs.Profile.{Item, expr, proof, obligation}
 use Rattle.mz_machine_theory.specs.ProofMachine.{sides}
-use Rattle.mz_mmu_forms.specs.Proof.{Proof, Proofs}
-use Rattle.mz_mmu_forms.specs.ProofView.{proof_view, proofs_view}
-use Rattle.mz_mmu_forms.specs.ConvView.{conversion, conversions}
+use Rattle.mz_mmu_theory.specs.Proof.{Proof, Proofs}
+use Rattle.mz_mmu_theory.specs.ProofView.{proof_view, proofs_view}
+use Rattle.mz_mmu_theory.specs.ConvView.{conversion, conversions}
 use Rattle.mz_emit_theory.specs.Works.{Work}
 use Rattle.mz_emit_theory.specs.Steps.{stacked, above, Step}
 use Rattle.mz_emit_theory.specs.SharedBodies.{built, IsPlain}
 use Rattle.mz_emit_bodies.specs.Sight.{Part, part_at, IsThere}
 use Rattle.mz_emit_bodies.specs.Scopes.{in_sight, scopes}
-use Rattle.mz_emit_bodies.specs.Claims.{proved, all_proved, conclusion_of, IsCitable, Goes, AllGo, IsSound, AreSound}
-use Rattle.mz_emit_bodies.specs.Costs.{cost, costs, pay_cost, pay_costs}
+use Rattle.mz_emit_theory.specs.Claims.{proved, all_proved, conclusion_of, IsCitable, Goes, AllGo, IsSound, AreSound}
+use Rattle.mz_emit_theory.specs.Costs.{cost, costs, pay_cost, pay_costs}
 use Rattle.mz_emit_bodies.specs.declared.task.Task.{Task as Coded}
 use Rattle.mz_emit_bodies.specs.declared.task.Task.TheVariants as task
 

@@ -1,5 +1,5 @@
 -- A term's row as words.
-use Rattle.mz_logic.specs.Words.{TermWords}
+use Rattle.mz_logic_theory.specs.Words.{TermWords}
 use Rattle.mz_emit_bodies.specs.declared.table.Row.{Row}
 
 abbrev pub words_of_row : Row → TermWords

@@ -1,7 +1,7 @@
 -- What the lets in sight are, cell by cell: a table with, for each cell, a value of each let in sight of it, the
 -- outermost first and itself last.
 use Rattle.std.specs.Prelude.{ℕ, List, [], ◌∷◌, ◌++◌, length, get_or, Option, Some, None}
-use Rattle.mz_mmu_forms.specs.Proof.{Proof}
+use Rattle.mz_mmu_theory.specs.Proof.{Proof}
 use Rattle.mz_emit_bodies.specs.Sight.{Part}
 
 abbrev pub in_sight : {A : Type 0} → List (List A) → Option ℕ → List A

@@ -1,7 +1,7 @@
 -- Cells that are linked outwards, and which of them are in sight.
 use Rattle.std.specs.Prelude.{ℕ, ◌≡◌, ◌<◌, ◌≤◌, ◌+◌, ⊤, List, map, get_or, length, Option, Some, None}
-use Rattle.mz_mmu_forms.specs.Proof.{Proof, by_hyp}
-use Rattle.mz_mmu_forms.specs.ProofView.{proof_view}
+use Rattle.mz_mmu_theory.specs.Proof.{Proof, by_hyp}
+use Rattle.mz_mmu_theory.specs.ProofView.{proof_view}
 use Rattle.mz_emit_bodies.specs.declared.cells.Cell.{Cell}
 
 pub record Link : Type 0 where

@@ -1,22 +1,22 @@
 -- The stages of a body: its beginning, a hypothesis, an expression, a proof, and its end.
 use Rattle.std.specs.Prelude.{ℕ, ◌≡◌, ◌≤◌, ◌+◌, ◌*◌, Bool, true, false, ◌||◌, List, [], ◌∷◌, length, slice_get, Some}
 use Rattle.mz_cmd.specs.declared.code.ProofCode.TheVariants as code
-use Rattle.mz_logic.specs.Tree.{Tree, listed, trees_size}
-use Rattle.mz_logic.specs.Declaration.{Declaration, sorts, signatures}
-use Rattle.mz_logic.specs.Modifiers.{MayBeDummySort}
-use Rattle.mz_logic.specs.Sorts.{HasProvable}
-use Rattle.mz_logic.specs.declared.binder.Binder.{Binder}
+use Rattle.mz_logic_theory.specs.Tree.{Tree, listed, trees_size}
+use Rattle.mz_logic_theory.specs.Declaration.{Declaration, sorts, signatures}
+use Rattle.mz_logic_theory.specs.Modifiers.{MayBeDummySort}
+use Rattle.mz_logic_theory.specs.Sorts.{HasProvable}
+use Rattle.mz_logic_theory.specs.declared.binder.Binder.{Binder}
 use Rattle.mz_store.specs.Sharing.{Sharing, IsIn, AreIn, tree_of, trees_of}
 use Rattle.mz_store.specs.declared.item.Id.{Id}
 use Rattle.mz_unify_theory.specs.Profile.{Item, plain}
 use Rattle.mz_unify_theory.specs.Spells.{dummy_of}
 use Rattle.mz_machine_theory.specs.Bodies.{stands_in}
 use Rattle.mz_machine_theory.specs.MachineState.{Kind}
-use Rattle.mz_mmu_forms.specs.Proof.{Proof}
-use Rattle.mz_emit_bodies.specs.Claims.{IsSound}
+use Rattle.mz_mmu_theory.specs.Proof.{Proof}
+use Rattle.mz_emit_theory.specs.Claims.{IsSound}
 use Rattle.mz_emit_bodies.specs.Variables.{IsShared}
-use Rattle.mz_emit_bodies.specs.Uses.{Use, uses}
-use Rattle.mz_emit_bodies.specs.Writing.{Written, Writer, and_then, at_first, write_hyps}
+use Rattle.mz_emit_theory.specs.Uses.{Use, uses}
+use Rattle.mz_emit_theory.specs.BodyWriting.{Written, Writer, and_then, at_first, write_hyps}
 use Rattle.mz_emit_bodies.specs.Going.{Job, MayProve, Does}
 use Rattle.mz_emit_bodies.specs.declared.body.Body.{Body}
 

@@ -3,7 +3,7 @@ use Rattle.std.specs.Prelude.{ℕ, ◌≡◌, ⊤, Bool, true, false, ◌||◌, 
 use Rattle.mz_emit_bodies.specs.Sight.{Part, part_at, parts, place_at}
 use Rattle.mz_emit_bodies.specs.Scopes.{in_sight, scopes}
 use Rattle.mz_emit_bodies.specs.Owes.{Task, prove, prove_all, cite, push, make, pay, pay_all, give, save}
-use Rattle.mz_emit_bodies.specs.Uses.{Use, is_assertion, conv_uses, convs_use, uses, some_use, command_uses}
+use Rattle.mz_emit_theory.specs.Uses.{Use, is_assertion, conv_uses, convs_use, uses, some_use, command_uses}
 use Rattle.mz_emit_bodies.specs.declared.cells.Cell.{Cell}
 
 -- whether the lets use it that are in sight of each cell, itself counted

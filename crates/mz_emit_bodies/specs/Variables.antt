@@ -1,7 +1,7 @@
 -- A store that has the variables of its context.
 use Rattle.std.specs.Prelude.{◌≡◌, List}
-use Rattle.mz_logic.specs.Signature.{Signature}
-use Rattle.mz_logic.specs.Legality.{Each}
+use Rattle.mz_logic_theory.specs.Signature.{Signature}
+use Rattle.mz_logic_theory.specs.Legality.{Each}
 use Rattle.mz_store.specs.Sharing.{Sharing, AreIn, IsOver, trees_of}
 use Rattle.mz_store.specs.declared.item.DepsMode.TheVariants as of
 use Rattle.mz_store.specs.declared.item.Id.{Id}

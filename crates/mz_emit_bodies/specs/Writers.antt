@@ -3,16 +3,16 @@
 use Rattle.std.specs.Prelude.{ℕ, ◌≡◌, List, [], ◌∷◌, ◌++◌, length, slice_get, Option, Some}
 use Rattle.mz_cmd.specs.declared.code.ProofCode.{ProofCode}
 use Rattle.mz_cmd.specs.declared.code.ProofCode.TheVariants as code
-use Rattle.mz_logic.specs.Tree.{Tree, var, app, instance}
-use Rattle.mz_logic.specs.Declaration.{Declaration}
-use Rattle.mz_logic.specs.declared.binder.Binder.{Binder}
+use Rattle.mz_logic_theory.specs.Tree.{Tree, var, app, instance}
+use Rattle.mz_logic_theory.specs.Declaration.{Declaration}
+use Rattle.mz_logic_theory.specs.declared.binder.Binder.{Binder}
 use Rattle.mz_store.specs.Sharing.{Sharing, IsIn, Holds, tree_of}
 use Rattle.mz_emit_bodies.specs.Places.{place_of}
-use Rattle.mz_emit_bodies.specs.Claims.{conclusion_of}
+use Rattle.mz_emit_theory.specs.Claims.{conclusion_of}
 use Rattle.mz_emit_bodies.specs.Sight.{Part, parts, place_at}
 use Rattle.mz_emit_bodies.specs.Scopes.{in_sight, scopes}
 use Rattle.mz_emit_bodies.specs.Owes.{Task, prove, prove_all, cite, push, make, pay, pay_all, give, save}
-use Rattle.mz_emit_bodies.specs.Writing.{expression, hypothesis, first_part, Writing, place_in, Written, Writer, nothing, ◌>>◌, command, keeping, write_expr, write_exprs, write_payment, write_payments, at_name, write_proof, write_proofs}
+use Rattle.mz_emit_theory.specs.BodyWriting.{expression, hypothesis, first_part, Writing, place_in, Written, Writer, nothing, ◌>>◌, command, keeping, write_expr, write_exprs, write_payment, write_payments, at_name, write_proof, write_proofs}
 use Rattle.mz_emit_bodies.specs.declared.cells.Cell.{Cell}
 
 -- what is written for the names of the lets in sight of each cell, itself counted

@@ -1,30 +1,30 @@
 //! Bodies of statements.
 ghost use Rattle.std.specs.Prelude.{ℕ, ◌≡◌, ◌<◌, ◌^◌, ◌+◌, ◌*◌, ◌∷◌, [], ◌++◌, OnOk, IfOk, Option, None, length};
 ghost use Rattle.mz_cmd.specs.declared.code.ProofCode.TheVariants.{Conv as conv_code, Thm, Unfold};
-ghost use Rattle.mz_logic.specs.Conversions.{unfold_conv};
-ghost use Rattle.mz_logic.specs.View.{tree};
-ghost use Rattle.mz_mmu_forms.specs.ConvView.{conversion, conversions};
-ghost use Rattle.mz_mmu_forms.specs.Proof.{by_name, by_conv, by_let, by_gap};
-ghost use Rattle.mz_mmu_forms.specs.ProofView.{proof_view, proofs_view};
-ghost use Rattle.mz_logic.specs.Tree.{size};
+ghost use Rattle.mz_logic_theory.specs.Conversions.{unfold_conv};
+ghost use Rattle.mz_logic_theory.specs.View.{tree};
+ghost use Rattle.mz_mmu_theory.specs.ConvView.{conversion, conversions};
+ghost use Rattle.mz_mmu_theory.specs.Proof.{by_name, by_conv, by_let, by_gap};
+ghost use Rattle.mz_mmu_theory.specs.ProofView.{proof_view, proofs_view};
+ghost use Rattle.mz_logic_theory.specs.Tree.{size};
 ghost use Rattle.mz_store.specs.Sharing.{head_of, tree_of};
-ghost use Rattle.mz_emit_bodies.specs.Weights.{proof_weight};
+ghost use Rattle.mz_emit_theory.specs.Weights.{proof_weight};
 ghost use Rattle.mz_emit_theory.specs.Steps.{command_bytes};
 ghost use Rattle.mz_emit_bodies.specs.Owes.{prove, prove_all, cite, push, make, pay, pay_all, give, save, task_view, to_do};
 ghost use Rattle.mz_emit_bodies.specs.Places.{place_of};
 ghost use Rattle.mz_emit_bodies.specs.Pushing.{pushes};
 ghost use Rattle.mz_emit_bodies.specs.Going.{Job, IsAfter, Does, steps_left};
 ghost use Rattle.mz_emit_bodies.specs.Stages.{HasDummiesBehind, Begins, Rests, leaving, spending, writing_too, assuming, with_hyps, Writes, Assumes, AssumesAll, Proves};
-ghost use Rattle.mz_emit_bodies.specs.Writing.{write_expr, write_hyp, write_proof};
-ghost use Rattle.mz_emit_bodies.specs.Claims.{proved};
+ghost use Rattle.mz_emit_theory.specs.BodyWriting.{write_expr, write_hyp, write_proof};
+ghost use Rattle.mz_emit_theory.specs.Claims.{proved};
 ghost use Rattle.mz_unify_theory.specs.Profile.{expr, proof};
 
 use crate::cells::{Cells, Chain};
 use crate::task::Task;
 use crate::{Heap, Shared, Table};
 use mz_cmd::{END, Mem, ProofCode, put_cmd};
-use mz_logic::{Env, Expr, Exprs};
-use mz_mmu_forms::{Conv, Proof, Vars};
+use mz_logic_theory::{Env, Expr, Exprs};
+use mz_mmu_theory::{Conv, Proof, Vars};
 use mz_store::Id;
 use std::alloc::Global;
 

@@ -1,10 +1,10 @@
 //! Lets that are open in a body, and those in sight of each.
 ghost use Rattle.std.specs.Prelude.{ℕ, ◌≡◌, ◌≤◌, ◌<◌, ◌+◌, ◌++◌, ◌∷◌, [], OnOk, IfOk, length, None, Some};
-ghost use Rattle.mz_mmu_forms.specs.ProofView.{proof_view};
+ghost use Rattle.mz_mmu_theory.specs.ProofView.{proof_view};
 ghost use Rattle.mz_emit_bodies.specs.Sight.{link_at, links, part_of, parts, part_at, place_at, InSight, AreRight, IsThere, IsNext};
 
 use mz_cmd::Mem;
-use mz_mmu_forms::Proof;
+use mz_mmu_theory::Proof;
 use std::alloc::{AllocError, Global};
 
 /// The lets that are in sight: the number of the innermost one's cell, or none.

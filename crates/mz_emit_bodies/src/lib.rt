@@ -1,3 +1,5 @@
+//! The body of one statement as a compiler writes it, each expression built once.
+//!
 //! Bodies of statements: the commands that make a definition's expression, an axiom's hypotheses and
 //! conclusion, or a theorem's proof, each expression built once.
 //!

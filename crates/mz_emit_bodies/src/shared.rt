@@ -1,21 +1,22 @@
 //! The expressions of one statement, each kept once.
 ghost use Rattle.std.specs.Prelude.{ℕ, ◌≡◌, ◌<◌, ◌≤◌, ◌+◌, ◌++◌, OnOk, IfOk, List, length, map, All};
-ghost use Rattle.mz_logic.specs.Legality.{Each, IsDummy};
-ghost use Rattle.mz_logic.specs.Signature.{Signature};
-ghost use Rattle.mz_logic.specs.Sorts.{HasSort};
-ghost use Rattle.mz_logic.specs.Tree.{app, instance, instances, followed_by, variables};
-ghost use Rattle.mz_logic.specs.View.{tree, trees};
-ghost use Rattle.mz_logic.specs.Words.{BitsRight, binders_of, signatures_of};
+ghost use Rattle.mz_logic_theory.specs.Legality.{Each, IsDummy};
+ghost use Rattle.mz_logic_theory.specs.Signature.{Signature};
+ghost use Rattle.mz_logic_theory.specs.Sorts.{HasSort};
+ghost use Rattle.mz_logic_theory.specs.Tree.{app, instance, instances, followed_by, variables};
+ghost use Rattle.mz_logic_theory.specs.View.{tree, trees};
+ghost use Rattle.mz_logic_theory.specs.Words.{BitsRight, binders_of, signatures_of};
 ghost use Rattle.mz_store.specs.Bits.{bound_vars};
 ghost use Rattle.mz_store.specs.Sharing.{AreIn, Holds, IsOver, trees_of};
-ghost use Rattle.mz_emit_bodies.specs.Instances.{Grows, InReach, AllInReach, AreSorted};
+ghost use Rattle.mz_emit_bodies.specs.Instances.{Grows};
+ghost use Rattle.mz_emit_theory.specs.InReach.{InReach, AllInReach, AreSorted};
 ghost use Rattle.mz_emit_bodies.specs.Rows.{words_of_row};
 ghost use Rattle.mz_emit_bodies.specs.Variables.{IsShared};
 
 use crate::table::Table;
 use mz_cmd::Mem;
-use mz_logic::{Binder, Expr, Exprs, Hyps, Terms, Word};
-use mz_mmu_forms::Vars;
+use mz_logic_theory::{Binder, Expr, Exprs, Hyps, Terms, Word};
+use mz_mmu_theory::Vars;
 use mz_store::{DepsMode, Id, Store};
 use std::alloc::Global;
 

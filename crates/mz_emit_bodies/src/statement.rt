@@ -1,25 +1,25 @@
 //! The bodies of whole statements.
 ghost use Rattle.std.specs.Prelude.{ℕ, Bool, ◌≡◌, ◌≤◌, ◌+◌, ◌*◌, ◌++◌, [], IfOk, List, length};
-ghost use Rattle.mz_logic.specs.Sorts.{AreProvable};
-ghost use Rattle.mz_logic.specs.Tree.{listed, size, trees_size};
-ghost use Rattle.mz_logic.specs.declared.binder.Binder.{Binder as BinderOf};
+ghost use Rattle.mz_logic_theory.specs.Sorts.{AreProvable};
+ghost use Rattle.mz_logic_theory.specs.Tree.{listed, size, trees_size};
+ghost use Rattle.mz_logic_theory.specs.declared.binder.Binder.{Binder as BinderOf};
 ghost use Rattle.mz_machine_theory.specs.Premises.{bound_count};
 ghost use Rattle.mz_machine_theory.specs.MachineState.{is_axiom, is_definition, is_theorem};
-ghost use Rattle.mz_mmu_forms.specs.ProofView.{proof_view};
+ghost use Rattle.mz_mmu_theory.specs.ProofView.{proof_view};
 ghost use Rattle.mz_emit_theory.specs.SharedBodies.{IsSharedBody};
 ghost use Rattle.mz_store.specs.Sharing.{AreIn, IsIn, tree_of, trees_of};
-ghost use Rattle.mz_emit_bodies.specs.Claims.{IsSound, proved};
+ghost use Rattle.mz_emit_theory.specs.Claims.{IsSound, proved};
 ghost use Rattle.mz_emit_bodies.specs.Going.{IsAfter};
 ghost use Rattle.mz_emit_bodies.specs.Stages.{HasDummiesBehind};
-ghost use Rattle.mz_emit_bodies.specs.Weights.{proof_weight};
-ghost use Rattle.mz_emit_bodies.specs.Uses.{uses, IsBodyUsing};
-ghost use Rattle.mz_emit_bodies.specs.Writing.{definition_written, axiom_written, theorem_written};
+ghost use Rattle.mz_emit_theory.specs.Weights.{proof_weight};
+ghost use Rattle.mz_emit_theory.specs.Uses.{uses, IsBodyUsing};
+ghost use Rattle.mz_emit_theory.specs.BodyWriting.{definition_written, axiom_written, theorem_written};
 ghost use Rattle.mz_emit_theory.specs.Endings.{spelled_body};
 
 use crate::Shared;
 use crate::body::{Before, Body};
 use mz_cmd::Mem;
-use mz_mmu_forms::Proof;
+use mz_mmu_theory::Proof;
 use mz_store::Id;
 use std::alloc::Global;
 

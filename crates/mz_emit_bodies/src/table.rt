@@ -2,7 +2,7 @@
 ghost use Rattle.std.specs.Prelude.{◌≡◌, ◌<◌, ◌^◌, ◌++◌, ◌∷◌, [], OnOk, length, map};
 
 use mz_cmd::Mem;
-use mz_logic::{SortMods, Terms, Word};
+use mz_logic_theory::{SortMods, Terms, Word};
 use std::alloc::{AllocError, Global};
 
 /// A term's words.

@@ -1,8 +1,8 @@
 //! What is still to be emitted of a body.
 use crate::cells::Chain;
 use mz_cmd::ProofCode;
-use mz_logic::Exprs;
-use mz_mmu_forms::{Conv, Proof};
+use mz_logic_theory::Exprs;
+use mz_mmu_theory::{Conv, Proof};
 use mz_store::Id;
 
 /// What is still to be emitted of a body. Each task takes one stack to the next.

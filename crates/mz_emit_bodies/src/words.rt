@@ -1,13 +1,13 @@
 //! The words of binders.
 ghost use Rattle.std.specs.Prelude.{ℕ, ◌≡◌, ◌<◌, ◌+◌, ◌*◌, ◌^◌, All, IfOk, List, length, if◌then◌else◌};
-ghost use Rattle.mz_logic.specs.Words.{BitsRight, binders_of};
-ghost use Rattle.mz_logic.specs.WordsWritten.{CanBeWords, bits_of, bound_from, result_word as word_of_result};
-ghost use Rattle.mz_logic.specs.declared.binder.Binder.{Binder as BinderOf};
-ghost use Rattle.mz_logic.specs.declared.binder.SortMods.{SortMods};
+ghost use Rattle.mz_logic_theory.specs.Words.{BitsRight, binders_of};
+ghost use Rattle.mz_logic_theory.specs.WordsWritten.{CanBeWords, bits_of, bound_from, result_word as word_of_result};
+ghost use Rattle.mz_logic_theory.specs.declared.binder.Binder.{Binder as BinderOf};
+ghost use Rattle.mz_logic_theory.specs.declared.binder.SortMods.{SortMods};
 ghost use Rattle.mz_emit_bodies.specs.Bits.{AreWordsOf, place_bits};
 
 use mz_cmd::Mem;
-use mz_logic::{Binder, Deps, ResultType, Word};
+use mz_logic_theory::{Binder, Deps, ResultType, Word};
 use std::alloc::Global;
 
 /// The words of parameters, and at each place the bit of its bound parameter, 0 for a regular one.

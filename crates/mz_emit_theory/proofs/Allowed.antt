@@ -1,11 +1,11 @@
 -- What a derivation uses that is allowed: gaps where they are let through.
 use Rattle.std.proofs.Common.{◌≡◌, Bool, true, false, List, refl}
 use Rattle.std.specs.Prelude.{⊤}
-use Rattle.mz_logic.specs.Conversions.{Conversion, Conversions, refl_conv, sym_conv, cong_conv, unfold_conv, gap_conv, no_convs, more_convs, GapsOnly, AllGapsOnly}
-use Rattle.mz_logic.specs.Declaration.{Declaration}
-use Rattle.mz_logic.specs.Derivations.{Derivation, Derivations, hypothesis, cite, convert, gap, no_derivs, more_derivs, Uses, CitesOnly, AllCiteOnly, without_gaps}
-use Rattle.mz_logic.specs.LegalLists.{allowed_with}
-use Rattle.mz_logic.proofs.Offered.{cites_more}
+use Rattle.mz_logic_theory.specs.Conversions.{Conversion, Conversions, refl_conv, sym_conv, cong_conv, unfold_conv, gap_conv, no_convs, more_convs, GapsOnly, AllGapsOnly}
+use Rattle.mz_logic_theory.specs.Declaration.{Declaration}
+use Rattle.mz_logic_theory.specs.Derivations.{Derivation, Derivations, hypothesis, cite, convert, gap, no_derivs, more_derivs, Uses, CitesOnly, AllCiteOnly, without_gaps}
+use Rattle.mz_logic_theory.specs.LegalLists.{allowed_with}
+use Rattle.mz_logic_theory.proofs.Offered.{cites_more}
 
 -- every citation, and gaps where they are let through
 abbrev pub used_with : Bool → Uses

@@ -1,15 +1,15 @@
 -- A body that makes what its row spells runs.
 use Rattle.std.proofs.Common.{◌≡◌, ◌<◌, ◌∙◌, ℕ, Bool, true, false, List, [], ◌∷◌, ◌++◌, length, Contains, All, Some, sym, ap, subst}
 use Rattle.std.proofs.lemmas.Option.{slice_get_within}
-use Rattle.mz_logic.specs.Tree.{Tree, Trees, none, listed}
-use Rattle.mz_logic.specs.Signature.{Signature}
-use Rattle.mz_logic.specs.Declaration.{defined, Assertion, Declaration, term_decl, assertion_decl, sorts, signatures}
-use Rattle.mz_logic.specs.Legality.{Each, IsLegalDecl, IsDummy}
-use Rattle.mz_logic.specs.Modifiers.{MayBeDummySort}
-use Rattle.mz_logic.specs.Sorts.{HasProvable}
-use Rattle.mz_logic.specs.Variables.{IsBoundAt}
-use Rattle.mz_logic.specs.declared.binder.Binder.{Binder}
-use Rattle.mz_logic.proofs.Offered.{extends_append, extends_itself, sort_extends, each_from_all, assertions_are_sorted, terms_are_sorted}
+use Rattle.mz_logic_theory.specs.Tree.{Tree, Trees, none, listed}
+use Rattle.mz_logic_theory.specs.Signature.{Signature}
+use Rattle.mz_logic_theory.specs.Declaration.{defined, Assertion, Declaration, term_decl, assertion_decl, sorts, signatures}
+use Rattle.mz_logic_theory.specs.Legality.{Each, IsLegalDecl, IsDummy}
+use Rattle.mz_logic_theory.specs.Modifiers.{MayBeDummySort}
+use Rattle.mz_logic_theory.specs.Sorts.{HasProvable}
+use Rattle.mz_logic_theory.specs.Variables.{IsBoundAt}
+use Rattle.mz_logic_theory.specs.declared.binder.Binder.{Binder}
+use Rattle.mz_logic_theory.proofs.Offered.{extends_append, extends_itself, sort_extends, each_from_all, assertions_are_sorted, terms_are_sorted}
 use Rattle.mz_unify_theory.specs.Profile.{plain}
 use Rattle.mz_unify_theory.specs.Spells.{Text, trees_of}
 use Rattle.mz_unify_theory.specs.Streams.{of_assertion, of_definition}

@@ -3,13 +3,13 @@ use Rattle.std.proofs.Common.{◌≡◌, ◌∙◌, ◌⊎◌, ℕ, zero, suc, B
 use Rattle.mz_cmd.specs.declared.statement.StmtAt.{StmtAt}
 use Rattle.mz_cmd.specs.declared.statement.StmtFault.{StmtFault}
 use Rattle.mz_cmd.specs.StatementList.{statement_at}
-use Rattle.mz_logic.specs.Tree.{listed}
-use Rattle.mz_logic.specs.Declaration.{Assertion, Declaration, sort_decl, term_decl, assertion_decl}
-use Rattle.mz_logic.specs.LegalLists.{Statement}
-use Rattle.mz_layout.specs.Normal.{Written, Parts, file_of}
-use Rattle.mz_layout.specs.Standing.{AreListed, next_place}
-use Rattle.mz_layout.specs.Tables.{list_at}
-use Rattle.mz_layout.proofs.Offered.{all-listed, counts-said}
+use Rattle.mz_logic_theory.specs.Tree.{listed}
+use Rattle.mz_logic_theory.specs.Declaration.{Assertion, Declaration, sort_decl, term_decl, assertion_decl}
+use Rattle.mz_logic_theory.specs.LegalLists.{Statement}
+use Rattle.mz_layout_tables.specs.Normal.{Written, Parts, file_of}
+use Rattle.mz_layout_tables.specs.Standing.{AreListed, next_place}
+use Rattle.mz_layout_tables.specs.Tables.{list_at}
+use Rattle.mz_layout_tables.proofs.Offered.{all-listed, counts-said}
 use Rattle.mz_machine_theory.specs.Lists.{kind_of}
 use Rattle.mz_machine_theory.specs.Sound.{HasGap}
 use Rattle.mz_binary_theory.specs.Gapped.{AssertionBody, body_there, place_after, body_of, bodies_from, IsGapped, leaves_gap, rests_on}

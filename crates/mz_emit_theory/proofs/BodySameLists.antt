@@ -1,8 +1,8 @@
 -- Lists that are the same declare environments that are.
 use Rattle.std.proofs.Common.{List, [], ◌∷◌, refl, ap, subst}
-use Rattle.mz_logic.specs.Declaration.{Term, Assertion, Declaration, sort_decl, term_decl, assertion_decl}
-use Rattle.mz_logic.specs.LegalLists.{declarations}
-use Rattle.mz_logic.specs.declared.binder.SortMods.{SortMods}
+use Rattle.mz_logic_theory.specs.Declaration.{Term, Assertion, Declaration, sort_decl, term_decl, assertion_decl}
+use Rattle.mz_logic_theory.specs.LegalLists.{declarations}
+use Rattle.mz_logic_theory.specs.declared.binder.SortMods.{SortMods}
 use Rattle.mz_emit_theory.specs.Sameness.{IsSameTerm, IsSameEnv}
 use Rattle.mz_emit_theory.specs.SameLists.{IsSameDeclaration, SameListsAreSameEnvs}
 

@@ -2,16 +2,16 @@
 use Rattle.std.proofs.Common.{◌≡◌, ℕ, suc, ◌+◌, ◌<◌, Bool, true, List, [], ◌∷◌, ◌++◌, length, map, Some, Ok, refl, sym, ap, subst, ◌∙◌, inl, inr, arith, eq-eqb}
 use Rattle.std.specs.Prelude.{slice_get, Contains, reverse}
 use Rattle.std.proofs.lemmas.List.{reverse-reverse}
-use Rattle.mz_logic.specs.Tree.{Tree, Trees, var, app, none, more, instance, followed_by, variables}
-use Rattle.mz_logic.specs.Signature.{Signature}
-use Rattle.mz_logic.specs.Declaration.{Declaration, sorts, signatures}
-use Rattle.mz_logic.specs.Sorts.{HasSort, Fits}
-use Rattle.mz_logic.specs.Variables.{Occurs, OccursIn}
-use Rattle.mz_logic.specs.Conversions.{AreFresh}
-use Rattle.mz_logic.specs.Legality.{sort_of}
-use Rattle.mz_logic.specs.declared.binder.Binder.{Binder}
-use Rattle.mz_logic.specs.declared.binder.SortMods.{SortMods}
-use Rattle.mz_logic.proofs.Offered.{sort_is, extends_append}
+use Rattle.mz_logic_theory.specs.Tree.{Tree, Trees, var, app, none, more, instance, followed_by, variables}
+use Rattle.mz_logic_theory.specs.Signature.{Signature}
+use Rattle.mz_logic_theory.specs.Declaration.{Declaration, sorts, signatures}
+use Rattle.mz_logic_theory.specs.Sorts.{HasSort, Fits}
+use Rattle.mz_logic_theory.specs.Variables.{Occurs, OccursIn}
+use Rattle.mz_logic_theory.specs.Conversions.{AreFresh}
+use Rattle.mz_logic_theory.specs.Legality.{sort_of}
+use Rattle.mz_logic_theory.specs.declared.binder.Binder.{Binder}
+use Rattle.mz_logic_theory.specs.declared.binder.SortMods.{SortMods}
+use Rattle.mz_logic_theory.proofs.Offered.{sort_is, extends_append}
 use Rattle.mz_unify_theory.specs.Streams.{of_assertion}
 use Rattle.mz_unify_theory.specs.Spells.{trees_of, variables_from, SpellsText}
 use Rattle.mz_unify_theory.specs.Profile.{plain, strict, Item}

@@ -5,20 +5,20 @@ use Rattle.std.proofs.lemmas.Bool.{le-ltb}
 use Rattle.mz_cmd.specs.Codes.{begins_statement}
 use Rattle.mz_cmd.specs.Reading.{first_command}
 use Rattle.mz_cmd.specs.declared.code.ProofCode.TheVariants as code
-use Rattle.mz_logic.specs.Tree.{Tree, Trees, var, none, more}
-use Rattle.mz_logic.specs.Signature.{Signature}
-use Rattle.mz_logic.specs.Declaration.{plain_form, defined, Declaration, sort_decl, sorts, signatures}
-use Rattle.mz_logic.specs.Derivations.{cite, no_derivs, Derives}
-use Rattle.mz_logic.specs.Legality.{IsLegalDecl, Each, IsParam, IsDummy}
-use Rattle.mz_logic.specs.LegalLists.{Legal}
-use Rattle.mz_logic.specs.Modifiers.{MayBeResultSort, MayBeBoundSort, MayBeDummySort, MayBeClaimSort}
-use Rattle.mz_logic.specs.Variables.{InFV, InSomeFV, IsOperandAt}
-use Rattle.mz_logic.specs.declared.binder.Binder.{Binder}
-use Rattle.mz_logic.specs.declared.binder.SortMods.{SortMods}
-use Rattle.mz_logic.specs.declared.word.Word.{Word}
-use Rattle.mz_logic.proofs.Offered.{assertions_are_sorted, terms_are_sorted, nothing_in}
-use Rattle.mz_layout.specs.Normal.{Written}
-use Rattle.mz_layout.specs.Standing.{Fit, HasRoom}
+use Rattle.mz_logic_theory.specs.Tree.{Tree, Trees, var, none, more}
+use Rattle.mz_logic_theory.specs.Signature.{Signature}
+use Rattle.mz_logic_theory.specs.Declaration.{plain_form, defined, Declaration, sort_decl, sorts, signatures}
+use Rattle.mz_logic_theory.specs.Derivations.{cite, no_derivs, Derives}
+use Rattle.mz_logic_theory.specs.Legality.{IsLegalDecl, Each, IsParam, IsDummy}
+use Rattle.mz_logic_theory.specs.LegalLists.{Legal}
+use Rattle.mz_logic_theory.specs.Modifiers.{MayBeResultSort, MayBeBoundSort, MayBeDummySort, MayBeClaimSort}
+use Rattle.mz_logic_theory.specs.Variables.{InFV, InSomeFV, IsOperandAt}
+use Rattle.mz_logic_theory.specs.declared.binder.Binder.{Binder}
+use Rattle.mz_logic_theory.specs.declared.binder.SortMods.{SortMods}
+use Rattle.mz_logic_theory.specs.declared.word.Word.{Word}
+use Rattle.mz_logic_theory.proofs.Offered.{assertions_are_sorted, terms_are_sorted, nothing_in}
+use Rattle.mz_layout_tables.specs.Normal.{Written}
+use Rattle.mz_layout_tables.specs.Standing.{Fit, HasRoom}
 use Rattle.mz_unify_theory.specs.Streams.{StreamKind, of_assertion, of_definition, UnifyCommand, u_term, u_dummy, StreamIs}
 use Rattle.mz_unify_theory.specs.Spells.{Marks, with_dummy, at_first, dummy_of}
 use Rattle.mz_unify_theory.specs.Profile.{expr, proof}
@@ -27,8 +27,8 @@ use Rattle.mz_machine_theory.specs.Sound.{HasGap}
 use Rattle.mz_binary_theory.specs.Gapped.{leaves_gap}
 use Rattle.mz_emit_theory.specs.Steps.{Step}
 use Rattle.mz_emit_theory.specs.Works.{Work, work_start}
-use Rattle.mz_logic.specs.Sorts.{HasSort}
-use Rattle.mz_layout_words.specs.RowWords.{AreParamWords}
+use Rattle.mz_logic_theory.specs.Sorts.{HasSort}
+use Rattle.mz_layout_tables.specs.RowWords.{AreParamWords}
 use Rattle.mz_emit_theory.specs.Sameness.{IsInside, IsSameForm}
 use Rattle.mz_emit_theory.specs.Example.{constant, two_bound, constructor, truth, pair, a_term, holds, text, made, result_word, bound_words, parts_by, ExampleIsWritten, DraftIsWritten}
 use Rattle.mz_emit_theory.specs.SharedBodies.{AreDistinct, IsSharedBody}

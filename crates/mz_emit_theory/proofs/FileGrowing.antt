@@ -1,11 +1,11 @@
 -- Parts that say a text grow by a statement.
 use Rattle.std.proofs.Common.{◌≡◌, ℕ, zero, suc, Bool, List, [], ◌∷◌, ◌++◌, length, slice_get, Some, refl, sym, subst, arith, append_assoc, append-nil, length-append}
-use Rattle.mz_logic.specs.Signature.{Signature}
-use Rattle.mz_logic.specs.Declaration.{Form, plain_form, abstract_form, defined, Declaration, sort_decl, term_decl, assertion_decl, sorts, terms, assertions}
-use Rattle.mz_logic.specs.LegalLists.{Statement, declarations}
-use Rattle.mz_logic.specs.declared.word.Word.{Word}
-use Rattle.mz_logic.proofs.Offered.{Extends, extends_append, extends_itself}
-use Rattle.mz_layout.specs.Normal.{Written, Parts}
+use Rattle.mz_logic_theory.specs.Signature.{Signature}
+use Rattle.mz_logic_theory.specs.Declaration.{Form, plain_form, abstract_form, defined, Declaration, sort_decl, term_decl, assertion_decl, sorts, terms, assertions}
+use Rattle.mz_logic_theory.specs.LegalLists.{Statement, declarations}
+use Rattle.mz_logic_theory.specs.declared.word.Word.{Word}
+use Rattle.mz_logic_theory.proofs.Offered.{Extends, extends_append, extends_itself}
+use Rattle.mz_layout_tables.specs.Normal.{Written, Parts}
 use Rattle.mz_binary_theory.proofs.Offered.{sorts-many, terms-many, assertions-many}
 use Rattle.mz_emit_theory.specs.FileGrowing.{HasOneMore, NothingIsWritten, WritingGrows, RowsAreCounted, AppendedIsNext}
 use Rattle.mz_emit_theory.specs.FileWriting.{IsWrittenForm, IsWrittenDeclaration, IsWrittenStatement, HaveNoMore, AreWritten}

@@ -1,10 +1,10 @@
 -- A file whose parts say a legal text is good.
 use Rattle.std.proofs.Common.{Bool, [], refl, sym, subst}
-use Rattle.mz_logic.specs.LegalLists.{LegalBy, allowed_with}
-use Rattle.mz_layout.specs.Normal.{file_of}
-use Rattle.mz_layout.specs.Standing.{AreListed}
-use Rattle.mz_layout.specs.Tables.{list_at}
-use Rattle.mz_layout.proofs.Offered.{layout-holds, all-listed, counts-said}
+use Rattle.mz_logic_theory.specs.LegalLists.{LegalBy, allowed_with}
+use Rattle.mz_layout_tables.specs.Normal.{file_of}
+use Rattle.mz_layout_tables.specs.Standing.{AreListed}
+use Rattle.mz_layout_tables.specs.Tables.{list_at}
+use Rattle.mz_layout_tables.proofs.Offered.{layout-holds, all-listed, counts-said}
 use Rattle.mz_emit_theory.proofs.Joining.{same-at-first}
 use Rattle.mz_binary_theory.specs.Standards.{by_table}
 use Rattle.mz_binary_theory.proofs.Offered.{lets-with, good-legal, good-spelled}

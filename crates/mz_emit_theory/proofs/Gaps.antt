@@ -7,8 +7,8 @@ use Rattle.mz_cmd.specs.declared.command.Cmd.{Cmd}
 use Rattle.mz_cmd.specs.Codes.{proof_byte, proof_code}
 use Rattle.mz_cmd.specs.Reading.{first_command}
 use Rattle.mz_cmd.proofs.Offered.{Spells-again, shortest-spells}
-use Rattle.mz_logic.specs.Declaration.{Declaration}
-use Rattle.mz_logic.specs.declared.binder.Binder.{Binder}
+use Rattle.mz_logic_theory.specs.Declaration.{Declaration}
+use Rattle.mz_logic_theory.specs.declared.binder.Binder.{Binder}
 use Rattle.mz_unify_theory.specs.Profile.{plain}
 use Rattle.mz_machine_theory.specs.Bodies.{in_theorems, stands_in}
 use Rattle.mz_machine_theory.specs.Sound.{IsCitation, CitesWithin, GapsWithin}

@@ -46,4 +46,5 @@ pub mod Short
 pub mod OneBuilding
 pub mod SpelledLists
 pub mod RowsSpell
+pub mod OverContext
 pub mod Offered

@@ -8,16 +8,16 @@ use Rattle.mz_cmd.specs.declared.statement.StmtAt.TheVariants.{Head, End}
 use Rattle.mz_cmd.specs.declared.statement.StmtFault.{StmtFault}
 use Rattle.mz_cmd.specs.Codes.{statement_code}
 use Rattle.mz_cmd.specs.StatementList.{statement_at}
-use Rattle.mz_logic.specs.Signature.{Signature}
-use Rattle.mz_logic.specs.Declaration.{Form, plain_form, abstract_form, defined, Term, Assertion, Declaration, sort_decl, term_decl, assertion_decl, sorts, terms}
-use Rattle.mz_logic.specs.Legality.{IsLegalDecl, IsLegalEnv}
-use Rattle.mz_logic.specs.LegalLists.{Statement, LegalAfter, allowed_with}
-use Rattle.mz_logic.specs.declared.binder.SortMods.{SortMods}
-use Rattle.mz_logic.specs.declared.word.Word.{Word}
-use Rattle.mz_layout.specs.Normal.{Written, Parts, file_of}
-use Rattle.mz_layout.specs.Standing.{Fit, Stands, AreListed, body_place, next_place}
-use Rattle.mz_layout.proofs.Offered.{counts-said, stands-bytes}
-use Rattle.mz_layout.specs.Heads.{AllTaken, body_bytes}
+use Rattle.mz_logic_theory.specs.Signature.{Signature}
+use Rattle.mz_logic_theory.specs.Declaration.{Form, plain_form, abstract_form, defined, Term, Assertion, Declaration, sort_decl, term_decl, assertion_decl, sorts, terms}
+use Rattle.mz_logic_theory.specs.Legality.{IsLegalDecl, IsLegalEnv}
+use Rattle.mz_logic_theory.specs.LegalLists.{Statement, LegalAfter, allowed_with}
+use Rattle.mz_logic_theory.specs.declared.binder.SortMods.{SortMods}
+use Rattle.mz_logic_theory.specs.declared.word.Word.{Word}
+use Rattle.mz_layout_tables.specs.Normal.{Written, Parts, file_of}
+use Rattle.mz_layout_tables.specs.Standing.{Fit, Stands, AreListed, body_place, next_place}
+use Rattle.mz_layout_tables.proofs.Offered.{counts-said, stands-bytes}
+use Rattle.mz_layout_tables.specs.Heads.{AllTaken, body_bytes}
 use Rattle.mz_machine_theory.specs.FileRows.{taken_by, rows_taken}
 use Rattle.mz_machine_theory.specs.MachineState.{Declares}
 use Rattle.mz_machine_theory.proofs.Offered.{pairs-long}

@@ -2,10 +2,10 @@
 use Rattle.std.proofs.Common.{◌≡◌, ℕ, zero, suc, List, [], ◌∷◌, ◌++◌, length, map, Some, refl, sym, subst, inl, inr}
 use Rattle.std.specs.Prelude.{slice_get}
 use Rattle.std.proofs.lemmas.List.{map-append}
-use Rattle.mz_logic.specs.Tree.{Tree, Trees, var, app, none, more}
-use Rattle.mz_logic.specs.Signature.{Signature}
-use Rattle.mz_logic.specs.declared.binder.Binder.{Binder}
-use Rattle.mz_logic.proofs.Offered.{extends_append, split_at}
+use Rattle.mz_logic_theory.specs.Tree.{Tree, Trees, var, app, none, more}
+use Rattle.mz_logic_theory.specs.Signature.{Signature}
+use Rattle.mz_logic_theory.specs.declared.binder.Binder.{Binder}
+use Rattle.mz_logic_theory.proofs.Offered.{extends_append, split_at}
 use Rattle.mz_unify_theory.specs.Streams.{UnifyCommand}
 use Rattle.mz_unify_theory.specs.Spells.{Marks, marked, HasOperands, SpelledTerm, at_first}
 use Rattle.mz_unify_theory.proofs.Offered.{some_is}

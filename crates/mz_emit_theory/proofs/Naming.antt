@@ -5,14 +5,14 @@ use Rattle.std.specs.Option.{option_map}
 use Rattle.std.proofs.lemmas.Bool.{eqb-true}
 use Rattle.std.proofs.lemmas.List.Elements.{Contains-append_left, Contains-append_cases}
 use Rattle.std.proofs.lemmas.Option.{slice_get-map, get_or_from_slice_get}
-use Rattle.mz_logic.specs.Tree.{Tree, Trees, var, app, none, more, listed, operand, instance, instances, followed_by, variables}
-use Rattle.mz_logic.specs.Signature.{Signature}
-use Rattle.mz_logic.specs.Sorts.{IsBoundVar, HasSort, Fits}
-use Rattle.mz_logic.specs.Variables.{Occurs, OccursIn, InV, InSomeV, InFV, InSomeFV, IsOperandAt, Apart}
-use Rattle.mz_logic.specs.Conversions.{AreFresh}
-use Rattle.mz_logic.specs.Legality.{binder_at}
-use Rattle.mz_logic.specs.declared.binder.Binder.{Binder}
-use Rattle.mz_logic.proofs.Offered.{operand_has_sort, same-variable}
+use Rattle.mz_logic_theory.specs.Tree.{Tree, Trees, var, app, none, more, listed, operand, instance, instances, followed_by, variables}
+use Rattle.mz_logic_theory.specs.Signature.{Signature}
+use Rattle.mz_logic_theory.specs.Sorts.{IsBoundVar, HasSort, Fits}
+use Rattle.mz_logic_theory.specs.Variables.{Occurs, OccursIn, InV, InSomeV, InFV, InSomeFV, IsOperandAt, Apart}
+use Rattle.mz_logic_theory.specs.Conversions.{AreFresh}
+use Rattle.mz_logic_theory.specs.Legality.{binder_at}
+use Rattle.mz_logic_theory.specs.declared.binder.Binder.{Binder}
+use Rattle.mz_logic_theory.proofs.Offered.{operand_has_sort, same-variable}
 use Rattle.mz_unify_theory.specs.Spells.{trees_of}
 use Rattle.mz_unify_theory.proofs.Offered.{some_is, not-both}
 use Rattle.mz_machine_theory.proofs.Offered.{no-app}
@@ -241,3 +241,10 @@ module _ (sigs : List Signature) (ctx : List Binder) (met : List ℕ) (deps : De
         (λ has. once (contains-back ys y (λ j w. all (suc j) w) y-met has)),
         fresh-forward es ps known fits ys bs (λ j w. all (suc j) w) h,
       )
+
+-- fresh variables are as many as the dummies
+pub fresh_long : (ctx : List Binder) (es : Trees) (ys : List ℕ) (bs : List Binder) → AreFresh ctx es ys bs → length ys ≡ length bs
+fresh_long ctx es [] [] h = refl
+fresh_long ctx es [] (b ∷ bs) h = absurd h
+fresh_long ctx es (y ∷ ys) [] h = absurd h
+fresh_long ctx es (y ∷ ys) (b ∷ bs) (_, _, _, h) = ap suc (fresh_long ctx es ys bs h)

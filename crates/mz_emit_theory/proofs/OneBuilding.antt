@@ -1,8 +1,8 @@
 -- Whatever spells builds something, and one thing alone.
 use Rattle.std.proofs.Common.{◌≡◌, ℕ, List, [], ◌∷◌, ◌++◌, length, refl, sym, ap, subst, ◌∙◌, inl, inr}
 use Rattle.std.specs.Prelude.{reverse, true, false}
-use Rattle.mz_logic.specs.Tree.{Tree, Trees, var, app, none, more, listed}
-use Rattle.mz_logic.specs.Signature.{Signature}
+use Rattle.mz_logic_theory.specs.Tree.{Tree, Trees, var, app, none, more, listed}
+use Rattle.mz_logic_theory.specs.Signature.{Signature}
 use Rattle.mz_unify_theory.specs.Streams.{UnifyCommand, u_term, u_term_save, u_ref, u_dummy, u_hyp}
 use Rattle.mz_unify_theory.specs.Spells.{Marks, marked, with_dummy, Spells, SpellsAll, SpellsHyps, at_first}
 use Rattle.mz_unify_theory.proofs.Offered.{one-stream}

@@ -5,11 +5,11 @@ use Rattle.std.specs.Option.{option_map}
 use Rattle.std.proofs.lemmas.Option.{slice_get-map, slice_get_within}
 use Rattle.std.proofs.lemmas.List.{map-append}
 use Rattle.mz_base_theory.proofs.Offered.{slice_get-map_back, contains_at, place-of}
-use Rattle.mz_logic.specs.Tree.{Tree, Trees, var, app, none, more, operand, instance, instances, followed_by, variables}
-use Rattle.mz_logic.specs.Signature.{Signature}
-use Rattle.mz_logic.specs.Sorts.{HasSort, Fits}
-use Rattle.mz_logic.specs.Variables.{Occurs, OccursIn}
-use Rattle.mz_logic.specs.declared.binder.Binder.{Binder}
+use Rattle.mz_logic_theory.specs.Tree.{Tree, Trees, var, app, none, more, operand, instance, instances, followed_by, variables}
+use Rattle.mz_logic_theory.specs.Signature.{Signature}
+use Rattle.mz_logic_theory.specs.Sorts.{HasSort, Fits}
+use Rattle.mz_logic_theory.specs.Variables.{Occurs, OccursIn}
+use Rattle.mz_logic_theory.specs.declared.binder.Binder.{Binder}
 use Rattle.mz_unify_theory.specs.Spells.{trees_of, variables_from}
 use Rattle.mz_unify_theory.proofs.Offered.{followed-by-variables, operand-trees_of}
 use Rattle.mz_emit_theory.specs.Works.{renamed, all_renamed, place_of, name_in, from_to}

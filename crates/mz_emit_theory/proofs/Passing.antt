@@ -2,14 +2,14 @@
 use Rattle.std.proofs.Common.{◌≡◌, ℕ, zero, suc, ◌+◌, Bool, true, false, List, [], ◌∷◌, Some, Ok, refl, sym, subst, ◌∙◌, ◌⊎◌, inl, inr, arith, eq-eqb}
 use Rattle.std.specs.Prelude.{slice_get, Contains, ◌==◌, ◌||◌, not}
 use Rattle.std.proofs.lemmas.Bool.{and_from}
-use Rattle.mz_logic.specs.Tree.{Tree, var, app}
-use Rattle.mz_logic.specs.Signature.{Signature}
-use Rattle.mz_logic.specs.Modifiers.{MayBeClaimSort, MayBeDummySort}
-use Rattle.mz_logic.specs.Sorts.{Fits}
-use Rattle.mz_logic.specs.Variables.{InV, InFV, Apart, is_member}
-use Rattle.mz_logic.specs.declared.binder.Binder.{Binder}
-use Rattle.mz_logic.specs.declared.binder.SortMods.{SortMods}
-use Rattle.mz_logic.proofs.Offered.{sort_is, among-true}
+use Rattle.mz_logic_theory.specs.Tree.{Tree, var, app}
+use Rattle.mz_logic_theory.specs.Signature.{Signature}
+use Rattle.mz_logic_theory.specs.Modifiers.{MayBeClaimSort, MayBeDummySort}
+use Rattle.mz_logic_theory.specs.Sorts.{Fits}
+use Rattle.mz_logic_theory.specs.Variables.{InV, InFV, Apart, is_member}
+use Rattle.mz_logic_theory.specs.declared.binder.Binder.{Binder}
+use Rattle.mz_logic_theory.specs.declared.binder.SortMods.{SortMods}
+use Rattle.mz_logic_theory.proofs.Offered.{sort_is, among-true}
 use Rattle.mz_unify_theory.specs.Spells.{trees_of}
 use Rattle.mz_unify_theory.specs.Tests.{has_bit, is_bound_var, var_within}
 use Rattle.mz_unify_theory.proofs.Offered.{operand-trees_of, bit-set, bit-not-set, is-bound, in-v-true, not-both}

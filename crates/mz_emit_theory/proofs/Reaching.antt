@@ -8,18 +8,18 @@ use Rattle.std.proofs.lemmas.Option.{slice_get_within}
 use Rattle.mz_base_theory.proofs.Offered.{slice_get-last, contains-decided}
 use Rattle.mz_cmd.specs.declared.code.ProofCode.{ProofCode}
 use Rattle.mz_cmd.specs.declared.code.ProofCode.TheVariants as code
-use Rattle.mz_logic.specs.Tree.{Tree, Trees, var, app, none, more, listed, instance, instances, followed_by, variables}
-use Rattle.mz_logic.specs.Declaration.{Form, Declaration, dummies_of, body_of, sorts, signatures}
-use Rattle.mz_logic.specs.Modifiers.{MayBeDummySort}
-use Rattle.mz_logic.specs.Sorts.{HasSort, Fits, IsSorted, HasProvable, AreProvable}
-use Rattle.mz_logic.specs.Variables.{InFV, Apart}
-use Rattle.mz_logic.specs.Legality.{EachTree, IsDummy, IsLegalEnv}
-use Rattle.mz_logic.specs.Conversions.{Conversion, Conversions, refl_conv, sym_conv, cong_conv, unfold_conv, gap_conv, no_convs, more_convs, AreFresh, Between, AllBetween, GapsOnly, AllGapsOnly}
-use Rattle.mz_logic.specs.Derivations.{Derivation, Derivations, hypothesis, cite, convert, gap, no_derivs, more_derivs, Derives, AllDerive, CitesOnly, AllCiteOnly, Uses}
-use Rattle.mz_logic.specs.LegalLists.{AreDummies}
-use Rattle.mz_logic.specs.declared.binder.Binder.{Binder}
-use Rattle.mz_logic.specs.declared.binder.SortMods.{SortMods}
-use Rattle.mz_logic.proofs.Offered.{Extends, extends_append, extends_itself, sort_extends, split_at, derived_has_provable, assertions_are_sorted, terms_are_sorted, each_from_all}
+use Rattle.mz_logic_theory.specs.Tree.{Tree, Trees, var, app, none, more, listed, instance, instances, followed_by, variables}
+use Rattle.mz_logic_theory.specs.Declaration.{Form, Declaration, dummies_of, body_of, sorts, signatures}
+use Rattle.mz_logic_theory.specs.Modifiers.{MayBeDummySort}
+use Rattle.mz_logic_theory.specs.Sorts.{HasSort, Fits, IsSorted, HasProvable, AreProvable}
+use Rattle.mz_logic_theory.specs.Variables.{InFV, Apart}
+use Rattle.mz_logic_theory.specs.Legality.{EachTree, IsDummy, IsLegalEnv}
+use Rattle.mz_logic_theory.specs.Conversions.{Conversion, Conversions, refl_conv, sym_conv, cong_conv, unfold_conv, gap_conv, no_convs, more_convs, AreFresh, Between, AllBetween, GapsOnly, AllGapsOnly}
+use Rattle.mz_logic_theory.specs.Derivations.{Derivation, Derivations, hypothesis, cite, convert, gap, no_derivs, more_derivs, Derives, AllDerive, CitesOnly, AllCiteOnly, Uses}
+use Rattle.mz_logic_theory.specs.LegalLists.{AreDummies}
+use Rattle.mz_logic_theory.specs.declared.binder.Binder.{Binder}
+use Rattle.mz_logic_theory.specs.declared.binder.SortMods.{SortMods}
+use Rattle.mz_logic_theory.proofs.Offered.{Extends, extends_append, extends_itself, sort_extends, split_at, derived_has_provable, assertions_are_sorted, terms_are_sorted, each_from_all, sorted_sides as between-sorted}
 use Rattle.mz_unify_theory.specs.Spells.{trees_of, variables_from, dummy_of}
 use Rattle.mz_unify_theory.specs.Sorted.{Sorted}
 use Rattle.mz_unify_theory.specs.Profile.{Item, expr, proof, obligation}
@@ -45,13 +45,6 @@ proofs-more e es xs =
     sym (ap (λ (z : List Tree). map proof z ++ xs) (reverse-append (e ∷ []) es)
     ∙ ap (λ (z : List (Item Tree)). z ++ xs) (map-append proof (reverse es) (e ∷ []))
     ∙ append_assoc (map proof (reverse es)) (proof e ∷ []) xs)
-
-between-sorted : (env : List Declaration) (ctx : List Binder) (c : Conversion) (l r : Tree) → Between env ctx c l r → IsSorted env ctx l × IsSorted env ctx r
-between-sorted env ctx (refl_conv e) l r h = (h.0, h.1)
-between-sorted env ctx (sym_conv c) l r h = (h.0, h.1)
-between-sorted env ctx (cong_conv t cs) l r h = (h.0, h.1)
-between-sorted env ctx (unfold_conv t es ys c) l r h = (h.0, h.1)
-between-sorted env ctx (gap_conv a b) l r h = (h.0, h.1)
 
 module _ (gaps : Bool) (env : List Declaration) (ctx : List Binder) (n : ℕ)
     (dummies-fine : (x : ℕ) (b : Binder) → slice_get ctx x ≡ Some b → n ≤ x → (b ≡ dummy_of b.sort) × MayBeDummySort (sorts env) b.sort) where

@@ -7,30 +7,29 @@ use Rattle.mz_base_theory.proofs.Offered.{all_hold-both}
 use Rattle.mz_cmd.specs.declared.code.StatementCode.{StatementCode}
 use Rattle.mz_cmd.specs.declared.code.StatementCode.TheVariants as codes
 use Rattle.mz_cmd.specs.declared.rule.K.{K}
-use Rattle.mz_logic.specs.Tree.{Tree, none}
-use Rattle.mz_logic.specs.Signature.{Signature}
-use Rattle.mz_logic.specs.Declaration.{plain_form, defined, Assertion, Declaration, sort_decl, term_decl, assertion_decl, sorts, terms, signatures, assertions}
-use Rattle.mz_logic.specs.Legality.{IsLegalDecl}
-use Rattle.mz_logic.specs.Words.{binders_of, signature_of}
-use Rattle.mz_logic.specs.declared.binder.Binder.{Binder}
-use Rattle.mz_logic.specs.declared.binder.SortMods.{SortMods}
-use Rattle.mz_logic.specs.declared.word.Word.{Word}
-use Rattle.mz_layout.specs.Normal.{Parts, row_of_term, row_of_thm, file_of}
-use Rattle.mz_layout.specs.NormalLaws.{written_term, written_thm, term_place, thm_place}
-use Rattle.mz_layout.specs.Standing.{Fit, Stands}
-use Rattle.mz_layout.specs.Tables.{TermRow, ThmRow, sort_count, term_count, thm_count, term_row, thm_row}
-use Rattle.mz_layout.proofs.Offered.{SaysCounts, counts-said, slice_get-sorts, mods-read, term-read, thm-read, term-stream, thm-stream}
+use Rattle.mz_logic_theory.specs.Tree.{Tree, none}
+use Rattle.mz_logic_theory.specs.Signature.{Signature}
+use Rattle.mz_logic_theory.specs.Declaration.{plain_form, defined, Assertion, Declaration, sort_decl, term_decl, assertion_decl, sorts, terms, signatures, assertions}
+use Rattle.mz_logic_theory.specs.Legality.{IsLegalDecl}
+use Rattle.mz_logic_theory.specs.Words.{binders_of, signature_of}
+use Rattle.mz_logic_theory.specs.declared.binder.Binder.{Binder}
+use Rattle.mz_logic_theory.specs.declared.binder.SortMods.{SortMods}
+use Rattle.mz_logic_theory.specs.declared.word.Word.{Word}
+use Rattle.mz_layout_tables.specs.Normal.{Parts, row_of_term, row_of_thm, file_of}
+use Rattle.mz_layout_tables.specs.NormalLaws.{written_term, written_thm, term_place, thm_place}
+use Rattle.mz_layout_tables.specs.Standing.{Fit, Stands}
+use Rattle.mz_layout_tables.specs.Tables.{TermRow, ThmRow, sort_count, term_count, thm_count, term_row, thm_row}
+use Rattle.mz_layout_tables.proofs.Offered.{SaysCounts, counts-said, slice_get-sorts, mods-read, term-read, thm-read, term-stream, thm-stream, params-hold, words-hold}
 use Rattle.mz_unify_theory.specs.Profile.{plain}
 use Rattle.mz_unify_theory.specs.Spells.{Text, SpelledTerm, SpelledThm, SpellsTerm, SpellsThm}
 use Rattle.mz_unify_theory.specs.Streams.{of_assertion, of_definition}
 use Rattle.mz_machine_theory.specs.Bodies.{Runs, body_checks}
 use Rattle.mz_machine_theory.specs.FileRows.{taken_by, stream_of, term_of_file, thm_of_file, rows_taken, Taken}
-use Rattle.mz_layout.specs.Heads.{body_bytes}
+use Rattle.mz_layout_tables.specs.Heads.{body_bytes}
 use Rattle.mz_machine_theory.specs.Lists.{assertion_of, definition_of}
-use Rattle.mz_layout_words.specs.RowWords.{IsResultWord, param_checks, word_checks}
+use Rattle.mz_layout_tables.specs.RowWords.{IsResultWord, param_checks, word_checks}
 use Rattle.mz_machine_theory.specs.MachineState.{RowsBefore, Heading, is_definition, Declares}
 use Rattle.mz_machine_theory.proofs.Offered.{pairs-long, bodies-checked}
-use Rattle.mz_layout_words.proofs.Offered.{params-hold, words-hold}
 use Rattle.mz_binary_theory.specs.Checking.{term_body_checks, term_checks, thm_checks, kind_checks}
 use Rattle.mz_binary_theory.specs.Spelling.{SpellsRow}
 use Rattle.mz_emit_theory.specs.Sameness.{IsSameTerm, IsSameForm, IsSameEnv}

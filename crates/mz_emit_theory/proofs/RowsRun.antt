@@ -4,8 +4,8 @@ use Rattle.std.specs.Prelude.{slice_get, reverse, nat_le}
 use Rattle.std.proofs.lemmas.List.{reverse-append, reverse-reverse, length-reverse, length-map}
 use Rattle.std.proofs.lemmas.Bool.{le-leb, lt-ltb}
 use Rattle.mz_cmd.specs.declared.code.ProofCode.TheVariants as code
-use Rattle.mz_logic.specs.Tree.{Tree, Trees, var, app, listed}
-use Rattle.mz_logic.specs.Legality.{sort_of}
+use Rattle.mz_logic_theory.specs.Tree.{Tree, Trees, var, app, listed}
+use Rattle.mz_logic_theory.specs.Legality.{sort_of}
 use Rattle.mz_unify_theory.specs.Spells.{SpelledTerm, SpelledThm, trees_of, dummy_of}
 use Rattle.mz_unify_theory.specs.Profile.{plain, Item, expr, proof, obligation, conversion}
 use Rattle.mz_unify_theory.specs.UnifyMachine.{UnifyState, unify}

@@ -1,13 +1,13 @@
 -- Rows whose streams are written spell.
 use Rattle.std.proofs.Common.{◌≡◌, ℕ, suc, List, [], ◌∷◌, refl}
 use Rattle.std.specs.Prelude.{slice_get, Some}
-use Rattle.mz_logic.specs.Tree.{Tree, listed}
-use Rattle.mz_logic.specs.Declaration.{Form, plain_form, abstract_form, defined, Declaration, term_decl, signatures}
-use Rattle.mz_logic.specs.Legality.{IsLegalDecl}
-use Rattle.mz_logic.specs.Signature.{Signature}
-use Rattle.mz_logic.specs.Sorts.{HasProvable}
-use Rattle.mz_logic.specs.declared.binder.Binder.{Binder}
-use Rattle.mz_logic.proofs.Offered.{assertions_are_sorted, terms_are_sorted}
+use Rattle.mz_logic_theory.specs.Tree.{Tree, listed}
+use Rattle.mz_logic_theory.specs.Declaration.{Form, plain_form, abstract_form, defined, Declaration, term_decl, signatures}
+use Rattle.mz_logic_theory.specs.Legality.{IsLegalDecl}
+use Rattle.mz_logic_theory.specs.Signature.{Signature}
+use Rattle.mz_logic_theory.specs.Sorts.{HasProvable}
+use Rattle.mz_logic_theory.specs.declared.binder.Binder.{Binder}
+use Rattle.mz_logic_theory.proofs.Offered.{assertions_are_sorted, terms_are_sorted}
 use Rattle.mz_unify_theory.specs.Spells.{SpellsForm}
 use Rattle.mz_unify_theory.specs.Sorted.{AllSorted}
 use Rattle.mz_emit_theory.proofs.Texts.{assertions-written, definitions-written}

@@ -4,13 +4,13 @@ use Rattle.std.specs.Prelude.{slice_get, Contains}
 use Rattle.std.proofs.lemmas.List.Elements.{All-contains, Contains-append_right}
 use Rattle.std.proofs.lemmas.List.{length-map}
 use Rattle.std.proofs.lemmas.Option.{slice_get_within, get_or_from_slice_get}
-use Rattle.mz_logic.specs.Tree.{followed_by, variables}
-use Rattle.mz_logic.specs.Variables.{InSomeV, IsBoundAt}
-use Rattle.mz_logic.specs.Conversions.{IsBoundOf, AreFresh}
-use Rattle.mz_logic.specs.Legality.{Each, IsDummy, AreParams, binder_at}
-use Rattle.mz_logic.specs.declared.binder.Binder.{Binder}
-use Rattle.mz_logic.specs.declared.binder.SortMods.{SortMods}
-use Rattle.mz_logic.proofs.Offered.{extends_append, split_at, one_at}
+use Rattle.mz_logic_theory.specs.Tree.{followed_by, variables}
+use Rattle.mz_logic_theory.specs.Variables.{InSomeV, IsBoundAt}
+use Rattle.mz_logic_theory.specs.Conversions.{IsBoundOf, AreFresh}
+use Rattle.mz_logic_theory.specs.Legality.{Each, IsDummy, AreParams, binder_at}
+use Rattle.mz_logic_theory.specs.declared.binder.Binder.{Binder}
+use Rattle.mz_logic_theory.specs.declared.binder.SortMods.{SortMods}
+use Rattle.mz_logic_theory.proofs.Offered.{extends_append, split_at, one_at}
 use Rattle.mz_unify_theory.specs.Spells.{trees_of, variables_from, dummy_of}
 use Rattle.mz_emit_theory.specs.Works.{name_in, from_to}
 use Rattle.mz_emit_theory.specs.BodyLaws.{AreOnce}

@@ -1,12 +1,12 @@
 -- The spelled list is the same list.
 use Rattle.std.proofs.Common.{List, [], ◌∷◌, ◌++◌, refl}
-use Rattle.mz_logic.specs.Declaration.{Form, plain_form, abstract_form, defined, Declaration, sort_decl, term_decl, assertion_decl, sorts, signatures}
-use Rattle.mz_logic.specs.Legality.{Each, IsDummy, IsLegalDecl, LegalEnvAfter}
-use Rattle.mz_logic.specs.LegalLists.{Statement, declarations}
-use Rattle.mz_logic.specs.Modifiers.{MayBeDummySort}
-use Rattle.mz_logic.specs.Signature.{Signature}
-use Rattle.mz_logic.specs.declared.binder.Binder.{Binder}
-use Rattle.mz_logic.proofs.Offered.{terms_are_sorted, each_from_all}
+use Rattle.mz_logic_theory.specs.Declaration.{Form, plain_form, abstract_form, defined, Declaration, sort_decl, term_decl, assertion_decl, sorts, signatures}
+use Rattle.mz_logic_theory.specs.Legality.{Each, IsDummy, IsLegalDecl, LegalEnvAfter}
+use Rattle.mz_logic_theory.specs.LegalLists.{Statement, declarations}
+use Rattle.mz_logic_theory.specs.Modifiers.{MayBeDummySort}
+use Rattle.mz_logic_theory.specs.Signature.{Signature}
+use Rattle.mz_logic_theory.specs.declared.binder.Binder.{Binder}
+use Rattle.mz_logic_theory.proofs.Offered.{terms_are_sorted, each_from_all}
 use Rattle.mz_emit_theory.specs.Sameness.{IsSameForm}
 use Rattle.mz_emit_theory.specs.SameLists.{IsSameDeclaration, IsSameList}
 use Rattle.mz_emit_theory.specs.SpelledLists.{form_spelled, decl_spelled, list_spelled, SpelledListsAreSame}

@@ -1,8 +1,8 @@
 -- Statements whose texts and bodies share run by address.
 use Rattle.std.proofs.Common.{◌≡◌, Bool, true, false, List, [], ◌∷◌, ◌++◌, Some, refl, sym, subst}
-use Rattle.mz_logic.specs.Tree.{listed}
-use Rattle.mz_logic.specs.Signature.{Signature}
-use Rattle.mz_logic.specs.Declaration.{sorts, signatures}
+use Rattle.mz_logic_theory.specs.Tree.{listed}
+use Rattle.mz_logic_theory.specs.Signature.{Signature}
+use Rattle.mz_logic_theory.specs.Declaration.{sorts, signatures}
 use Rattle.mz_unify_theory.specs.Spells.{SpelledTerm}
 use Rattle.mz_unify_theory.specs.Profile.{strict}
 use Rattle.mz_machine_theory.specs.Bodies.{Runs}

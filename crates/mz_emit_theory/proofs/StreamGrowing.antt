@@ -2,10 +2,10 @@
 use Rattle.std.proofs.Common.{◌≡◌, ℕ, ◌+◌, Bool, true, List, [], ◌∷◌, ◌++◌, length, Some, sym, ap, subst, ◌∙◌, ◌⊎◌, inl, inr, append_assoc, append-nil}
 use Rattle.std.specs.Prelude.{slice_get, Contains}
 use Rattle.std.proofs.lemmas.List.Elements.{Contains-append_left}
-use Rattle.mz_logic.specs.Tree.{Tree, var}
-use Rattle.mz_logic.specs.Variables.{Occurs}
-use Rattle.mz_logic.specs.declared.binder.Binder.{Binder}
-use Rattle.mz_logic.proofs.Offered.{split_at}
+use Rattle.mz_logic_theory.specs.Tree.{Tree, var}
+use Rattle.mz_logic_theory.specs.Variables.{Occurs}
+use Rattle.mz_logic_theory.specs.declared.binder.Binder.{Binder}
+use Rattle.mz_logic_theory.proofs.Offered.{split_at}
 use Rattle.mz_unify_theory.specs.Streams.{StreamKind, of_assertion, of_definition, UnifyCommand, u_term, u_term_save, u_ref, u_dummy, u_hyp, u_end}
 use Rattle.mz_emit_theory.specs.BodyLaws.{AreOnce}
 use Rattle.mz_emit_theory.specs.StreamWriting.{Writing}

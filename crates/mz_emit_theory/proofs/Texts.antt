@@ -4,10 +4,10 @@ use Rattle.std.specs.Prelude.{Contains, reverse}
 use Rattle.std.proofs.lemmas.List.{map-append}
 use Rattle.std.proofs.lemmas.Option.{get_or_from_slice_get}
 use Rattle.mz_base_theory.proofs.Offered.{slice_get-map_back}
-use Rattle.mz_logic.specs.Tree.{Tree, Trees, var, app, none, more, listed}
-use Rattle.mz_logic.specs.Signature.{Signature}
-use Rattle.mz_logic.specs.Variables.{Occurs, OccursIn}
-use Rattle.mz_logic.specs.declared.binder.Binder.{Binder}
+use Rattle.mz_logic_theory.specs.Tree.{Tree, Trees, var, app, none, more, listed}
+use Rattle.mz_logic_theory.specs.Signature.{Signature}
+use Rattle.mz_logic_theory.specs.Variables.{Occurs, OccursIn}
+use Rattle.mz_logic_theory.specs.declared.binder.Binder.{Binder}
 use Rattle.mz_unify_theory.specs.Streams.{StreamKind, of_assertion, of_definition, UnifyCommand}
 use Rattle.mz_unify_theory.specs.Spells.{Marks, at_first, Text}
 use Rattle.mz_unify_theory.specs.Sorted.{Sorted, AllSorted}

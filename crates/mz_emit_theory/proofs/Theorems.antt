@@ -1,10 +1,10 @@
 -- Legal theorems have bodies that run: the laws together.
 use Rattle.std.proofs.Common.{◌≡◌, List, [], ◌++◌, length, ◌≤◌, Ok, sym, ap, subst, ◌∙◌}
-use Rattle.mz_logic.specs.Tree.{Tree, Trees}
-use Rattle.mz_logic.specs.Declaration.{sorts, signatures}
-use Rattle.mz_logic.specs.Legality.{AreParams}
-use Rattle.mz_logic.specs.declared.binder.Binder.{Binder}
-use Rattle.mz_logic.proofs.Offered.{assertions_are_sorted}
+use Rattle.mz_logic_theory.specs.Tree.{Tree, Trees}
+use Rattle.mz_logic_theory.specs.Declaration.{sorts, signatures}
+use Rattle.mz_logic_theory.specs.Legality.{AreParams}
+use Rattle.mz_logic_theory.specs.declared.binder.Binder.{Binder}
+use Rattle.mz_logic_theory.proofs.Offered.{assertions_are_sorted}
 use Rattle.mz_unify_theory.specs.Streams.{of_assertion}
 use Rattle.mz_unify_theory.specs.Spells.{trees_of, Text}
 use Rattle.mz_unify_theory.proofs.Offered.{trees_of-listed}

@@ -3,14 +3,14 @@ use Rattle.std.proofs.Common.{◌≡◌, ℕ, zero, suc, ◌+◌, ◌-◌, ◌<�
 use Rattle.std.specs.Prelude.{slice_get, Contains}
 use Rattle.std.proofs.lemmas.Bool.{cases_lt}
 use Rattle.std.proofs.lemmas.Option.{get_or_from_slice_get, slice_get_within}
-use Rattle.mz_logic.specs.Tree.{Tree, Trees, var, app, none, more, operand, instance, instances, followed_by, variables}
-use Rattle.mz_logic.specs.Signature.{Signature}
-use Rattle.mz_logic.specs.Declaration.{Form, plain_form, abstract_form, defined, Declaration, signatures}
-use Rattle.mz_logic.specs.Sorts.{HasSort, Fits}
-use Rattle.mz_logic.specs.Variables.{Occurs, OccursIn, InSomeV}
-use Rattle.mz_logic.specs.Conversions.{IsBoundOf, AreFresh}
-use Rattle.mz_logic.specs.declared.binder.Binder.{Binder}
-use Rattle.mz_logic.proofs.Offered.{instance-instance, instances-followed_by, split_at}
+use Rattle.mz_logic_theory.specs.Tree.{Tree, Trees, var, app, none, more, operand, instance, instances, followed_by, variables}
+use Rattle.mz_logic_theory.specs.Signature.{Signature}
+use Rattle.mz_logic_theory.specs.Declaration.{Form, plain_form, abstract_form, defined, Declaration, signatures}
+use Rattle.mz_logic_theory.specs.Sorts.{HasSort, Fits}
+use Rattle.mz_logic_theory.specs.Variables.{Occurs, OccursIn, InSomeV}
+use Rattle.mz_logic_theory.specs.Conversions.{IsBoundOf, AreFresh}
+use Rattle.mz_logic_theory.specs.declared.binder.Binder.{Binder}
+use Rattle.mz_logic_theory.proofs.Offered.{instance-instance, instances-followed_by, split_at}
 use Rattle.mz_unify_theory.specs.Streams.{of_definition, UnifyCommand}
 use Rattle.mz_unify_theory.specs.Spells.{trees_of, variables_from, dummy_of, Marks, marked, Spells, SpellsAll, SpellsText, Text, SpelledTerm, SpellsForm}
 use Rattle.mz_unify_theory.proofs.Offered.{some_is, fits-length, fresh-at, distinct, in-some}

@@ -1,8 +1,8 @@
 -- A body whose steps make what its row spells runs, in its bytes.
 use Rattle.std.proofs.Common.{◌≡◌, Bool, List, ◌++◌, length, Ok, subst}
-use Rattle.mz_logic.specs.Tree.{Tree}
-use Rattle.mz_logic.specs.Declaration.{signatures}
-use Rattle.mz_logic.specs.declared.binder.Binder.{Binder}
+use Rattle.mz_logic_theory.specs.Tree.{Tree}
+use Rattle.mz_logic_theory.specs.Declaration.{signatures}
+use Rattle.mz_logic_theory.specs.declared.binder.Binder.{Binder}
 use Rattle.mz_machine_theory.specs.MachineState.{State}
 use Rattle.mz_emit_theory.specs.Works.{work_start, machine}
 use Rattle.mz_emit_theory.specs.Steps.{run_commands}

@@ -5,11 +5,11 @@ use Rattle.std.specs.Prelude.{slice_get}
 use Rattle.std.proofs.lemmas.Bool.{ltb-true}
 use Rattle.std.proofs.lemmas.Option.{slice_get_within}
 use Rattle.mz_base_theory.proofs.Offered.{slice_get-last, slice_get-append_add}
-use Rattle.mz_logic.specs.Tree.{Tree, Trees, var, app, none, more, followed_by, variables}
-use Rattle.mz_logic.specs.Signature.{Signature}
-use Rattle.mz_logic.specs.Variables.{Occurs}
-use Rattle.mz_logic.specs.declared.binder.Binder.{Binder}
-use Rattle.mz_logic.proofs.Offered.{extends_append, split_at}
+use Rattle.mz_logic_theory.specs.Tree.{Tree, Trees, var, app, none, more, followed_by, variables}
+use Rattle.mz_logic_theory.specs.Signature.{Signature}
+use Rattle.mz_logic_theory.specs.Variables.{Occurs}
+use Rattle.mz_logic_theory.specs.declared.binder.Binder.{Binder}
+use Rattle.mz_logic_theory.proofs.Offered.{extends_append, split_at}
 use Rattle.mz_unify_theory.specs.Profile.{strict}
 use Rattle.mz_unify_theory.specs.Streams.{of_definition, UnifyCommand}
 use Rattle.mz_unify_theory.specs.Spells.{trees_of, variables_from, dummy_of, Marks, marked, with_dummy, at_first}

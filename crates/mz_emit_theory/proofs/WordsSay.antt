@@ -1,15 +1,15 @@
 -- Words that are written say what they are written for.
 use Rattle.std.proofs.Common.{◌≡◌, ◌<◌, ◌^◌, ◌∙◌, ℕ, false, List, [], length, sym, ap, subst}
 use Rattle.std.proofs.lemmas.Option.{slice_get_within}
-use Rattle.mz_logic.specs.Signature.{Signature}
-use Rattle.mz_logic.specs.Modifiers.{MayBeResultSort}
-use Rattle.mz_logic.specs.Words.{word_deps, result_of}
-use Rattle.mz_logic.specs.WordsWritten.{words_of, result_word, bound_from}
-use Rattle.mz_logic.specs.declared.binder.Binder.{Binder}
-use Rattle.mz_logic.specs.declared.binder.ResultType.{ResultType}
-use Rattle.mz_logic.proofs.Offered.{at-first, bits-few, result-says, places-same, params-back, results-back}
-use Rattle.mz_layout_words.specs.RowWords.{bound_count}
-use Rattle.mz_layout_words.proofs.Offered.{bound-many, param-at}
+use Rattle.mz_logic_theory.specs.Signature.{Signature}
+use Rattle.mz_logic_theory.specs.Modifiers.{MayBeResultSort}
+use Rattle.mz_logic_theory.specs.Words.{word_deps, result_of}
+use Rattle.mz_logic_theory.specs.WordsWritten.{words_of, result_word, bound_from}
+use Rattle.mz_logic_theory.specs.declared.binder.Binder.{Binder}
+use Rattle.mz_logic_theory.specs.declared.binder.ResultType.{ResultType}
+use Rattle.mz_logic_theory.proofs.Offered.{at-first, bits-few, result-says, places-same, params-back, results-back}
+use Rattle.mz_layout_tables.specs.RowWords.{bound_count}
+use Rattle.mz_layout_tables.proofs.Offered.{bound-many, param-at}
 use Rattle.mz_emit_theory.specs.WordsSay.{WordsSayParams, WordsSaySignatures}
 
 pub words-say-params : WordsSayParams

@@ -6,13 +6,13 @@ use Rattle.std.proofs.lemmas.List.{map-append, length-map}
 use Rattle.std.proofs.lemmas.List.Elements.{Contains-append_left, Contains-push, Contains-push_cases}
 use Rattle.std.proofs.lemmas.Option.{slice_get-map}
 use Rattle.mz_base_theory.proofs.Offered.{slice_get-last, slice_get-append}
-use Rattle.mz_logic.specs.Tree.{Tree, Trees, var, app, none, more, listed}
-use Rattle.mz_logic.specs.Signature.{Signature}
-use Rattle.mz_logic.specs.Sorts.{HasSort, Fits}
-use Rattle.mz_logic.specs.Variables.{Occurs, OccursIn}
-use Rattle.mz_logic.specs.Legality.{binder_at}
-use Rattle.mz_logic.specs.declared.binder.Binder.{Binder}
-use Rattle.mz_logic.proofs.Offered.{split_at}
+use Rattle.mz_logic_theory.specs.Tree.{Tree, Trees, var, app, none, more, listed}
+use Rattle.mz_logic_theory.specs.Signature.{Signature}
+use Rattle.mz_logic_theory.specs.Sorts.{HasSort, Fits}
+use Rattle.mz_logic_theory.specs.Variables.{Occurs, OccursIn}
+use Rattle.mz_logic_theory.specs.Legality.{binder_at}
+use Rattle.mz_logic_theory.specs.declared.binder.Binder.{Binder}
+use Rattle.mz_logic_theory.proofs.Offered.{split_at}
 use Rattle.mz_unify_theory.specs.Streams.{StreamKind, of_assertion, of_definition, UnifyCommand, u_ref, u_dummy}
 use Rattle.mz_unify_theory.specs.Spells.{dummy_of, Marks, with_dummy, HasOperands}
 use Rattle.mz_unify_theory.proofs.Offered.{not-both}

@@ -1,13 +1,13 @@
 -- What the steps of a body have made at its END, and the bytes of a body (the .mmb format, on proof streams).
 use Rattle.std.specs.Prelude.{◌≡◌, ℕ, ◌<◌, ◌^◌, ⊤, true, List, [], ◌∷◌, ◌++◌, length, Contains}
 use Rattle.mz_cmd.specs.declared.code.ProofCode.{ProofCode}
-use Rattle.mz_logic.specs.Tree.{Tree, none, instance, followed_by, variables}
-use Rattle.mz_logic.specs.Signature.{Signature}
-use Rattle.mz_logic.specs.Declaration.{Declaration, signatures}
-use Rattle.mz_logic.specs.Sorts.{HasSort, HasProvable}
-use Rattle.mz_logic.specs.Variables.{InFV}
-use Rattle.mz_logic.specs.Conversions.{AreFresh}
-use Rattle.mz_logic.specs.declared.binder.Binder.{Binder}
+use Rattle.mz_logic_theory.specs.Tree.{Tree, none, instance, followed_by, variables}
+use Rattle.mz_logic_theory.specs.Signature.{Signature}
+use Rattle.mz_logic_theory.specs.Declaration.{Declaration, signatures}
+use Rattle.mz_logic_theory.specs.Sorts.{HasSort, HasProvable}
+use Rattle.mz_logic_theory.specs.Variables.{InFV}
+use Rattle.mz_logic_theory.specs.Conversions.{AreFresh}
+use Rattle.mz_logic_theory.specs.declared.binder.Binder.{Binder}
 use Rattle.mz_unify_theory.specs.Streams.{of_assertion, of_definition}
 use Rattle.mz_unify_theory.specs.Spells.{trees_of, Text}
 use Rattle.mz_unify_theory.specs.Profile.{Profile, expr, proof}

@@ -1,13 +1,13 @@
 -- A small text with one statement of each kind, and the parts that say it.
 use Rattle.std.specs.Prelude.{ℕ, Bool, true, false, List, [], ◌∷◌, Some, None}
-use Rattle.mz_logic.specs.Tree.{Tree, var, app, none, more}
-use Rattle.mz_logic.specs.Signature.{Signature}
-use Rattle.mz_logic.specs.Declaration.{Form, plain_form, defined, Declaration, sort_decl, term_decl, assertion_decl}
-use Rattle.mz_logic.specs.LegalLists.{Statement, Legal}
-use Rattle.mz_logic.specs.declared.binder.Binder.{Binder}
-use Rattle.mz_logic.specs.declared.word.Word.{Word}
-use Rattle.mz_layout.specs.Normal.{Parts, row_of_term, row_of_thm}
-use Rattle.mz_layout.specs.Standing.{Fit}
+use Rattle.mz_logic_theory.specs.Tree.{Tree, var, app, none, more}
+use Rattle.mz_logic_theory.specs.Signature.{Signature}
+use Rattle.mz_logic_theory.specs.Declaration.{Form, plain_form, defined, Declaration, sort_decl, term_decl, assertion_decl}
+use Rattle.mz_logic_theory.specs.LegalLists.{Statement, Legal}
+use Rattle.mz_logic_theory.specs.declared.binder.Binder.{Binder}
+use Rattle.mz_logic_theory.specs.declared.word.Word.{Word}
+use Rattle.mz_layout_tables.specs.Normal.{Parts, row_of_term, row_of_thm}
+use Rattle.mz_layout_tables.specs.Standing.{Fit}
 use Rattle.mz_unify_theory.specs.Spells.{dummy_of}
 use Rattle.mz_binary_theory.specs.Gapped.{IsGapped}
 use Rattle.mz_emit_theory.specs.Gaps.{bodies_written}

@@ -1,8 +1,8 @@
 -- How parts that say a text grow by a statement.
 use Rattle.std.specs.Prelude.{◌≡◌, ℕ, Bool, List, [], ◌∷◌, ◌++◌, length, slice_get, Some}
-use Rattle.mz_logic.specs.Declaration.{Declaration, sort_decl, term_decl, assertion_decl, sorts, terms, assertions}
-use Rattle.mz_logic.specs.LegalLists.{Statement, declarations}
-use Rattle.mz_layout.specs.Normal.{Row, Written, Parts, no_parts}
+use Rattle.mz_logic_theory.specs.Declaration.{Declaration, sort_decl, term_decl, assertion_decl, sorts, terms, assertions}
+use Rattle.mz_logic_theory.specs.LegalLists.{Statement, declarations}
+use Rattle.mz_layout_tables.specs.Normal.{Row, Written, Parts, no_parts}
 use Rattle.mz_emit_theory.specs.FileWriting.{IsWrittenStatement, HaveNoMore, IsWrittenAs}
 
 -- one row more, of the declaration's kind, and one statement

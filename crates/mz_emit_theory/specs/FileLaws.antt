@@ -1,8 +1,8 @@
 -- What is promised of parts that say a text.
 use Rattle.std.specs.Prelude.{Bool, List}
-use Rattle.mz_logic.specs.LegalLists.{Statement, LegalBy, allowed_with}
-use Rattle.mz_layout.specs.Normal.{Parts, file_of}
-use Rattle.mz_layout.specs.Standing.{Fit}
+use Rattle.mz_logic_theory.specs.LegalLists.{Statement, LegalBy, allowed_with}
+use Rattle.mz_layout_tables.specs.Normal.{Parts, file_of}
+use Rattle.mz_layout_tables.specs.Standing.{Fit}
 use Rattle.mz_binary_theory.specs.Chains.{Statements}
 use Rattle.mz_binary_theory.specs.Good.{Good}
 use Rattle.mz_emit_theory.specs.SameLists.{IsSameList}

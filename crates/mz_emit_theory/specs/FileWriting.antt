@@ -1,20 +1,20 @@
 -- When the parts of a binary say a text: statement by statement the row of a table, the command's code and the body
 -- (the .mmb format's tables and list of statements).
 use Rattle.std.specs.Prelude.{◌≡◌, ◌<◌, ◌^◌, ◌++◌, ℕ, Bool, false, List, [], ◌∷◌, length, Some, None, slice_get}
-use Rattle.mz_logic.specs.Tree.{none, listed}
-use Rattle.mz_logic.specs.Signature.{Signature}
-use Rattle.mz_logic.specs.Declaration.{Form, plain_form, defined, Term, Assertion, Declaration, sort_decl, term_decl, assertion_decl, sorts, terms, signatures, assertions}
-use Rattle.mz_logic.specs.Legality.{Each}
-use Rattle.mz_logic.specs.LegalLists.{Statement}
-use Rattle.mz_logic.specs.Modifiers.{MayBeResultSort}
-use Rattle.mz_logic.specs.Words.{word_bound, word_sort, word_deps, binders_of, signature_of}
-use Rattle.mz_logic.specs.declared.binder.Binder.{Binder}
-use Rattle.mz_logic.specs.declared.binder.SortMods.{SortMods}
-use Rattle.mz_logic.specs.declared.word.Word.{Word}
-use Rattle.mz_layout.specs.Normal.{Written, Parts, row_of_term, row_of_thm}
+use Rattle.mz_logic_theory.specs.Tree.{none, listed}
+use Rattle.mz_logic_theory.specs.Signature.{Signature}
+use Rattle.mz_logic_theory.specs.Declaration.{Form, plain_form, defined, Term, Assertion, Declaration, sort_decl, term_decl, assertion_decl, sorts, terms, signatures, assertions}
+use Rattle.mz_logic_theory.specs.Legality.{Each}
+use Rattle.mz_logic_theory.specs.LegalLists.{Statement}
+use Rattle.mz_logic_theory.specs.Modifiers.{MayBeResultSort}
+use Rattle.mz_logic_theory.specs.Words.{word_bound, word_sort, word_deps, binders_of, signature_of}
+use Rattle.mz_logic_theory.specs.declared.binder.Binder.{Binder}
+use Rattle.mz_logic_theory.specs.declared.binder.SortMods.{SortMods}
+use Rattle.mz_logic_theory.specs.declared.word.Word.{Word}
+use Rattle.mz_layout_tables.specs.Normal.{Written, Parts, row_of_term, row_of_thm}
 use Rattle.mz_unify_theory.specs.Streams.{of_assertion, of_definition}
 use Rattle.mz_machine_theory.specs.Lists.{kind_of}
-use Rattle.mz_layout_words.specs.RowWords.{bound_count, AreParamWords}
+use Rattle.mz_layout_tables.specs.RowWords.{bound_count, AreParamWords}
 use Rattle.mz_machine_theory.specs.MachineState.{is_definition}
 use Rattle.mz_emit_theory.specs.Sameness.{IsSameTerm}
 use Rattle.mz_emit_theory.specs.SharedBodies.{IsSharedBody}

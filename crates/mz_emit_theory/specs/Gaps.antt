@@ -3,12 +3,12 @@
 use Rattle.std.specs.Prelude.{◌≡◌, ◌⊎◌, ◌↔◌, ◌++◌, ℕ, Bool, true, false, List, [], ◌∷◌, length, Contains}
 use Rattle.mz_cmd.specs.declared.code.ProofCode.{ProofCode}
 use Rattle.mz_cmd.specs.declared.code.ProofCode.TheVariants as code
-use Rattle.mz_logic.specs.Tree.{Tree}
-use Rattle.mz_logic.specs.Declaration.{Declaration, sort_decl, term_decl, assertion_decl}
-use Rattle.mz_logic.specs.LegalLists.{Statement}
-use Rattle.mz_logic.specs.declared.binder.Binder.{Binder}
-use Rattle.mz_layout.specs.Normal.{Written, Parts, file_of}
-use Rattle.mz_layout.specs.Standing.{Fit}
+use Rattle.mz_logic_theory.specs.Tree.{Tree}
+use Rattle.mz_logic_theory.specs.Declaration.{Declaration, sort_decl, term_decl, assertion_decl}
+use Rattle.mz_logic_theory.specs.LegalLists.{Statement}
+use Rattle.mz_logic_theory.specs.declared.binder.Binder.{Binder}
+use Rattle.mz_layout_tables.specs.Normal.{Written, Parts, file_of}
+use Rattle.mz_layout_tables.specs.Standing.{Fit}
 use Rattle.mz_machine_theory.specs.MachineState.{Kind, is_theorem}
 use Rattle.mz_machine_theory.specs.Sound.{CitesWithin, HasGap}
 use Rattle.mz_binary_theory.specs.Gapped.{AssertionBody, bodies_of, IsGapped, GappedIn}

@@ -23,3 +23,9 @@ pub mod SharedTexts
 pub mod SpelledLists
 pub mod WrittenRows
 pub mod StreamLaws
+pub mod Claims
+pub mod Costs
+pub mod Uses
+pub mod BodyWriting
+pub mod Weights
+pub mod InReach

@@ -1,10 +1,10 @@
 -- What is promised of shared bodies, and of rows whose definitions' streams share.
 use Rattle.std.specs.Prelude.{◌≡◌, ℕ, false, Some, List, [], ◌∷◌, ◌++◌, length, map}
-use Rattle.mz_logic.specs.Tree.{Tree, none, listed}
-use Rattle.mz_logic.specs.Signature.{Signature}
-use Rattle.mz_logic.specs.Declaration.{Assertion, Declaration, sorts, signatures}
-use Rattle.mz_logic.specs.Legality.{Each, AreParams}
-use Rattle.mz_logic.specs.declared.binder.Binder.{Binder}
+use Rattle.mz_logic_theory.specs.Tree.{Tree, none, listed}
+use Rattle.mz_logic_theory.specs.Signature.{Signature}
+use Rattle.mz_logic_theory.specs.Declaration.{Assertion, Declaration, sorts, signatures}
+use Rattle.mz_logic_theory.specs.Legality.{Each, AreParams}
+use Rattle.mz_logic_theory.specs.declared.binder.Binder.{Binder}
 use Rattle.mz_unify_theory.specs.Streams.{of_definition}
 use Rattle.mz_unify_theory.specs.Sorted.{Sorted}
 use Rattle.mz_unify_theory.specs.Spells.{SpelledTerm}

@@ -1,12 +1,12 @@
 -- Every legal axiom, theorem and definition has steps that make what it says.
 use Rattle.std.specs.Prelude.{◌≡◌, ℕ, ◌≤◌, Bool, List, [], ◌∷◌, ◌++◌, Ok}
 use Rattle.mz_cmd.specs.declared.code.ProofCode.{ProofCode}
-use Rattle.mz_logic.specs.Tree.{Tree, listed}
-use Rattle.mz_logic.specs.Declaration.{defined, Term, Assertion, Declaration, term_decl, assertion_decl, sorts, signatures}
-use Rattle.mz_logic.specs.Legality.{IsLegalDecl, IsLegalEnv}
-use Rattle.mz_logic.specs.Derivations.{Derivation, Derives}
-use Rattle.mz_logic.specs.LegalLists.{AreDummies, allowed_with}
-use Rattle.mz_logic.specs.declared.binder.Binder.{Binder}
+use Rattle.mz_logic_theory.specs.Tree.{Tree, listed}
+use Rattle.mz_logic_theory.specs.Declaration.{defined, Term, Assertion, Declaration, term_decl, assertion_decl, sorts, signatures}
+use Rattle.mz_logic_theory.specs.Legality.{IsLegalDecl, IsLegalEnv}
+use Rattle.mz_logic_theory.specs.Derivations.{Derivation, Derives}
+use Rattle.mz_logic_theory.specs.LegalLists.{AreDummies, allowed_with}
+use Rattle.mz_logic_theory.specs.declared.binder.Binder.{Binder}
 use Rattle.mz_unify_theory.specs.Streams.{of_assertion}
 use Rattle.mz_unify_theory.specs.Spells.{Text}
 use Rattle.mz_unify_theory.specs.Profile.{plain, Item, expr, proof}

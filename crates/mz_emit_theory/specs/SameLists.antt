@@ -1,8 +1,8 @@
 -- Two lists of statements that are one but for the dummies of definitions' bodies (mm0.md, on definitions: the names of
 -- dummies don't matter).
 use Rattle.std.specs.Prelude.{◌≡◌, List}
-use Rattle.mz_logic.specs.Declaration.{Declaration, sort_decl, term_decl, assertion_decl}
-use Rattle.mz_logic.specs.LegalLists.{Statement, declarations}
+use Rattle.mz_logic_theory.specs.Declaration.{Declaration, sort_decl, term_decl, assertion_decl}
+use Rattle.mz_logic_theory.specs.LegalLists.{Statement, declarations}
 use Rattle.mz_machine_theory.specs.MachineState.{Pairwise}
 use Rattle.mz_emit_theory.specs.Sameness.{IsSameTerm, IsSameEnv}
 

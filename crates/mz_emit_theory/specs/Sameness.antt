@@ -1,11 +1,11 @@
 -- Two environments that are one but for the dummies of definitions' bodies (mm0.md, on definitions: the names of dummies
 -- don't matter).
 use Rattle.std.specs.Prelude.{◌≡◌, ◌<◌, ◌+◌, ℕ, ⊤, List, ◌++◌, length}
-use Rattle.mz_logic.specs.Tree.{Tree, Trees, instance, followed_by, variables}
-use Rattle.mz_logic.specs.Declaration.{Form, plain_form, abstract_form, defined, Term, Declaration, sorts, terms, assertions}
-use Rattle.mz_logic.specs.Conversions.{AreFresh}
-use Rattle.mz_logic.specs.Variables.{Occurs}
-use Rattle.mz_logic.specs.declared.binder.Binder.{Binder}
+use Rattle.mz_logic_theory.specs.Tree.{Tree, Trees, instance, followed_by, variables}
+use Rattle.mz_logic_theory.specs.Declaration.{Form, plain_form, abstract_form, defined, Term, Declaration, sorts, terms, assertions}
+use Rattle.mz_logic_theory.specs.Conversions.{AreFresh}
+use Rattle.mz_logic_theory.specs.Variables.{Occurs}
+use Rattle.mz_logic_theory.specs.declared.binder.Binder.{Binder}
 use Rattle.mz_unify_theory.specs.Spells.{trees_of, variables_from}
 use Rattle.mz_machine_theory.specs.MachineState.{Pairwise}
 

@@ -1,9 +1,9 @@
 -- The list that a compiled file spells: a text's list with each definition's dummies in the order in which they are met.
 use Rattle.std.specs.Prelude.{List, map}
-use Rattle.mz_logic.specs.Declaration.{Form, plain_form, abstract_form, defined, Declaration, sort_decl, term_decl, assertion_decl}
-use Rattle.mz_logic.specs.Legality.{IsLegalEnv}
-use Rattle.mz_logic.specs.LegalLists.{Statement, declarations}
-use Rattle.mz_logic.specs.declared.binder.Binder.{Binder}
+use Rattle.mz_logic_theory.specs.Declaration.{Form, plain_form, abstract_form, defined, Declaration, sort_decl, term_decl, assertion_decl}
+use Rattle.mz_logic_theory.specs.Legality.{IsLegalEnv}
+use Rattle.mz_logic_theory.specs.LegalLists.{Statement, declarations}
+use Rattle.mz_logic_theory.specs.declared.binder.Binder.{Binder}
 use Rattle.mz_emit_theory.specs.SameLists.{IsSameList}
 use Rattle.mz_emit_theory.specs.StreamWriting.{body_spelled, dummies_spelled}
 

@@ -1,8 +1,8 @@
 -- Bytes that spell a text, whatever follows them (the .mmb format, on unify streams).
 use Rattle.std.specs.Prelude.{ℕ, List, ◌++◌}
-use Rattle.mz_logic.specs.Tree.{Tree, Trees}
-use Rattle.mz_logic.specs.Signature.{Signature}
-use Rattle.mz_logic.specs.declared.binder.Binder.{Binder}
+use Rattle.mz_logic_theory.specs.Tree.{Tree, Trees}
+use Rattle.mz_logic_theory.specs.Signature.{Signature}
+use Rattle.mz_logic_theory.specs.declared.binder.Binder.{Binder}
 use Rattle.mz_unify_theory.specs.Spells.{Text}
 use Rattle.mz_unify_theory.specs.Streams.{StreamKind}
 

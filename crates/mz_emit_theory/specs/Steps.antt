@@ -6,13 +6,13 @@ use Rattle.mz_cmd.specs.declared.code.ProofCode.{ProofCode}
 use Rattle.mz_cmd.specs.declared.code.ProofCode.TheVariants as code
 use Rattle.mz_cmd.specs.Codes.{proof_byte}
 use Rattle.mz_cmd.specs.Spelling.{shortest}
-use Rattle.mz_logic.specs.Tree.{Tree, Trees, var, app, listed, instance, followed_by, variables}
-use Rattle.mz_logic.specs.Declaration.{Term, Assertion, Declaration, sorts, signatures, assertions}
-use Rattle.mz_logic.specs.Modifiers.{MayBeDummySort}
-use Rattle.mz_logic.specs.Sorts.{HasSort, Fits, HasProvable}
-use Rattle.mz_logic.specs.Variables.{Apart}
-use Rattle.mz_logic.specs.Conversions.{IsDefined, AreFresh}
-use Rattle.mz_logic.specs.declared.binder.Binder.{Binder}
+use Rattle.mz_logic_theory.specs.Tree.{Tree, Trees, var, app, listed, instance, followed_by, variables}
+use Rattle.mz_logic_theory.specs.Declaration.{Term, Assertion, Declaration, sorts, signatures, assertions}
+use Rattle.mz_logic_theory.specs.Modifiers.{MayBeDummySort}
+use Rattle.mz_logic_theory.specs.Sorts.{HasSort, Fits, HasProvable}
+use Rattle.mz_logic_theory.specs.Variables.{Apart}
+use Rattle.mz_logic_theory.specs.Conversions.{IsDefined, AreFresh}
+use Rattle.mz_logic_theory.specs.declared.binder.Binder.{Binder}
 use Rattle.mz_unify_theory.specs.Steps.{◌>>=◌}
 use Rattle.mz_unify_theory.specs.Spells.{trees_of, dummy_of}
 use Rattle.mz_unify_theory.specs.Sorted.{Sorted}

@@ -1,11 +1,11 @@
 -- What is promised of the streams that are written.
 use Rattle.std.specs.Prelude.{ℕ, ◌≡◌, ◌+◌, ◌*◌, ◌≤◌, ◌<◌, ◌^◌, List, [], ◌∷◌, ◌++◌, length, slice_get, Some}
-use Rattle.mz_logic.specs.Tree.{Tree, Trees, var, app, none, more, listed, size, trees_size}
-use Rattle.mz_logic.specs.Signature.{Signature}
-use Rattle.mz_logic.specs.Declaration.{defined}
-use Rattle.mz_logic.specs.Legality.{Each, IsDummy, AreParams}
-use Rattle.mz_logic.specs.declared.binder.Binder.{Binder}
-use Rattle.mz_logic.specs.declared.binder.SortMods.{SortMods}
+use Rattle.mz_logic_theory.specs.Tree.{Tree, Trees, var, app, none, more, listed, size, trees_size}
+use Rattle.mz_logic_theory.specs.Signature.{Signature}
+use Rattle.mz_logic_theory.specs.Declaration.{defined}
+use Rattle.mz_logic_theory.specs.Legality.{Each, IsDummy, AreParams}
+use Rattle.mz_logic_theory.specs.declared.binder.Binder.{Binder}
+use Rattle.mz_logic_theory.specs.declared.binder.SortMods.{SortMods}
 use Rattle.mz_unify_theory.specs.Streams.{StreamKind, of_assertion, of_definition, u_term, u_term_save, u_ref, u_dummy}
 use Rattle.mz_unify_theory.specs.Spells.{dummy_of, Marks, SpellsText}
 use Rattle.mz_unify_theory.specs.Sorted.{Sorted, AllSorted}

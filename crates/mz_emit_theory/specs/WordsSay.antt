@@ -1,12 +1,12 @@
 -- The words that are written for parameters and for a signature say them.
 use Rattle.std.specs.Prelude.{List, All}
 use Rattle.std.specs.List.Sorted.{IsStrictlyIncreasing}
-use Rattle.mz_logic.specs.Signature.{Signature}
-use Rattle.mz_logic.specs.Modifiers.{MayBeResultSort}
-use Rattle.mz_logic.specs.Variables.{IsBoundAt}
-use Rattle.mz_logic.specs.WordsWritten.{words_of, result_word, CanBeWords}
-use Rattle.mz_logic.specs.declared.binder.Binder.{Binder}
-use Rattle.mz_logic.specs.declared.binder.SortMods.{SortMods}
+use Rattle.mz_logic_theory.specs.Signature.{Signature}
+use Rattle.mz_logic_theory.specs.Modifiers.{MayBeResultSort}
+use Rattle.mz_logic_theory.specs.Variables.{IsBoundAt}
+use Rattle.mz_logic_theory.specs.WordsWritten.{words_of, result_word, CanBeWords}
+use Rattle.mz_logic_theory.specs.declared.binder.Binder.{Binder}
+use Rattle.mz_logic_theory.specs.declared.binder.SortMods.{SortMods}
 use Rattle.mz_emit_theory.specs.FileWriting.{SayParams, SaySignature}
 
 abbrev pub WordsSayParams : Type 0

@@ -1,9 +1,9 @@
 -- What a body has made so far (the .mmb format, on the proof machine's heap and stack), in a text's own numbering of
 -- variables, and how the machine names it.
 use Rattle.std.specs.Prelude.{ℕ, suc, ◌==◌, if◌then◌else◌, List, [], ◌∷◌, map}
-use Rattle.mz_logic.specs.Tree.{Tree, Trees, var, app, none, more}
-use Rattle.mz_logic.specs.Legality.{binder_at}
-use Rattle.mz_logic.specs.declared.binder.Binder.{Binder}
+use Rattle.mz_logic_theory.specs.Tree.{Tree, Trees, var, app, none, more}
+use Rattle.mz_logic_theory.specs.Legality.{binder_at}
+use Rattle.mz_logic_theory.specs.declared.binder.Binder.{Binder}
 use Rattle.mz_unify_theory.specs.Profile.{Item, expr, proof, obligation, conversion}
 use Rattle.mz_unify_theory.specs.Spells.{variables_from}
 use Rattle.mz_machine_theory.specs.MachineState.{State}

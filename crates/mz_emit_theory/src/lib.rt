@@ -1,3 +1,6 @@
+//! What a compiler may write, and why it is good: bodies, unify streams and whole files, and that
+//! they run by identity.
+//!
 //! What the commands of a body make, said in the logic's words and in a text's own numbering of variables.
 //!
 //! `specs/Works.antt` has what is made so far and how the machine names it, `specs/Steps.antt` one clause a

@@ -21,6 +21,7 @@ mod write;
 
 pub use disk_folder::DiskFolder;
 pub use folder::{Failed, Folder};
+pub use log::{Log, Note};
 pub use memory_folder::MemFolder;
 pub use memory_sink::MemSink;
 pub use read::{Read, read_bounded};

@@ -1,20 +1,17 @@
 ghost use Rattle.std.specs.Prelude.{◌≡◌, ◌↔◌, ◌<◌, ◌≤◌, length, All, IsTrue};
 ghost use Rattle.mz_base_theory.specs.Checks.{Judges};
-ghost use Rattle.mz_logic.specs.Declaration.{signatures, sorts, context_of, body_of};
-ghost use Rattle.mz_logic.specs.Modifiers.{MayBeResultSort, MayBeBoundSort, MayBeDummySort};
-ghost use Rattle.mz_logic.specs.Variables.{IsBoundAt};
-ghost use Rattle.mz_logic.specs.Legality.{IsParam, AreParams, IsDummy, IsBinderThere, AreBindersThere, AllInRange, NamesThere, BindersRight, SortsRight, BoundRight, ClaimsProvable, decl_checks};
-ghost use Rattle.mz_logic.specs.DeclView.{declaration, form, term_of, term_view, assertion_of};
+ghost use Rattle.mz_logic_theory.specs.Declaration.{signatures, sorts, context_of, body_of};
+ghost use Rattle.mz_logic_theory.specs.Modifiers.{MayBeResultSort, MayBeBoundSort, MayBeDummySort};
+ghost use Rattle.mz_logic_theory.specs.Variables.{IsBoundAt};
+ghost use Rattle.mz_logic_theory.specs.Legality.{IsParam, AreParams, IsDummy, IsBinderThere, AreBindersThere, AllInRange, NamesThere, BindersRight, SortsRight, BoundRight, ClaimsProvable, decl_checks};
+ghost use Rattle.mz_logic_theory.specs.DeclView.{declaration, form, term_of, term_view, assertion_of};
 
-use crate::binder::{Binder, Binders, Deps};
-use crate::context::Context;
-use crate::decl::{Decl, DeclFault, TermDecl, ThmDecl};
-use crate::env::Env;
-use crate::sorts::{
-    all_are_claims, all_have_bound_operands, all_have_operand_sorts, has_bound_operands,
-    has_operand_sorts, hyps_are_in_range, in_range, is_claim, sort_of,
+use crate::vars::body_deps_are_right;
+use mz_logic_theory::{
+    Binder, Binders, Context, Decl, DeclFault, Deps, Env, TermDecl, ThmDecl, all_are_claims,
+    all_have_bound_operands, all_have_operand_sorts, has_bound_operands, has_operand_sorts,
+    hyps_are_in_range, in_range, is_bound_at, is_claim, sort_of,
 };
-use crate::vars::{body_deps_are_right, is_bound_at};
 
 /// Checks a declaration over an environment: every one has an answer.
 ///

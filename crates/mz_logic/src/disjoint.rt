@@ -1,15 +1,12 @@
 ghost use Rattle.std.specs.Prelude.{ℕ, ◌≡◌, ◌↔◌, ◌<◌, IsTrue, length};
-ghost use Rattle.mz_logic.specs.Declaration.{signatures};
-ghost use Rattle.mz_logic.specs.Legality.{AllInRange};
-ghost use Rattle.mz_logic.specs.Sorts.{Fits};
-ghost use Rattle.mz_logic.specs.Variables.{Apart, ApartAt, InV};
-ghost use Rattle.mz_logic.specs.Tree.{listed, operand};
+ghost use Rattle.mz_logic_theory.specs.Declaration.{signatures};
+ghost use Rattle.mz_logic_theory.specs.Legality.{AllInRange};
+ghost use Rattle.mz_logic_theory.specs.Sorts.{Fits};
+ghost use Rattle.mz_logic_theory.specs.Variables.{Apart, ApartAt, InV};
+ghost use Rattle.mz_logic_theory.specs.Tree.{listed, operand};
 
-use crate::binder::Binder;
-use crate::context::Context;
-use crate::env::Env;
-use crate::expr::{Expr, Exprs};
 use crate::vars::{has_place, in_tree};
+use mz_logic_theory::{Binder, Context, Env, Expr, Exprs};
 
 /// Whether operands that fit the parameters are apart: where the operand of a bound parameter is in
 /// V of another operand, the other one's parameter depends on it. Each pair of operands is looked at.

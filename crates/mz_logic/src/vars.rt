@@ -1,17 +1,13 @@
-ghost use Rattle.std.specs.Prelude.{◌≡◌, ◌↔◌, ℕ, ◌<◌, length, drop, Contains, IsTrue, true, false, ◌⊎◌};
-ghost use Rattle.mz_logic.specs.DeclView.{term_of};
-ghost use Rattle.mz_logic.specs.Declaration.{signatures};
-ghost use Rattle.mz_logic.specs.Legality.{InRange, AllInRange, DependOnBound, NamesThere, BindersRight, SortsRight, BoundRight, DepsRight};
-ghost use Rattle.mz_logic.specs.Sorts.{HasSort};
-ghost use Rattle.mz_logic.specs.Variables.{InV, InSomeV, InFV, InSomeFV, IsBoundAt, IsOperandAt, IsFreeOperand};
-ghost use Rattle.mz_logic.specs.Tree.{var, operand, listed};
-ghost use Rattle.mz_logic.specs.View.{tree};
+ghost use Rattle.std.specs.Prelude.{◌≡◌, ◌↔◌, ℕ, ◌<◌, length, Contains, IsTrue, true, false, ◌⊎◌};
+ghost use Rattle.mz_logic_theory.specs.DeclView.{term_of};
+ghost use Rattle.mz_logic_theory.specs.Declaration.{signatures};
+ghost use Rattle.mz_logic_theory.specs.Legality.{InRange, AllInRange, DependOnBound, NamesThere, BindersRight, SortsRight, BoundRight, DepsRight};
+ghost use Rattle.mz_logic_theory.specs.Sorts.{HasSort};
+ghost use Rattle.mz_logic_theory.specs.Variables.{InV, InSomeV, InFV, InSomeFV, IsOperandAt, IsFreeOperand};
+ghost use Rattle.mz_logic_theory.specs.Tree.{var, operand, listed};
+ghost use Rattle.mz_logic_theory.specs.View.{tree};
 
-use crate::binder::{Binder, Binders, Deps};
-use crate::context::Context;
-use crate::decl::TermDecl;
-use crate::env::Env;
-use crate::expr::{Expr, Exprs};
+use mz_logic_theory::{Binder, Binders, Context, Deps, Env, Expr, Exprs, TermDecl, is_bound_at};
 
 /// Whether the bound variable `x` of the context is in V, the variables of the expression.
 pub fn in_all_vars(env: &Env, ctx: &Binders, expr: &Expr, x: u32) -> bool
@@ -149,16 +145,6 @@ fn is_operand_at(params: &[Binder], es: &Exprs, places: &Deps, x: usize) -> bool
         }
     }
     false
-}
-
-/// Whether a bound parameter stands at the place.
-pub fn is_bound_at(params: &[Binder], place: usize) -> bool
-    ensures { IsTrue result ↔ IsBoundAt params.now place }
-{
-    match params.get(place) {
-        None => false,
-        Some(param) => param.bound,
-    }
 }
 
 /// Whether the variable `x` is the operand at the place.

@@ -1,9 +1,9 @@
 -- Lists of expressions within lists, as they are copied.
 use Rattle.std.proofs.Common.{ℕ, suc, ◌≡◌, ◌<◌, ◌+◌, ◌*◌, List, [], ◌∷◌, ◌++◌, ap, refl, sym, ◌∙◌, arith}
-use Rattle.mz_logic.specs.Tree.{Trees, app, more, none, followed_by, trees_size}
-use Rattle.mz_logic.specs.View.{tree, trees}
-use Rattle.mz_logic.specs.declared.expr.Expr.{Expr}
-use Rattle.mz_logic.proofs.Offered.{followed_by_push, followed_by_none}
+use Rattle.mz_logic_theory.specs.Tree.{Trees, app, more, none, followed_by, trees_size}
+use Rattle.mz_logic_theory.specs.View.{tree, trees}
+use Rattle.mz_logic_theory.specs.declared.expr.Expr.{Expr}
+use Rattle.mz_logic_theory.proofs.Offered.{followed_by_push, followed_by_none}
 use Rattle.mz_logic_copy.specs.declared.copies.Outer.{Outer}
 
 -- the outermost list, where the innermost is to be this

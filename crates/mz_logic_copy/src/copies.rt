@@ -1,9 +1,11 @@
 // Copies of expressions and of declarations.
 ghost use Rattle.std.specs.Prelude.{◌≡◌, IfOk};
-ghost use Rattle.mz_logic.specs.DeclView.{declaration, form, term_view, assertion_view};
-ghost use Rattle.mz_logic.specs.View.{tree};
+ghost use Rattle.mz_logic_theory.specs.DeclView.{declaration, form, term_view, assertion_view};
+ghost use Rattle.mz_logic_theory.specs.View.{tree};
 
-use mz_logic::{Binder, Binders, Decl, Expr, Exprs, Hyps, ResultType, TermDecl, TermForm, ThmDecl};
+use mz_logic_theory::{
+    Binder, Binders, Decl, Expr, Exprs, Hyps, ResultType, TermDecl, TermForm, ThmDecl,
+};
 use std::alloc::{AllocError, Global};
 
 /// A list that is copied up to an application, whose operands are copied first.

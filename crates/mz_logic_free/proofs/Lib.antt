@@ -1,3 +1,3 @@
 mod Walking
 mod Sharing
-mod Owning
+pub mod Offered

@@ -1,12 +1,12 @@
 -- Whether expressions name one of many variables.
 use Rattle.std.proofs.Common.{◌≡◌, ◌∙◌, ◌<◌, ◌+◌, ◌⊎◌, ◌↔◌, ℕ, List, [], ◌∷◌, length, drop, get_or, slice_get, Some, None, Contains, Bool, true, false, IsTrue, ap, sym, subst, inl, inr, arith}
 use Rattle.mz_base_theory.proofs.Offered.{drop-item, contains_tail, contains_head, contains_cases}
-use Rattle.mz_logic.specs.Tree.{Tree, Trees, var, none, more}
-use Rattle.mz_logic.specs.Variables.{InV, InSomeV}
-use Rattle.mz_logic.specs.View.{tree, trees}
-use Rattle.mz_logic.specs.declared.binder.Binder.{Binder}
-use Rattle.mz_logic.specs.declared.expr.Expr.{Expr}
-use Rattle.mz_logic.proofs.Offered.{one_at}
+use Rattle.mz_logic_theory.specs.Tree.{Tree, Trees, var, none, more}
+use Rattle.mz_logic_theory.specs.Variables.{InV, InSomeV}
+use Rattle.mz_logic_theory.specs.View.{tree, trees}
+use Rattle.mz_logic_theory.specs.declared.binder.Binder.{Binder}
+use Rattle.mz_logic_theory.specs.declared.expr.Expr.{Expr}
+use Rattle.mz_logic_theory.proofs.Offered.{one_at}
 
 -- of the variables that are sought, one is in V of one of the expressions
 abbrev pub SomeName : List Binder → (ℕ → Type 0) → Trees → Type 0

@@ -4,11 +4,11 @@ use Rattle.std.specs.Prelude.{◌||◌, if◌then◌else◌}
 use Rattle.std.specs.List.{list_any}
 use Rattle.std.proofs.lemmas.List.Elements.{All-contains, All-contains_itself, Contains-append_left, Contains-append_right, Contains-append_cases}
 use Rattle.mz_base_theory.proofs.Offered.{contains_tail, contains_head, contains_cases, contains-decided}
-use Rattle.mz_logic.specs.Tree.{Tree, Trees, var, app, more, operand}
-use Rattle.mz_logic.specs.Signature.{Signature}
-use Rattle.mz_logic.specs.Variables.{InFV, InSomeFV, IsBoundAt, IsFreeOperand, IsOperandAt}
-use Rattle.mz_logic.specs.declared.binder.Binder.{Binder}
-use Rattle.mz_logic.proofs.Offered.{one_at}
+use Rattle.mz_logic_theory.specs.Tree.{Tree, Trees, var, app, more, operand}
+use Rattle.mz_logic_theory.specs.Signature.{Signature}
+use Rattle.mz_logic_theory.specs.Variables.{InFV, InSomeFV, IsBoundAt, IsFreeOperand, IsOperandAt}
+use Rattle.mz_logic_theory.specs.declared.binder.Binder.{Binder}
+use Rattle.mz_logic_theory.proofs.Offered.{one_at}
 
 -- x is what one of the places leads to
 abbrev pub Reaches : (ℕ → ℕ → Type 0) → List ℕ → ℕ → Type 0

@@ -1,14 +1,14 @@
 // The free variables of an expression, in one walk over it.
 ghost use Rattle.std.specs.Prelude.{◌≡◌, ◌↔◌, ◌⊎◌, ◌<◌, ◌++◌, ℕ, List, true, IsTrue, IfOk, OnOk, All, Contains, MatchOption, false, length};
-ghost use Rattle.mz_logic.specs.Declaration.{signatures};
-ghost use Rattle.mz_logic.specs.Legality.{InRange, AllInRange};
-ghost use Rattle.mz_logic.specs.Sorts.{HasSort};
-ghost use Rattle.mz_logic.specs.Tree.{listed, operand, var};
-ghost use Rattle.mz_logic.specs.Variables.{InV, InFV, InSomeFV, IsBoundAt, IsFreeOperand, IsOperandAt};
-ghost use Rattle.mz_logic.specs.View.{tree};
+ghost use Rattle.mz_logic_theory.specs.Declaration.{signatures};
+ghost use Rattle.mz_logic_theory.specs.Legality.{InRange, AllInRange};
+ghost use Rattle.mz_logic_theory.specs.Sorts.{HasSort};
+ghost use Rattle.mz_logic_theory.specs.Tree.{listed, operand, var};
+ghost use Rattle.mz_logic_theory.specs.Variables.{InV, InFV, InSomeFV, IsBoundAt, IsFreeOperand, IsOperandAt};
+ghost use Rattle.mz_logic_theory.specs.View.{tree};
 
 use crate::variables::VariableSet;
-use mz_logic::{Binder, Context, Deps, Env, Expr, Exprs, is_bound_at};
+use mz_logic_theory::{Binder, Context, Deps, Env, Expr, Exprs, is_bound_at};
 use std::alloc::{AllocError, Global};
 
 /// Whether the places hold all variables of FV of the expression.
@@ -172,7 +172,7 @@ fn covers_bound_operand(params: &[Binder], es: &Exprs, place: usize, covered: &V
 }
 
 /// Adds the operands of the bound parameters at these places.
-pub(crate) fn add_bound_operands(
+pub fn add_bound_operands(
     params: &[Binder],
     es: &Exprs,
     places: &Deps,
@@ -190,7 +190,7 @@ pub(crate) fn add_bound_operands(
 }
 
 /// The variable that is the operand of a bound parameter at the place, if there is one.
-pub(crate) fn bound_operand(params: &[Binder], es: &Exprs, place: usize) -> Option<u32>
+pub fn bound_operand(params: &[Binder], es: &Exprs, place: usize) -> Option<u32>
     ensures { MatchOption result ((x : ℕ) → IsBoundAt params.now place → operand es.now place ≡ var x → ⊥) (λ x. IsBoundAt params.now place × (operand es.now place ≡ var x)) }
 {
     if !is_bound_at(params, place) {

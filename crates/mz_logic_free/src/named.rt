@@ -1,11 +1,11 @@
 // Whether expressions name one of many variables, in one walk over them.
 ghost use Rattle.std.specs.Prelude.{◌≡◌, ◌↔◌, ◌⊎◌, ℕ, IsTrue, Contains, true, false};
-ghost use Rattle.mz_logic.specs.Tree.{var};
-ghost use Rattle.mz_logic.specs.Variables.{InV, InSomeV};
-ghost use Rattle.mz_logic.specs.View.{tree};
+ghost use Rattle.mz_logic_theory.specs.Tree.{var};
+ghost use Rattle.mz_logic_theory.specs.Variables.{InV, InSomeV};
+ghost use Rattle.mz_logic_theory.specs.View.{tree};
 
 use crate::variables::VariableSet;
-use mz_logic::{Binder, Context, Deps, Expr, Exprs};
+use mz_logic_theory::{Binder, Context, Deps, Expr, Exprs};
 use std::alloc::Global;
 
 /// Whether one of the variables is in V of one of the expressions.
@@ -34,12 +34,7 @@ fn some_name_other(ctx: &Context, es: &Exprs, variables: &VariableSet, own: &Var
 
 /// The same of one expression.
 #[cycle(names_other)]
-pub(crate) fn names_other(
-    ctx: &Context,
-    expr: &Expr,
-    variables: &VariableSet,
-    own: &VariableSet,
-) -> bool
+pub fn names_other(ctx: &Context, expr: &Expr, variables: &VariableSet, own: &VariableSet) -> bool
     ensures { IsTrue result ↔ ((x : ℕ) × (Contains variables.now x × (Contains own.now x → ⊥)) × InV ctx.now x (tree expr.now)) }
 {
     match expr {

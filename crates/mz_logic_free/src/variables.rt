@@ -2,7 +2,7 @@
 ghost use Rattle.std.specs.Prelude.{◌≡◌, ◌↔◌, ◌⊎◌, ◌++◌, [], ℕ, List, IsTrue, IfOk, OnOk, Contains, length, take};
 
 use indexmap::IndexSet;
-use mz_logic::Deps;
+use mz_logic_theory::Deps;
 use std::alloc::{AllocError, Global};
 use std::marker::Model;
 
@@ -49,7 +49,7 @@ impl VariableSet {
     }
 
     /// Whether there are none.
-    pub(crate) fn is_empty(&self) -> bool
+    pub fn is_empty(&self) -> bool
         ensures { IsTrue result ↔ (length self.now ≡ 0) }
     {
         self.len() == 0

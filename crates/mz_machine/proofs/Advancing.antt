@@ -5,14 +5,15 @@ use Rattle.mz_cmd.specs.declared.command.Cmd.{Cmd}
 use Rattle.mz_cmd.specs.declared.rule.K.{K}
 use Rattle.mz_cmd.specs.Codes.{proof_code}
 use Rattle.mz_base.specs.Gaps.{gaps_of}
-use Rattle.mz_logic.specs.Tree.{Tree}
+use Rattle.mz_logic_theory.specs.Tree.{Tree}
 use Rattle.mz_store.specs.Sharing.{AreIn}
 use Rattle.mz_unify_theory.specs.Profile.{plain}
 use Rattle.mz_unify.specs.Stored.{AreItemsIn}
 use Rattle.mz_machine_theory.specs.MachineState.{Kind, State}
 use Rattle.mz_machine_theory.specs.Bodies.{body_command}
 use Rattle.mz_machine_env.specs.Before.{signatures_of, tables_of}
-use Rattle.mz_machine_env.specs.OwnRow.{byte_of, kind_at, kind_of, heading_of}
+use Rattle.mz_machine_env.specs.OwnRow.{byte_of, kind_of}
+use Rattle.mz_machine_theory.specs.Headings.{kind_at, heading_of}
 use Rattle.mz_machine.specs.OverStore.{Gives, Grows, NeverWants, UnlessMem}
 use Rattle.mz_machine.specs.Running.{IsRunning, machine_of}
 use Rattle.mz_machine.specs.Stepping.{IsStepped, stepped_to}

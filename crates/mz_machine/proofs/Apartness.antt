@@ -1,6 +1,6 @@
 -- The words of a store that tells all variables.
 use Rattle.std.proofs.Common.{◌≡◌, ℕ, List, subst}
-use Rattle.mz_logic.specs.Signature.{Signature}
+use Rattle.mz_logic_theory.specs.Signature.{Signature}
 use Rattle.mz_store.specs.Bits.{Tells, bound_vars}
 use Rattle.mz_store.specs.Sharing.{Sharing, IsIn, IsOver, IsTold, tree_of, deps_of}
 use Rattle.mz_store.specs.declared.item.DepsMode.{DepsMode}

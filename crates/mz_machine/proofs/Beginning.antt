@@ -1,19 +1,20 @@
 -- A machine before the first command.
 use Rattle.std.proofs.Common.{◌≡◌, ◌<◌, ◌≤◌, ◌+◌, ◌∙◌, ℕ, zero, suc, List, [], ◌∷◌, length, map, refl, sym, ap, subst, arith, append-nil}
 use Rattle.std.specs.List.{range_with_len}
-use Rattle.mz_logic.specs.Tree.{Tree, var}
-use Rattle.mz_logic.specs.Words.{binders_of}
-use Rattle.mz_logic.specs.declared.word.Word.{Word}
+use Rattle.mz_logic_theory.specs.Tree.{Tree, var}
+use Rattle.mz_logic_theory.specs.Words.{binders_of}
+use Rattle.mz_logic_theory.specs.declared.word.Word.{Word}
 use Rattle.mz_store.specs.Sharing.{Sharing, tree_of, IsIn, IsOver}
 use Rattle.mz_store.specs.declared.item.Item.TheVariants.{Expr}
 use Rattle.mz_unify_theory.specs.Profile.{strict, Item, expr}
 use Rattle.mz_unify.specs.Stored.{AreItemsIn}
 use Rattle.mz_machine_theory.specs.MachineState.{signatures_in}
 use Rattle.mz_machine_theory.specs.Bodies.{body_start}
-use Rattle.mz_machine_env.specs.OwnRow.{kind_at, heading_of, MayRun, mode_for, own_words, first_items}
+use Rattle.mz_machine_env.specs.OwnRow.{MayRun, mode_for, own_words, first_items}
+use Rattle.mz_machine_theory.specs.Headings.{kind_at, heading_of}
 use Rattle.mz_machine_env.specs.Before.{tables_before}
 use Rattle.mz_machine.specs.OverStore.{heap_at, state_at, AreFirst, IsUnderway}
-use Rattle.mz_layout.specs.declared.taken.Rows.{Rows}
+use Rattle.mz_layout_tables.specs.declared.taken.Rows.{Rows}
 use Rattle.mz_machine_env.proofs.Offered.{binders_many, own-binders}
 use Rattle.mz_machine.proofs.Dummies.{no-dummies}
 use Rattle.mz_machine.proofs.EndRows.{own-are}

@@ -1,9 +1,8 @@
 -- The loop over a body: what the machine keeps, and how many steps it counts at the most.
 use Rattle.std.specs.Prelude.{◌↔◌}
-use Rattle.std.proofs.Common.{◌≡◌, ◌≤◌, ◌<◌, ◌+◌, ◌*◌, ℕ, true, List, length, Result, Ok, Err, refl, sym, ◌∙◌, subst, arith}
-use Rattle.std.proofs.Math.Nat.{add-mul, mul-le-mul_right}
+use Rattle.std.proofs.Common.{◌≡◌, ◌≤◌, ◌<◌, ◌+◌, ℕ, true, List, length, Result, Ok, Err, refl, sym, ◌∙◌, subst, arith}
 use Rattle.mz_cmd.specs.declared.rule.K.{K}
-use Rattle.mz_logic.specs.Tree.{Tree}
+use Rattle.mz_logic_theory.specs.Tree.{Tree}
 use Rattle.mz_machine_theory.specs.MachineState.{State}
 use Rattle.mz_machine_theory.specs.ProofMachine.{proof_end}
 use Rattle.mz_unify_theory.specs.Profile.{plain}
@@ -37,16 +36,6 @@ same-tables u v same = rw (same.file, same.before) refl
 
 pub same-heading : (u v : Underway) → IsSameBody u v → heading_for v ≡ heading_for u
 same-heading u v same = rw (same.file, same.kind, same.row) refl
-
--- a command that takes at least a byte counts at most so many steps more
-pub more-steps : (first steps later at len size : ℕ) → steps ≤ first + at * (size + 1) → later ≤ steps + (1 + size) → 1 ≤ len → later ≤ first + (at + len) * (size + 1)
-more-steps first steps later at len size most more one =
-    let wide : (at + len) * (size + 1) ≡ at * (size + 1) + len * (size + 1) = add-mul at len (size + 1) in
-    let once : 1 * (size + 1) ≤ len * (size + 1) = mul-le-mul_right (size + 1) one in
-    omega (arith, wide, once, most, more)
-
-pub within-steps : (first steps at whole size : ℕ) → steps ≤ first + at * (size + 1) → at ≤ whole → steps ≤ first + whole * (size + 1)
-within-steps first steps at whole size most le = let all : at * (size + 1) ≤ whole * (size + 1) = mul-le-mul_right (size + 1) le in omega (arith, all, most)
 
 -- a place of the body is one of the file
 pub place-fits : (from at whole most : ℕ) → at ≤ whole → from + whole < most → at < most

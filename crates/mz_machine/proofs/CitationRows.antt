@@ -4,10 +4,10 @@ use Rattle.std.specs.Prelude.{nat_le}
 use Rattle.mz_cmd.specs.declared.rule.K.{K}
 use Rattle.mz_cmd.specs.declared.rule.K.TheVariants as k
 use Rattle.mz_cmd.specs.declared.code.ProofCode.TheVariants as code
-use Rattle.mz_logic.specs.Tree.{Tree}
-use Rattle.mz_logic.specs.declared.binder.Binder.{Binder}
-use Rattle.mz_logic.specs.Words.{binders_of}
-use Rattle.mz_layout.specs.Tables.{thm_row}
+use Rattle.mz_logic_theory.specs.Tree.{Tree}
+use Rattle.mz_logic_theory.specs.declared.binder.Binder.{Binder}
+use Rattle.mz_logic_theory.specs.Words.{binders_of}
+use Rattle.mz_layout_tables.specs.Tables.{thm_row}
 use Rattle.mz_unify_theory.specs.Spells.{SpelledThm}
 use Rattle.mz_unify_theory.specs.Profile.{Profile, Item, proof}
 use Rattle.mz_unify_theory.specs.UnifyMachine.{in_citation, Matching, UnifyState, unify, unify_steps}

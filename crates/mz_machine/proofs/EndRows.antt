@@ -3,9 +3,9 @@ use Rattle.std.proofs.Common.{◌≡◌, ◌+◌, ℕ, suc, Bool, true, false, L
 use Rattle.std.specs.List.{range_with_len}
 use Rattle.mz_cmd.specs.declared.rule.K.{K}
 use Rattle.mz_cmd.specs.declared.rule.K.TheVariants as k
-use Rattle.mz_logic.specs.Sorts.{HasSort}
-use Rattle.mz_logic.proofs.Offered.{sort_is}
-use Rattle.mz_logic.specs.declared.binder.Binder.{Binder}
+use Rattle.mz_logic_theory.specs.Sorts.{HasSort}
+use Rattle.mz_logic_theory.proofs.Offered.{sort_is}
+use Rattle.mz_logic_theory.specs.declared.binder.Binder.{Binder}
 use Rattle.mz_unify_theory.specs.Profile.{Profile, Item}
 use Rattle.mz_unify_theory.specs.Steps.{◌>>◌, need}
 use Rattle.mz_unify_theory.specs.UnifyMachine.{at_end, in_definition, Matching, UnifyState, unify, unify_steps}

@@ -4,15 +4,15 @@ use Rattle.std.specs.Prelude.{slice_get, ◌==◌, not, ◌||◌}
 use Rattle.mz_base_theory.proofs.Offered.{drop-past}
 use Rattle.mz_cmd.specs.declared.rule.K.{K}
 use Rattle.mz_cmd.specs.declared.rule.K.TheVariants as k
-use Rattle.mz_logic.specs.Tree.{Tree}
-use Rattle.mz_logic.specs.Signature.{Signature}
-use Rattle.mz_logic.specs.Legality.{sort_of}
-use Rattle.mz_logic.specs.Sorts.{HasSort, IsBoundVar}
-use Rattle.mz_logic.proofs.Offered.{sort_is}
+use Rattle.mz_logic_theory.specs.Tree.{Tree}
+use Rattle.mz_logic_theory.specs.Signature.{Signature}
+use Rattle.mz_logic_theory.specs.Legality.{sort_of}
+use Rattle.mz_logic_theory.specs.Sorts.{HasSort, IsBoundVar}
+use Rattle.mz_logic_theory.proofs.Offered.{sort_is}
 use Rattle.mz_unify_theory.proofs.Offered.{bound-is}
-use Rattle.mz_logic.specs.Words.{word_bound, word_sort, bound_places, binder_of, binders_of}
-use Rattle.mz_logic.specs.declared.binder.Binder.{Binder}
-use Rattle.mz_logic.specs.declared.word.Word.{Word}
+use Rattle.mz_logic_theory.specs.Words.{word_bound, word_sort, bound_places, binder_of, binders_of}
+use Rattle.mz_logic_theory.specs.declared.binder.Binder.{Binder}
+use Rattle.mz_logic_theory.specs.declared.word.Word.{Word}
 use Rattle.mz_unify_theory.specs.Steps.{◌>>◌, need}
 use Rattle.mz_unify_theory.specs.Tests.{is_bound_var}
 use Rattle.mz_machine_theory.specs.Premises.{operands_fit}

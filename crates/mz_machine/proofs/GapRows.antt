@@ -5,9 +5,9 @@ use Rattle.mz_cmd.specs.declared.rule.K.{K}
 use Rattle.mz_cmd.specs.declared.rule.K.TheVariants as k
 use Rattle.mz_cmd.specs.declared.code.ProofCode.{ProofCode}
 use Rattle.mz_cmd.specs.declared.code.ProofCode.TheVariants as code
-use Rattle.mz_logic.specs.Tree.{Tree}
-use Rattle.mz_logic.specs.Sorts.{HasSort}
-use Rattle.mz_logic.proofs.Offered.{sort_is}
+use Rattle.mz_logic_theory.specs.Tree.{Tree}
+use Rattle.mz_logic_theory.specs.Sorts.{HasSort}
+use Rattle.mz_logic_theory.proofs.Offered.{sort_is}
 use Rattle.mz_unify_theory.specs.Profile.{plain, strict, draft, Item, expr, proof, obligation, conversion}
 use Rattle.mz_unify_theory.specs.UnifyMachine.{Matching}
 use Rattle.mz_unify_theory.proofs.Offered.{unify_steps-plain}

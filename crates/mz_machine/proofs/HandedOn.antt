@@ -3,8 +3,8 @@ use Rattle.std.proofs.Common.{◌≡◌, ℕ, List, [], Result, Ok, Err, refl, s
 use Rattle.std.proofs.lemmas.List.{append-nil}
 use Rattle.std.specs.Prelude.{⊤, IsTrue, OnOk, MatchResult}
 use Rattle.mz_cmd.specs.declared.rule.K.{K}
-use Rattle.mz_logic.specs.Tree.{Tree}
-use Rattle.mz_logic.specs.Signature.{Signature}
+use Rattle.mz_logic_theory.specs.Tree.{Tree}
+use Rattle.mz_logic_theory.specs.Signature.{Signature}
 use Rattle.mz_store.specs.Sharing.{Sharing, IsOver}
 use Rattle.mz_unify_theory.specs.Profile.{Profile}
 use Rattle.mz_machine_theory.specs.MachineState.{RowsBefore, State}

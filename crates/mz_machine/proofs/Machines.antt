@@ -4,8 +4,8 @@ use Rattle.std.specs.Prelude.{◌==◌}
 use Rattle.std.proofs.lemmas.List.Elements.{All-append}
 use Rattle.mz_cmd.specs.declared.code.ProofCode.{ProofCode}
 use Rattle.mz_cmd.specs.Codes.{proof_code}
-use Rattle.mz_logic.specs.Legality.{IsDummy}
-use Rattle.mz_logic.specs.Signature.{Signature}
+use Rattle.mz_logic_theory.specs.Legality.{IsDummy}
+use Rattle.mz_logic_theory.specs.Signature.{Signature}
 use Rattle.mz_store.specs.Sharing.{Sharing, AreIn}
 use Rattle.mz_store.specs.declared.item.Id.{Id}
 use Rattle.mz_store.specs.declared.item.Item.{Item as Kept}
@@ -16,13 +16,14 @@ use Rattle.mz_unify.proofs.Offered.{still-in}
 use Rattle.mz_machine_theory.specs.MachineState.{Kind, is_axiom, is_theorem, is_definition, signatures_in}
 use Rattle.mz_machine_theory.specs.Bodies.{BodyCommand, ends, proves, stands_in, if_allowed, body_command}
 use Rattle.mz_machine_env.specs.Before.{tables_before}
-use Rattle.mz_machine_env.specs.OwnRow.{heading_of, mode_for}
+use Rattle.mz_machine_env.specs.OwnRow.{mode_for}
+use Rattle.mz_machine_theory.specs.Headings.{heading_of}
 use Rattle.mz_machine.specs.OverStore.{code_of, for_theorems, Grows, IsUnderway}
 use Rattle.mz_machine.specs.declared.command.Command.{Command}
 use Rattle.mz_machine.specs.declared.command.Command.TheVariants.{Makes, Keeps, Converts}
 use Rattle.mz_machine_env.specs.declared.command.Making.TheVariants as making
 use Rattle.mz_machine_env.specs.declared.command.Converting.TheVariants as converting
-use Rattle.mz_layout.specs.declared.taken.Rows.{Rows}
+use Rattle.mz_layout_tables.specs.declared.taken.Rows.{Rows}
 use Rattle.mz_machine.proofs.TermResults.{tree-kept}
 
 -- ---- commands of theorems

@@ -1,7 +1,7 @@
 -- Items of a store, as expressions.
 use Rattle.std.proofs.Common.{◌≡◌, List, [], ◌∷◌, Ok, refl, subst}
 use Rattle.std.specs.Prelude.{map}
-use Rattle.mz_logic.specs.Tree.{Tree}
+use Rattle.mz_logic_theory.specs.Tree.{Tree}
 use Rattle.mz_store.specs.Sharing.{Sharing, AreIn, tree_of}
 use Rattle.mz_store.specs.declared.item.Id.{Id}
 use Rattle.mz_store.specs.declared.item.Item.{Item as Kept}

@@ -1,8 +1,8 @@
 -- Operands of terms over a store, and a store that grows.
 use Rattle.std.proofs.Common.{◌≡◌, ◌<◌, ℕ, List, [], ◌∷◌, ◌++◌, Ok, length, map, refl, sym, ap, ◌∙◌, subst}
-use Rattle.mz_logic.specs.Signature.{Signature}
-use Rattle.mz_logic.specs.Words.{binders_of, signatures_of as signatures_by}
-use Rattle.mz_layout.specs.Tables.{term_row}
+use Rattle.mz_logic_theory.specs.Signature.{Signature}
+use Rattle.mz_logic_theory.specs.Words.{binders_of, signatures_of as signatures_by}
+use Rattle.mz_layout_tables.specs.Tables.{term_row}
 use Rattle.mz_store.specs.Sharing.{Sharing, tree_of, IsIn, AreIn, IsOver, KeepsIds, CanTake, trees_of as trees_in}
 use Rattle.mz_store.specs.declared.item.Id.{Id}
 use Rattle.mz_store.specs.declared.item.Item.{Item as Kept}

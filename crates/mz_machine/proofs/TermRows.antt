@@ -4,12 +4,12 @@ use Rattle.std.specs.Prelude.{slice_get}
 use Rattle.mz_cmd.specs.declared.rule.K.{K}
 use Rattle.mz_cmd.specs.declared.rule.K.TheVariants as k
 use Rattle.mz_cmd.specs.declared.code.ProofCode.TheVariants as code
-use Rattle.mz_logic.specs.Tree.{Tree, Trees}
-use Rattle.mz_logic.specs.Sorts.{Fits}
-use Rattle.mz_logic.specs.Words.{signature_of, binders_of, signatures_of as signatures_by}
-use Rattle.mz_logic.specs.declared.binder.Binder.{Binder}
-use Rattle.mz_logic.proofs.Offered.{length-binders}
-use Rattle.mz_layout.specs.Tables.{term_row}
+use Rattle.mz_logic_theory.specs.Tree.{Tree, Trees}
+use Rattle.mz_logic_theory.specs.Sorts.{Fits}
+use Rattle.mz_logic_theory.specs.Words.{signature_of, binders_of, signatures_of as signatures_by}
+use Rattle.mz_logic_theory.specs.declared.binder.Binder.{Binder}
+use Rattle.mz_logic_theory.proofs.Offered.{length-binders}
+use Rattle.mz_layout_tables.specs.Tables.{term_row}
 use Rattle.mz_store.specs.Sharing.{CanTake}
 use Rattle.mz_unify_theory.specs.Spells.{SpelledTerm, trees_of}
 use Rattle.mz_unify_theory.specs.Sorted.{AllSorted}

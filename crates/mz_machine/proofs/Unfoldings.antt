@@ -3,12 +3,12 @@ use Rattle.std.proofs.Common.{◌≡◌, ◌<◌, ◌+◌, ℕ, List, [], ◌∷
 use Rattle.std.specs.Prelude.{OnOk}
 use Rattle.std.proofs.lemmas.Option.{slice_get_within}
 use Rattle.std.proofs.lemmas.List.{length-map}
-use Rattle.mz_logic.specs.Tree.{Tree, var, app, listed}
-use Rattle.mz_logic.specs.Signature.{Signature}
-use Rattle.mz_logic.specs.Sorts.{HasSort}
-use Rattle.mz_logic.specs.Words.{TermWords, signature_of, signatures_of as signatures_by}
-use Rattle.mz_logic.specs.declared.binder.Binder.{Binder}
-use Rattle.mz_layout.specs.Tables.{term_row}
+use Rattle.mz_logic_theory.specs.Tree.{Tree, var, app, listed}
+use Rattle.mz_logic_theory.specs.Signature.{Signature}
+use Rattle.mz_logic_theory.specs.Sorts.{HasSort}
+use Rattle.mz_logic_theory.specs.Words.{TermWords, signature_of, signatures_of as signatures_by}
+use Rattle.mz_logic_theory.specs.declared.binder.Binder.{Binder}
+use Rattle.mz_layout_tables.specs.Tables.{term_row}
 use Rattle.mz_store.specs.Sharing.{Sharing, IsIn, IsOver, tree_of, head_of, operands_of}
 use Rattle.mz_store.specs.declared.item.Id.{Id}
 use Rattle.mz_store.specs.declared.item.Item.{Item as Kept}

@@ -2,7 +2,7 @@
 -- (documents of the .mmb format, on proof streams and the proof machine).
 use Rattle.std.specs.Prelude.{◌≡◌, ◌↔◌, ℕ, ⊤, ◌+◌, true, List, length, Result, Ok, Err}
 use Rattle.mz_cmd.specs.declared.rule.K.{K}
-use Rattle.mz_logic.specs.Tree.{Tree}
+use Rattle.mz_logic_theory.specs.Tree.{Tree}
 use Rattle.mz_machine_theory.specs.MachineState.{State, Heading}
 use Rattle.mz_machine_theory.specs.Sound.{HasGap}
 use Rattle.mz_machine.specs.declared.body.BodyEnd.{BodyEnd}

@@ -2,7 +2,8 @@
 use Rattle.std.specs.Prelude.{◌≡◌, length}
 use Rattle.mz_base.specs.Gaps.{gaps_of}
 use Rattle.mz_store.specs.Bits.{bound_vars}
-use Rattle.mz_machine_env.specs.OwnRow.{byte_of, heading_of}
+use Rattle.mz_machine_env.specs.OwnRow.{byte_of}
+use Rattle.mz_machine_theory.specs.Headings.{heading_of}
 use Rattle.mz_machine.specs.OverStore.{IsUnderway, state_at}
 use Rattle.mz_machine.specs.Steps.{Underway}
 use Rattle.mz_machine.specs.declared.machine.Setting.{Setting}

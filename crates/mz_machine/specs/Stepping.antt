@@ -3,14 +3,14 @@ use Rattle.std.specs.Prelude.{◌≡◌, ℕ, ⊤, ◌+◌, ◌≤◌, ◌||◌,
 use Rattle.mz_cmd.specs.declared.command.Cmd.{Cmd}
 use Rattle.mz_cmd.specs.Codes.{proof_code}
 use Rattle.mz_unify_theory.specs.Profile.{plain}
-use Rattle.mz_logic.specs.Tree.{Tree}
+use Rattle.mz_logic_theory.specs.Tree.{Tree}
 use Rattle.mz_machine_theory.specs.MachineState.{State}
 use Rattle.mz_machine_theory.specs.ProofMachine.{proof_end}
 use Rattle.mz_machine_theory.specs.Bodies.{body_command, body_start}
-use Rattle.mz_machine_env.specs.OwnRow.{heading_of}
+use Rattle.mz_machine_theory.specs.Headings.{heading_of}
 use Rattle.mz_machine.specs.Steps.{Underway, tables_for, heading_for, row_of, is_sorry, TakesNone}
 use Rattle.mz_machine.specs.BodyAnswers.{CountsOf}
-use Rattle.mz_layout.specs.declared.taken.Rows.{Rows}
+use Rattle.mz_layout_tables.specs.declared.taken.Rows.{Rows}
 use Rattle.mz_unify.specs.declared.stop.Stop.{Stop}
 use Rattle.mz_unify.specs.declared.stop.Stop.TheVariants as stop
 use Rattle.mz_machine.specs.declared.machine.Stepped.{Stepped}

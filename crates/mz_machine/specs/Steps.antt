@@ -4,16 +4,16 @@ use Rattle.mz_cmd.specs.declared.rule.K.{K}
 use Rattle.mz_cmd.specs.declared.command.Cmd.{Cmd}
 use Rattle.mz_cmd.specs.declared.code.ProofCode.{ProofCode}
 use Rattle.mz_cmd.specs.declared.code.ProofCode.TheVariants as code
-use Rattle.mz_logic.specs.Tree.{Tree}
+use Rattle.mz_logic_theory.specs.Tree.{Tree}
 use Rattle.mz_unify_theory.specs.Profile.{plain, Item}
 use Rattle.mz_machine_theory.specs.MachineState.{RowsBefore, State, Heading}
 use Rattle.mz_machine_theory.specs.Premises.{is_conversion}
 use Rattle.mz_machine_theory.specs.ProofMachine.{ends_with}
 use Rattle.mz_machine_theory.specs.Bodies.{BodyCommand, ends, proves, body_command, match_steps}
-use Rattle.mz_machine_env.specs.OwnRow.{heading_of}
+use Rattle.mz_machine_theory.specs.Headings.{heading_of}
 use Rattle.mz_machine_env.specs.Before.{tables_before}
 use Rattle.mz_machine_env.specs.OneCommand.{row_in, steps_in}
-use Rattle.mz_layout.specs.declared.taken.Rows.{Rows}
+use Rattle.mz_layout_tables.specs.declared.taken.Rows.{Rows}
 
 -- a machine between two commands: whether gaps are let through, the file, the statement whose body runs with the rows
 -- before it, the state, whether a gap was left, and how many expressions its store holds

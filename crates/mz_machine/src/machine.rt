@@ -20,8 +20,8 @@ use crate::commands::{execute, gap};
 use crate::end::end;
 use mz_base::Mode;
 use mz_cmd::{Cmd, K, ProofCode, Steps};
-use mz_layout::{Mmb, Rows};
-use mz_logic::Word;
+use mz_layout_tables::{Mmb, Rows};
+use mz_logic_theory::Word;
 use mz_machine_env::{
     BodyKind, Converting, Earlier, Spare, deps_mode, first_items, kind_by, read_words,
 };

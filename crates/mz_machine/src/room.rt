@@ -1,7 +1,7 @@
 //! Room that one body leaves to the next.
 
 use crate::machine::Parts;
-use mz_logic::Word;
+use mz_logic_theory::Word;
 use mz_store::Seed;
 use std::alloc::{AllocError, Global};
 

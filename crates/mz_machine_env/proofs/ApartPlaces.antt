@@ -7,13 +7,13 @@ use Rattle.std.proofs.lemmas.Nat.Bits.{bit_at_and, bit_at_or, bit_at-zero, same_
 use Rattle.std.proofs.lemmas.Option.{slice_get_within}
 use Rattle.mz_base_theory.proofs.Offered.{slice_get-some, drop-past}
 use Rattle.mz_cmd.specs.declared.rule.K.TheVariants as k
-use Rattle.mz_logic.specs.Tree.{Tree}
-use Rattle.mz_logic.specs.Signature.{Signature}
-use Rattle.mz_logic.specs.Legality.{sort_of}
-use Rattle.mz_logic.specs.Words.{word_bound, word_deps, bound_places, places_set, binder_of, binders_of}
-use Rattle.mz_logic.specs.declared.binder.Binder.{Binder}
-use Rattle.mz_logic.specs.declared.word.Word.{Word}
-use Rattle.mz_logic.specs.Variables.{is_member}
+use Rattle.mz_logic_theory.specs.Tree.{Tree}
+use Rattle.mz_logic_theory.specs.Signature.{Signature}
+use Rattle.mz_logic_theory.specs.Legality.{sort_of}
+use Rattle.mz_logic_theory.specs.Words.{word_bound, word_deps, bound_places, places_set, binder_of, binders_of}
+use Rattle.mz_logic_theory.specs.declared.binder.Binder.{Binder}
+use Rattle.mz_logic_theory.specs.declared.word.Word.{Word}
+use Rattle.mz_logic_theory.specs.Variables.{is_member}
 use Rattle.mz_store.specs.declared.item.Id.{Id}
 use Rattle.mz_unify_theory.specs.Steps.{◌>>◌, need}
 use Rattle.mz_unify_theory.specs.Tests.{is_bound_var, var_within}

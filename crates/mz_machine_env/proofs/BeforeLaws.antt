@@ -4,20 +4,19 @@ use Rattle.std.specs.List.{range_with_len}
 use Rattle.std.proofs.lemmas.List.{length-drop}
 use Rattle.std.proofs.lemmas.Option.{slice_get_past}
 use Rattle.std.proofs.lemmas.List.FromFn.{length-map-range_with_len, get_or-map-range_with_len}
-use Rattle.mz_logic.specs.Words.{term_at, signature_of, binders_of, signatures_of as signatures_by}
-use Rattle.mz_logic.specs.declared.word.Word.{Word}
-use Rattle.mz_logic.specs.Signature.{Signature}
-use Rattle.mz_logic.proofs.Offered.{length-binders}
-use Rattle.mz_layout.specs.Rows.{IsRow}
-use Rattle.mz_layout.specs.Tables.{term_row, term_count, thm_count, term_words}
-use Rattle.mz_layout.specs.declared.row.Row.{Row}
-use Rattle.mz_layout.specs.declared.row.Row.TheVariants.{Term, Thm}
-use Rattle.mz_layout.proofs.Offered.{slice_get-rows, length-term_words, term_at-words}
+use Rattle.mz_logic_theory.specs.Words.{term_at, signature_of, binders_of, signatures_of as signatures_by}
+use Rattle.mz_logic_theory.specs.declared.word.Word.{Word}
+use Rattle.mz_logic_theory.specs.Signature.{Signature}
+use Rattle.mz_logic_theory.proofs.Offered.{length-binders, slice_get-rows}
+use Rattle.mz_layout_tables.specs.Rows.{IsRow}
+use Rattle.mz_layout_tables.specs.Tables.{term_row, term_count, thm_count, term_words}
+use Rattle.mz_layout_tables.specs.declared.row.Row.{Row}
+use Rattle.mz_layout_tables.specs.declared.row.Row.TheVariants.{Term, Thm}
+use Rattle.mz_layout_tables.proofs.Offered.{length-term_words, term_at-words, length-first_sorts}
 use Rattle.mz_unify_theory.specs.Spells.{SpelledTerm}
 use Rattle.mz_machine_theory.specs.FileRows.{term_of_file, thm_of_file}
 use Rattle.mz_machine_env.specs.Before.{Before, AreWithin, tables_of, signatures_of, words_before, sorts_before}
 use Rattle.mz_machine_env.specs.OperandRows.{IsBefore}
-use Rattle.mz_layout_words.proofs.Offered.{length-first_sorts}
 
 pub length-words : (b : Before) → length (words_before b) ≡ b.rows.terms
 length-words b = length-map-range_with_len (λ t. (term_row b.file t).words) 0 b.rows.terms

@@ -8,26 +8,26 @@ use Rattle.std.proofs.lemmas.Bool.{eqb-true}
 use Rattle.std.proofs.Math.Nat.{min-le_right, min-eq_left}
 use Rattle.std.proofs.lemmas.List.Elements.{All-contains}
 use Rattle.mz_base_theory.proofs.Offered.{slice_get-append, slice_get-front, slice_get-append_cases}
-use Rattle.mz_logic.specs.Tree.{Tree, Trees, var, app, none, more, operand}
-use Rattle.mz_logic.specs.Signature.{Signature}
-use Rattle.mz_logic.specs.Sorts.{HasSort, Fits}
-use Rattle.mz_logic.specs.Variables.{InV, InFV, InSomeFV, IsBoundAt, is_member}
-use Rattle.mz_logic.specs.Legality.{AreParams, IsDummy}
-use Rattle.mz_logic.specs.Words.{word_bound, word_deps, bound_places, places_set, binders_from, binders_of, result_of}
-use Rattle.mz_logic.specs.declared.binder.Binder.{Binder}
-use Rattle.mz_logic.specs.declared.binder.SortMods.{SortMods}
-use Rattle.mz_logic.specs.declared.word.Word.{Word}
-use Rattle.mz_logic.proofs.Offered.{one_at, is_at, among-true, place_to}
+use Rattle.mz_logic_theory.specs.Tree.{Tree, Trees, var, app, none, more, operand}
+use Rattle.mz_logic_theory.specs.Signature.{Signature}
+use Rattle.mz_logic_theory.specs.Sorts.{HasSort, Fits}
+use Rattle.mz_logic_theory.specs.Variables.{InV, InFV, InSomeFV, IsBoundAt, is_member}
+use Rattle.mz_logic_theory.specs.Legality.{AreParams, IsDummy}
+use Rattle.mz_logic_theory.specs.Words.{word_bound, word_deps, bound_places, places_set, binders_from, binders_of, result_of}
+use Rattle.mz_logic_theory.specs.declared.binder.Binder.{Binder}
+use Rattle.mz_logic_theory.specs.declared.binder.SortMods.{SortMods}
+use Rattle.mz_logic_theory.specs.declared.word.Word.{Word}
+use Rattle.mz_logic_theory.proofs.Offered.{one_at, is_at, among-true, place_to}
 use Rattle.mz_base_theory.specs.Checks.{AllHold}
-use Rattle.mz_layout.specs.Tables.{term_row, TermRow}
+use Rattle.mz_layout_tables.specs.Tables.{term_row, TermRow}
 use Rattle.mz_store.specs.Bits.{Tells, bound_from, bound_vars}
 use Rattle.mz_store.proofs.Offered.{bound-once, set-from, bound-has, bound-at}
 use Rattle.mz_unify_theory.proofs.Offered.{not-both}
 use Rattle.mz_machine_theory.specs.FreeVars.{in_fv, free_within}
 use Rattle.mz_machine_env.specs.Before.{Before, signatures_of, HasRightWords}
-use Rattle.mz_layout_words.specs.RowWords.{bound_count, first_sorts, word_checks}
+use Rattle.mz_layout_tables.specs.RowWords.{bound_count, first_sorts, word_checks}
 use Rattle.mz_machine_theory.proofs.Offered.{in-fv-true, free-within}
-use Rattle.mz_layout_words.proofs.Offered.{bound-many, result-right, right-words, term-params-right}
+use Rattle.mz_layout_tables.proofs.Offered.{bound-many, result-right, right-words, term-params-right}
 
 -- ---- free variables are bound variables of the context
 

@@ -3,18 +3,19 @@ use Rattle.std.proofs.Common.{◌≡◌, ◌≤◌, ◌+◌, ◌∙◌, ℕ, zer
 use Rattle.std.specs.List.{range_with_len}
 use Rattle.std.proofs.lemmas.List.{map-append}
 use Rattle.mz_base_theory.specs.Checks.{AllHold}
-use Rattle.mz_logic.specs.Words.{binders_of, BitsRight}
-use Rattle.mz_logic.specs.declared.binder.SortMods.{SortMods}
-use Rattle.mz_logic.specs.declared.word.Word.{Word}
-use Rattle.mz_layout.specs.Tables.{TermRow, term_row, thm_row}
-use Rattle.mz_layout.specs.declared.taken.Rows.{Rows}
+use Rattle.mz_logic_theory.specs.Words.{binders_of, BitsRight}
+use Rattle.mz_logic_theory.specs.declared.binder.SortMods.{SortMods}
+use Rattle.mz_logic_theory.specs.declared.word.Word.{Word}
+use Rattle.mz_layout_tables.specs.Tables.{TermRow, term_row, thm_row}
+use Rattle.mz_layout_tables.specs.declared.taken.Rows.{Rows}
 use Rattle.mz_store.specs.declared.item.Id.{Id}
 use Rattle.mz_store.specs.declared.item.Item.{Item as Kept}
 use Rattle.mz_store.specs.declared.item.Item.TheVariants.{Expr, Proof}
 use Rattle.mz_machine_theory.specs.MachineState.{Kind, is_axiom, is_theorem, is_definition}
-use Rattle.mz_layout_words.specs.RowWords.{first_sorts, param_checks, word_checks}
-use Rattle.mz_layout_words.proofs.Offered.{params-right, right-words, term-params-right}
-use Rattle.mz_machine_env.specs.OwnRow.{byte_of, kind_at, kind_of, heading_by, own_words, id_at, first_ids, first_items, IsNextRow}
+use Rattle.mz_layout_tables.specs.RowWords.{first_sorts, param_checks, word_checks}
+use Rattle.mz_layout_tables.proofs.Offered.{params-right, right-words, term-params-right}
+use Rattle.mz_machine_env.specs.OwnRow.{byte_of, kind_of, own_words, id_at, first_ids, first_items, IsNextRow}
+use Rattle.mz_machine_theory.specs.Headings.{kind_at, heading_by}
 use Rattle.mz_machine_env.specs.declared.own.BodyKind.{BodyKind}
 use Rattle.mz_machine_env.specs.declared.own.BodyKind.TheVariants.{Axiom, Definition, Theorem}
 

@@ -2,14 +2,14 @@
 use Rattle.std.specs.Prelude.{◌≤◌, ℕ, List, map}
 use Rattle.std.specs.List.{range_with_len}
 use Rattle.mz_base_theory.specs.Checks.{AllHold}
-use Rattle.mz_logic.specs.Signature.{Signature}
-use Rattle.mz_logic.specs.Words.{TermWords}
-use Rattle.mz_logic.specs.declared.binder.SortMods.{SortMods}
-use Rattle.mz_layout.specs.Tables.{sort_count, term_count, thm_count, term_row, thm_row}
+use Rattle.mz_logic_theory.specs.Signature.{Signature}
+use Rattle.mz_logic_theory.specs.Words.{TermWords}
+use Rattle.mz_logic_theory.specs.declared.binder.SortMods.{SortMods}
+use Rattle.mz_layout_tables.specs.Tables.{sort_count, term_count, thm_count, term_row, thm_row}
 use Rattle.mz_machine_theory.specs.MachineState.{RowsBefore, signatures_in}
-use Rattle.mz_layout_words.specs.RowWords.{first_sorts, param_checks, word_checks}
+use Rattle.mz_layout_tables.specs.RowWords.{first_sorts, param_checks, word_checks}
 use Rattle.mz_machine_theory.specs.FileRows.{Taken, rows_taken}
-use Rattle.mz_layout.specs.declared.taken.Rows.{Rows}
+use Rattle.mz_layout_tables.specs.declared.taken.Rows.{Rows}
 
 -- a file, and how many rows of each of its tables stand before a statement
 pub record Before : Type 0 where

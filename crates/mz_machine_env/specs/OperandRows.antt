@@ -1,7 +1,7 @@
 -- Rows with parameters, and the operands for them.
 use Rattle.std.specs.Prelude.{ℕ, ◌≡◌, ◌<◌, List, Some, slice_get, bit_and}
-use Rattle.mz_layout.specs.declared.row.Row.{Row}
-use Rattle.mz_layout.specs.declared.row.Row.TheVariants.{Term, Thm}
+use Rattle.mz_layout_tables.specs.declared.row.Row.{Row}
+use Rattle.mz_layout_tables.specs.declared.row.Row.TheVariants.{Term, Thm}
 use Rattle.mz_store.specs.declared.item.Id.{Id}
 use Rattle.mz_machine_env.specs.Before.{Before}
 

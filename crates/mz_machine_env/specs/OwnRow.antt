@@ -1,26 +1,21 @@
 -- A statement's own row, and what its body is run for (the .mmb format, its list of statements).
-use Rattle.std.specs.Prelude.{◌≡◌, ◌<◌, ◌≤◌, ◌⊎◌, ℕ, true, false, ◌==◌, if◌then◌else◌, List, [], drop, map}
+use Rattle.std.specs.Prelude.{◌≡◌, ◌<◌, ◌≤◌, ◌⊎◌, ℕ, true, List, [], map}
 use Rattle.std.specs.List.{range_with_len}
-use Rattle.mz_logic.specs.declared.word.Word.{Word}
-use Rattle.mz_layout.specs.Tables.{term_count, thm_count, term_row, thm_row}
+use Rattle.mz_logic_theory.specs.declared.word.Word.{Word}
+use Rattle.mz_layout_tables.specs.Tables.{term_count, thm_count, term_row, thm_row}
 use Rattle.mz_store.specs.declared.item.Item.{Item as Kept}
 use Rattle.mz_store.specs.declared.item.Id.{Id}
 use Rattle.mz_store.specs.declared.item.Item.TheVariants.{Expr, Proof}
 use Rattle.mz_store.specs.declared.item.DepsMode.{DepsMode}
 use Rattle.mz_store.specs.declared.item.DepsMode.TheVariants.{All, Free}
-use Rattle.mz_machine_theory.specs.MachineState.{Kind, is_axiom, is_theorem, is_definition, Heading}
-use Rattle.mz_machine_theory.specs.Lists.{definition_of, assertion_of}
-use Rattle.mz_machine_theory.specs.FileRows.{term_of_file, thm_of_file}
+use Rattle.mz_machine_theory.specs.MachineState.{Kind, is_axiom, is_theorem, is_definition}
 use Rattle.mz_machine_env.specs.Before.{AreWithin, HasRightWords, HasRightParams}
 use Rattle.mz_machine_env.specs.declared.own.BodyKind.{BodyKind}
 use Rattle.mz_machine_env.specs.declared.own.BodyKind.TheVariants.{Axiom, Definition, Theorem}
-use Rattle.mz_layout.specs.declared.taken.Rows.{Rows}
+use Rattle.mz_layout_tables.specs.declared.taken.Rows.{Rows}
+use Rattle.mz_machine_theory.specs.Headings.{kind_at}
 
 -- ---- kinds
-
--- the kind of a statement's body, by the statement's code
-abbrev pub kind_at : ℕ → Kind
-kind_at code = if code == 0x05 then is_definition else (if code == 0x02 then is_axiom else is_theorem)
 
 abbrev pub kind_of : BodyKind → Kind
 kind_of Axiom = is_axiom
@@ -40,15 +35,6 @@ mode_for is_theorem = All
 mode_for is_definition = Free
 
 -- ---- the row
-
--- the heading of a row, as its kind has it
-abbrev pub heading_by : List ℕ → ℕ → Kind → Heading
-heading_by file row is_axiom = assertion_of true (thm_of_file file row)
-heading_by file row is_theorem = assertion_of false (thm_of_file file row)
-heading_by file row is_definition = definition_of (term_of_file file row) (drop (term_row file row).stream_at file)
-
-abbrev pub heading_of : List ℕ → (kind row : ℕ) → Heading
-heading_of file kind row = heading_by file row (kind_at kind)
 
 -- the words of the row's parameters
 abbrev pub own_words : List ℕ → ℕ → Kind → List Word

@@ -1,12 +1,12 @@
 //! The rows before a statement.
 ghost use Rattle.std.specs.Prelude.{◌≡◌, ◌≤◌, ◌<◌, ◌^◌, length, drop, Some, slice_get};
-ghost use Rattle.mz_layout.specs.Rows.{params_of, words_at_of};
-ghost use Rattle.mz_layout.specs.Tables.{mods_of, term_row, thm_row, sort_count, term_count, thm_count};
+ghost use Rattle.mz_layout_tables.specs.Rows.{params_of, words_at_of};
+ghost use Rattle.mz_layout_tables.specs.Tables.{mods_of, term_row, thm_row, sort_count, term_count, thm_count};
 ghost use Rattle.mz_machine_env.specs.Before.{words_before, sorts_before, AreWithin};
 ghost use Rattle.mz_machine_env.specs.OperandRows.{IsBefore};
 
-use mz_layout::{Mmb, Row, Rows};
-use mz_logic::{SortMods, Terms, Word};
+use mz_layout_tables::{Mmb, Row, Rows};
+use mz_logic_theory::{SortMods, Terms, Word};
 use std::marker::Model;
 
 /// The rows before a statement, read in place.
@@ -18,7 +18,7 @@ pub struct Earlier<'a> {
 
 impl<'a> Model for Earlier<'a> {
     ghost use Rattle.mz_machine_env.specs.Before.{Before, AreWithin, words_before, sorts_before};
-    ghost use Rattle.mz_layout.specs.Layout.{IsBinary};
+    ghost use Rattle.mz_layout_tables.specs.Layout.{IsBinary};
 
     ghost Value = { Before };
 
@@ -177,7 +177,7 @@ impl<'a> Earlier<'a> {
 
 #[tactic(auto, using(crate::proofs::BeforeLaws::before_facts))]
 impl<'a> Terms for Earlier<'a> {
-    ghost use Rattle.mz_logic.specs.Words.{term_at};
+    ghost use Rattle.mz_logic_theory.specs.Words.{term_at};
 
     ghost all_sorts = { sorts_before };
 

@@ -1,10 +1,11 @@
 //! A statement's own row, which comes right after the rows before it, and the kind of its body.
 ghost use Rattle.std.specs.Prelude.{◌≡◌, ◌≤◌, ◌<◌, ◌^◌, OnOk, length, map, slice_get, Some};
 ghost use Rattle.mz_store.specs.declared.item.Item.TheVariants.{Proof};
-ghost use Rattle.mz_machine_env.specs.OwnRow.{IsNextRow, kind_at, kind_of, mode_for, heading_by, own_words, own_proofs, first_ids, first_items};
+ghost use Rattle.mz_machine_env.specs.OwnRow.{IsNextRow, kind_of, mode_for, own_words, own_proofs, first_ids, first_items};
+ghost use Rattle.mz_machine_theory.specs.Headings.{kind_at, heading_by};
 
 use crate::earlier::Earlier;
-use mz_logic::Word;
+use mz_logic_theory::Word;
 use mz_store::{DepsMode, Id, Item};
 use std::alloc::AllocError;
 

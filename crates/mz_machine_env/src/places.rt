@@ -1,8 +1,8 @@
 //! Who may share a variable at two places of a row.
 ghost use Rattle.std.specs.Prelude.{◌≡◌, ◌%◌, ◌==◌, ◌||◌, ◌&&◌, nat_lt, if◌then◌else◌};
-ghost use Rattle.mz_logic.specs.Words.{word_bound, word_deps};
+ghost use Rattle.mz_logic_theory.specs.Words.{word_bound, word_deps};
 
-use mz_logic::Word;
+use mz_logic_theory::Word;
 
 /// The bits of the bound parameters on which a parameter depends, none of a bound one.
 #[inline(always)]

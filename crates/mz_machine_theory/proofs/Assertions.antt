@@ -3,15 +3,15 @@ use Rattle.std.proofs.Common.{◌≡◌, ℕ, zero, suc, ◌+◌, Bool, true, fa
 use Rattle.std.specs.Prelude.{slice_get, reverse}
 use Rattle.std.proofs.lemmas.List.{reverse-append}
 use Rattle.mz_cmd.specs.declared.rule.K.TheVariants as k
-use Rattle.mz_logic.specs.Tree.{Tree, var, listed}
-use Rattle.mz_logic.specs.Signature.{Signature}
-use Rattle.mz_logic.specs.Declaration.{Assertion, Declaration, assertion_decl, sorts, signatures}
-use Rattle.mz_logic.specs.Sorts.{HasProvable, AreProvable}
-use Rattle.mz_logic.specs.Legality.{IsLegalDecl, IsLegalEnv}
-use Rattle.mz_logic.specs.Derivations.{Uses, Derives}
-use Rattle.mz_logic.specs.LegalLists.{IsProvedBy}
-use Rattle.mz_logic.specs.declared.binder.Binder.{Binder}
-use Rattle.mz_logic.proofs.Offered.{assertions_are_sorted, derived_has_provable}
+use Rattle.mz_logic_theory.specs.Tree.{Tree, var, listed}
+use Rattle.mz_logic_theory.specs.Signature.{Signature}
+use Rattle.mz_logic_theory.specs.Declaration.{Assertion, Declaration, assertion_decl, sorts, signatures}
+use Rattle.mz_logic_theory.specs.Sorts.{HasProvable, AreProvable}
+use Rattle.mz_logic_theory.specs.Legality.{IsLegalDecl, IsLegalEnv}
+use Rattle.mz_logic_theory.specs.Derivations.{Uses, Derives}
+use Rattle.mz_logic_theory.specs.LegalLists.{IsProvedBy}
+use Rattle.mz_logic_theory.specs.declared.binder.Binder.{Binder}
+use Rattle.mz_logic_theory.proofs.Offered.{assertions_are_sorted, derived_has_provable}
 use Rattle.mz_unify_theory.specs.Streams.{of_assertion}
 use Rattle.mz_unify_theory.specs.Spells.{trees_of, variables_from, Text, SpellsThm}
 use Rattle.mz_unify_theory.specs.Profile.{plain, strict, Item, expr, proof}

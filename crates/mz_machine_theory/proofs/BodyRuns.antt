@@ -18,7 +18,7 @@ use Rattle.mz_machine_theory.specs.Bodies.{BodyCommand, ends, proves, fst_of, bo
 use Rattle.mz_machine_theory.specs.ProofMachine.{proof_row, proof_end, citation, unfolding_of, stream_of, last_item, ending, own_stream, as_proofs, has_provable_sort, ends_with}
 use Rattle.mz_machine_theory.specs.Premises.{pop_expr, pop_operands, pop_sides, operands_fit, are_apart}
 use Rattle.mz_machine_theory.specs.FreeVars.{free_within}
-use Rattle.mz_logic.specs.Legality.{sort_of}
+use Rattle.mz_logic_theory.specs.Legality.{sort_of}
 use Rattle.mz_machine_theory.specs.Laws.{StreamsWithin}
 
 module _ (P : Profile) (tables : RowsBefore) (h : Heading) where

@@ -1,8 +1,8 @@
 -- The rows of the tables and the declarations that they spell.
 use Rattle.std.proofs.Common.{◌≡◌, ℕ, zero, suc, List, [], ◌∷◌, map, length, Some, refl, sym, ap, subst, ◌∙◌}
 use Rattle.std.specs.Prelude.{slice_get}
-use Rattle.mz_logic.specs.Signature.{Signature}
-use Rattle.mz_logic.specs.Declaration.{Term, Declaration, sort_decl, term_decl, assertion_decl, terms, signatures}
+use Rattle.mz_logic_theory.specs.Signature.{Signature}
+use Rattle.mz_logic_theory.specs.Declaration.{Term, Declaration, sort_decl, term_decl, assertion_decl, terms, signatures}
 use Rattle.mz_unify_theory.specs.Spells.{SpelledTerm, SpellsTerm}
 use Rattle.mz_machine_theory.specs.MachineState.{RowsBefore, signatures_in, Pairwise, Declares}
 

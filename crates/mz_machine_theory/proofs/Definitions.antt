@@ -6,18 +6,18 @@ use Rattle.std.proofs.lemmas.Option.{slice_get_within}
 use Rattle.std.proofs.lemmas.List.Elements.{All-contains}
 use Rattle.mz_base_theory.proofs.Offered.{slice_get-append, slice_get-some as there, slice_get-append_add}
 use Rattle.mz_cmd.specs.declared.rule.K.TheVariants as k
-use Rattle.mz_logic.specs.Tree.{Tree, Trees, var, app, none, instance}
-use Rattle.mz_logic.specs.Signature.{Signature}
-use Rattle.mz_logic.specs.Declaration.{defined, Term, Declaration, term_decl, sorts, signatures}
-use Rattle.mz_logic.specs.Modifiers.{MayBeDummySort}
-use Rattle.mz_logic.specs.Sorts.{HasSort}
-use Rattle.mz_logic.specs.Variables.{InV, InSomeV, InFV, IsBoundAt}
-use Rattle.mz_logic.specs.Legality.{sort_of, AreParams, IsDummy, IsLegalDecl}
-use Rattle.mz_logic.specs.Conversions.{IsBoundOf, AreFresh}
-use Rattle.mz_logic.specs.LegalLists.{AreDummies}
-use Rattle.mz_logic.specs.declared.binder.Binder.{Binder}
-use Rattle.mz_logic.specs.declared.binder.SortMods.{SortMods}
-use Rattle.mz_logic.proofs.Offered.{split_at, all_from_each, terms_are_sorted, sort_is, range_of_sort, DepsInside, free_below}
+use Rattle.mz_logic_theory.specs.Tree.{Tree, Trees, var, app, none, instance}
+use Rattle.mz_logic_theory.specs.Signature.{Signature}
+use Rattle.mz_logic_theory.specs.Declaration.{defined, Term, Declaration, term_decl, sorts, signatures}
+use Rattle.mz_logic_theory.specs.Modifiers.{MayBeDummySort}
+use Rattle.mz_logic_theory.specs.Sorts.{HasSort}
+use Rattle.mz_logic_theory.specs.Variables.{InV, InSomeV, InFV, IsBoundAt}
+use Rattle.mz_logic_theory.specs.Legality.{sort_of, AreParams, IsDummy, IsLegalDecl}
+use Rattle.mz_logic_theory.specs.Conversions.{IsBoundOf, AreFresh}
+use Rattle.mz_logic_theory.specs.LegalLists.{AreDummies}
+use Rattle.mz_logic_theory.specs.declared.binder.Binder.{Binder}
+use Rattle.mz_logic_theory.specs.declared.binder.SortMods.{SortMods}
+use Rattle.mz_logic_theory.proofs.Offered.{split_at, all_from_each, terms_are_sorted, sort_is, range_of_sort, DepsInside, free_below}
 use Rattle.mz_unify_theory.specs.Streams.{of_definition}
 use Rattle.mz_unify_theory.specs.Spells.{trees_of, dummy_of, variables_from, SpellsTerm}
 use Rattle.mz_unify_theory.specs.Profile.{plain, strict, Item, expr}

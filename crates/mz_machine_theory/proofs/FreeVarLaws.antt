@@ -1,12 +1,12 @@
 -- The test of free variables decides them.
 use Rattle.std.proofs.Common.{◌≡◌, ◌<◌, ℕ, zero, suc, Bool, true, false, eqb, List, [], ◌∷◌, Option, Some, None, refl, sym, ap, subst, ◌∙◌, ◌⊎◌, inl, inr, arith, eq-eqb, not-suc-le-zero}
 use Rattle.std.specs.Prelude.{slice_get, Contains, ◌||◌, ◌&&◌, not}
-use Rattle.std.proofs.lemmas.Bool.{eqb-true, and_from, or_right, or_left, not_from_false}
+use Rattle.std.proofs.lemmas.Bool.{eqb-true, and_from, or_right, or_left, not_from_false, cases_Bool}
 use Rattle.mz_base_theory.proofs.Offered.{both-true, not-true, or-cases}
-use Rattle.mz_logic.specs.Tree.{Tree, Trees, var, app, none, more, operand}
-use Rattle.mz_logic.specs.Signature.{Signature}
-use Rattle.mz_logic.specs.Variables.{InFV, InSomeFV, IsBoundAt, IsOperandAt, is_member}
-use Rattle.mz_logic.specs.declared.binder.Binder.{Binder}
+use Rattle.mz_logic_theory.specs.Tree.{Tree, Trees, var, app, none, more, operand}
+use Rattle.mz_logic_theory.specs.Signature.{Signature}
+use Rattle.mz_logic_theory.specs.Variables.{InFV, InSomeFV, IsBoundAt, IsOperandAt, is_member}
+use Rattle.mz_logic_theory.specs.declared.binder.Binder.{Binder}
 use Rattle.mz_unify_theory.specs.Tests.{is_bound_at}
 use Rattle.mz_unify_theory.proofs.Offered.{not-both, member-contains, in-v-true, v-in}
 use Rattle.mz_machine_theory.specs.FreeVars.{is_var, named_at, in_result, params_of, in_fv, in_some_fv, free_within}
@@ -40,10 +40,6 @@ named-in params all (i ∷ js) x (j, (zero, lt, is), (b, at, bound), v) =
 named-in params all (i ∷ js) x (j, (suc k, lt, is), b, v) =
     or_right (is_bound_at (slice_get params i) && is_var x (operand all i)) (named_at params all js x) (named-in params all js x (j, (k, omega arith, is), b, v))
 
-decided : (b : Bool) → (b ≡ true) ⊎ (b ≡ false)
-decided true = inl refl
-decided false = inr refl
-
 mutual
   pub fv-in : (sigs : List Signature) (ctx : List Binder) (x : ℕ) (e : Tree) → InFV sigs ctx x e → in_fv sigs ctx x e ≡ true
   fv-in sigs ctx x (var y) h = v-in ctx x (var y) h
@@ -57,7 +53,7 @@ mutual
   some-fv-in sigs ctx x params all [] (more e es) h = absurd h
   some-fv-in sigs ctx x params all (p ∷ ps) (more e es) (inl (regular, free, out)) =
       or_left (not p.bound && in_fv sigs ctx x e && not (named_at params all p.deps x)) (in_some_fv sigs ctx x params all ps es)
-      (three (not p.bound) (in_fv sigs ctx x e) (not (named_at params all p.deps x)) (not_from_false p.bound regular) (fv-in sigs ctx x e free) (open-one (decided (named_at params all p.deps x))))
+      (three (not p.bound) (in_fv sigs ctx x e) (not (named_at params all p.deps x)) (not_from_false p.bound regular) (fv-in sigs ctx x e free) (open-one (cases_Bool (named_at params all p.deps x))))
     where
       three : (a b c : Bool) → a ≡ true → b ≡ true → c ≡ true → (a && b && c) ≡ true
       three true true c p q r = r

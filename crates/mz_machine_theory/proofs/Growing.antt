@@ -1,8 +1,8 @@
 -- A row that spells the next declaration may be added to the tables.
 use Rattle.std.proofs.Common.{◌≡◌, List, [], ◌∷◌, ◌++◌, refl, sym, ap, subst, ◌∙◌}
-use Rattle.mz_logic.specs.Declaration.{Term, Assertion, Declaration, sort_decl, term_decl, assertion_decl, sorts, terms, signatures, assertions}
-use Rattle.mz_logic.specs.declared.binder.SortMods.{SortMods}
-use Rattle.mz_logic.proofs.Offered.{Extends, env_extends_append, sorts-append, terms-append, assertions-append}
+use Rattle.mz_logic_theory.specs.Declaration.{Term, Assertion, Declaration, sort_decl, term_decl, assertion_decl, sorts, terms, signatures, assertions}
+use Rattle.mz_logic_theory.specs.declared.binder.SortMods.{SortMods}
+use Rattle.mz_logic_theory.proofs.Offered.{Extends, env_extends_append, sorts-append, terms-append, assertions-append}
 use Rattle.mz_unify_theory.specs.Spells.{SpelledTerm, SpelledThm, SpellsTerm, SpellsThm}
 use Rattle.mz_unify_theory.proofs.Offered.{assertion-longer, term-longer}
 use Rattle.mz_machine_theory.specs.MachineState.{RowsBefore, Pairwise, Declares}

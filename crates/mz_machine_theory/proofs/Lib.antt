@@ -15,4 +15,5 @@ pub mod Lists
 pub mod ListSteps
 pub mod Ungapped
 pub mod StrictRuns
+pub mod Steps
 pub mod Offered

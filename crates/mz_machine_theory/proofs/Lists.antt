@@ -1,14 +1,14 @@
 -- Good entries spell one list of statements, which is legal.
 use Rattle.std.proofs.Common.{◌≡◌, ◌≢◌, ℕ, Bool, true, false, List, [], ◌∷◌, ◌++◌, Option, Some, None, refl, sym, ap, subst, ◌∙◌, arith, true≢false}
-use Rattle.mz_logic.specs.Tree.{Tree, none, more}
-use Rattle.mz_logic.specs.Signature.{Signature}
-use Rattle.mz_logic.specs.Declaration.{Form, plain_form, abstract_form, defined, Term, Assertion, Declaration, sort_decl, term_decl, assertion_decl, body_of, sorts, signatures}
-use Rattle.mz_logic.specs.Legality.{IsLegalDecl, IsLegalEnv}
-use Rattle.mz_logic.specs.Derivations.{without_gaps}
-use Rattle.mz_logic.specs.LegalLists.{Statement, IsProvedBy, IsLegalStatement, LegalAfter, LegalBy, allowed_with}
-use Rattle.mz_logic.specs.declared.binder.Binder.{Binder}
-use Rattle.mz_logic.specs.declared.binder.SortMods.{SortMods}
-use Rattle.mz_logic.proofs.Offered.{cites_more, legal_push, terms_are_sorted}
+use Rattle.mz_logic_theory.specs.Tree.{Tree, none, more}
+use Rattle.mz_logic_theory.specs.Signature.{Signature}
+use Rattle.mz_logic_theory.specs.Declaration.{Form, plain_form, abstract_form, defined, Term, Assertion, Declaration, sort_decl, term_decl, assertion_decl, body_of, sorts, signatures}
+use Rattle.mz_logic_theory.specs.Legality.{IsLegalDecl, IsLegalEnv}
+use Rattle.mz_logic_theory.specs.Derivations.{without_gaps}
+use Rattle.mz_logic_theory.specs.LegalLists.{Statement, IsProvedBy, IsLegalStatement, LegalAfter, LegalBy, allowed_with}
+use Rattle.mz_logic_theory.specs.declared.binder.Binder.{Binder}
+use Rattle.mz_logic_theory.specs.declared.binder.SortMods.{SortMods}
+use Rattle.mz_logic_theory.proofs.Offered.{cites_more, legal_push, terms_are_sorted}
 use Rattle.mz_unify_theory.specs.Spells.{SpelledTerm, SpelledThm, SpellsForm, SpellsTerm}
 use Rattle.mz_unify_theory.proofs.Offered.{one-assertion, one-term}
 use Rattle.mz_machine_theory.specs.MachineState.{RowsBefore, Declares}

@@ -2,12 +2,12 @@
 use Rattle.std.proofs.Common.{◌≡◌, ℕ, zero, suc, ◌+◌, ◌<◌, List, [], ◌∷◌, ◌++◌, length, Some, refl, sym, ap, subst, ◌∙◌, inl, inr, arith}
 use Rattle.std.specs.Prelude.{slice_get}
 use Rattle.mz_base_theory.proofs.Offered.{slice_get-some as there}
-use Rattle.mz_logic.specs.Tree.{Tree, Trees, var, app, none, more, operand, instance, instances}
-use Rattle.mz_logic.specs.Signature.{Signature}
-use Rattle.mz_logic.specs.Sorts.{IsBoundVar, HasSort, Fits}
-use Rattle.mz_logic.specs.Variables.{InV, InFV, InSomeFV, IsOperandAt}
-use Rattle.mz_logic.specs.declared.binder.Binder.{Binder}
-use Rattle.mz_logic.proofs.Offered.{extends_append, same-variable}
+use Rattle.mz_logic_theory.specs.Tree.{Tree, Trees, var, app, none, more, operand, instance, instances}
+use Rattle.mz_logic_theory.specs.Signature.{Signature}
+use Rattle.mz_logic_theory.specs.Sorts.{IsBoundVar, HasSort, Fits}
+use Rattle.mz_logic_theory.specs.Variables.{InV, InFV, InSomeFV, IsOperandAt}
+use Rattle.mz_logic_theory.specs.declared.binder.Binder.{Binder}
+use Rattle.mz_logic_theory.proofs.Offered.{extends_append, same-variable}
 use Rattle.mz_unify_theory.specs.Spells.{trees_of, variables_from}
 use Rattle.mz_unify_theory.proofs.Offered.{some_is, Below, AllBelow}
 
@@ -80,7 +80,7 @@ module _ (sigs : List Signature) (ctx ctx' : List Binder) (f : Trees) (g : ℕ �
 
 -- ---- the parameters alone
 
-first-operand : (j : ℕ) (ps : List Binder) (x : ℕ) → x < length ps → operand (trees_of (variables_from j ps)) x ≡ var (j + x)
+pub first-operand : (j : ℕ) (ps : List Binder) (x : ℕ) → x < length ps → operand (trees_of (variables_from j ps)) x ≡ var (j + x)
 first-operand j [] x lt = absurd (omega arith)
 first-operand j (p ∷ ps) zero lt = ap var (omega arith)
 first-operand j (p ∷ ps) (suc x) lt = first-operand (suc j) ps x (omega arith) ∙ ap var (omega arith)

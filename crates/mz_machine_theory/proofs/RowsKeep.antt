@@ -7,18 +7,18 @@ use Rattle.mz_base_theory.proofs.Offered.{slice_get-last, both-true}
 use Rattle.mz_cmd.specs.declared.rule.K.TheVariants as k
 use Rattle.mz_cmd.specs.declared.code.ProofCode.{ProofCode}
 use Rattle.mz_cmd.specs.declared.code.ProofCode.TheVariants as code
-use Rattle.mz_logic.specs.Tree.{Tree, var, app, none, listed, instances}
-use Rattle.mz_logic.specs.Signature.{Signature}
-use Rattle.mz_logic.specs.Declaration.{Form, plain_form, abstract_form, defined, Declaration, sorts, terms, signatures, assertions}
-use Rattle.mz_logic.specs.Modifiers.{MayBeDummySort}
-use Rattle.mz_logic.specs.Sorts.{HasSort, Fits, HasProvable}
-use Rattle.mz_logic.specs.Variables.{Apart}
-use Rattle.mz_logic.specs.Legality.{sort_of, IsDummy}
-use Rattle.mz_logic.specs.Conversions.{refl_conv, sym_conv, cong_conv, unfold_conv, gap_conv, Between, AreFresh}
-use Rattle.mz_logic.specs.Derivations.{hypothesis, cite, convert, gap, Uses, AllDerive}
-use Rattle.mz_logic.specs.LegalLists.{AreDummies}
-use Rattle.mz_logic.specs.declared.binder.Binder.{Binder}
-use Rattle.mz_logic.proofs.Offered.{extends_itself, sort_extends, fits_extends, apart_extends, fresh_extends, split_at, sort_is}
+use Rattle.mz_logic_theory.specs.Tree.{Tree, var, app, none, listed, instances}
+use Rattle.mz_logic_theory.specs.Signature.{Signature}
+use Rattle.mz_logic_theory.specs.Declaration.{Form, plain_form, abstract_form, defined, Declaration, sorts, terms, signatures, assertions}
+use Rattle.mz_logic_theory.specs.Modifiers.{MayBeDummySort}
+use Rattle.mz_logic_theory.specs.Sorts.{HasSort, Fits, HasProvable}
+use Rattle.mz_logic_theory.specs.Variables.{Apart}
+use Rattle.mz_logic_theory.specs.Legality.{sort_of, IsDummy}
+use Rattle.mz_logic_theory.specs.Conversions.{refl_conv, sym_conv, cong_conv, unfold_conv, gap_conv, Between, AreFresh}
+use Rattle.mz_logic_theory.specs.Derivations.{hypothesis, cite, convert, gap, Uses, AllDerive}
+use Rattle.mz_logic_theory.specs.LegalLists.{AreDummies}
+use Rattle.mz_logic_theory.specs.declared.binder.Binder.{Binder}
+use Rattle.mz_logic_theory.proofs.Offered.{extends_itself, sort_extends, fits_extends, apart_extends, fresh_extends, split_at, sort_is}
 use Rattle.mz_unify_theory.specs.Streams.{of_definition}
 use Rattle.mz_unify_theory.specs.Spells.{trees_of, dummy_of, Text, SpelledTerm, SpellsForm, SpellsTerm, SpellsThm}
 use Rattle.mz_unify_theory.specs.Profile.{plain, strict, tree_parts, Item, expr, proof, obligation, conversion}

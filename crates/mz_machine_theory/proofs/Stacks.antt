@@ -3,12 +3,12 @@ use Rattle.std.proofs.Common.{◌≡◌, ℕ, zero, suc, ◌+◌, leb, List, [],
 use Rattle.std.specs.Prelude.{slice_get, reverse}
 use Rattle.std.proofs.lemmas.List.{reverse-append}
 use Rattle.mz_cmd.specs.declared.rule.K.TheVariants as k
-use Rattle.mz_logic.specs.Tree.{Tree, Trees, none, more, listed}
-use Rattle.mz_logic.specs.Declaration.{Declaration, signatures}
-use Rattle.mz_logic.specs.Sorts.{HasProvable}
-use Rattle.mz_logic.specs.Conversions.{Conversions, no_convs, more_convs, AllBetween, AllGapsOnly}
-use Rattle.mz_logic.specs.Derivations.{Derivation, Derivations, hypothesis, cite, convert, gap, no_derivs, more_derivs, Derives, AllDerive, Uses, AllCiteOnly}
-use Rattle.mz_logic.specs.declared.binder.Binder.{Binder}
+use Rattle.mz_logic_theory.specs.Tree.{Tree, Trees, none, more, listed}
+use Rattle.mz_logic_theory.specs.Declaration.{Declaration, signatures}
+use Rattle.mz_logic_theory.specs.Sorts.{HasProvable}
+use Rattle.mz_logic_theory.specs.Conversions.{Conversions, no_convs, more_convs, AllBetween, AllGapsOnly}
+use Rattle.mz_logic_theory.specs.Derivations.{Derivation, Derivations, hypothesis, cite, convert, gap, no_derivs, more_derivs, Derives, AllDerive, Uses, AllCiteOnly}
+use Rattle.mz_logic_theory.specs.declared.binder.Binder.{Binder}
 use Rattle.mz_unify_theory.specs.Spells.{trees_of}
 use Rattle.mz_unify_theory.specs.Profile.{strict, Item, expr, proof, obligation, conversion}
 use Rattle.mz_unify_theory.specs.Sorted.{Sorted, AllSorted, ItemSorted, ItemsSorted}

@@ -8,7 +8,7 @@ use Rattle.mz_cmd.specs.declared.code.ProofCode.{ProofCode}
 use Rattle.mz_cmd.specs.declared.code.ProofCode.TheVariants as code
 use Rattle.mz_cmd.specs.Codes.{proof_code}
 use Rattle.mz_cmd.specs.Reading.{first_command}
-use Rattle.mz_logic.specs.Tree.{Tree}
+use Rattle.mz_logic_theory.specs.Tree.{Tree}
 use Rattle.mz_unify_theory.specs.Steps.{◌>>=◌, ◌>>◌, need, at_place, Turn, over, goes_on, follow}
 use Rattle.mz_unify_theory.specs.Profile.{plain, strict, expr}
 use Rattle.mz_unify_theory.specs.UnifyMachine.{is_empty}

@@ -1,10 +1,10 @@
 -- A theorem that isn't gapped has a derivation without gaps that cites no gapped theorem.
 use Rattle.std.proofs.Common.{ℕ, Bool, List, [], ◌∷◌, ◌++◌, length, subst, inl, inr}
 use Rattle.std.specs.Prelude.{◌<◌}
-use Rattle.mz_logic.specs.Declaration.{Assertion, Declaration, sort_decl, term_decl, assertion_decl, assertions}
-use Rattle.mz_logic.specs.Derivations.{without_gaps}
-use Rattle.mz_logic.specs.LegalLists.{Statement, IsProvedBy}
-use Rattle.mz_logic.proofs.Offered.{cites_more}
+use Rattle.mz_logic_theory.specs.Declaration.{Assertion, Declaration, sort_decl, term_decl, assertion_decl, assertions}
+use Rattle.mz_logic_theory.specs.Derivations.{without_gaps}
+use Rattle.mz_logic_theory.specs.LegalLists.{Statement, IsProvedBy}
+use Rattle.mz_logic_theory.proofs.Offered.{cites_more}
 use Rattle.mz_machine_theory.specs.Lists.{Entry, a_sort, a_term, an_assertion, ProvedByBody, ProvedByBodies}
 use Rattle.mz_machine_theory.specs.Sound.{used_by, cites_as}
 use Rattle.mz_machine_theory.specs.Gapped.{IsGappedBody, gapped_with, free_of, IsFreeUnlessGapped, AreFreeUnlessGapped, UngappedAreProved}

@@ -1,12 +1,12 @@
 -- The fact that every row of the machine keeps: the heart of soundness.
 use Rattle.std.specs.Prelude.{◌≡◌, ℕ, ⊤, List, [], ◌∷◌, ◌++◌, Some, slice_get}
-use Rattle.mz_logic.specs.Tree.{Tree}
-use Rattle.mz_logic.specs.Declaration.{Declaration, sorts, signatures}
-use Rattle.mz_logic.specs.Sorts.{HasProvable}
-use Rattle.mz_logic.specs.Conversions.{Conversion, Between, GapsOnly}
-use Rattle.mz_logic.specs.Derivations.{Derivation, Derives, Uses, CitesOnly}
-use Rattle.mz_logic.specs.LegalLists.{AreDummies}
-use Rattle.mz_logic.specs.declared.binder.Binder.{Binder}
+use Rattle.mz_logic_theory.specs.Tree.{Tree}
+use Rattle.mz_logic_theory.specs.Declaration.{Declaration, sorts, signatures}
+use Rattle.mz_logic_theory.specs.Sorts.{HasProvable}
+use Rattle.mz_logic_theory.specs.Conversions.{Conversion, Between, GapsOnly}
+use Rattle.mz_logic_theory.specs.Derivations.{Derivation, Derives, Uses, CitesOnly}
+use Rattle.mz_logic_theory.specs.LegalLists.{AreDummies}
+use Rattle.mz_logic_theory.specs.declared.binder.Binder.{Binder}
 use Rattle.mz_unify_theory.specs.Spells.{trees_of}
 use Rattle.mz_unify_theory.specs.Sorted.{ItemsSorted}
 use Rattle.mz_unify_theory.specs.Profile.{Item, expr, proof, obligation, conversion}

@@ -2,10 +2,10 @@
 -- of terms and theorems).
 use Rattle.std.specs.Prelude.{ℕ, if◌then◌else◌, List, [], drop, map, length, Option, Some, None}
 use Rattle.std.specs.List.{range_with_len}
-use Rattle.mz_logic.specs.Declaration.{Declaration, sorts, terms, assertions}
-use Rattle.mz_logic.specs.Words.{binders_of, signature_of}
-use Rattle.mz_logic.specs.declared.binder.SortMods.{SortMods}
-use Rattle.mz_layout.specs.Tables.{TermRow, term_row, thm_row}
+use Rattle.mz_logic_theory.specs.Declaration.{Declaration, sorts, terms, assertions}
+use Rattle.mz_logic_theory.specs.Words.{binders_of, signature_of}
+use Rattle.mz_logic_theory.specs.declared.binder.SortMods.{SortMods}
+use Rattle.mz_layout_tables.specs.Tables.{TermRow, term_row, thm_row}
 use Rattle.mz_unify_theory.specs.Spells.{SpelledTerm, SpelledThm}
 use Rattle.mz_machine_theory.specs.MachineState.{RowsBefore}
 

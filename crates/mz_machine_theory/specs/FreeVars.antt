@@ -1,9 +1,9 @@
 -- The free variables of an expression, computed (Carneiro, the section on variables and dependencies).
 use Rattle.std.specs.Prelude.{ℕ, zero, suc, Bool, true, false, not, ◌==◌, ◌||◌, ◌&&◌, List, [], ◌∷◌, Option, Some, None, slice_get}
-use Rattle.mz_logic.specs.Tree.{Tree, Trees, var, app, none, more, operand}
-use Rattle.mz_logic.specs.Signature.{Signature}
-use Rattle.mz_logic.specs.declared.binder.Binder.{Binder}
-use Rattle.mz_logic.specs.Variables.{is_member}
+use Rattle.mz_logic_theory.specs.Tree.{Tree, Trees, var, app, none, more, operand}
+use Rattle.mz_logic_theory.specs.Signature.{Signature}
+use Rattle.mz_logic_theory.specs.declared.binder.Binder.{Binder}
+use Rattle.mz_logic_theory.specs.Variables.{is_member}
 use Rattle.mz_unify_theory.specs.Tests.{is_bound_at, in_var}
 
 -- the expression is the variable x

@@ -1,9 +1,9 @@
 -- Gapped theorems: those whose body leaves a gap or cites a gapped one. The others have derivations without gaps
 -- (documents of the .mmb format, on proof streams and their command Sorry; Carneiro, the rules of derivation).
 use Rattle.std.specs.Prelude.{◌≡◌, ℕ, ⊤, ◌<◌, ◌⊎◌, Bool, true, false, List, [], ◌∷◌, ◌++◌, length}
-use Rattle.mz_logic.specs.Declaration.{Declaration, sort_decl, term_decl, assertion_decl, assertions}
-use Rattle.mz_logic.specs.Derivations.{Derivation, CitesOnly, without_gaps}
-use Rattle.mz_logic.specs.LegalLists.{Statement, IsProvedBy}
+use Rattle.mz_logic_theory.specs.Declaration.{Declaration, sort_decl, term_decl, assertion_decl, assertions}
+use Rattle.mz_logic_theory.specs.Derivations.{Derivation, CitesOnly, without_gaps}
+use Rattle.mz_logic_theory.specs.LegalLists.{Statement, IsProvedBy}
 use Rattle.mz_machine_theory.specs.Laws.{no_tables}
 use Rattle.mz_machine_theory.specs.Lists.{Entry, a_sort, a_term, an_assertion, AreGood, SpellEntries}
 use Rattle.mz_machine_theory.specs.Sound.{CitesWithin, GapsWithin}

@@ -11,3 +11,4 @@ pub mod Gapped
 pub mod Examples
 pub mod Cases
 pub mod FileRows
+pub mod Headings

@@ -1,10 +1,10 @@
 -- Lists of rows with their bodies, and the statements that they spell: the whole file, but for its bytes (the .mmb
 -- format, its list of statements).
 use Rattle.std.specs.Prelude.{◌≡◌, ℕ, ⊤, Bool, true, false, ◌+◌, ◌*◌, ◌≤◌, List, [], ◌∷◌, ◌++◌, length, Option, Some, None}
-use Rattle.mz_logic.specs.Signature.{Signature}
-use Rattle.mz_logic.specs.Declaration.{Term, Assertion, Declaration, sort_decl, term_decl, assertion_decl, signatures}
-use Rattle.mz_logic.specs.LegalLists.{Statement, IsProvedBy, LegalBy, allowed_with}
-use Rattle.mz_logic.specs.declared.binder.SortMods.{SortMods}
+use Rattle.mz_logic_theory.specs.Signature.{Signature}
+use Rattle.mz_logic_theory.specs.Declaration.{Term, Assertion, Declaration, sort_decl, term_decl, assertion_decl, signatures}
+use Rattle.mz_logic_theory.specs.LegalLists.{Statement, IsProvedBy, LegalBy, allowed_with}
+use Rattle.mz_logic_theory.specs.declared.binder.SortMods.{SortMods}
 use Rattle.mz_unify_theory.specs.Profile.{plain}
 use Rattle.mz_unify_theory.specs.Spells.{SpelledTerm, SpelledThm, SpellsTerm, SpellsThm}
 use Rattle.mz_machine_theory.specs.MachineState.{RowsBefore, Kind, is_axiom, is_theorem, is_definition, Heading}

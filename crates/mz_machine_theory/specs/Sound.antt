@@ -6,17 +6,17 @@ use Rattle.mz_cmd.specs.declared.code.ProofCode.{ProofCode}
 use Rattle.mz_cmd.specs.declared.code.ProofCode.TheVariants.{Thm, ThmSave, Sorry}
 use Rattle.mz_cmd.specs.Codes.{proof_code}
 use Rattle.mz_cmd.specs.Reading.{first_command}
-use Rattle.mz_logic.specs.Tree.{Tree}
-use Rattle.mz_logic.specs.Declaration.{Term, Assertion, Declaration, term_decl, assertion_decl, sorts, signatures, assertions}
-use Rattle.mz_logic.specs.Modifiers.{MayBeResultSort}
-use Rattle.mz_logic.specs.Variables.{IsBoundAt}
-use Rattle.mz_logic.specs.Legality.{AreParams, IsLegalDecl, IsLegalEnv}
-use Rattle.mz_logic.specs.Derivations.{Derivation, Uses, CitesOnly}
-use Rattle.mz_logic.specs.LegalLists.{IsProvedBy}
-use Rattle.mz_logic.specs.Laws.{SortsThere}
-use Rattle.mz_logic.specs.declared.binder.Binder.{Binder}
-use Rattle.mz_logic.specs.declared.binder.ResultType.{ResultType}
-use Rattle.mz_logic.specs.declared.binder.SortMods.{SortMods}
+use Rattle.mz_logic_theory.specs.Tree.{Tree}
+use Rattle.mz_logic_theory.specs.Declaration.{Term, Assertion, Declaration, term_decl, assertion_decl, sorts, signatures, assertions}
+use Rattle.mz_logic_theory.specs.Modifiers.{MayBeResultSort}
+use Rattle.mz_logic_theory.specs.Variables.{IsBoundAt}
+use Rattle.mz_logic_theory.specs.Legality.{AreParams, IsLegalDecl, IsLegalEnv}
+use Rattle.mz_logic_theory.specs.Derivations.{Derivation, Uses, CitesOnly}
+use Rattle.mz_logic_theory.specs.LegalLists.{IsProvedBy}
+use Rattle.mz_logic_theory.specs.Laws.{SortsThere}
+use Rattle.mz_logic_theory.specs.declared.binder.Binder.{Binder}
+use Rattle.mz_logic_theory.specs.declared.binder.ResultType.{ResultType}
+use Rattle.mz_logic_theory.specs.declared.binder.SortMods.{SortMods}
 use Rattle.mz_unify_theory.specs.Profile.{plain}
 use Rattle.mz_unify_theory.specs.Spells.{SpelledTerm, SpelledThm, SpellsTerm, SpellsThm}
 use Rattle.mz_machine_theory.specs.MachineState.{RowsBefore, State, is_axiom, is_theorem, is_definition, Heading, Declares}

@@ -5,7 +5,8 @@ ghost use Rattle.std.specs.Prelude.{map, string_bytes};
 ghost use Rattle.mz_tool.specs.Called.{IsRun};
 
 use mz_io::{DiskFolder, Folder, Sink, StdSink};
-use mz_tool::{Seed, Status, run};
+use mz_store::Seed;
+use mz_tool::{Status, run};
 use std::alloc::Global;
 use std::io::Write;
 use std::process::ExitCode;

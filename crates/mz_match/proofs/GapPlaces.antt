@@ -1,10 +1,10 @@
 -- The places of gapped theorems, as the list of statements goes on.
 use Rattle.std.proofs.Common.{◌≡◌, ◌∙◌, ◌<◌, ◌≤◌, ◌+◌, ℕ, Bool, true, false, List, [], ◌∷◌, ◌++◌, length, refl, sym, ap, subst, inl, inr, arith, length-append, append_assoc, append-nil}
 use Rattle.std.specs.Prelude.{◌↔◌, MatchBool, not, ◌&&◌, if◌then◌else◌}
-use Rattle.mz_logic.specs.Declaration.{Declaration, Assertion, sort_decl, term_decl, assertion_decl, assertions}
-use Rattle.mz_logic.specs.LegalLists.{Statement, declarations}
-use Rattle.mz_logic.proofs.Offered.{assertions-append}
-use Rattle.mz_layout.specs.Tables.{list_at}
+use Rattle.mz_logic_theory.specs.Declaration.{Declaration, Assertion, sort_decl, term_decl, assertion_decl, assertions}
+use Rattle.mz_logic_theory.specs.LegalLists.{Statement, declarations}
+use Rattle.mz_logic_theory.proofs.Offered.{assertions-append}
+use Rattle.mz_layout_tables.specs.Tables.{list_at}
 use Rattle.mz_binary_theory.specs.declared.statement.Statement.{Statement as Told}
 use Rattle.mz_binary_theory.specs.Chains.{IsGoodStatement}
 use Rattle.mz_binary_theory.specs.Gapped.{body_of, bodies_of, IsGapped, GappedIn}
@@ -17,8 +17,9 @@ use Rattle.mz_match.specs.declared.matching.Matching.{Matching}
 use Rattle.mz_match_theory.specs.declared.verdict.Verdict.{Verdict}
 use Rattle.mz_match_theory.specs.declared.verdict.Verdict.TheVariants as verdicts
 use Rattle.mz_match.specs.Drafts.{IsGapOf, IsGapHere, ListsGaps, ListsGapsOf, IsDraft, IsDraftSound, IsDraftSoundIfAccepted, IsJudged, verdict_of, places_past}
-use Rattle.mz_match_theory.specs.Match.{publics}
+use Rattle.mz_spec_proved_theory.specs.Match.{publics}
 use Rattle.mz_match.specs.Told.{IsMatched}
+use Rattle.mz_match.proofs.UnnamedFollow.{unnamed-follow}
 use Rattle.mz_match_theory.specs.Verdict.{AcceptsBy, IsDifference, IsVerdictBy}
 use Rattle.mz_binary_theory.specs.declared.standard.Standard.{Standard}
 use Rattle.mz_binary_theory.specs.Standards.{lets_gaps, draft_standard}
@@ -168,6 +169,7 @@ accepted-draft spec bin a = record {
   legal = good-legal draft_standard bin a.statements a.is_good;
   free = ungapped-free draft_standard bin a.statements a.is_good;
   agrees = a.agrees;
+  unnamed = unnamed-follow bin a.declared a.statements (good-legal draft_standard bin a.statements a.is_good) (ungapped-free draft_standard bin a.statements a.is_good) a.agrees;
 }
 
 pub draft-sound : (spec bin : List ℕ) (d : Draft) → IsDraft spec bin d → IsDraftSoundIfAccepted spec bin d

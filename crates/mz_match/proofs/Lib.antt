@@ -1,12 +1,4 @@
-mod BesideRows
-mod FewDummies
 mod ToldRows
-mod SaidStreams
-mod PlainTrees
-mod SameBodies
-mod Compared
-mod Steps
-mod KeptMarks
-pub mod RowPairs
 pub mod Pairing
+pub mod UnnamedFollow
 pub mod GapPlaces

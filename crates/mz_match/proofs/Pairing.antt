@@ -5,13 +5,13 @@ use Rattle.std.proofs.lemmas.List.{append-nil}
 use Rattle.mz_base_theory.specs.Checks.{AllHold, FailsFirst}
 use Rattle.mz_cmd.specs.declared.rule.Refusal.{Refusal}
 use Rattle.mz_cmd.specs.declared.statement.StmtAt.TheVariants.{End}
-use Rattle.mz_logic.specs.Declaration.{Declaration, sort_decl, term_decl, assertion_decl, terms}
-use Rattle.mz_logic.specs.LegalLists.{Statement, declarations}
-use Rattle.mz_layout.specs.Layout.{Layout}
-use Rattle.mz_layout.specs.Tables.{list_at}
-use Rattle.mz_layout.proofs.Offered.{parts-of_layout}
+use Rattle.mz_logic_theory.specs.Declaration.{Declaration, sort_decl, term_decl, assertion_decl, terms}
+use Rattle.mz_logic_theory.specs.LegalLists.{Statement, declarations}
+use Rattle.mz_layout_tables.specs.Layout.{Layout}
+use Rattle.mz_layout_tables.specs.Tables.{list_at}
+use Rattle.mz_layout_tables.proofs.Offered.{parts-of_layout}
 use Rattle.mz_machine_theory.specs.FileRows.{taken_by}
-use Rattle.mz_layout.specs.Heads.{AllTaken}
+use Rattle.mz_layout_tables.specs.Heads.{AllTaken}
 use Rattle.mz_binary_theory.specs.Checking.{counts, checks_of}
 use Rattle.mz_binary_theory.specs.Chains.{IsGoodStatement, GoodTo}
 use Rattle.mz_binary_theory.specs.Good.{Good, FailsAfter}
@@ -20,18 +20,19 @@ use Rattle.mz_binary.specs.Progress.{Progress, HasPassed, Tells, kind_code, row_
 use Rattle.mz_binary.specs.Judging.{Passes}
 use Rattle.mz_binary_theory.specs.FileRun.{file_steps}
 use Rattle.mz_binary_theory.proofs.Offered.{chain-declares}
-use Rattle.mz_spec.specs.Spec.{SpecMakes}
-use Rattle.mz_spec.specs.State.{Entry, env_of}
+use Rattle.mz_spec_theory.specs.Spec.{SpecMakes}
+use Rattle.mz_spec_theory.specs.State.{Entry, env_of}
 use Rattle.mz_match.specs.declared.matching.Matching.{Matching}
-use Rattle.mz_match_theory.specs.declared.rule.M.{M}
-use Rattle.mz_match_theory.specs.declared.rule.M.TheVariants as rules
+use Rattle.mz_spec_proved_theory.specs.declared.rule.M.{M}
+use Rattle.mz_spec_proved_theory.specs.declared.rule.M.TheVariants as rules
 use Rattle.mz_match_theory.specs.declared.verdict.Verdict.{Verdict}
 use Rattle.mz_match_theory.specs.declared.verdict.Verdict.TheVariants as verdicts
-use Rattle.mz_match_theory.specs.Match.{partner_of, publics_after, publics, term_row_of, term_rows, Agrees, Leaves, partner_checks}
+use Rattle.mz_spec_proved_theory.specs.Match.{partner_of, publics_after, publics, term_row_of, term_rows, Agrees, Leaves, partner_checks}
 use Rattle.mz_match.specs.Drafts.{ListsGapsOf, IsJudged}
 use Rattle.mz_match.specs.Told.{IsTold, IsMatched}
 use Rattle.mz_match_theory.specs.Verdict.{IsDifference, TicksBy, counts_of, IsSoundIfAccepted, IsVerdict, IsVerdictBy}
-use Rattle.mz_match_theory.proofs.Offered.{publics-append, publics-local, publics-public, term_rows-append, drop-further, drop-past, kinds-total, length-declarations, length-env, leaves-nothing, leaves-local, leaves-public, partner-there, accepted-sound}
+use Rattle.mz_spec_proved_theory.proofs.Offered.{publics-append, publics-local, publics-public, term_rows-append, drop-further, drop-past, kinds-total, length-declarations, length-env, leaves-nothing, leaves-local, leaves-public, partner-there}
+use Rattle.mz_match_theory.proofs.Offered.{accepted-sound}
 use Rattle.mz_binary_theory.specs.declared.standard.Standard.{Standard}
 use Rattle.mz_binary_theory.specs.Standards.{lets_gaps}
 

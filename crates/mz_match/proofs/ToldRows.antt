@@ -3,17 +3,17 @@ use Rattle.std.proofs.Common.{◌≡◌, ◌≤◌, ◌<◌, ◌+◌, ◌∙◌,
 use Rattle.std.specs.Prelude.{if◌then◌else◌}
 use Rattle.mz_base_theory.proofs.Offered.{slice_get-within, slice_get-append_add}
 use Rattle.mz_cmd.specs.Codes.{statement_byte}
-use Rattle.mz_logic.specs.Tree.{Tree, Trees, var, none, listed}
-use Rattle.mz_logic.specs.Signature.{Signature}
-use Rattle.mz_logic.specs.Declaration.{Declaration, sort_decl, term_decl, assertion_decl, Term, Assertion, Form, plain_form, abstract_form, defined, sorts, terms, signatures, assertions, is_defined}
-use Rattle.mz_logic.specs.LegalLists.{Statement}
-use Rattle.mz_logic.specs.Words.{binders_of}
-use Rattle.mz_logic.specs.declared.binder.Binder.{Binder}
-use Rattle.mz_logic.proofs.Offered.{signatures-append, length-binders, length-signatures}
-use Rattle.mz_layout.specs.Tables.{list_at, term_count, mods_of, term_row, thm_row}
+use Rattle.mz_logic_theory.specs.Tree.{Tree, Trees, var, none, listed}
+use Rattle.mz_logic_theory.specs.Signature.{Signature}
+use Rattle.mz_logic_theory.specs.Declaration.{Declaration, sort_decl, term_decl, assertion_decl, Term, Assertion, Form, plain_form, abstract_form, defined, sorts, terms, signatures, assertions, is_defined}
+use Rattle.mz_logic_theory.specs.LegalLists.{Statement}
+use Rattle.mz_logic_theory.specs.Words.{binders_of}
+use Rattle.mz_logic_theory.specs.declared.binder.Binder.{Binder}
+use Rattle.mz_logic_theory.proofs.Offered.{signatures-append, length-binders, length-signatures}
+use Rattle.mz_layout_tables.specs.Tables.{list_at, term_count, mods_of, term_row, thm_row}
 use Rattle.mz_unify_theory.specs.Streams.{StreamKind, of_assertion, of_definition, UnifyCommand, StreamIs}
 use Rattle.mz_unify_theory.specs.Spells.{Marks, SpellsText, Text, SpellsForm, at_first, variables_from}
-use Rattle.mz_layout_words.proofs.Offered.{right-words}
+use Rattle.mz_layout_tables.proofs.Offered.{right-words}
 use Rattle.mz_unify_theory.proofs.Offered.{length-params}
 use Rattle.mz_machine_theory.specs.FileRows.{stream_of, term_of_file}
 use Rattle.mz_binary_theory.specs.declared.statement.Statement.{Statement as Told}
@@ -22,12 +22,10 @@ use Rattle.mz_binary_theory.specs.Laws.{HasRow, SaysTerm}
 use Rattle.mz_binary.specs.Progress.{kind_code, row_after}
 use Rattle.mz_binary_theory.specs.Spelling.{SpellsRow}
 use Rattle.mz_binary_theory.proofs.Offered.{good-rows}
-use Rattle.mz_match.specs.Streams.{AreMarks, HypsAreSaid}
-use Rattle.mz_match.specs.TellsRow.{SaysFirst, SaysForm, SaysClaims, IsTermRow, IsThmRow, IsRowOf, assertion_code}
+use Rattle.mz_match_rows.specs.Streams.{AreMarks, HypsAreSaid}
+use Rattle.mz_match_rows.specs.TellsRow.{SaysFirst, SaysForm, SaysClaims, IsTermRow, IsThmRow, IsRowOf, assertion_code}
 use Rattle.mz_match.specs.Told.{IsTold}
-use Rattle.mz_match.proofs.Steps.{command-takes}
-use Rattle.mz_match.proofs.FewDummies.{few-dummies}
-use Rattle.mz_match.proofs.SaidStreams.{joined, Grows, Segment, append-none, grows-not, hyps-grow, spelled-said, hyps-said}
+use Rattle.mz_match_rows.proofs.Offered.{command-takes, few-dummies, joined, Grows, Segment, append-none, grows-not, hyps-grow, spelled-said, hyps-said}
 use Rattle.mz_binary_theory.specs.declared.standard.Standard.{Standard}
 
 -- ---- the signatures of what was declared are those of the rows

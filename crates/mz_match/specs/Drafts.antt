@@ -1,16 +1,17 @@
 -- A specification and a binary whose proofs may have gaps (this project's own; a gap is Sorry of the .mmb format).
-use Rattle.std.specs.Prelude.{◌≡◌, ◌⊎◌, ⊤, ℕ, Bool, true, not, ◌&&◌, if◌then◌else◌, MatchBool, List, [], ◌∷◌, ◌++◌, length}
-use Rattle.mz_logic.specs.Declaration.{Declaration, sort_decl, term_decl, assertion_decl, assertions}
-use Rattle.mz_logic.specs.LegalLists.{Statement, DraftLegal, declarations}
+use Rattle.std.specs.Prelude.{◌≡◌, ◌⊎◌, ⊤, ℕ, Bool, true, not, ◌&&◌, if◌then◌else◌, MatchBool, List, [], ◌∷◌, ◌++◌, length, slice_get, Contains, Some, false}
+use Rattle.mz_logic_theory.specs.Declaration.{Declaration, Assertion, sort_decl, term_decl, assertion_decl, assertions}
+use Rattle.mz_logic_theory.specs.LegalLists.{Statement, DraftLegal, declarations}
 use Rattle.mz_binary_theory.specs.Chains.{Statements}
 use Rattle.mz_binary_theory.specs.Gapped.{GappedIn, AreFreeUnlessGapped}
-use Rattle.mz_spec.specs.Spec.{SpecOf}
+use Rattle.mz_spec_theory.specs.Spec.{SpecOf}
 use Rattle.mz_match.specs.declared.draft.Draft.{Draft}
 use Rattle.mz_match.specs.declared.draft.Draft.TheVariants as drafts
 use Rattle.mz_match_theory.specs.declared.verdict.Counts.{Counts}
 use Rattle.mz_match_theory.specs.declared.verdict.Verdict.{Verdict}
 use Rattle.mz_match_theory.specs.declared.verdict.Verdict.TheVariants as verdicts
-use Rattle.mz_match_theory.specs.Match.{publics, Agrees}
+use Rattle.mz_spec_proved_theory.specs.Headline.{Follows}
+use Rattle.mz_spec_proved_theory.specs.Match.{publics, Agrees}
 use Rattle.mz_match_theory.specs.Verdict.{AcceptsBy, IsVerdictBy, counts_of}
 use Rattle.mz_binary_theory.specs.declared.standard.Standard.{Standard}
 use Rattle.mz_binary_theory.specs.Standards.{lets_gaps, draft_standard}
@@ -58,8 +59,14 @@ IsDraft spec bin (drafts.Binary refusal) = IsVerdictBy draft_standard spec bin (
 IsDraft spec bin (drafts.Match declaration statement rule) = IsVerdictBy draft_standard spec bin (verdicts.Match declaration statement rule)
 IsDraft spec bin drafts.Mem = ⊤
 
--- The specification and the binary's statements agree. These are a legal draft, and each of its theorems that isn't gapped
--- has a derivation without gaps, over the statements before it, that cites no gapped theorem.
+-- each theorem among the declarations whose place isn't one of these follows from the axioms that are declared before it
+abbrev pub UnnamedFollow : List Declaration → List Statement → List ℕ → Type 0
+UnnamedFollow ds ss places = (i : ℕ) (a : Assertion) → slice_get ds i ≡ Some (assertion_decl a) → a.is_axiom ≡ false → (Contains places i → ⊥) → Follows ds ss i a
+
+-- The specification and the binary's statements agree. These are a legal draft (its declarations are legal, and what is
+-- local may be), and each of its theorems that isn't gapped has a derivation without gaps, over the statements before it,
+-- that cites no gapped theorem. And each theorem of the specification follows from its axioms before it, in the words of
+-- what is promised of a finished binary, but for those whose places are named.
 pub record IsDraftSound (spec bin : List ℕ) : Type 0 where
   pub declared : List Declaration
   pub statements : List Statement
@@ -68,6 +75,7 @@ pub record IsDraftSound (spec bin : List ℕ) : Type 0 where
   pub legal : DraftLegal statements
   pub free : AreFreeUnlessGapped bin statements
   pub agrees : Agrees declared (publics statements)
+  pub unnamed : (places : List ℕ) → ListsGapsOf bin statements places → UnnamedFollow declared statements places
 
 abbrev pub IsDraftSoundIfAccepted : List ℕ → List ℕ → Draft → Type 0
 IsDraftSoundIfAccepted spec bin (drafts.Accepted counts gaps) = IsDraftSound spec bin

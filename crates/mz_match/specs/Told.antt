@@ -1,15 +1,15 @@
 -- A statement that a checker of the binary told.
 use Rattle.std.specs.Prelude.{◌≡◌, ◌≤◌, ◌+◌, ℕ, List, [], length, drop}
-use Rattle.mz_logic.specs.Declaration.{Declaration}
-use Rattle.mz_logic.specs.LegalLists.{Statement}
-use Rattle.mz_layout.specs.Tables.{list_at}
+use Rattle.mz_logic_theory.specs.Declaration.{Declaration}
+use Rattle.mz_logic_theory.specs.LegalLists.{Statement}
+use Rattle.mz_layout_tables.specs.Tables.{list_at}
 use Rattle.mz_binary_theory.specs.declared.statement.Statement.{Statement as Told}
 use Rattle.mz_binary_theory.specs.Chains.{IsGoodStatement, GoodTo}
 use Rattle.mz_binary.specs.Progress.{Progress, HasPassed, Tells}
 use Rattle.mz_binary.specs.Judging.{Passes}
-use Rattle.mz_layout.specs.Layout.{Layout}
+use Rattle.mz_layout_tables.specs.Layout.{Layout}
 use Rattle.mz_match.specs.declared.matching.Matching.{Matching}
-use Rattle.mz_match_theory.specs.Match.{Leaves, publics, term_rows}
+use Rattle.mz_spec_proved_theory.specs.Match.{Leaves, publics, term_rows}
 use Rattle.mz_binary_theory.specs.declared.standard.Standard.{Standard}
 
 -- after these good statements, whose public terms have these rows, it is this one

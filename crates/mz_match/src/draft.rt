@@ -7,11 +7,11 @@ ghost use Rattle.mz_match.specs.Drafts.{IsDraft, IsDraftSoundIfAccepted, verdict
 ghost use Rattle.mz_match_theory.specs.Verdict.{AcceptsWithBy, FirstRefusalBy, TicksBy};
 
 use crate::verify::judge;
-use mz_base::Mode;
-use mz_binary_theory::Standard;
+use mz_binary::DraftBodies;
 use mz_cmd::{Refusal, Steps};
-use mz_match_theory::{Counts, M, Verdict};
-use mz_spec::SpecRefusal;
+use mz_match_theory::{Counts, Verdict};
+use mz_spec_proved_theory::M;
+use mz_spec_theory::SpecRefusal;
 use mz_store::Seed;
 use std::alloc::Global;
 use std::marker::Model;
@@ -96,15 +96,7 @@ fn judge_draft<L: Ledger>(
     ensures bound { steps.new ≤ steps.old + (length bin.now * length bin.now + length bin.now) }
 {
     let mut places = Vec::new(alloc);
-    match judge(
-        alloc,
-        seed,
-        spec,
-        bin,
-        Standard::Published(Mode::Draft),
-        &mut places,
-        steps,
-    ) {
+    match judge::<DraftBodies, L>(alloc, seed, spec, bin, &mut places, steps) {
         Verdict::Accepted(counts) => Draft::Accepted(counts, Gaps { places }),
         Verdict::Spec(refusal) => Draft::Spec(refusal),
         Verdict::Binary(refusal) => Draft::Binary(refusal),

@@ -4,20 +4,14 @@
 //! What is asked for is said in `mz_match_theory`. `specs/Drafts.antt` says what is told of proofs with gaps.
 #![tactic(auto)]
 
-mod compare;
-mod count;
 mod draft;
 mod line;
-mod marks;
 mod matching;
 mod pair;
-mod publics;
-mod signature;
-mod stream;
 mod verify;
 
 pub use draft::{Draft, Gaps, draft_bytes};
 pub use line::verdict_line;
+pub use mz_match_rows::Publics;
 pub use pair::match_statement;
-pub use publics::Publics;
 pub use verify::{verify_by, verify_bytes};

@@ -5,8 +5,9 @@ ghost use Rattle.mz_match_theory.specs.Verdict.{line_of};
 
 use mz_binary::refusal_line;
 use mz_cmd::Mem;
-use mz_match_theory::{Counts, M, Verdict};
-use mz_spec::SpecRefusal;
+use mz_match_theory::{Counts, Verdict};
+use mz_spec_proved_theory::M;
+use mz_spec_theory::SpecRefusal;
 use std::alloc::Global;
 
 /// The line that tells a verdict, with its newline.

@@ -1,23 +1,23 @@
 // How far the match has come.
 ghost use Rattle.std.specs.Prelude.{◌≡◌, ◌≤◌, ◌<◌, ◌+◌, ◌++◌, ◌∷◌, ◌^◌, ℕ, List, [], length, IfErr, OnOk};
-ghost use Rattle.mz_logic.specs.Declaration.{Declaration};
-ghost use Rattle.mz_logic.specs.LegalLists.{Statement as Declared};
-ghost use Rattle.mz_layout.specs.Layout.{Layout};
+ghost use Rattle.mz_logic_theory.specs.Declaration.{Declaration};
+ghost use Rattle.mz_logic_theory.specs.LegalLists.{Statement as Declared};
+ghost use Rattle.mz_layout_tables.specs.Layout.{Layout};
 ghost use Rattle.mz_binary.specs.Judging.{Passes};
 ghost use Rattle.mz_binary.specs.Progress.{HasPassed, Progress};
-ghost use Rattle.mz_spec.specs.Spec.{SpecMakes};
-ghost use Rattle.mz_spec.specs.State.{Entry, env_of};
+ghost use Rattle.mz_spec_theory.specs.Spec.{SpecMakes};
+ghost use Rattle.mz_spec_theory.specs.State.{Entry, env_of};
 ghost use Rattle.mz_match.specs.Told.{IsMatched, IsNextTold};
 ghost use Rattle.mz_match_theory.specs.Verdict.{IsDifference, IsVerdictBy, counts_of};
 
-use crate::count::count_all;
 use crate::pair::{has_kind, match_statement};
-use crate::publics::Publics;
-use mz_binary::Statement;
+use mz_binary_theory::Statement;
 use mz_cmd::StatementCode;
-use mz_layout::Mmb;
-use mz_match_theory::{M, Verdict};
-use mz_spec::Spec;
+use mz_layout_tables::Mmb;
+use mz_match_rows::{Publics, count_all};
+use mz_match_theory::Verdict;
+use mz_spec_proved_theory::M;
+use mz_spec_theory::Spec;
 use std::alloc::Global;
 
 /// How many declarations have their partner, how many statements have passed, and the public terms

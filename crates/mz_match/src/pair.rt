@@ -1,27 +1,26 @@
 // A declaration and its partner.
 ghost use Rattle.std.specs.Prelude.{◌≡◌, ◌≤◌, ◌↔◌, ℕ, Bool, IsTrue, List, OnErr, drop, length, false, true};
 ghost use Rattle.mz_base_theory.specs.Checks.{Judges};
-ghost use Rattle.mz_logic.specs.Declaration.{Assertion, Declaration, Term, is_defined, sort_decl};
+ghost use Rattle.mz_logic_theory.specs.Declaration.{Assertion, Declaration, Term, is_defined, sort_decl};
 ghost use Rattle.mz_cmd.specs.Codes.{statement_byte};
-ghost use Rattle.mz_logic.specs.DeclView.{assertion_of, assertion_view, declaration, form as form_lem, is_axiom, term_of};
-ghost use Rattle.mz_logic.specs.LegalLists.{Statement as Declared};
-ghost use Rattle.mz_spec.specs.State.{env_of};
-ghost use Rattle.mz_layout.specs.Tables.{term_row};
+ghost use Rattle.mz_logic_theory.specs.DeclView.{assertion_of, assertion_view, declaration, form as form_lem, is_axiom, term_of};
+ghost use Rattle.mz_logic_theory.specs.LegalLists.{Statement as Declared};
+ghost use Rattle.mz_spec_theory.specs.State.{env_of};
+ghost use Rattle.mz_layout_tables.specs.Tables.{term_row};
 ghost use Rattle.mz_binary_theory.specs.declared.standard.Standard.{Standard};
-ghost use Rattle.mz_match_theory.specs.Match.{assertion_checks, form_checks, is_plain as plain_lem, match_checks, partner_checks, partner_of};
-ghost use Rattle.mz_match.specs.TellsRow.{IsRowOf, IsTermRow, IsThmRow, assertion_code};
+ghost use Rattle.mz_spec_proved_theory.specs.Match.{assertion_checks, form_checks, is_plain as plain_lem, match_checks, partner_checks, partner_of};
+ghost use Rattle.mz_match_rows.specs.TellsRow.{IsRowOf, IsTermRow, IsThmRow, assertion_code};
 ghost use Rattle.mz_match.specs.Told.{IsTold};
 
-use crate::compare::{Sides, same_body, same_first, same_hyps};
-use crate::marks::kept_marks;
-use crate::publics::Publics;
-use crate::signature::{match_params, match_signature};
-use mz_binary::Statement;
+use mz_binary_theory::Statement;
 use mz_cmd::StatementCode;
-use mz_layout::{Mmb, Row};
-use mz_logic::{Decl, SortMods, TermDecl, TermForm, Terms, ThmDecl, ThmForm};
-use mz_match_theory::M;
-use mz_spec::Spec;
+use mz_layout_tables::{Mmb, Row};
+use mz_logic_theory::{Decl, SortMods, TermDecl, TermForm, Terms, ThmDecl, ThmForm};
+use mz_match_rows::{
+    Publics, Sides, kept_marks, match_params, match_signature, same_body, same_first, same_hyps,
+};
+use mz_spec_proved_theory::M;
+use mz_spec_theory::Spec;
 use std::alloc::Global;
 
 /// Compares a public statement, which a checker of the binary told, with the i-th declaration, its

@@ -1,19 +1,19 @@
 // A specification and a binary together.
 ghost use Rattle.std.specs.Prelude.{◌≡◌, ◌⊎◌, ◌<◌, ◌≤◌, ◌+◌, ◌*◌, ◌^◌, ℕ, List, [], length, OnOk};
-ghost use Rattle.mz_layout.specs.Layout.{Layout};
-ghost use Rattle.mz_spec.specs.Spec.{SpecMakes};
+ghost use Rattle.mz_layout_tables.specs.Layout.{Layout};
+ghost use Rattle.mz_spec_theory.specs.Spec.{SpecMakes};
 ghost use Rattle.mz_match.specs.Drafts.{IsJudged, places_past};
-ghost use Rattle.mz_match_theory.specs.Headline.{Proves};
+ghost use Rattle.mz_spec_proved_theory.specs.Headline.{Proves};
 ghost use Rattle.mz_match_theory.specs.Verdict.{AcceptsWith, AcceptsWithBy, FirstRefusal, FirstRefusalBy, IsSoundIfAccepted, IsVerdict, IsVerdictBy, Ticks, TicksBy};
 
 use crate::matching::Matching;
-use mz_base::Mode;
-use mz_binary::{Checker, Next, Statement};
-use mz_binary_theory::Standard;
+use mz_binary::{Bodies, Checker, Next, StrictBodies};
+use mz_binary_theory::Statement;
 use mz_cmd::{Mem, Steps};
-use mz_layout::Mmb;
+use mz_layout_tables::Mmb;
 use mz_match_theory::{Counts, Verdict};
-use mz_spec::{Hashing, Spec, SpecRead, read_spec};
+use mz_spec::{Hashing, SpecRead, read_spec};
+use mz_spec_theory::Spec;
 use mz_store::Seed;
 use std::alloc::Global;
 use std::sync::ledger::Ledger;
@@ -37,52 +37,43 @@ pub fn verify_bytes<L: Ledger>(
     ensures steps { Ticks bin.now steps.old steps.new result }
     ensures bound { steps.new ≤ steps.old + (length bin.now * length bin.now + length bin.now) }
 {
-    verify_by(
-        alloc,
-        seed,
-        spec,
-        bin,
-        Standard::Published(Mode::Strict),
-        steps,
-    )
+    verify_by::<StrictBodies, L>(alloc, seed, spec, bin, steps)
 }
 
-/// Verifies as `verify_bytes` does, the binary's bodies held to a standard.
-pub fn verify_by<L: Ledger>(
+/// Verifies as `verify_bytes` does, the binary's bodies held to the standard of who runs them.
+pub fn verify_by<B: Bodies, L: Ledger>(
     alloc: Global,
     seed: Seed,
     spec: &[u8],
     bin: &[u8],
-    standard: Standard,
     steps: &mut Steps<L>,
 ) -> Verdict
     requires spec { length spec.now < 2 ^ 32 }
     requires bin { length bin.now < 2 ^ 32 }
-    ensures verdict { IsVerdictBy standard spec.now bin.now result }
-    ensures accepted { (counts : Counts) → AcceptsWithBy standard spec.now bin.now counts → (result ≡ Verdict.Accepted counts) ⊎ (result ≡ Verdict.Mem) }
-    ensures refused { (verdict : Verdict) → FirstRefusalBy standard spec.now bin.now verdict → (result ≡ verdict) ⊎ (result ≡ Verdict.Mem) }
-    ensures steps { TicksBy standard bin.now steps.old steps.new result }
+    ensures verdict { IsVerdictBy B.STANDARD spec.now bin.now result }
+    ensures accepted { (counts : Counts) → AcceptsWithBy B.STANDARD spec.now bin.now counts → (result ≡ Verdict.Accepted counts) ⊎ (result ≡ Verdict.Mem) }
+    ensures refused { (verdict : Verdict) → FirstRefusalBy B.STANDARD spec.now bin.now verdict → (result ≡ verdict) ⊎ (result ≡ Verdict.Mem) }
+    ensures steps { TicksBy B.STANDARD bin.now steps.old steps.new result }
     ensures bound { steps.new ≤ steps.old + (length bin.now * length bin.now + length bin.now) }
 {
     let mut places = Vec::new(alloc);
-    judge(alloc, seed, spec, bin, standard, &mut places, steps)
+    judge::<B, L>(alloc, seed, spec, bin, &mut places, steps)
 }
 
 /// What is said of the two, and in a draft the places of the declarations whose theorems rest on a gap.
-pub(crate) fn judge<L: Ledger>(
+pub(crate) fn judge<B: Bodies, L: Ledger>(
     alloc: Global,
     seed: Seed,
     spec: &[u8],
     bin: &[u8],
-    standard: Standard,
     places: &mut Vec<u32>,
     steps: &mut Steps<L>,
 ) -> Verdict
     requires spec { length spec.now < 2 ^ 32 }
     requires bin { length bin.now < 2 ^ 32 }
     requires none { places.old.items ≡ [] }
-    ensures verdict { IsJudged standard spec.now bin.now result places.new.items }
-    ensures steps { TicksBy standard bin.now steps.old steps.new result }
+    ensures verdict { IsJudged B.STANDARD spec.now bin.now result places.new.items }
+    ensures steps { TicksBy B.STANDARD bin.now steps.old steps.new result }
     ensures bound { steps.new ≤ steps.old + (length bin.now * length bin.now + length bin.now) }
 {
     let declared = match read_spec(alloc, Hashing::from(seed), spec) {
@@ -91,29 +82,28 @@ pub(crate) fn judge<L: Ledger>(
         SpecRead::Mem => return Verdict::Mem,
     };
     match Mmb::read(bin) {
-        Ok(mmb) => check_list(alloc, seed, &declared, &mmb, standard, places, steps),
+        Ok(mmb) => check_list::<B, L>(alloc, seed, &declared, &mmb, places, steps),
         Err(refusal) => Verdict::Binary(refusal),
     }
 }
 
 /// Checks the list of statements, and each public one beside its declaration.
-fn check_list<L: Ledger>(
+fn check_list<B: Bodies, L: Ledger>(
     alloc: Global,
     seed: Seed,
     spec: &Spec,
     mmb: &Mmb,
-    standard: Standard,
     places: &mut Vec<u32>,
     steps: &mut Steps<L>,
 ) -> Verdict
     requires small { length mmb.now < 2 ^ 32 }
     requires layout { Layout mmb.now }
     requires none { places.old.items ≡ [] }
-    ensures verdict { (text : List ℕ) → SpecMakes text spec.now → IsJudged standard text mmb.now result places.new.items }
-    ensures steps { TicksBy standard mmb.now steps.old steps.new result }
+    ensures verdict { (text : List ℕ) → SpecMakes text spec.now → IsJudged B.STANDARD text mmb.now result places.new.items }
+    ensures steps { TicksBy B.STANDARD mmb.now steps.old steps.new result }
     ensures bound { steps.new ≤ steps.old + (length mmb.now * length mmb.now + length mmb.now) }
 {
-    let mut checker = Checker::new(alloc, seed, mmb, standard);
+    let mut checker = Checker::<B>::new(alloc, seed, mmb);
     let mut matching = Matching::new(alloc);
     'statements: loop {
         match checker.check_next(steps) {

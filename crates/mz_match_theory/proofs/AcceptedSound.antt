@@ -1,14 +1,14 @@
 -- What is accepted is sound, and its specification is proved.
 use Rattle.std.proofs.Common.{ℕ, List}
-use Rattle.mz_logic.specs.Declaration.{Declaration}
-use Rattle.mz_logic.specs.LegalLists.{Statement, Legal}
-use Rattle.mz_logic.proofs.Offered.{legal_list_is_closed}
+use Rattle.mz_logic_theory.specs.Declaration.{Declaration}
+use Rattle.mz_logic_theory.specs.LegalLists.{Statement, Legal}
+use Rattle.mz_logic_theory.proofs.Offered.{legal_list_is_closed}
 use Rattle.mz_binary_theory.proofs.Offered.{good-legal, good-spelled}
-use Rattle.mz_spec.specs.Spec.{SpecOf}
-use Rattle.mz_match_theory.specs.Match.{publics, Agrees}
-use Rattle.mz_match_theory.specs.Headline.{Proves}
+use Rattle.mz_spec_theory.specs.Spec.{SpecOf}
+use Rattle.mz_spec_proved_theory.specs.Match.{publics, Agrees}
+use Rattle.mz_spec_proved_theory.specs.Headline.{Proves}
 use Rattle.mz_match_theory.specs.Verdict.{Accepts, IsSound}
-use Rattle.mz_match_theory.proofs.ProvingTheorems.{theorems-proved}
+use Rattle.mz_spec_proved_theory.proofs.Offered.{theorems-proved}
 use Rattle.mz_binary_theory.specs.Standards.{strict_standard}
 
 pub accepted-sound : (spec bin : List ℕ) → Accepts spec bin → IsSound spec bin

@@ -1,11 +1,6 @@
-pub mod Renaming
-pub mod SameDecided
-pub mod OwnBodies
-pub mod Lists
 pub mod Spelled
 pub mod OneVerdict
-pub mod ProvingTheorems
 pub mod AcceptedSound
-pub mod Grounded
 pub mod SomeVerdict
+pub mod Counting
 pub mod Offered

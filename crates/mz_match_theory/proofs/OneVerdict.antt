@@ -6,24 +6,24 @@ use Rattle.mz_base_theory.proofs.Offered.{all_hold-excludes, fails_first-unique}
 use Rattle.mz_cmd.specs.declared.rule.K.{K}
 use Rattle.mz_cmd.specs.declared.rule.Refusal.{Refusal}
 use Rattle.mz_cmd.specs.declared.statement.StmtAt.TheVariants.{End, Head}
-use Rattle.mz_logic.specs.Declaration.{Declaration}
-use Rattle.mz_logic.specs.LegalLists.{Statement}
-use Rattle.mz_layout.specs.Layout.{Layout, layout_checks}
-use Rattle.mz_layout.specs.Tables.{list_at}
+use Rattle.mz_logic_theory.specs.Declaration.{Declaration}
+use Rattle.mz_logic_theory.specs.LegalLists.{Statement}
+use Rattle.mz_layout_tables.specs.Layout.{Layout, layout_checks}
+use Rattle.mz_layout_tables.specs.Tables.{list_at}
 use Rattle.mz_binary_theory.specs.Checking.{list_checks}
 use Rattle.mz_binary_theory.specs.Chains.{IsGoodStatement, GoodTo, EndsAt}
 use Rattle.mz_binary_theory.proofs.Offered.{one-good}
-use Rattle.mz_spec.specs.Spec.{SpecOf, SpecFault}
-use Rattle.mz_spec.specs.State.{env_of}
-use Rattle.mz_spec.specs.declared.refusal.SpecRefusal.{SpecRefusal}
-use Rattle.mz_spec.proofs.Offered.{one-reading, one-fault, not-both}
-use Rattle.mz_match_theory.specs.declared.rule.M.{M}
+use Rattle.mz_spec_theory.specs.Spec.{SpecOf, SpecFault}
+use Rattle.mz_spec_theory.specs.State.{env_of}
+use Rattle.mz_spec_theory.specs.declared.spec_refusal.SpecRefusal.{SpecRefusal}
+use Rattle.mz_spec_theory.proofs.Offered.{one-reading, one-fault, not-both}
+use Rattle.mz_spec_proved_theory.specs.declared.rule.M.{M}
 use Rattle.mz_match_theory.specs.declared.verdict.Counts.{Counts}
 use Rattle.mz_match_theory.specs.declared.verdict.Verdict.{Verdict}
 use Rattle.mz_match_theory.specs.declared.verdict.Verdict.TheVariants as verdicts
-use Rattle.mz_match_theory.specs.Match.{partner_of, publics_after, publics, match_checks, Agrees, Leaves, partner_checks, end_checks}
+use Rattle.mz_spec_proved_theory.specs.Match.{partner_of, publics_after, publics, match_checks, Agrees, Leaves, partner_checks, end_checks}
 use Rattle.mz_match_theory.specs.Verdict.{counts_of, AcceptsBy, AcceptsWith, AcceptsWithBy, BinaryFails, Differs, MatchFails, FirstRefusal, FirstRefusalBy, IsVerdictBy}
-use Rattle.mz_match_theory.proofs.Lists.{publics-append, publics-public, left-same, left-next}
+use Rattle.mz_spec_proved_theory.proofs.Offered.{publics-append, publics-public, left-same, left-next}
 use Rattle.mz_binary_theory.specs.declared.standard.Standard.{Standard}
 use Rattle.mz_binary_theory.specs.Standards.{strict_standard}
 

@@ -6,31 +6,30 @@ use Rattle.std.proofs.lemmas.List.{append-nil}
 use Rattle.mz_base_theory.specs.Checks.{AreDecided}
 use Rattle.mz_base_theory.proofs.Offered.{all_hold-or_fails, bytes-decided}
 use Rattle.mz_cmd.specs.declared.rule.Refusal.{Refusal}
-use Rattle.mz_logic.specs.Declaration.{Declaration, sort_decl, term_decl, assertion_decl, Assertion, Form, plain_form, abstract_form, defined}
-use Rattle.mz_logic.specs.declared.binder.Binder.{Binder}
-use Rattle.mz_logic.specs.declared.binder.ResultType.{ResultType}
-use Rattle.mz_logic.specs.declared.binder.SortMods.{SortMods}
-use Rattle.mz_logic.specs.LegalLists.{Statement}
-use Rattle.mz_layout.specs.Layout.{Layout}
-use Rattle.mz_layout.specs.Tables.{list_at}
+use Rattle.mz_logic_theory.specs.Declaration.{Declaration, sort_decl, term_decl, assertion_decl, Assertion, Form, plain_form, abstract_form, defined}
+use Rattle.mz_logic_theory.specs.declared.binder.Binder.{Binder}
+use Rattle.mz_logic_theory.specs.declared.binder.ResultType.{ResultType}
+use Rattle.mz_logic_theory.specs.declared.binder.SortMods.{SortMods}
+use Rattle.mz_logic_theory.specs.LegalLists.{Statement}
+use Rattle.mz_layout_tables.specs.Layout.{Layout}
+use Rattle.mz_layout_tables.specs.Tables.{list_at}
 use Rattle.mz_binary_theory.specs.Chains.{IsGoodStatement, GoodTo}
 use Rattle.mz_binary_theory.specs.Good.{Good, FailsAfter, BinaryFault}
 use Rattle.mz_binary_theory.proofs.Offered.{chain-more, good-or-fault}
-use Rattle.mz_spec.specs.Spec.{SpecOf, SpecMakes, SpecFault}
-use Rattle.mz_spec.specs.State.{Entry, env_of}
-use Rattle.mz_spec.specs.declared.refusal.SpecRefusal.{SpecRefusal}
-use Rattle.mz_spec.proofs.Offered.{one-of-both}
-use Rattle.mz_match_theory.specs.declared.kind.Kind.{Kind}
-use Rattle.mz_match_theory.specs.declared.kind.Kind.TheVariants as kinds
-use Rattle.mz_match_theory.specs.declared.rule.M.{M}
-use Rattle.mz_match_theory.specs.declared.rule.M.TheVariants as rules
+use Rattle.mz_spec_theory.specs.Spec.{SpecOf, SpecMakes, SpecFault}
+use Rattle.mz_spec_theory.specs.State.{Entry, env_of}
+use Rattle.mz_spec_theory.specs.declared.spec_refusal.SpecRefusal.{SpecRefusal}
+use Rattle.mz_spec_theory.proofs.Offered.{one-of-both}
+use Rattle.mz_spec_proved_theory.specs.declared.kind.Kind.{Kind}
+use Rattle.mz_spec_proved_theory.specs.declared.kind.Kind.TheVariants as kinds
+use Rattle.mz_spec_proved_theory.specs.declared.rule.M.{M}
+use Rattle.mz_spec_proved_theory.specs.declared.rule.M.TheVariants as rules
 use Rattle.mz_match_theory.specs.declared.verdict.Counts.{Counts}
 use Rattle.mz_match_theory.specs.declared.verdict.Verdict.{Verdict}
 use Rattle.mz_match_theory.specs.declared.verdict.Verdict.TheVariants as verdicts
-use Rattle.mz_match_theory.specs.Match.{Partner, partner_of, publics, number_of, kind_of, form_checks, assertion_checks, part_checks, Agrees, Leaves, partner_checks}
+use Rattle.mz_spec_proved_theory.specs.Match.{Partner, partner_of, publics, number_of, kind_of, form_checks, assertion_checks, part_checks, Agrees, Leaves, partner_checks}
 use Rattle.mz_match_theory.specs.Verdict.{counts_of, AcceptsWithBy, MatchFails, FirstRefusalBy}
-use Rattle.mz_match_theory.proofs.SameDecided.{same-tree-decided, same-trees-decided, same-body-decided}
-use Rattle.mz_match_theory.proofs.Lists.{leaves-nothing, leaves-local, leaves-public, partner-there}
+use Rattle.mz_spec_proved_theory.proofs.Offered.{same-tree-decided, same-trees-decided, same-body-decided, leaves-nothing, leaves-local, leaves-public, partner-there}
 use Rattle.mz_binary_theory.specs.declared.standard.Standard.{Standard}
 
 -- ---- whether a declaration and its partner agree can be found out

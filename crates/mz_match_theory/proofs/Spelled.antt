@@ -4,11 +4,11 @@ use Rattle.std.specs.Prelude.{◌↔◌, ◌==◌, ◌/◌, ◌%◌, if◌then�
 use Rattle.std.proofs.lemmas.List.{drop_all, append-nil, get_or_default}
 use Rattle.std.proofs.lemmas.Bool.{eq-eqb, ne_eqb}
 use Rattle.mz_base_theory.proofs.Offered.{drop-item}
-use Rattle.mz_logic.specs.declared.binder.Binder.{Binder}
-use Rattle.mz_logic.specs.declared.word.Word.{Word}
-use Rattle.mz_logic.specs.Words.{word_bound, bound_places, places_set, binder_of, binders_from}
-use Rattle.mz_layout_words.specs.RowWords.{bound_count}
-use Rattle.mz_layout_words.proofs.Offered.{bound-many}
+use Rattle.mz_logic_theory.specs.declared.binder.Binder.{Binder}
+use Rattle.mz_logic_theory.specs.declared.word.Word.{Word}
+use Rattle.mz_logic_theory.specs.Words.{word_bound, bound_places, places_set, binder_of, binders_from}
+use Rattle.mz_layout_tables.specs.RowWords.{bound_count}
+use Rattle.mz_layout_tables.proofs.Offered.{bound-many}
 
 same-head : {X : Type 0} → (x y : X) (xs ys : List X) → x ∷ xs ≡ y ∷ ys → x ≡ y
 same-head x y xs ys e = cc

@@ -1,7 +1,2 @@
-pub mod Trees
-pub mod Comparing
-pub mod Match
-pub mod Headline
-pub mod Proved
 pub mod Lines
 pub mod Verdict

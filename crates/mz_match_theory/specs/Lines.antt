@@ -1,21 +1,10 @@
 -- The printed lines of a verdict (this project's own).
 use Rattle.std.specs.Prelude.{ℕ, List, ◌++◌, codes, decimal}
 use Rattle.mz_lex.specs.RuleText.{rule_text as spec_rule_text}
-use Rattle.mz_spec.specs.declared.refusal.SpecRefusal.{SpecRefusal}
-use Rattle.mz_match_theory.specs.declared.rule.M.{M}
-use Rattle.mz_match_theory.specs.declared.rule.M.TheVariants as rules
+use Rattle.mz_spec_theory.specs.declared.spec_refusal.SpecRefusal.{SpecRefusal}
+use Rattle.mz_spec_proved_theory.specs.declared.rule.M.{M}
 use Rattle.mz_match_theory.specs.declared.verdict.Counts.{Counts}
-
-abbrev pub rule_text : M → List ℕ
-rule_text rules.Missing = codes "M1 missing public"
-rule_text rules.Extra = codes "M2 extra public"
-rule_text rules.Kind = codes "M3 kind differs"
-rule_text rules.Modifiers = codes "M4 modifiers"
-rule_text rules.Binders = codes "M5 binders"
-rule_text rules.Result = codes "M6 result"
-rule_text rules.Hypotheses = codes "M7 hypotheses"
-rule_text rules.Conclusion = codes "M8 conclusion"
-rule_text rules.Body = codes "M9 body"
+use Rattle.mz_spec_proved_theory.specs.RuleText.{rule_text}
 
 abbrev pub accepted_line : Counts → List ℕ
 accepted_line c =

@@ -2,25 +2,25 @@
 use Rattle.std.specs.Prelude.{◌≡◌, ◌≤◌, ◌⊎◌, ◌+◌, ⊤, ℕ, List, [], ◌∷◌, length, false, if◌then◌else◌}
 use Rattle.mz_base_theory.specs.Checks.{FailsFirst}
 use Rattle.mz_cmd.specs.declared.rule.Refusal.{Refusal}
-use Rattle.mz_logic.specs.Declaration.{Declaration}
-use Rattle.mz_logic.specs.LegalLists.{Statement, Legal}
-use Rattle.mz_logic.specs.Closed.{TheoremsClosed}
-use Rattle.mz_layout.specs.Layout.{Layout, layout_checks}
-use Rattle.mz_layout.specs.Tables.{list_at}
+use Rattle.mz_logic_theory.specs.Declaration.{Declaration}
+use Rattle.mz_logic_theory.specs.LegalLists.{Statement, Legal}
+use Rattle.mz_logic_theory.specs.Closed.{TheoremsClosed}
+use Rattle.mz_layout_tables.specs.Layout.{Layout, layout_checks}
+use Rattle.mz_layout_tables.specs.Tables.{list_at}
 use Rattle.mz_binary_theory.specs.Chains.{Statements, IsGoodStatement, GoodTo, EndsAt}
 use Rattle.mz_binary_theory.specs.FileRun.{file_steps}
 use Rattle.mz_binary_theory.specs.Good.{Good, FailsAfter}
-use Rattle.mz_spec.specs.Spec.{SpecOf, SpecFault}
-use Rattle.mz_match_theory.specs.declared.kind.Kind.{Kind}
-use Rattle.mz_match_theory.specs.declared.kind.Kind.TheVariants as kinds
-use Rattle.mz_match_theory.specs.declared.rule.M.{M}
+use Rattle.mz_spec_theory.specs.Spec.{SpecOf, SpecFault}
+use Rattle.mz_spec_proved_theory.specs.declared.kind.Kind.{Kind}
+use Rattle.mz_spec_proved_theory.specs.declared.kind.Kind.TheVariants as kinds
+use Rattle.mz_spec_proved_theory.specs.declared.rule.M.{M}
 use Rattle.mz_match_theory.specs.declared.verdict.Counts.{Counts}
 use Rattle.mz_match_theory.specs.declared.verdict.Verdict.{Verdict}
 use Rattle.mz_match_theory.specs.declared.verdict.Verdict.TheVariants as verdicts
 use Rattle.mz_binary_theory.specs.RefusalLine.{refusal_line}
 use Rattle.mz_match_theory.specs.Lines.{accepted_line, spec_line, match_line}
-use Rattle.mz_match_theory.specs.Match.{partner_of, publics, kind_of, is_kind, Agrees, Leaves, partner_checks, end_checks}
-use Rattle.mz_match_theory.specs.Proved.{TheoremsAreProved}
+use Rattle.mz_spec_proved_theory.specs.Match.{partner_of, publics, kind_of, is_kind, Agrees, Leaves, partner_checks, end_checks}
+use Rattle.mz_spec_proved_theory.specs.Proved.{TheoremsAreProved}
 use Rattle.mz_binary_theory.specs.declared.standard.Standard.{Standard}
 use Rattle.mz_binary_theory.specs.Standards.{strict_standard}
 

@@ -1,14 +1,14 @@
 // Laws of pairs of files.
 ghost use Rattle.std.specs.Prelude.{◌≡◌, ◌⊎◌, ◌↔◌, ℕ, false, List, Some, slice_get, take};
-ghost use Rattle.mz_logic.specs.Tree.{none};
-ghost use Rattle.mz_logic.specs.Declaration.{Assertion, Declaration, assertion_decl};
-ghost use Rattle.mz_logic.specs.LegalLists.{Statement, Legal};
-ghost use Rattle.mz_spec.specs.Spec.{SpecOf};
+ghost use Rattle.mz_logic_theory.specs.Tree.{none};
+ghost use Rattle.mz_logic_theory.specs.Declaration.{Assertion, Declaration, assertion_decl};
+ghost use Rattle.mz_logic_theory.specs.LegalLists.{Statement, Legal};
+ghost use Rattle.mz_spec_theory.specs.Spec.{SpecOf};
 ghost use Rattle.mz_match_theory.specs.declared.verdict.Counts.{Counts};
 ghost use Rattle.mz_match_theory.specs.declared.verdict.Verdict.{Verdict};
-ghost use Rattle.mz_match_theory.specs.declared.kind.Kind.TheVariants as kinds;
-ghost use Rattle.mz_match_theory.specs.Match.{kind_of, publics, Agrees};
-ghost use Rattle.mz_match_theory.specs.Headline.{Proves};
+ghost use Rattle.mz_spec_proved_theory.specs.declared.kind.Kind.TheVariants as kinds;
+ghost use Rattle.mz_spec_proved_theory.specs.Match.{kind_of, publics, Agrees};
+ghost use Rattle.mz_spec_proved_theory.specs.Headline.{Proves};
 ghost use Rattle.mz_match_theory.specs.Verdict.{Accepts, AcceptsWith, FirstRefusal, IsSound};
 
 /// Each specification and binary are accepted, with one number of declarations of each kind, or have

@@ -1,16 +1,11 @@
-//! When a binary proves what a specification declares, and what the first refusal of the two is else.
+//! What is accepted of a specification and a binary, and what the first refusal of the two is else.
 //!
-//! `specs/Headline.antt` says what is promised where a pair is accepted, `specs/Match.antt` when a
-//! declaration and its partner agree, `specs/Verdict.antt` what is accepted and what the first refusal
-//! is, and `specs/Lines.antt` the printed lines. Nothing here reads a file.
+//! `specs/Verdict.antt` says it, `specs/Lines.antt` has the printed lines. What a yes promises is said in
+//! `mz_spec_proved_theory`, which speaks of no binary. Nothing here reads a file.
 #![tactic(auto)]
 
-mod kind;
 mod laws;
-mod rule;
 mod verdict;
 
-pub use kind::{Kind, kind_of};
 pub use laws::{accepted_pairs_are_sound, accepted_pairs_prove, each_pair_has_one_verdict};
-pub use rule::M;
 pub use verdict::{Counts, Verdict};

@@ -1,7 +1,7 @@
 // What is said of a specification and a binary together.
-use crate::rule::M;
 use mz_cmd::Refusal;
-use mz_spec::SpecRefusal;
+use mz_spec_proved_theory::M;
+use mz_spec_theory::SpecRefusal;
 
 /// How many declarations a specification has of each kind.
 #[derive(Clone, Copy, Debug, PartialEq, Eq)]

@@ -1,13 +1,14 @@
 -- Operands that stand in the order of their parameters.
-use Rattle.std.proofs.Common.{◌≡◌, ◌≤◌, ◌<◌, ◌+◌, ◌++◌, ◌∙◌, ℕ, zero, suc, List, [], ◌∷◌, false, length, drop, get_or, drop-cons, append_assoc, ap, ap₂, sym, refl, subst, arith}
+use Rattle.std.proofs.Common.{◌≡◌, ◌≤◌, ◌<◌, ◌+◌, ◌++◌, ◌∙◌, ℕ, zero, suc, List, [], ◌∷◌, false, length, drop, append_assoc, ap, ap₂, sym, refl, subst, arith}
 use Rattle.std.specs.Prelude.{◌==◌}
 use Rattle.std.proofs.lemmas.Bool.{cond-true, cond-false, eq-eqb}
-use Rattle.mz_logic.specs.Tree.{Tree, Trees, none, more, listed}
-use Rattle.mz_math_notation.specs.Notation.{slots, places}
-use Rattle.mz_math_notation.specs.declared.notation.Element.{Element}
-use Rattle.mz_math_notation.specs.declared.notation.Element.TheVariants.{Fixed as fixed, Slot as slot}
+use Rattle.mz_logic_theory.specs.Tree.{Tree, Trees, none, more, listed}
+use Rattle.mz_math_theory.specs.Notation.{places}
+use Rattle.mz_math_theory.specs.Listed.{slots}
+use Rattle.mz_math_theory.specs.declared.notation.Element.{Element}
+use Rattle.mz_math_theory.specs.declared.notation.Element.TheVariants.{Fixed as fixed, Slot as slot}
 use Rattle.mz_math_notation.proofs.Offered.{apart as unequal}
-use Rattle.mz_math.specs.Grammar.{operand_for, arranged}
+use Rattle.mz_math_theory.specs.Grammar.{operand_for, arranged}
 
 other : (j i : ℕ) → j < i → (j == i) ≡ false
 other j i below = unequal j i (λ is. omega (arith, is, below))
@@ -37,15 +38,12 @@ arranged-in-order ls n es is many =
 
 -- ---- loops over elements
 
-module _ (ls : List Element) (i : ℕ) (e : Element) (within : i < length ls) (item : e ≡ get_or ls i e) where
-  at_element : (other : Element) → e ≡ other → drop i ls ≡ other ∷ drop (i + 1) ls
-  at_element other is = let one : suc i ≡ i + 1 = omega arith in drop-cons ls i e within ∙ ap₂ (λ x n. x ∷ drop n ls) (sym item ∙ is) one
-
+module _ (ls : List Element) (i : ℕ) (e : Element) (here : drop i ls ≡ e ∷ drop (i + 1) ls) where
   pub at-constant : (w : List ℕ) (q : ℕ) → e ≡ fixed w q → places (drop i ls) ≡ places (drop (i + 1) ls)
-  at-constant w q is = ap places (at_element (fixed w q) is)
+  at-constant w q is = ap places (here ∙ ap (λ x. x ∷ drop (i + 1) ls) is)
 
   pub at-slot : (s : ℕ) → e ≡ slot s → places (drop i ls) ≡ s ∷ places (drop (i + 1) ls)
-  at-slot s is = ap places (at_element (slot s) is)
+  at-slot s is = ap places (here ∙ ap (λ x. x ∷ drop (i + 1) ls) is)
 
 pub places-more : (from n : ℕ) → places (slots from n) ++ (from + n) ∷ [] ≡ places (slots from (n + 1))
 places-more from zero = let e : from + 0 ≡ from = omega arith in ap (λ i. i ∷ []) e
@@ -57,20 +55,20 @@ places-more from (suc n) =
 abbrev pub CountsTo : List Element → ℕ → ℕ → Type 0
 CountsTo ls next i = (places (slots 0 next) ++ places (drop i ls) ≡ places ls) × (next ≤ i)
 
-module _ (ls : List Element) (i next now : ℕ) (e : Element) (within : i < length ls) (item : e ≡ get_or ls i e) where
+module _ (ls : List Element) (i next now : ℕ) (e : Element) (here : drop i ls ≡ e ∷ drop (i + 1) ls) where
   pub counts-constant : (w : List ℕ) (q : ℕ) → e ≡ fixed w q → now ≡ next → CountsTo ls next i → CountsTo ls now (i + 1)
   counts-constant w q is same (so_far, few) = (
     subst (λ n. places (slots 0 n) ++ places (drop (i + 1) ls) ≡ places ls) (sym same)
-        (ap (λ js. places (slots 0 next) ++ js) (sym (at-constant ls i e within item w q is)) ∙ so_far),
+        (ap (λ js. places (slots 0 next) ++ js) (sym (at-constant ls i e here w q is)) ∙ so_far),
     omega (arith, same, few),
   )
 
   pub counts-slot : (s : ℕ) → e ≡ slot s → s ≡ next → now ≡ next + 1 → CountsTo ls next i → CountsTo ls now (i + 1)
   counts-slot s is its same (so_far, few) =
-      let at = at-slot ls i e within item next (is ∙ ap slot its) in
+      let at = at-slot ls i e here next (is ∙ ap slot its) in
       let zero_next : 0 + next ≡ next = omega arith in
       let one_more = sym (places-more 0 next) ∙ ap (λ n. places (slots 0 next) ++ n ∷ []) zero_next in
-      let here = ap (λ ns. ns ++ places (drop (i + 1) ls)) one_more ∙ append_assoc (places (slots 0 next)) (next ∷ []) (places (drop (i + 1) ls)) in (
-        subst (λ n. places (slots 0 n) ++ places (drop (i + 1) ls) ≡ places ls) (sym same) (here ∙ ap (λ js. places (slots 0 next) ++ js) (sym at) ∙ so_far),
+      let joined = ap (λ ns. ns ++ places (drop (i + 1) ls)) one_more ∙ append_assoc (places (slots 0 next)) (next ∷ []) (places (drop (i + 1) ls)) in (
+        subst (λ n. places (slots 0 n) ++ places (drop (i + 1) ls) ≡ places ls) (sym same) (joined ∙ ap (λ js. places (slots 0 next) ++ js) (sym at) ∙ so_far),
         omega (arith, same, few),
       )

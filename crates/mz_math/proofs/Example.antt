@@ -1,11 +1,11 @@
 -- `a ? b : c ? a : b` and `a -> b ? a : b`.
 use Rattle.std.proofs.Common.{ℕ, List, [], ◌∷◌, true, refl, inl, arith}
 use Rattle.std.specs.Prelude.{codes}
-use Rattle.mz_logic.specs.Tree.{var, app, none, more}
-use Rattle.mz_math_notation.specs.Notation.{infixed}
-use Rattle.mz_math_notation.specs.declared.notation.Notation.{Notation}
-use Rattle.mz_math_notation.specs.declared.notation.Element.TheVariants.{Fixed as fixed, Slot as slot}
-use Rattle.mz_math.specs.Grammar.{Words, variable, Parse, headed, joined, end, word, part, Exp}
+use Rattle.mz_logic_theory.specs.Tree.{var, app, none, more}
+use Rattle.mz_math_theory.specs.Notation.{infixed}
+use Rattle.mz_math_theory.specs.declared.notation.Notation.{Notation}
+use Rattle.mz_math_theory.specs.declared.notation.Element.TheVariants.{Fixed as fixed, Slot as slot}
+use Rattle.mz_math_theory.specs.Grammar.{Words, variable, Parse, headed, joined, end, word, part, Exp}
 
 abbrev arrow : Notation
 arrow = infixed 0 (codes "->") 25 true

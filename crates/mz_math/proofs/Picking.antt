@@ -5,12 +5,12 @@ use Rattle.std.proofs.lemmas.Bool.{cond-true, cond-false}
 use Rattle.std.proofs.lemmas.Bool.Decides.{eqb_tells}
 use Rattle.std.proofs.lemmas.List.{drop_all, get_or-set_same, get_or-set_other}
 use Rattle.std.proofs.lemmas.Option.{same_Some, none-some}
-use Rattle.mz_logic.specs.Tree.{Tree, Trees, app, none, more, operand, followed_by}
-use Rattle.mz_logic.specs.View.{trees}
-use Rattle.mz_logic.specs.declared.expr.Expr.{Expr}
-use Rattle.mz_logic.proofs.Offered.{followed_by_none, followed_by_push}
+use Rattle.mz_logic_theory.specs.Tree.{Tree, Trees, app, none, more, operand, followed_by}
+use Rattle.mz_logic_theory.specs.View.{trees}
+use Rattle.mz_logic_theory.specs.declared.expr.Expr.{Expr}
+use Rattle.mz_logic_theory.proofs.Offered.{followed_by_none, followed_by_push}
 use Rattle.mz_math.specs.Arrange.{AreDistinct, Differs, earlier_or, first_of, picked, picked_one}
-use Rattle.mz_math.specs.Grammar.{operand_for, arranged}
+use Rattle.mz_math_theory.specs.Grammar.{operand_for, arranged}
 
 -- ---- what is noted gives the operands in order
 

@@ -2,12 +2,12 @@
 use Rattle.std.proofs.Common.{◌≡◌, ◌∙◌, ◌<◌, ◌≤◌, ℕ, List, [], ◌∷◌, ap, refl, subst, inl, inr, arith}
 use Rattle.std.proofs.lemmas.Bool.{cases_lt}
 use Rattle.std.proofs.lemmas.Option.{none-some}
-use Rattle.mz_logic.specs.Signature.{Signature}
-use Rattle.mz_logic.specs.Tree.{Tree, Trees, var, app, none, more}
-use Rattle.mz_logic.specs.declared.binder.Binder.{Binder}
-use Rattle.mz_math_coercions.specs.declared.coercion.Coercion.{Coercion}
-use Rattle.mz_math_coercions.specs.Coercions.{IsPath, wrapped}
-use Rattle.mz_math.specs.Meaning.{Coerced, CoercedAll, height}
+use Rattle.mz_logic_theory.specs.Signature.{Signature}
+use Rattle.mz_logic_theory.specs.Tree.{Tree, Trees, var, app, none, more}
+use Rattle.mz_logic_theory.specs.declared.binder.Binder.{Binder}
+use Rattle.mz_math_theory.specs.declared.coercion.Coercion.{Coercion}
+use Rattle.mz_math_theory.specs.Coercions.{IsPath, wrapped}
+use Rattle.mz_math_theory.specs.Meaning.{Coerced, CoercedAll, height}
 
 nowhere : (s to : ℕ) (path : List ℕ) (e : Tree) → IsPath [] s path to → wrapped [] path e ≡ e
 nowhere s to [] e on = refl

@@ -2,22 +2,22 @@
 use Rattle.std.proofs.Common.{◌≡◌, ◌≤◌, ◌<◌, ◌+◌, ◌-◌, ◌*◌, ◌++◌, ◌∙◌, ℕ, List, [], ◌∷◌, Bool, false, not, length, drop, length-append, sym, refl, subst, ap, arith}
 use Rattle.std.specs.Prelude.{Contains}
 use Rattle.mz_base_theory.proofs.Offered.{same-tail}
-use Rattle.mz_logic.specs.Tree.{Tree, Trees, app, none, more, followed_by}
-use Rattle.mz_logic.specs.View.{tree}
-use Rattle.mz_math_notation.specs.declared.notation.Notation.{Notation}
-use Rattle.mz_math_notation.specs.Clear.{LedBy, JoinedBy}
-use Rattle.mz_math.specs.Answers.{MayLead}
-use Rattle.mz_math.specs.Lookups.{NoVariable, NoLeading}
-use Rattle.mz_math.specs.Grammar.{Words, Item, token, expr, items, operands_at_max, last_level, notated_tree, head_level, applied, IsTermName}
-use Rattle.mz_math.specs.Readable.{IsReadable}
-use Rattle.mz_math.specs.Reading.{NoReading, NoParts, IsRead, IsBegun}
-use Rattle.mz_math.specs.Steps.{IsUnderWay, IsMaxBefore, Waits, outer_level, Says, turns}
+use Rattle.mz_logic_theory.specs.Tree.{Tree, Trees, app, none, more, followed_by}
+use Rattle.mz_logic_theory.specs.View.{tree}
+use Rattle.mz_math_theory.specs.declared.notation.Notation.{Notation}
+use Rattle.mz_math_theory.specs.Clear.{LedBy, JoinedBy}
+use Rattle.mz_math_theory.specs.FormulaAnswers.{MayLead, IsMaxBefore}
+use Rattle.mz_math_theory.specs.Lookups.{NoVariable, NoLeading}
+use Rattle.mz_math_theory.specs.Grammar.{Words, Item, token, expr, items, operands_at_max, last_level, notated_tree, head_level, applied, IsTermName}
+use Rattle.mz_math_theory.specs.Readable.{IsReadable}
+use Rattle.mz_math_theory.specs.Reading.{NoReading, NoParts, IsRead, IsBegun}
+use Rattle.mz_math.specs.Steps.{IsUnderWay, Waits, outer_level, Says, turns}
 use Rattle.mz_math.specs.declared.parser.Found.{Found}
 use Rattle.mz_math.specs.declared.parser.Step.{Step}
 use Rattle.mz_math.specs.declared.parser.Step.TheVariants as steps
 use Rattle.mz_math.specs.declared.parser.Outer.{Outer}
 use Rattle.mz_math.specs.declared.parser.Outer.TheVariants as outers
-use Rattle.mz_math.proofs.Readings.{no-items, no-expr, no-rest, one-part, one-token, no-token, parens-never, leading-never, leading-begun, leading-low, applied-never, applied-begun, applied-low, joined-never, joined-more}
+use Rattle.mz_math_theory.proofs.Offered.{no-items, no-expr, no-rest, one-part, one-token, no-token, parens-never, leading-never, leading-begun, leading-low, applied-never, applied-begun, applied-low, joined-never, joined-more}
 
 -- in an expression of a level that begins at `from`, these stand around one of the level l that begins here
 abbrev pub Nested : Words → List (List ℕ) → ℕ → List Outer → List (List ℕ) → ℕ → Type 0

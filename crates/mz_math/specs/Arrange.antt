@@ -1,7 +1,7 @@
 -- How the code puts operands in the order of their parameters: for each parameter it notes which of the operands is
 -- the first one for it, and takes them by these notes.
 use Rattle.std.specs.Prelude.{◌≡◌, ◌==◌, ⊤, ℕ, suc, List, [], ◌∷◌, Option, Some, None, option_map, if◌then◌else◌}
-use Rattle.mz_logic.specs.Tree.{Tree, Trees, app, none, more, operand}
+use Rattle.mz_logic_theory.specs.Tree.{Tree, Trees, app, none, more, operand}
 
 -- the first of the places that is this one
 abbrev pub first_of : List ℕ → ℕ → Option ℕ

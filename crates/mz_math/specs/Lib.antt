@@ -1,10 +1,2 @@
-pub mod Grammar
-pub mod Readable
-pub mod Meaning
-pub mod Formula
-pub mod Reading
-pub mod Lookups
-pub mod Answers
 pub mod Steps
 pub mod Arrange
-pub mod Laws

@@ -1,10 +1,9 @@
 -- The steps of the parser: how far an expression has been read, and the expressions around it.
 use Rattle.std.specs.Prelude.{◌≡◌, ◌≤◌, ◌<◌, ◌+◌, ◌-◌, ◌*◌, ◌^◌, ⊤, ℕ, List, [], ◌∷◌, Bool, false, not, drop, codes}
-use Rattle.mz_logic.specs.Tree.{Tree, Trees, app}
-use Rattle.mz_logic.specs.View.{tree}
-use Rattle.mz_math_notation.specs.Notation.{max_level}
-use Rattle.mz_math.specs.Grammar.{Words, Item, token, expr, items, operands_at_max, last_level, notated_tree, head_level, applied}
-use Rattle.mz_math.specs.Reading.{IsRead, NoReading, IsBegun, ArePartsRead, NoParts}
+use Rattle.mz_logic_theory.specs.Tree.{Tree, Trees, app}
+use Rattle.mz_logic_theory.specs.View.{tree}
+use Rattle.mz_math_theory.specs.Grammar.{Words, Item, token, expr, items, operands_at_max, last_level, notated_tree, head_level, applied}
+use Rattle.mz_math_theory.specs.Reading.{IsRead, NoReading, IsBegun, ArePartsRead, NoParts}
 use Rattle.mz_math.specs.declared.form.Form.{Form}
 use Rattle.mz_math.specs.declared.form.Form.TheVariants as forms
 use Rattle.mz_math.specs.declared.form.Part.{Part}
@@ -15,6 +14,7 @@ use Rattle.mz_math.specs.declared.parser.Outer.{Outer}
 use Rattle.mz_math.specs.declared.parser.Outer.TheVariants as outers
 use Rattle.mz_math.specs.declared.parser.Step.{Step}
 use Rattle.mz_math.specs.declared.parser.Step.TheVariants as steps
+use Rattle.mz_math_theory.specs.FormulaAnswers.{IsMaxBefore}
 
 -- ---- forms
 
@@ -23,12 +23,6 @@ abbrev pub asked : Form → ℕ → List Item
 asked (forms.Term t n) from = operands_at_max (n - from)
 asked (forms.Leading k) from = items (drop from k.now.elements) k.now.level
 asked (forms.Infix k) from = items (drop from k.now.elements) (last_level k.now)
-
--- before an operand stands one at max
-abbrev pub IsMaxBefore : ℕ → List Item → Type 0
-IsMaxBefore l [] = ⊤
-IsMaxBefore l (token c ∷ its) = ⊤
-IsMaxBefore l (expr m ∷ its) = l ≡ max_level
 
 -- the part stands first, behind so many others
 abbrev pub IsNextPart : Part → ℕ → List Item → List Item → Type 0

@@ -1,13 +1,13 @@
 // Operands in the order of their parameters, where a notation has them in another one.
 ghost use Rattle.std.specs.Prelude.{◌≡◌, ◌<◌, ◌==◌, ℕ, None, Some, IfOk, get_or, if◌then◌else◌, length};
-ghost use Rattle.mz_logic.specs.Tree.{app, none, operand as operand_at};
-ghost use Rattle.mz_logic.specs.View.{tree, trees};
+ghost use Rattle.mz_logic_theory.specs.Tree.{app, none, operand as operand_at};
+ghost use Rattle.mz_logic_theory.specs.View.{tree, trees};
 ghost use Rattle.mz_math.specs.Arrange.{AreDistinct, earlier_or, first_of, picked, picked_one};
-ghost use Rattle.mz_math.specs.Grammar.{arranged as in_order};
-ghost use Rattle.mz_math_notation.specs.Notation.{places};
+ghost use Rattle.mz_math_theory.specs.Grammar.{arranged as in_order};
+ghost use Rattle.mz_math_theory.specs.Notation.{places};
 
-use mz_logic::{Expr, Exprs};
-use mz_math_notation::Element;
+use mz_logic_theory::{Expr, Exprs};
+use mz_math_theory::{ElementRef, Elements};
 use std::alloc::{AllocError, Global};
 use std::mem;
 
@@ -18,7 +18,7 @@ use std::mem;
 /// Where there is no memory.
 pub fn arranged(
     alloc: Global,
-    elements: &[Element],
+    elements: &Elements,
     operands: Exprs,
     many: usize,
 ) -> Result<Exprs, AllocError>
@@ -32,7 +32,7 @@ pub fn arranged(
 /// For each of so many parameters, which of the operands is the first one for it.
 fn order_of(
     alloc: Global,
-    elements: &[Element],
+    elements: &Elements,
     many: usize,
 ) -> Result<Vec<Option<usize>>, AllocError>
     ensures many { IfOk result (λ order. length order.items ≡ many) }
@@ -44,20 +44,22 @@ fn order_of(
 }
 
 /// Notes for each parameter which of the operands is the first one for it.
-fn note_order(order: &mut [Option<usize>], elements: &[Element])
+fn note_order(order: &mut [Option<usize>], elements: &Elements)
     requires { (i : ℕ) → get_or order.old i None ≡ None }
     ensures many { length order.new ≡ length order.old }
     ensures firsts { (i : ℕ) → i < length order.old → get_or order.new i None ≡ first_of (places elements.now) i }
 {
+    let mut at = 0;
     let mut next = 0;
-    for element in elements {
+    'elements: while let Some(element) = elements.get(at) {
         match element {
-            Element::Fixed(_, _) => {}
-            Element::Slot(slot) => {
-                note_first(order, *slot, next);
+            ElementRef::Fixed(_, _) => {}
+            ElementRef::Slot(slot) => {
+                note_first(order, slot, next);
                 next += 1;
             }
         }
+        at += 1;
     }
 }
 

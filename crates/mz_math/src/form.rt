@@ -1,14 +1,15 @@
 // Forms: what they ask for, and the expressions that they make of their operands.
-ghost use Rattle.std.specs.Prelude.{◌≡◌, ◌↔◌, ◌≤◌, ◌<◌, ◌+◌, ◌∷◌, [], IsTrue, MatchOption, IfSome, length, drop};
-ghost use Rattle.mz_logic.specs.View.{tree};
-ghost use Rattle.mz_math_notation.specs.Notation.{above, places, slots as in_places};
-ghost use Rattle.mz_math.specs.Grammar.{items, level_before, last_level, notated_tree, head_level, applied};
-ghost use Rattle.mz_math.specs.Answers.{MayLead};
+ghost use Rattle.std.specs.Prelude.{◌≡◌, ◌↔◌, ◌+◌, [], IsTrue, IfSome, length, drop};
+ghost use Rattle.mz_logic_theory.specs.View.{tree};
+ghost use Rattle.mz_math_theory.specs.Notation.{above, places};
+ghost use Rattle.mz_math_theory.specs.Listed.{slots as in_places};
+ghost use Rattle.mz_math_theory.specs.Grammar.{items, level_before, last_level, notated_tree, head_level, applied};
+ghost use Rattle.mz_math_theory.specs.FormulaAnswers.{MayLead};
 ghost use Rattle.mz_math.specs.Steps.{IsNextPart, asked, tree_made, level_made, is_left_made};
 
 use crate::arrange::arranged;
-use mz_logic::{Expr, Exprs};
-use mz_math_notation::{Element, MAX, Notation};
+use mz_logic_theory::{Expr, Exprs};
+use mz_math_theory::{ElementRef, Elements, MAX, Notation};
 use mz_math_tokens::Bytes;
 use std::alloc::Global;
 
@@ -87,11 +88,11 @@ impl<'w> Form<'w> {
 fn part_of<'w>(notation: &'w Notation, from: usize, last: u32) -> Part<'w>
     ensures { IsNextPart result from (items (drop from notation.now.elements) last) (items (drop (from + 1) notation.now.elements) last) }
 {
-    let elements = notation.elements.as_slice();
-    match element_at(elements, from) {
+    let elements = &notation.elements;
+    match elements.get(from) {
         None => Part::End,
-        Some(Element::Fixed(constant, _)) => Part::Constant(constant),
-        Some(Element::Slot(_)) => Part::Operand(operand_level(elements, from + 1, last)),
+        Some(ElementRef::Fixed(constant, _)) => Part::Constant(constant),
+        Some(ElementRef::Slot(_)) => Part::Operand(operand_level(elements, from + 1, last)),
     }
 }
 
@@ -100,13 +101,6 @@ fn above_level(level: u32) -> u32
     ensures { result ≡ above level }
 {
     if level == MAX { MAX } else { level + 1 }
-}
-
-fn element_at(elements: &[Element], at: usize) -> Option<&Element>
-    ensures element { MatchOption result (drop at elements.now ≡ []) (λ l. drop at elements.now ≡ l.now ∷ drop (at + 1) elements.now) }
-    ensures within { MatchOption result (length elements.now ≤ at) (λ l. at < length elements.now) }
-{
-    elements.get(at)
 }
 
 /// The level of the application of a term with so many parameters.
@@ -136,17 +130,14 @@ pub fn can_lead(notation: &Notation, level: u32, is_left: bool) -> bool
         || (!notation.is_right && is_left && level == notation.level)
 }
 
-/// The level of an operand that stands before these elements.
-fn operand_level(elements: &[Element], from: usize, last: u32) -> u32
-    requires from { from ≤ length elements.now }
+/// The level of an operand that stands before the elements from a place on.
+fn operand_level(elements: &Elements, from: usize, last: u32) -> u32
     ensures { result ≡ level_before (drop from elements.now) last }
 {
-    if from == elements.len() {
-        return last;
-    }
-    match &elements[from] {
-        Element::Fixed(_, level) => above_level(*level),
-        Element::Slot(_) => MAX,
+    match elements.get(from) {
+        None => last,
+        Some(ElementRef::Fixed(_, level)) => above_level(level),
+        Some(ElementRef::Slot(_)) => MAX,
     }
 }
 
@@ -154,48 +145,51 @@ fn operand_level(elements: &[Element], from: usize, last: u32) -> u32
 fn notated(alloc: Global, notation: &Notation, operands: Exprs) -> Option<Expr>
     ensures { IfSome result (λ e. tree e ≡ notated_tree notation.now operands) }
 {
-    let elements = notation.elements.as_slice();
-    if let Some(many) = many_in_order(elements) {
+    if let Some(many) = many_in_order(&notation.elements) {
         if many == operands.len() {
             return Some(Expr::App(notation.term, operands));
         }
     }
-    let many = slots(elements);
-    match arranged(alloc, elements, operands, many) {
+    let many = slots(&notation.elements);
+    match arranged(alloc, &notation.elements, operands, many) {
         Err(_) => None,
         Ok(all) => Some(Expr::App(notation.term, all)),
     }
 }
 
 /// How many parameters stand there, if they stand in their own order.
-fn many_in_order(elements: &[Element]) -> Option<usize>
+fn many_in_order(elements: &Elements) -> Option<usize>
     ensures { IfSome result (λ n. places elements.now ≡ places (in_places 0 n)) }
 {
+    let mut at = 0;
     let mut next = 0;
-    for element in elements {
+    'elements: while let Some(element) = elements.get(at) {
         match element {
-            Element::Fixed(_, _) => {}
-            Element::Slot(slot) => {
-                if *slot != next {
+            ElementRef::Fixed(_, _) => {}
+            ElementRef::Slot(slot) => {
+                if slot != next {
                     return None;
                 }
                 next += 1;
             }
         }
+        at += 1;
     }
     Some(next)
 }
 
 /// How many parameters stand there.
-fn slots(elements: &[Element]) -> usize
+fn slots(elements: &Elements) -> usize
     ensures { result ≡ length (places elements.now) }
 {
+    let mut at = 0;
     let mut many = 0;
-    for element in elements {
+    'elements: while let Some(element) = elements.get(at) {
         match element {
-            Element::Fixed(_, _) => {}
-            Element::Slot(_) => many += 1,
+            ElementRef::Fixed(_, _) => {}
+            ElementRef::Slot(_) => many += 1,
         }
+        at += 1;
     }
     many
 }

@@ -1,44 +1,30 @@
 // What a math string stands for.
 ghost use Rattle.std.specs.Prelude.{◌≡◌, ◌≢◌, ◌↔◌, ◌≤◌, ◌<◌, ◌^◌, ℕ, List, All, IsTrue, MatchOption, Some, length};
-ghost use Rattle.mz_logic.specs.Declaration.{sorts};
-ghost use Rattle.mz_logic.specs.Modifiers.{MayBeClaimSort};
-ghost use Rattle.mz_logic.specs.View.{tree};
-ghost use Rattle.mz_math.specs.Answers.{IsClaimRead, IsFirstUnknown, IsJudged, IsTreeOfFew, settled};
-ghost use Rattle.mz_math_coercions.specs.Coercions.{IsPath, OnePath, Reaches};
-ghost use Rattle.mz_math.specs.Formula.{IsParsed, Reader, words as words_lem};
-ghost use Rattle.mz_math.specs.Meaning.{IsGoal};
-ghost use Rattle.mz_math.specs.declared.formula.Wanted.{Wanted};
-ghost use Rattle.mz_math.specs.Readable.{IsReadable};
-ghost use Rattle.mz_math_notation.specs.Kept.{AreVariables};
+ghost use Rattle.mz_logic_theory.specs.Declaration.{sorts};
+ghost use Rattle.mz_logic_theory.specs.Modifiers.{MayBeClaimSort};
+ghost use Rattle.mz_logic_theory.specs.View.{tree};
+ghost use Rattle.mz_math_theory.specs.FormulaAnswers.{IsClaimRead, IsFirstUnknown, IsJudged, IsTreeOfFew, settled};
+ghost use Rattle.mz_math_theory.specs.Coercions.{IsPath, OnePath, Reaches};
+ghost use Rattle.mz_math_theory.specs.Formula.{IsParsed, Reader, words as words_lem};
+ghost use Rattle.mz_math_theory.specs.Meaning.{IsGoal};
+ghost use Rattle.mz_math_theory.specs.declared.wanted.Wanted.{Wanted};
+ghost use Rattle.mz_math_theory.specs.Readable.{IsReadable};
+ghost use Rattle.mz_math_theory.specs.Kept.{AreVariables};
 ghost use Rattle.mz_math_tokens.specs.Pieces.{Pieces, piece_texts};
 
-use crate::meaning::{Built, coerced, sort_of};
-use crate::parser::{Syntax, parse};
+use crate::meaning::{coerced, sort_of};
+use crate::parser::parse;
 use crate::words::Vocabulary;
 use mz_lex::S;
-use mz_logic::{Context, Env, Expr};
+use mz_logic_theory::{Context, Env, Expr};
 use mz_math_coercions::{Coercions, distance, reaches, wrap};
 use mz_math_notation::{Notations, Scope};
+use mz_math_theory::{Built, Parsed, Syntax, Wanted};
 use mz_math_tokens::{Piece, Tokens};
 use std::alloc::Global;
 
 /// At most so many tokens, and at most so high a tree.
 const MOST: usize = 4096;
-
-/// What a formula is to be: of a provable sort, or of a sort.
-#[derive(Clone, Copy, Debug, PartialEq, Eq)]
-pub enum Wanted {
-    Provable,
-    Sort(u32),
-}
-
-/// What a math string stands for, or the first rule that it breaks, at a byte of it.
-#[derive(Drop)]
-pub enum Parsed {
-    Tree(Expr),
-    Refused { at: u32, rule: S },
-    Mem,
-}
 
 fn refused(rule: S) -> Parsed
     ensures { result ≡ Parsed.Refused 0 rule }

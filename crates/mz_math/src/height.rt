@@ -1,9 +1,9 @@
 // How high an expression is.
 ghost use Rattle.std.specs.Prelude.{◌≤◌, ◌↔◌, IsTrue};
-ghost use Rattle.mz_logic.specs.View.{tree};
-ghost use Rattle.mz_math.specs.Meaning.{height, trees_height};
+ghost use Rattle.mz_logic_theory.specs.View.{tree};
+ghost use Rattle.mz_math_theory.specs.Meaning.{height, trees_height};
 
-use mz_logic::{Expr, Exprs};
+use mz_logic_theory::{Expr, Exprs};
 
 /// Whether the expression is at most so high.
 #[cycle(is_low)]

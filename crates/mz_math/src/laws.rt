@@ -1,5 +1,5 @@
 // What holds of every table that the calls make. These functions do nothing: a caller learns their clauses.
-ghost use Rattle.mz_math.specs.Laws.{CoercionsAreJudged, CoercionsKeepTables, DelimitersAreJudged, DelimitersKeepTables, EmptyIsTable, GeneralsAreJudged, InfixesAreJudged, NamesKeepTables, NotationsKeepTables, OneMeaning, OneMisreading, OneReading, OneTokens, OneTree, PrefixesAreJudged, SomeReading, VariablesStay};
+ghost use Rattle.mz_math_theory.specs.Laws.{CoercionsAreJudged, CoercionsKeepTables, DelimitersAreJudged, DelimitersKeepTables, EmptyIsTable, GeneralsAreJudged, InfixesAreJudged, NamesKeepTables, NotationsKeepTables, OneMeaning, OneMisreading, OneReading, OneTokens, OneTree, PrefixesAreJudged, SomeReading, VariablesStay};
 
 /// The empty table is one that the calls make, and each statement that breaks no rule makes another.
 pub fn statements_keep_tables()

@@ -1,38 +1,17 @@
 // The expression that a tree of the notation grammar stands for.
 ghost use Rattle.std.specs.Prelude.{◌≡◌, ◌↔◌, [], ℕ, IsTrue, MatchOption, length};
-ghost use Rattle.mz_logic.specs.Declaration.{signatures};
-ghost use Rattle.mz_logic.specs.Tree.{Tree, Trees, none, var};
-ghost use Rattle.mz_logic.specs.View.{tree as tree_lem};
-ghost use Rattle.mz_math.specs.Answers.{FitsParam, IsBuilt, IsAdded, AreAdded, AddsWrapped};
-ghost use Rattle.mz_math_coercions.specs.Coercions.{OnePath, Reaches};
-ghost use Rattle.mz_math.specs.Meaning.{Coerced, CoercedAll};
+ghost use Rattle.mz_logic_theory.specs.Declaration.{signatures};
+ghost use Rattle.mz_logic_theory.specs.Tree.{Tree, Trees, none, var};
+ghost use Rattle.mz_logic_theory.specs.View.{tree as tree_lem};
+ghost use Rattle.mz_math_theory.specs.FormulaAnswers.{FitsParam, IsBuilt, IsAdded, AreAdded, AddsWrapped};
+ghost use Rattle.mz_math_theory.specs.Coercions.{OnePath, Reaches};
+ghost use Rattle.mz_math_theory.specs.Meaning.{Coerced, CoercedAll};
 
 use crate::height::is_low;
-use mz_logic::{Binder, Context, Env, Expr, Exprs, is_bound_var};
+use mz_logic_theory::{Binder, Context, Env, Expr, Exprs, is_bound_var};
 use mz_math_coercions::{Coercions, distance, reaches, wrap};
+use mz_math_theory::{Added, Built};
 use std::alloc::Global;
-
-/// An expression, where it isn't too high.
-#[derive(Drop)]
-pub enum Built {
-    /// The expression.
-    Tree(Expr),
-    /// It's too high.
-    High,
-    /// No memory was left.
-    Mem,
-}
-
-/// Whether expressions were added, where none is too high.
-#[derive(Clone, Copy)]
-pub enum Added {
-    /// They were.
-    Done,
-    /// One is too high.
-    High,
-    /// No memory was left.
-    Mem,
-}
 
 /// The sort of a tree whose operands can be wrapped to their parameters' sorts.
 #[cycle(sort_of)]

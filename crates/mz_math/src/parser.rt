@@ -1,17 +1,17 @@
 // Expressions of the notation grammar.
-ghost use Rattle.std.specs.Prelude.{◌≡◌, ◌↔◌, ◌≤◌, ◌<◌, ◌+◌, ◌*◌, ◌-◌, ◌^◌, ◌∷◌, ⊤, [], ℕ, List, IsTrue, MatchOption, Contains, length, drop, codes};
-ghost use Rattle.mz_logic.specs.Tree.{none};
-ghost use Rattle.mz_logic.specs.View.{tree};
-ghost use Rattle.mz_math.specs.Readable.{IsReadable};
-ghost use Rattle.mz_math.specs.Answers.{IfParsed, IfNotParsed};
-ghost use Rattle.mz_math.specs.Reading.{IsRead};
-ghost use Rattle.mz_math.specs.Grammar.{Words};
+ghost use Rattle.std.specs.Prelude.{◌≡◌, ◌↔◌, ◌≤◌, ◌<◌, ◌+◌, ◌*◌, ◌-◌, ◌^◌, ◌∷◌, ⊤, [], ℕ, List, IsTrue, MatchOption, length, drop, codes};
+ghost use Rattle.mz_logic_theory.specs.Tree.{none};
+ghost use Rattle.mz_logic_theory.specs.View.{tree};
+ghost use Rattle.mz_math_theory.specs.Readable.{IsReadable};
+ghost use Rattle.mz_math_theory.specs.FormulaAnswers.{IfParsed, IfNotParsed};
+ghost use Rattle.mz_math_theory.specs.Reading.{IsRead};
+ghost use Rattle.mz_math_theory.specs.Grammar.{Words};
 ghost use Rattle.mz_math.specs.Steps.{IsBegunAs, IsPending, Waits, Says, outer_level, asked, turns};
 
 use crate::form::{Form, Part, can_lead};
 use crate::words::Vocabulary;
-use mz_logic::{Expr, Exprs};
-use mz_math_notation::{MAX, Notation};
+use mz_logic_theory::{Expr, Exprs};
+use mz_math_theory::{MAX, Syntax};
 use mz_math_tokens::Tokens;
 use std::alloc::Global;
 
@@ -63,17 +63,6 @@ pub enum Step<'w> {
     /// Not further: the tokens are no expression.
     No,
     /// Not further: no memory was left.
-    Mem,
-}
-
-/// What tokens make.
-#[derive(Drop)]
-pub enum Syntax {
-    /// The tree of all tokens.
-    Tree(Expr),
-    /// No tree.
-    No,
-    /// No memory was left.
     Mem,
 }
 

@@ -1,12 +1,13 @@
 // What the tokens of a math string are read with.
 ghost use Rattle.std.specs.Prelude.{◌≡◌, ◌≢◌, ◌↔◌, IsTrue, MatchOption, [], Contains, Some, slice_get};
-ghost use Rattle.mz_logic.specs.Declaration.{signatures};
-ghost use Rattle.mz_math_notation.specs.Clear.{JoinedBy, LedBy};
-ghost use Rattle.mz_math.specs.Grammar.{IsKnown, IsTermName, words_of};
-ghost use Rattle.mz_math.specs.Lookups.{NoInfix, NoLeading, NoTermName, NoVariable};
+ghost use Rattle.mz_logic_theory.specs.Declaration.{signatures};
+ghost use Rattle.mz_math_theory.specs.Clear.{JoinedBy, LedBy};
+ghost use Rattle.mz_math_theory.specs.Grammar.{IsKnown, IsTermName, words_of};
+ghost use Rattle.mz_math_theory.specs.Lookups.{NoInfix, NoLeading, NoTermName, NoVariable};
 
-use mz_logic::Env;
-use mz_math_notation::{Notation, Notations, Scope};
+use mz_logic_theory::Env;
+use mz_math_notation::{Notations, Scope};
+use mz_math_theory::Notation;
 use mz_math_tokens::is_parenthesis;
 use std::marker::Model;
 
@@ -19,8 +20,8 @@ pub struct Vocabulary<'a> {
 }
 
 impl<'a> Model for Vocabulary<'a> {
-    ghost use Rattle.mz_logic.specs.Declaration.{signatures};
-    ghost use Rattle.mz_math.specs.Grammar.{Words, words_of};
+    ghost use Rattle.mz_logic_theory.specs.Declaration.{signatures};
+    ghost use Rattle.mz_math_theory.specs.Grammar.{Words, words_of};
 
     ghost Value = { Words };
 

@@ -6,14 +6,16 @@ use Rattle.std.proofs.lemmas.Bool.{true≢false}
 use Rattle.std.proofs.lemmas.Option.{get_or_from_slice_get, same_Some, none-some}
 use Rattle.std.proofs.lemmas.List.Elements.{Contains-push, Contains-push_cases, Contains-append_left}
 use Rattle.mz_base_theory.proofs.Offered.{slice_get-last, same-head, all_so_far_more, all-members, contains_at, AllSoFar}
-use Rattle.mz_logic.specs.Tree.{Tree, app, none, more}
-use Rattle.mz_math_coercions.specs.declared.coercion.Coercion.{Coercion}
-use Rattle.mz_math_coercions.specs.declared.firsts.Start.{Start}
+use Rattle.mz_logic_theory.specs.Tree.{Tree, app, none, more}
+use Rattle.mz_math_theory.specs.declared.coercion.Coercion.{Coercion}
+use Rattle.mz_math_theory.specs.declared.start.Start.{Start}
 use Rattle.mz_math_coercions.specs.declared.steps.FirstSteps.{FirstSteps}
-use Rattle.mz_math_coercions.specs.Coercions.{IsPath, OnePath, Reaches, coercion_term, wrapped}
-use Rattle.mz_math_coercions.specs.Answers.{AreEnds, AreStarts, HasLength, HasPath, IsBefore, IsNext}
+use Rattle.mz_math_theory.specs.Coercions.{IsPath, OnePath, Reaches, coercion_term, wrapped}
+use Rattle.mz_math_theory.specs.CoercionAnswers.{AreEnds, AreStarts, HasLength, HasPath, IsBefore, IsNext}
 use Rattle.mz_math_coercions.specs.Firsts.{first_of, AreForgotten, AreLed, AreMet, IsChanged, IsForgotten, IsOfStart, IsOfStarts, IsPut, IsSame}
-use Rattle.mz_math_coercions.proofs.Paths.{path-join, path-more, clash-two, taken, no-return, last-end, contains-middle, never-reach, stays-one}
+use Rattle.mz_math_coercions.specs.declared.sorts.Sorts.{Sorts}
+use Rattle.mz_math_coercions.specs.Sorts.{AreNoted}
+use Rattle.mz_math_theory.proofs.Offered.{path-join, path-more, clash-two, taken, no-return, last-end, contains-middle, never-reach, stays-one}
 
 -- what a loop has in hand
 -- ---- reading
@@ -326,30 +328,18 @@ ends-all cs c sorts i ends met seen done = (seen.0, λ t has. all-members (λ t.
       | inr found ↦ subst (Contains sorts) found.3 (met found.1 (Contains-append_left cs (c ∷ []) found.1 (contains_at cs found.0 found.1 found.2))).1
     ]
 
--- ---- sorts that are met
-
-pub met-kept : (cs : List Coercion) (xs ys : List ℕ) → AreMet cs xs → ((s : ℕ) → Contains xs s → Contains ys s) → AreMet cs ys
-met-kept cs xs ys met kept c has = (kept c.from (met c has).0, kept c.to (met c has).1)
-
-pub met-more : (cs : List Coercion) (c : Coercion) (xs : List ℕ) → AreMet cs xs → Contains xs c.from → Contains xs c.to → AreMet (cs ++ c ∷ []) xs
-met-more cs c xs met from-there to-there d has = elim (Contains-push_cases cs c d has) [
-  | inl old ↦ met d old
-  | inr same ↦ (subst (λ (e : Coercion). Contains xs e.from) same from-there, subst (λ (e : Coercion). Contains xs e.to) same to-there)
-]
+-- ---- none yet
 
 no-path : (s to p : ℕ) (path : List ℕ) → IsPath [] s (p ∷ path) to → ⊥
 no-path s to p path (c, at, begins, rest) = none-some _ at
 
-pub none-led : (cs : List Coercion) (xs : List ℕ) (m : FirstSteps) → cs ≡ [] → ((s to : ℕ) → first_of m s to ≡ None) → OnePath cs × AreMet cs xs × AreLed cs m
-none-led cs xs m is gone = subst (λ (ds : List Coercion). OnePath ds × AreMet ds xs × AreLed ds m) (sym is) (one, met, led)
+pub none-led : (cs : List Coercion) (xs : Sorts) (m : FirstSteps) → cs ≡ [] → AreNoted [] xs → ((s to : ℕ) → first_of m s to ≡ None) → OnePath cs × AreNoted cs xs × AreLed cs m
+none-led cs xs m is noted gone = subst (λ (ds : List Coercion). OnePath ds × AreNoted ds xs × AreLed ds m) (sym is) (one, noted, led)
   where
     one : OnePath []
     one s to [] [] on-x on-y = refl
     one s to [] (q ∷ y) on-x on-y = absurd (no-path s to q y on-y)
     one s to (p ∷ x) y on-x on-y = absurd (no-path s to p x on-x)
-
-    met : AreMet [] xs
-    met c (k, below, at) = absurd (omega arith)
 
     led : AreLed [] m
     led s to = (λ p path on. absurd (no-path s to p path on), λ p kept. absurd (none-some _ (sym (gone s to) ∙ kept)))

@@ -1,4 +1,3 @@
-pub mod Paths
 mod Cells
 mod Leading
-pub mod Offered
+mod Noting

@@ -3,10 +3,10 @@ use Rattle.std.specs.Prelude.{◌≡◌, ◌⊎◌, ◌+◌, ◌*◌, ◌&&◌, 
 use Rattle.std.specs.Ordering.{nat_cmp, ordering_then}
 use Rattle.std.specs.declared.cmp.Ordering.{Ordering}
 use Rattle.std.specs.BTreeMap as tree
-use Rattle.mz_math_coercions.specs.declared.coercion.Coercion.{Coercion}
-use Rattle.mz_math_coercions.specs.declared.firsts.Start.{Start}
+use Rattle.mz_math_theory.specs.declared.coercion.Coercion.{Coercion}
+use Rattle.mz_math_theory.specs.declared.start.Start.{Start}
 use Rattle.mz_math_coercions.specs.declared.steps.FirstSteps.{FirstSteps}
-use Rattle.mz_math_coercions.specs.Coercions.{IsPath}
+use Rattle.mz_math_theory.specs.Coercions.{IsPath}
 
 -- ---- what is kept
 

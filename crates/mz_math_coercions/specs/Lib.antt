@@ -1,3 +1,2 @@
-pub mod Coercions
 pub mod Firsts
-pub mod Answers
+pub mod Sorts

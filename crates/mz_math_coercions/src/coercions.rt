@@ -1,18 +1,19 @@
 // Coercions in the order in which they were declared, and their paths.
-ghost use Rattle.std.specs.Prelude.{◌≡◌, ◌↔◌, ◌≤◌, ◌++◌, ◌∷◌, [], ℕ, List, Contains, IsTrue, IfOk, OnOk, OnErr, MatchBool, MatchOption, length};
-ghost use Rattle.mz_logic.specs.Tree.{app, more, none};
-ghost use Rattle.mz_logic.specs.View.{tree};
-ghost use Rattle.mz_math_coercions.specs.Coercions.{IsPath, OnePath, Reaches, wrapped};
-ghost use Rattle.mz_math_coercions.specs.declared.coercion.Coercion.{Coercion};
-ghost use Rattle.mz_math_coercions.specs.Answers.{AreEnds, AreStarts, HasLength};
+ghost use Rattle.std.specs.Prelude.{◌≡◌, ◌↔◌, ◌≤◌, ◌++◌, ◌∷◌, [], ℕ, List, IsTrue, IfOk, OnOk, OnErr, MatchBool, MatchOption, length};
+ghost use Rattle.mz_logic_theory.specs.Tree.{app, more, none};
+ghost use Rattle.mz_logic_theory.specs.View.{tree};
+ghost use Rattle.mz_math_theory.specs.Coercions.{IsPath, OnePath, Reaches, wrapped};
+ghost use Rattle.mz_math_theory.specs.declared.coercion.Coercion.{Coercion};
+ghost use Rattle.mz_math_theory.specs.CoercionAnswers.{AreEnds, AreStarts, HasLength};
 ghost use Rattle.mz_math_coercions.specs.Firsts.{AreLed};
 
-use crate::coercion::Coercion;
 use crate::firsts::{
-    Start, are_joined, ends_of, is_reached, lead_all, next_coercion, starts_of, steps_between,
+    are_joined, find_ends, find_starts, is_reached, lead_all, next_coercion, steps_between,
 };
+use crate::sorts::{Sorts, is_marked};
 use crate::steps::FirstSteps;
-use mz_logic::{Expr, Exprs};
+use mz_logic_theory::{Expr, Exprs};
+use mz_math_theory::{Coercion, Start};
 use std::alloc::{AllocError, Global};
 use std::marker::Model;
 
@@ -22,22 +23,23 @@ use std::marker::Model;
 pub struct Coercions {
     items: Vec<Coercion>,
     // the sorts between which they lead
-    sorts: Vec<u32>,
+    sorts: Sorts,
     // for two sorts the place of the first coercion of the path
     firsts: FirstSteps,
 }
 
 impl Model for Coercions {
     ghost use Rattle.std.specs.Prelude.{List};
-    ghost use Rattle.mz_math_coercions.specs.declared.coercion.Coercion.{Coercion};
-    ghost use Rattle.mz_math_coercions.specs.Coercions.{OnePath};
-    ghost use Rattle.mz_math_coercions.specs.Firsts.{AreLed, AreMet};
+    ghost use Rattle.mz_math_theory.specs.declared.coercion.Coercion.{Coercion};
+    ghost use Rattle.mz_math_theory.specs.Coercions.{OnePath};
+    ghost use Rattle.mz_math_coercions.specs.Firsts.{AreLed};
+    ghost use Rattle.mz_math_coercions.specs.Sorts.{AreNoted};
 
     ghost Value = { List Coercion };
 
     ghost view = { λ a. a.items.items };
 
-    ghost invariant = { λ a. OnePath a.items.items × AreMet a.items.items a.sorts.items × AreLed a.items.items a.firsts };
+    ghost invariant = { λ a. OnePath a.items.items × AreNoted a.items.items a.sorts × AreLed a.items.items a.firsts };
 }
 
 impl Coercions {
@@ -47,7 +49,7 @@ impl Coercions {
     {
         Coercions {
             items: Vec::new(alloc),
-            sorts: Vec::new(alloc),
+            sorts: Sorts::new(alloc),
             firsts: FirstSteps::new(alloc),
         }
     }
@@ -71,10 +73,19 @@ impl Coercions {
             ((OnePath (self.old ++ coercion ∷ []) → ⊥) × (self.new ≡ self.old))) }
         ensures err { OnErr result (self.new ≡ self.old) }
     {
-        meet(&mut self.sorts, coercion.from)?;
-        meet(&mut self.sorts, coercion.to)?;
-        let starts = starts_of(alloc, &self.items, &self.sorts, &self.firsts, coercion)?;
-        let ends = ends_of(alloc, &self.items, &self.sorts, &self.firsts, coercion)?;
+        let is_reached = is_marked(&self.sorts.ends, coercion.from);
+        let leads_on = is_marked(&self.sorts.begins, coercion.to);
+        self.sorts.note(coercion)?;
+        let sorts = &self.sorts.list;
+        let starts = find_starts(
+            alloc,
+            &self.items,
+            sorts,
+            &self.firsts,
+            coercion,
+            is_reached,
+        )?;
+        let ends = find_ends(alloc, &self.items, sorts, &self.firsts, coercion, leads_on)?;
         if are_joined(&self.items, &self.firsts, &starts, &ends) {
             return Ok(false);
         }
@@ -111,23 +122,6 @@ fn drop_last(items: &mut Vec<Coercion>)
     ensures { (front : List Coercion) (last : Coercion) → items.old.items ≡ front ++ last ∷ [] → items.new.items ≡ front }
 {
     items.pop();
-}
-
-/// Notes a sort, where it isn't noted yet.
-fn meet(sorts: &mut Vec<u32>, sort: u32) -> Result<(), AllocError>
-    ensures ok { OnOk result (Contains sorts.new.items sort) }
-    ensures kept { (s : ℕ) → Contains sorts.old.items s → Contains sorts.new.items s }
-{
-    if !is_met(sorts, sort) {
-        sorts.push(sort)?;
-    }
-    Ok(())
-}
-
-fn is_met(sorts: &[u32], sort: u32) -> bool
-    ensures { IsTrue result ↔ Contains sorts.now sort }
-{
-    sorts.contains(&sort)
 }
 
 /// The length of the path from a sort to another, if there is one.

@@ -1,22 +1,14 @@
 // The first coercion of each path, by the two sorts between which it leads.
-ghost use Rattle.std.specs.Prelude.{◌≡◌, ◌↔◌, ◌≤◌, ◌++◌, ◌∷◌, [], ℕ, List, Contains, IsTrue, IfOk, MatchOption, OnOk, OnErr, None, Some, length, slice_get};
-ghost use Rattle.mz_math_coercions.specs.Coercions.{IsPath, OnePath, Reaches};
-ghost use Rattle.mz_math_coercions.specs.Answers.{AreEnds, AreStarts, HasLength, HasPath, IsBefore, IsNext};
+ghost use Rattle.std.specs.Prelude.{◌≡◌, ◌↔◌, ◌++◌, ◌∷◌, [], ℕ, List, Contains, IsTrue, IfOk, MatchOption, OnOk, OnErr, None, Some, false, slice_get};
+ghost use Rattle.mz_math_theory.specs.Coercions.{IsPath, Reaches};
+ghost use Rattle.mz_math_theory.specs.CoercionAnswers.{AreEnds, AreStarts, HasLength, HasPath, IsBefore, IsNext};
 ghost use Rattle.mz_math_coercions.specs.Firsts.{AreLed, AreMet, IsChanged, IsForgotten, IsOfStart, IsOfStarts, AreForgotten, first_of};
-ghost use Rattle.mz_math_coercions.specs.declared.coercion.Coercion.{Coercion};
-ghost use Rattle.mz_math_coercions.specs.declared.firsts.Start.{Start};
+ghost use Rattle.mz_math_theory.specs.declared.coercion.Coercion.{Coercion};
+ghost use Rattle.mz_math_theory.specs.declared.start.Start.{Start};
 
-use crate::coercion::Coercion;
 use crate::steps::FirstSteps;
+use mz_math_theory::{Coercion, Start};
 use std::alloc::{AllocError, Global};
-
-/// A sort from which a new coercion is reached, and the place of the coercion that begins the path
-/// by the new one.
-#[derive(Clone, Copy)]
-pub struct Start {
-    pub sort: u32,
-    pub place: usize,
-}
 
 fn coercion_at(items: &[Coercion], place: usize) -> Option<Coercion>
     ensures { result ≡ slice_get items.now place }
@@ -94,12 +86,12 @@ fn place_before(
     firsts.get(from, coercion.from)
 }
 
-/// The sorts from which a new coercion is reached.
+/// The sorts from which a new coercion is reached, by all sorts.
 ///
 /// # Errors
 ///
 /// Where there is no memory.
-pub fn starts_of(
+fn starts_of(
     alloc: Global,
     items: &[Coercion],
     sorts: &[u32],
@@ -119,12 +111,12 @@ pub fn starts_of(
     Ok(starts)
 }
 
-/// The sorts that are reached from the end of a new coercion.
+/// The sorts that are reached from the end of a new coercion, by all sorts.
 ///
 /// # Errors
 ///
 /// Where there is no memory.
-pub fn ends_of(
+fn ends_of(
     alloc: Global,
     items: &[Coercion],
     sorts: &[u32],
@@ -141,6 +133,71 @@ pub fn ends_of(
             ends.push(*sort)?;
         }
     }
+    Ok(ends)
+}
+
+/// The sorts from which a new coercion is reached: its own alone, where no other leads there.
+///
+/// # Errors
+///
+/// Where there is no memory.
+pub fn find_starts(
+    alloc: Global,
+    items: &[Coercion],
+    sorts: &[u32],
+    firsts: &FirstSteps,
+    coercion: Coercion,
+    is_reached: bool,
+) -> Result<Vec<Start>, AllocError>
+    requires led { AreLed items.now firsts.now }
+    requires met { AreMet (items.now ++ coercion ∷ []) sorts.now }
+    requires alone { is_reached ≡ false → (c : Coercion) → Contains items.now c → c.to ≡ coercion.from → ⊥ }
+    ensures { IfOk result (λ starts. AreStarts items.now coercion starts.items) }
+{
+    if is_reached {
+        return starts_of(alloc, items, sorts, firsts, coercion);
+    }
+    lone_start(alloc, coercion.from, items.len())
+}
+
+fn lone_start(alloc: Global, sort: u32, place: usize) -> Result<Vec<Start>, AllocError>
+    ensures { IfOk result (λ starts. starts.items ≡ record { sort = sort; place = place } ∷ []) }
+{
+    let mut starts = Vec::new(alloc);
+    starts.push(Start { sort, place })?;
+    Ok(starts)
+}
+
+/// The sorts that are reached from the end of a new coercion: that one alone, where no other begins
+/// there.
+///
+/// # Errors
+///
+/// Where there is no memory.
+pub fn find_ends(
+    alloc: Global,
+    items: &[Coercion],
+    sorts: &[u32],
+    firsts: &FirstSteps,
+    coercion: Coercion,
+    leads_on: bool,
+) -> Result<Vec<u32>, AllocError>
+    requires led { AreLed items.now firsts.now }
+    requires met { AreMet (items.now ++ coercion ∷ []) sorts.now }
+    requires alone { leads_on ≡ false → (c : Coercion) → Contains items.now c → c.from ≡ coercion.to → ⊥ }
+    ensures { IfOk result (λ ends. AreEnds items.now coercion ends.items) }
+{
+    if leads_on {
+        return ends_of(alloc, items, sorts, firsts, coercion);
+    }
+    lone_end(alloc, coercion.to)
+}
+
+fn lone_end(alloc: Global, sort: u32) -> Result<Vec<u32>, AllocError>
+    ensures { IfOk result (λ ends. ends.items ≡ sort ∷ []) }
+{
+    let mut ends = Vec::new(alloc);
+    ends.push(sort)?;
     Ok(ends)
 }
 

@@ -10,7 +10,7 @@ use Rattle.std.specs.BTreeMap.{BTreeMap, is_at}
 use Rattle.std.specs.Map.{lookup}
 use Rattle.std.proofs.lemmas.List.Elements.{Contains-push_cases}
 use Rattle.mz_base_theory.proofs.Offered.{slice_get-last, slice_get-append}
-use Rattle.mz_math_notation.specs.Notation.{Notation}
+use Rattle.mz_math_theory.specs.declared.notation.Notation.{Notation}
 use Rattle.mz_math_notation.specs.Headed.{AreLevelled, place_at}
 
 -- ---- reading

@@ -1,14 +1,18 @@
 -- The elements of a `notation` statement.
-use Rattle.std.proofs.Common.{◌≡◌, ◌≢◌, ◌<◌, ◌+◌, ◌-◌, suc, ◌++◌, ◌∙◌, ℕ, List, [], ◌∷◌, length, Some, Option, slice_get, get_or, ap, ap₂, sym, refl, subst, arith, drop, drop-cons, add-one, append_assoc, Contains, Result, Ok, Err}
+use Rattle.std.proofs.Common.{◌≡◌, ◌≢◌, ◌<◌, ◌+◌, ◌++◌, ◌∙◌, ℕ, List, [], ◌∷◌, length, Some, Option, slice_get, get_or, ap, ap₂, sym, refl, subst, drop, drop-cons, add-one, append_assoc, Contains, Result, Ok, Err}
 use Rattle.std.specs.Prelude.{slice_range, IsErrAnd}
 use Rattle.std.proofs.lemmas.Option.{slice_get_within, get_or_from_slice_get}
-use Rattle.mz_logic.specs.Signature.{Signature}
+use Rattle.mz_logic_theory.specs.Signature.{Signature}
 use Rattle.mz_math_tokens.specs.declared.pieces.Delimiters.{Delimiters}
-use Rattle.mz_math_notation.specs.Notation.{Element, Notation, slot, slots}
+use Rattle.mz_math_theory.specs.declared.notation.Element.{Element}
+use Rattle.mz_math_theory.specs.declared.notation.Notation.{Notation}
 use Rattle.mz_math_tokens.specs.Pieces.{IsConstant}
-use Rattle.mz_math_notation.specs.Forms.{IsElement, AreElements, Literal, constant, name, IsSpan, General, IsGeneral, EachOnce, Begins, NoteFault}
-use Rattle.mz_math_notation.specs.Answers.{IsNotationOf, IsMade}
-use Rattle.mz_math_notation.specs.declared.table.NoteFault.TheVariants as faults
+use Rattle.mz_math_theory.specs.Forms.{IsElement, AreElements, IsSpan, General, IsGeneral, EachOnce, Begins}
+use Rattle.mz_math_theory.specs.declared.literal.Literal.{Literal}
+use Rattle.mz_math_theory.specs.declared.literal.Literal.TheVariants.{Constant as constant, Name as name}
+use Rattle.mz_math_theory.specs.declared.fault.NoteFault.{NoteFault}
+use Rattle.mz_math_theory.specs.NotationAnswers.{IsNotationOf, IsMade}
+use Rattle.mz_math_theory.specs.declared.fault.NoteFault.TheVariants as faults
 
 pub constant-parts : (d : Delimiters) (names : List (List ℕ)) (text : List ℕ) (from to : ℕ) (level : Option ℕ) (e : Element) → IsElement d names text (constant from to level) e
     → IsSpan text from to × ((w : List ℕ) × IsConstant d (slice_range text from to) w)
@@ -78,8 +82,3 @@ module _ (d : Delimiters) (names : List (List ℕ)) (text : List ℕ) (ls : List
   more-elements es e now is element goes rest are =
       subst (AreElements d names text ls) (sym (ap (λ xs. xs ++ rest) is ∙ append_assoc es (e ∷ []) rest))
       (goes (e ∷ rest) (subst (λ xs. AreElements d names text xs (e ∷ rest)) (sym here) (element, are)))
-
-pub slots-more : (xs now goal : List Element) (i many : ℕ) → i < many → now ≡ xs ++ slot i ∷ [] → xs ++ slots i (many - i) ≡ goal → now ++ slots (i + 1) (many - (i + 1)) ≡ goal
-slots-more xs now goal i many below is whole =
-    let one : many - i ≡ suc (many - (i + 1)) = omega arith in
-    ap (λ ys. ys ++ slots (i + 1) (many - (i + 1))) is ∙ append_assoc xs (slot i ∷ []) (slots (i + 1) (many - (i + 1))) ∙ ap (λ n. xs ++ slots i n) (sym one) ∙ whole

@@ -4,7 +4,9 @@ use Rattle.std.specs.Prelude.{◌==◌, if◌then◌else◌}
 use Rattle.std.proofs.lemmas.Bool.Decides.{eqb_tells}
 use Rattle.std.proofs.lemmas.List.{drop_all, get_or-set_same, get_or-set_other}
 use Rattle.std.proofs.lemmas.List.Sums.{sum_by-cons}
-use Rattle.mz_math_notation.specs.Notation.{Element, fixed, slot, places}
+use Rattle.mz_math_theory.specs.Notation.{places}
+use Rattle.mz_math_theory.specs.declared.notation.Element.{Element}
+use Rattle.mz_math_theory.specs.declared.notation.Element.TheVariants.{Fixed as fixed, Slot as slot}
 use Rattle.mz_math_notation.specs.Once.{one_if, times}
 
 -- ---- one mark

@@ -9,7 +9,7 @@ use Rattle.std.proofs.lemmas.Slice.Eq.{bytes_eq-Decides}
 use Rattle.std.proofs.lemmas.List.Elements.{Contains-push_cases}
 use Rattle.mz_base_theory.proofs.Offered.{contains_at}
 use Rattle.indexmap.specs.IndexMap.{insert_entry}
-use Rattle.mz_math_notation.specs.Notation.{TermName}
+use Rattle.mz_math_theory.specs.Notation.{TermName}
 use Rattle.mz_math_notation.specs.Names.{AreOnce, IsFoundAs, all_named, name_with}
 
 pub named-decides : (names : List (List ℕ)) (w : List ℕ) (o : Option ℕ) → MatchOption o (w ≢ [] → Contains names w → ⊥) (λ x. (w ≢ []) × (slice_get names x ≡ Some w)) → (b : Bool) → b ≡ is_some o

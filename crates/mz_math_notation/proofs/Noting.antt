@@ -8,10 +8,11 @@ use Rattle.std.proofs.lemmas.Option.{slice_get_within, slice_get-get_or, same_So
 use Rattle.std.proofs.lemmas.Slice.Eq.{bytes_eq-Decides}
 use Rattle.mz_base_theory.proofs.Offered.{place-of}
 use Rattle.mz_math_tokens.specs.Places.{place_of}
-use Rattle.mz_math_notation.specs.Answers.{KeepsOwnLevels}
+use Rattle.mz_math_theory.specs.NotationAnswers.{KeepsOwnLevels}
 use Rattle.mz_math_notation.specs.Levels.{IsLevelNoted}
-use Rattle.mz_math_notation.specs.Notation.{Element, fixed, slot}
-use Rattle.mz_math_notation.proofs.Constants.{fixed-same}
+use Rattle.mz_math_theory.specs.declared.notation.Element.{Element}
+use Rattle.mz_math_theory.specs.declared.notation.Element.TheVariants.{Fixed as fixed, Slot as slot}
+use Rattle.mz_math_theory.proofs.Offered.{fixed-same}
 
 -- ---- one constant
 

@@ -1,14 +1,18 @@
 -- Constants found by a place where they stand.
-use Rattle.std.proofs.Common.{◌≡◌, ◌<◌, ◌≤◌, ◌+◌, ◌++◌, arith, ◌∙◌, ℕ, List, [], ◌∷◌, length, get_or, true, false, Option, Some, None, MatchOption, slice_get, ap, sym, subst, inl, inr, Contains}
+use Rattle.std.proofs.Common.{◌≡◌, ◌<◌, ◌≤◌, ◌++◌, arith, ◌∙◌, ℕ, List, [], ◌∷◌, length, true, false, Option, Some, None, MatchOption, slice_get, ap, sym, subst, inl, inr, Contains}
 use Rattle.std.specs.Prelude.{bytes_eq, if◌then◌else◌}
 use Rattle.std.specs.Cmp.Lexicographic.{bytes_decides}
 use Rattle.std.proofs.lemmas.Bool.{cases_Bool, cond-true, cond-false}
-use Rattle.std.proofs.lemmas.Option.{slice_get_within, slice_get-get_or, same_Some, none-some}
+use Rattle.std.proofs.lemmas.Option.{slice_get_within, same_Some, none-some}
 use Rattle.mz_base_theory.proofs.Offered.{slice_get-last, slice_get-append, place-of, slice_get-push_cases, contains_at}
-use Rattle.mz_math_notation.specs.Notation.{Notation, Element, fixed}
-use Rattle.mz_math_notation.specs.Clear.{HasConstant, LedBy, JoinedBy}
-use Rattle.mz_math_notation.specs.Answers.{NoOtherJoined, NoOtherLed}
+use Rattle.mz_math_theory.specs.declared.notation.Notation.{Notation}
+use Rattle.mz_math_theory.specs.declared.notation.Element.{Element}
+use Rattle.mz_math_theory.specs.declared.notation.Element.TheVariants.{Fixed as fixed}
+use Rattle.mz_math_theory.specs.Clear.{HasConstant, LedBy, JoinedBy}
+use Rattle.mz_math_theory.specs.NotationAnswers.{NoOtherJoined, NoOtherLed}
 use Rattle.mz_math_notation.specs.Headed.{AreFound, IsHeadedBy, IsNoted, StandsAt}
+use Rattle.mz_math_theory.specs.Listed.{AreListed}
+use Rattle.mz_math_theory.proofs.Offered.{constant-listed}
 use Rattle.mz_math_tokens.specs.Places.{place_of}
 use Rattle.mz_math_notation.specs.declared.notations.Spot.{Spot}
 
@@ -42,10 +46,10 @@ module _ (ps : List (List ℕ × Spot)) (ks : List Notation) (w : List ℕ) (s :
         let (k, p, at, there) = stands-there q has in
         (p, subst (λ (l : Notation). slice_get l.elements s.element ≡ Some (fixed w p)) (same_Some _ _ (sym at ∙ here)) there)
 
-    pub past-elements : length n.elements ≤ s.element → (q : ℕ) → HasConstant ks w q → ⊥
-    past-elements past q has =
+    pub past-elements : (listed : List Element) → AreListed n.elements listed → length listed ≤ s.element → (q : ℕ) → HasConstant ks w q → ⊥
+    past-elements listed are past q has =
         let (p, there) = stands-in q has in
-        let within : s.element < length n.elements = slice_get_within n.elements s.element (fixed w p) there in
+        let within : s.element < length listed = slice_get_within listed s.element (fixed w p) (constant-listed n.elements listed s.element w p are there) in
         absurd (omega (arith, within, past))
 
     pub level-here : (e : Element) → slice_get n.elements s.element ≡ Some e → (o : Option ℕ) → MatchOption o ((q : ℕ) → e ≡ fixed w q → ⊥) (λ q. e ≡ fixed w q)
@@ -99,10 +103,13 @@ noted-known ps ks k bs j level p here are (l, in_l, in_els) w q at =
     let same = fixed-word (sym here ∙ at) in
     (s.0, ap (place_of ps) (sym same) ∙ s.1, stands-longer ks k w s.0 (subst (λ v. StandsAt ks v s.0) same s.2))
 
-pub found-more : (ps : List (List ℕ × Spot)) (ks : List Notation) (k : Notation) → AreFound ps ks → ((i : ℕ) → i < length k.elements → IsNoted ps ks k i) → AreFound ps (ks ++ k ∷ [])
-found-more ps ks k are noted i j l w q at in_l = elim (slice_get-push_cases ks k i l at) [
+pub found-more : (ps : List (List ℕ × Spot)) (ks : List Notation) (k : Notation) (listed : List Element) → AreListed k.elements listed → AreFound ps ks
+    → ((i : ℕ) → i < length listed → IsNoted ps ks k i) → AreFound ps (ks ++ k ∷ [])
+found-more ps ks k listed all are noted i j l w q at in_l = elim (slice_get-push_cases ks k i l at) [
   | inl there ↦ let s = are i j l w q there in_l in (s.0, s.1, stands-longer ks k w s.0 s.2)
-  | inr last ↦ noted j (slice_get_within k.elements j (fixed w q) (subst (λ n. slice_get n.elements j ≡ Some (fixed w q)) (sym last.1) in_l)) w q (subst (λ n. slice_get n.elements j ≡ Some (fixed w q)) (sym last.1) in_l)
+  | inr last ↦
+      let here = subst (λ n. slice_get n.elements j ≡ Some (fixed w q)) (sym last.1) in_l in
+      noted j (slice_get_within listed j (fixed w q) (constant-listed k.elements listed j w q all here)) w q here
 ]
 
 -- one constant makes a notation
@@ -117,11 +124,6 @@ headed-one k v w (inr a) (inr b) = seconds (sym a.2 ∙ b.2)
   where
     seconds : {x y : List ℕ} {p q : ℕ} {s t : Element} {ls ms : List Element} → s ∷ fixed x p ∷ ls ≡ t ∷ fixed y q ∷ ms → x ≡ y
     seconds e = cc
-
--- the element at a place, as the code has it
-pub element-here : (xs ys : List Element) (i : ℕ) (e : Element) (w v : List ℕ) (level : ℕ) → xs ≡ ys → i < length ys → e ≡ get_or xs i e → e ≡ fixed v level → w ≡ v → slice_get ys i ≡ Some (fixed w level)
-element-here xs ys i e w v level same within item is word =
-    slice_get-get_or ys i e within ∙ ap (λ zs. Some (get_or zs i e)) (sym same) ∙ ap Some (sym item ∙ is ∙ ap (λ u. fixed u level) (sym word))
 
 -- ---- leading notations begin with a constant, infix ones with a parameter
 

@@ -3,8 +3,9 @@ use Rattle.std.specs.Prelude.{◌≡◌, ◌⊎◌, ◌++◌, ◌∷◌, [], ℕ
 use Rattle.std.specs.Ordering.{nat_cmp}
 use Rattle.std.specs.BTreeMap as tree
 use Rattle.std.specs.BTreeMap.{BTreeMap}
-use Rattle.mz_math_notation.specs.Notation.{Notation, fixed}
-use Rattle.mz_math_notation.specs.Clear.{JoinedBy, LedBy}
+use Rattle.mz_math_theory.specs.declared.notation.Notation.{Notation}
+use Rattle.mz_math_theory.specs.declared.notation.Element.TheVariants.{Fixed as fixed}
+use Rattle.mz_math_theory.specs.Clear.{JoinedBy, LedBy}
 use Rattle.mz_math_tokens.specs.Places.{place_of}
 use Rattle.mz_math_notation.specs.declared.notations.Spot.{Spot}
 

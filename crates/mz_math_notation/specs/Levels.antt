@@ -1,6 +1,7 @@
 -- How the code notes the levels of a notation's own constants: each constant with the level that it has first.
 use Rattle.std.specs.Prelude.{◌≡◌, ◌≢◌, ◌↔◌, ◌⊎◌, ℕ, List, Bool, Some, MatchBool}
-use Rattle.mz_math_notation.specs.Notation.{Element, fixed}
+use Rattle.mz_math_theory.specs.declared.notation.Element.{Element}
+use Rattle.mz_math_theory.specs.declared.notation.Element.TheVariants.{Fixed as fixed}
 use Rattle.mz_math_tokens.specs.Places.{place_of}
 
 -- the levels are those before and the element's; or the element is a constant that has another level before

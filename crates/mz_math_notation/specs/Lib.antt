@@ -1,9 +1,5 @@
-pub mod Notation
-pub mod Clear
-pub mod Kept
-pub mod Forms
 pub mod Names
 pub mod Headed
 pub mod Once
 pub mod Levels
-pub mod Answers
+pub mod Given

@@ -1,6 +1,6 @@
 -- Names of terms by their bytes.
 use Rattle.std.specs.Prelude.{◌≡◌, ℕ, List, Contains, map}
-use Rattle.mz_math_notation.specs.Notation.{TermName}
+use Rattle.mz_math_theory.specs.Notation.{TermName}
 
 -- it is there, has the name, and nothing else has
 abbrev pub IsFoundAs : List TermName → List ℕ → TermName → Type 0

@@ -1,7 +1,8 @@
 -- How the code counts the parameters that are named: a mark is none or one.
 use Rattle.std.specs.Prelude.{◌==◌, ℕ, List, Bool, if◌then◌else◌}
 use Rattle.std.specs.List.{count_by}
-use Rattle.mz_math_notation.specs.Notation.{Element, places}
+use Rattle.mz_math_theory.specs.Notation.{places}
+use Rattle.mz_math_theory.specs.declared.notation.Element.{Element}
 
 -- how often the place of a parameter stands among the elements
 abbrev pub times : List Element → ℕ → ℕ

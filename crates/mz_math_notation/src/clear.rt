@@ -1,48 +1,49 @@
 // Whether a notation can be mistaken for another one.
 ghost use Rattle.std.specs.Prelude.{◌≡◌, ◌↔◌, ◌<◌, ◌++◌, ◌∷◌, [], ℕ, List, IfOk, IsTrue};
-ghost use Rattle.mz_math_notation.specs.Clear.{HasConstant, IsClear};
+ghost use Rattle.mz_math_theory.specs.Clear.{HasConstant, IsClear};
 ghost use Rattle.mz_math_notation.specs.Levels.{IsLevelNoted};
-ghost use Rattle.mz_math_notation.specs.Notation.{fixed, max_level};
-ghost use Rattle.mz_math_notation.specs.declared.notation.Notation.{Notation};
-ghost use Rattle.mz_math_notation.specs.Answers.{GroupAlike, GroupsWith, HaveOneLevel, KeepsLevels, KeepsOwnLevels, NoOtherJoined, NoOtherLed};
+ghost use Rattle.mz_math_theory.specs.Notation.{max_level};
+ghost use Rattle.mz_math_theory.specs.declared.notation.Element.TheVariants.{Fixed as fixed};
+ghost use Rattle.mz_math_theory.specs.declared.notation.Notation.{Notation};
+ghost use Rattle.mz_math_theory.specs.NotationAnswers.{GroupAlike, GroupsWith, HaveOneLevel, KeepsLevels, KeepsOwnLevels, NoOtherJoined, NoOtherLed};
 
-use crate::notation::{Element, MAX, Notation};
 use crate::notations::NotationList;
+use mz_math_theory::{Element, MAX, Notation};
 use mz_math_tokens::Places;
 use std::alloc::{AllocError, Global};
 
-impl Element {
-    /// Whether it is no constant, or has its level in the notations, too.
-    fn keeps_level(&self, notations: &NotationList) -> bool
-        requires { HaveOneLevel notations.now }
-        ensures { IsTrue result ↔ ((w : List ℕ) (q p : ℕ) → self.now ≡ fixed w q → HasConstant notations.now w p → p ≡ q) }
-    {
-        match self {
-            Element::Fixed(constant, level) => has_level_in(notations, constant.as_slice(), *level),
-            Element::Slot(_) => true,
-        }
-    }
-
-    /// Notes the level of a constant; whether it is no constant, or has had no other level.
-    fn note_level(&self, alloc: Global, levels: &mut Places<u32>) -> Result<bool, AllocError>
-        ensures { IfOk result (λ is. IsLevelNoted is levels.old self.now levels.new) }
-    {
-        match self {
-            Element::Fixed(constant, level) => {
-                note_level_of(alloc, levels, constant.as_slice(), *level)
-            }
-            Element::Slot(_) => Ok(true),
-        }
+/// Whether it is no constant, or has its level in the notations, too.
+fn keeps_level(element: &Element, notations: &NotationList) -> bool
+    requires { HaveOneLevel notations.now }
+    ensures { IsTrue result ↔ ((w : List ℕ) (q p : ℕ) → element.now ≡ fixed w q → HasConstant notations.now w p → p ≡ q) }
+{
+    match element {
+        Element::Fixed(constant, level) => has_level_in(notations, constant.as_slice(), *level),
+        Element::Slot(_) => true,
     }
 }
 
-impl Notation {
-    /// Whether it groups to this side.
-    fn groups(&self, is_right: bool) -> bool
-        ensures { IsTrue result ↔ (self.now.is_right ≡ is_right) }
-    {
-        self.is_right == is_right
+/// Notes the level of a constant; whether it is no constant, or has had no other level.
+fn note_level(
+    element: &Element,
+    alloc: Global,
+    levels: &mut Places<u32>,
+) -> Result<bool, AllocError>
+    ensures { IfOk result (λ is. IsLevelNoted is levels.old element.now levels.new) }
+{
+    match element {
+        Element::Fixed(constant, level) => {
+            note_level_of(alloc, levels, constant.as_slice(), *level)
+        }
+        Element::Slot(_) => Ok(true),
     }
+}
+
+/// Whether it groups to this side.
+fn groups(notation: &Notation, is_right: bool) -> bool
+    ensures { IsTrue result ↔ (notation.now.is_right ≡ is_right) }
+{
+    notation.is_right == is_right
 }
 
 /// Notes the level of a constant that has none; whether it has had no other.
@@ -80,7 +81,7 @@ fn keeps_levels(elements: &[Element], notations: &NotationList) -> bool
     ensures { IsTrue result ↔ KeepsLevels elements.now notations.now }
 {
     for element in elements {
-        if !element.keeps_level(notations) {
+        if !keeps_level(element, notations) {
             return false;
         }
     }
@@ -93,7 +94,7 @@ fn keeps_own_levels(alloc: Global, elements: &[Element]) -> Result<bool, AllocEr
 {
     let mut levels: Places<u32> = Places::new(alloc);
     for element in elements {
-        let is_noted = element.note_level(alloc, &mut levels)?;
+        let is_noted = note_level(element, alloc, &mut levels)?;
         if !is_noted {
             return Ok(false);
         }
@@ -108,7 +109,7 @@ fn all_group_with(infixes: &NotationList, notation: &Notation) -> bool
 {
     match infixes.grouping_at(notation.level) {
         None => true,
-        Some(is_right) => notation.groups(is_right),
+        Some(is_right) => groups(notation, is_right),
     }
 }
 
@@ -148,7 +149,7 @@ fn levels_are_kept(
     requires { IsClear leading.now infixes.now }
     ensures { IfOk result (λ are_kept. IsTrue are_kept ↔ (KeepsOwnLevels notation.now.elements × KeepsLevels notation.now.elements leading.now × KeepsLevels notation.now.elements infixes.now)) }
 {
-    let elements = notation.elements.as_slice();
+    let elements = notation.elements.listed();
     let keeps_own = keeps_own_levels(alloc, elements)?;
     if !keeps_own {
         return Ok(false);

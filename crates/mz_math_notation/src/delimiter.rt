@@ -1,9 +1,9 @@
 // The delimiters that a statement declares, where it is of its form.
 ghost use Rattle.std.specs.Prelude.{option_map};
 ghost use Rattle.mz_math_tokens.specs.Pieces.{AreCharacters, AreDelimiters};
-ghost use Rattle.mz_math_notation.specs.Answers.{AreBoth, IsMade};
+ghost use Rattle.mz_math_theory.specs.NotationAnswers.{AreBoth, IsMade};
 
-use crate::table::NoteFault;
+use mz_math_theory::NoteFault;
 use mz_math_tokens::{ByteSet, Delimiters};
 use std::alloc::Global;
 

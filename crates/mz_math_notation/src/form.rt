@@ -1,42 +1,22 @@
 // The notation that a statement makes, where it is of its form.
-ghost use Rattle.std.specs.Prelude.{◌≡◌, ◌≤◌, ◌<◌, ◌+◌, ◌↔◌, ◌∷◌, [], ℕ, Bool, IfOk, IsTrue, MatchOption, drop, length, slice_range};
-ghost use Rattle.mz_logic.specs.Declaration.{signatures};
-ghost use Rattle.mz_math_notation.specs.Answers.{IsMade, IsNotationOf, general};
-ghost use Rattle.mz_math_notation.specs.Forms.{AreElements, Begins, IsCoercion, IsElement, IsGeneral, IsInfix, IsPrefix, IsSpan};
-ghost use Rattle.mz_math_notation.specs.Kept.{AreVariables};
-ghost use Rattle.mz_math_notation.specs.Notation.{fixed, slot, slots};
+ghost use Rattle.std.specs.Prelude.{◌≡◌, ◌≤◌, ◌<◌, ◌+◌, ◌^◌, ◌↔◌, ◌∷◌, [], ℕ, Bool, IfOk, IsTrue, MatchOption, drop, length, slice_range};
+ghost use Rattle.std.specs.Result.{result_map_both};
+ghost use Rattle.mz_logic_theory.specs.Declaration.{signatures};
+ghost use Rattle.mz_math_theory.specs.NotationAnswers.{IsMade, IsNotationOf};
+ghost use Rattle.mz_math_notation.specs.Given.{general};
+ghost use Rattle.mz_math_theory.specs.Forms.{AreElements, Begins, IsCoercion, IsElement, IsGeneral, IsInfix, IsPrefix, IsSpan};
+ghost use Rattle.mz_math_theory.specs.Kept.{AreVariables};
+ghost use Rattle.mz_math_theory.specs.declared.notation.Element.TheVariants.{Fixed as fixed, Slot as slot};
+ghost use Rattle.mz_math_theory.specs.Listed.{slots};
 
-use crate::notation::{Element, Elements, Notation, level_number};
 use crate::once::each_once;
 use crate::scope::Scope;
-use crate::table::NoteFault;
-use mz_logic::{Binder, Env, ResultType};
-use mz_math_coercions::Coercion;
+use mz_logic_theory::{Binder, Env, ResultType};
+use mz_math_theory::{
+    Coercion, Element, Elements, Literal, Notation, NoteFault, Tail, level_number,
+};
 use mz_math_tokens::{Bytes, Delimiters};
 use std::alloc::{AllocError, Global};
-
-/// A literal of a `notation` statement, by its span in a text: a constant, without its `$`, with its
-/// level (none for max), or the name of a parameter.
-#[derive(Clone, Copy)]
-pub enum Literal {
-    Constant {
-        from: u32,
-        to: u32,
-        level: Option<u32>,
-    },
-    Name {
-        from: u32,
-        to: u32,
-    },
-}
-
-/// The end of a `notation` statement that begins with a parameter: its level (none for max), and
-/// whether it groups to the right.
-#[derive(Clone, Copy)]
-pub struct Tail {
-    pub level: Option<u32>,
-    pub right: bool,
-}
 
 /// The parts of a `notation` statement.
 #[derive(Clone, Copy)]
@@ -111,7 +91,7 @@ pub fn prefix_of(
         return Err(NoteFault::Form);
     };
     let level = level_number(level);
-    match prefix_elements(alloc, word, level, decl.params.len()) {
+    match prefix_elements(alloc, word, level, decl.params.as_slice().len()) {
         Err(_) => Err(NoteFault::Mem),
         Ok(elements) => Ok(Notation {
             term,
@@ -129,14 +109,10 @@ fn prefix_elements(
     level: u32,
     many: usize,
 ) -> Result<Elements, AllocError>
+    requires { many < 2 ^ 63 }
     ensures { IfOk result (λ all. all ≡ fixed word.now level ∷ slots 0 many) }
 {
-    let mut elements = Vec::new(alloc);
-    elements.push(Element::Fixed(Bytes::copy_of(alloc, word)?, level))?;
-    for i in 0..many {
-        elements.push(Element::Slot(i))?;
-    }
-    Ok(Elements::from_vec(elements))
+    Elements::of_prefix(alloc, Bytes::copy_of(alloc, word)?, level, many)
 }
 
 /// What a literal stands for: a constant, or the place of a parameter.
@@ -199,8 +175,8 @@ fn elements_of(
     params: &Scope,
     text: &[u8],
     literals: &[Literal],
-) -> Result<Elements, NoteFault>
-    ensures { IsMade result (AreElements delimiters.now params.now.names text.now literals.now) }
+) -> Result<Vec<Element>, NoteFault>
+    ensures { IsMade (result_map_both (λ all. all.items) (λ fault. fault) result) (AreElements delimiters.now params.now.names text.now literals.now) }
 {
     let mut elements = Vec::new(alloc);
     let mut i = 0;
@@ -215,7 +191,7 @@ fn elements_of(
         }
         i += 1;
     }
-    Ok(Elements::from_vec(elements))
+    Ok(elements)
 }
 
 /// The level of a notation, and whether it groups to the right, by how it begins and by its tail.
@@ -302,22 +278,22 @@ pub fn general_of(
 fn notation_of(
     alloc: Global,
     statement: Statement<'_>,
-    elements: Elements,
+    elements: Vec<Element>,
 ) -> Result<Notation, NoteFault>
-    ensures { IsMade result (IsNotationOf (general statement.entry) elements) }
+    ensures { IsMade result (IsNotationOf (general statement.entry) elements.items) }
 {
     let many = statement.params.binders().len();
-    let once = each_once(alloc, many, elements.as_slice())?;
+    let once = each_once(alloc, many, &elements)?;
     if !once {
         return Err(NoteFault::Form);
     }
-    match head_of(elements.as_slice(), statement.tail) {
+    match head_of(&elements, statement.tail) {
         None => Err(NoteFault::Form),
         Some((level, is_right)) => Ok(Notation {
             term: statement.term,
             level,
             is_right,
-            elements,
+            elements: Elements::from_vec(elements),
         }),
     }
 }

@@ -1,7 +1,7 @@
 // The names of terms, found by their bytes.
 ghost use Rattle.std.specs.Prelude.{◌≡◌, ◌++◌, ◌∷◌, [], MatchOption, OnOk, OnErr, Contains, length};
 ghost use Rattle.mz_math_notation.specs.Names.{IsFoundAs};
-ghost use Rattle.mz_math_notation.specs.Notation.{TermName};
+ghost use Rattle.mz_math_theory.specs.Notation.{TermName};
 
 use indexmap::IndexMap;
 use mz_base::Hashing;
@@ -16,7 +16,7 @@ pub struct TermNames {
 
 impl Model for TermNames {
     ghost use Rattle.std.specs.Prelude.{List};
-    ghost use Rattle.mz_math_notation.specs.Notation.{TermName};
+    ghost use Rattle.mz_math_theory.specs.Notation.{TermName};
     ghost use Rattle.mz_math_notation.specs.Names.{AreOnce, all_named};
 
     ghost Value = { List TermName };

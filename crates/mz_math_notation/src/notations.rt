@@ -1,11 +1,11 @@
 // Notations, found by their constants and their levels.
 ghost use Rattle.std.specs.Prelude.{◌≡◌, ◌++◌, ◌∷◌, ◌<◌, ◌+◌, [], ℕ, List, MatchOption, OnOk, OnErr, Contains, length, Some, bytes_eq, if◌then◌else◌};
-ghost use Rattle.mz_math_notation.specs.Clear.{HasConstant, JoinedBy, LedBy};
+ghost use Rattle.mz_math_theory.specs.Clear.{HasConstant, JoinedBy, LedBy};
 ghost use Rattle.mz_math_notation.specs.Headed.{AreFound, AreLevelled, IsHeadedBy, IsNoted, place_at as place_at_level};
 ghost use Rattle.mz_math_tokens.specs.Places.{place_of};
-ghost use Rattle.mz_math_notation.specs.declared.notation.Notation.{Notation};
+ghost use Rattle.mz_math_theory.specs.declared.notation.Notation.{Notation};
 
-use crate::notation::{Element, Notation};
+use mz_math_theory::{ElementRef, Notation};
 use mz_math_tokens::Places;
 use std::alloc::{AllocError, Global};
 use std::collections::BTreeMap;
@@ -32,7 +32,7 @@ pub struct NotationList {
 
 impl Model for NotationList {
     ghost use Rattle.std.specs.Prelude.{List};
-    ghost use Rattle.mz_math_notation.specs.declared.notation.Notation.{Notation};
+    ghost use Rattle.mz_math_theory.specs.declared.notation.Notation.{Notation};
     ghost use Rattle.mz_math_notation.specs.Headed.{AreFound, AreLevelled, IsHeadedBy};
     ghost use Rattle.mz_math_tokens.specs.Places.{LeadsTo};
 
@@ -124,7 +124,7 @@ fn level_in(constants: &Places<Spot>, items: &[Notation], token: &[u8]) -> Optio
 {
     let spot = constants.get(token)?;
     let notation = items.get(spot.notation)?;
-    let element = notation.elements.as_slice().get(spot.element)?;
+    let element = notation.elements.listed().get(spot.element)?;
     element.level_of(token)
 }
 
@@ -197,7 +197,7 @@ fn note_constants(
     ensures found { AreFound constants.new items.now }
     ensures ok { OnOk result (AreFound constants.new (items.now ++ notation.now ∷ [])) }
 {
-    for place in 0..notation.elements.as_slice().len() {
+    for place in 0..notation.elements.listed().len() {
         note_constant(constants, alloc, items, notation, place)?;
     }
     Ok(())
@@ -211,15 +211,15 @@ fn note_constant(
     notation: &Notation,
     place: usize,
 ) -> Result<(), AllocError>
-    requires found { AreFound constants.old items.now }
-    requires within { place < length notation.now.elements }
+    requires { AreFound constants.old items.now }
     ensures found { AreFound constants.new items.now }
     ensures ok { OnOk result (IsNoted constants.new items.now notation.now place) }
     ensures kept { (i : ℕ) → IsNoted constants.old items.now notation.now i → IsNoted constants.new items.now notation.now i }
 {
-    match &notation.elements.as_slice()[place] {
-        Element::Slot(_) => Ok(()),
-        Element::Fixed(constant, _) => {
+    match notation.elements.get(place) {
+        None => Ok(()),
+        Some(ElementRef::Slot(_)) => Ok(()),
+        Some(ElementRef::Fixed(constant, _)) => {
             let word = constant.as_slice();
             match level_in(constants, items, word) {
                 Some(_) => Ok(()),

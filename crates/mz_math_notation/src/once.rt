@@ -1,9 +1,9 @@
 // Whether each parameter is named exactly once.
 ghost use Rattle.std.specs.Prelude.{◌≡◌, ◌↔◌, ◌<◌, ◌+◌, ◌==◌, ◌∷◌, [], ℕ, IfOk, IsTrue, false, true, get_or, length};
-ghost use Rattle.mz_math_notation.specs.Forms.{EachOnce};
+ghost use Rattle.mz_math_theory.specs.Forms.{EachOnce};
 ghost use Rattle.mz_math_notation.specs.Once.{one_if, times};
 
-use crate::notation::Element;
+use mz_math_theory::Element;
 use std::alloc::{AllocError, Global};
 
 /// Whether each of so many parameters is named exactly once.

@@ -1,10 +1,10 @@
 // The variables of a statement.
 ghost use Rattle.std.specs.Prelude.{◌≡◌, ◌≢◌, ◌↔◌, ◌⊎◌, ◌<◌, ◌++◌, ◌∷◌, [], IsTrue, Contains, MatchOption, OnOk, OnErr, length, slice_get};
 ghost use Rattle.mz_base.specs.Identifiers.{is_name};
-ghost use Rattle.mz_math_notation.specs.Notation.{with_variable};
-ghost use Rattle.mz_math_notation.specs.Kept.{AreVariables};
+ghost use Rattle.mz_math_theory.specs.Notation.{with_variable};
+ghost use Rattle.mz_math_theory.specs.Kept.{AreVariables};
 
-use mz_logic::{Binder, Binders};
+use mz_logic_theory::{Binder, Binders};
 use mz_math_tokens::VariableNames;
 use std::alloc::{AllocError, Global};
 use std::marker::Model;
@@ -20,8 +20,8 @@ pub struct Scope {
 
 impl Model for Scope {
     ghost use Rattle.std.specs.Prelude.{◌≡◌, ◌<◌, ◌^◌, length};
-    ghost use Rattle.mz_math_notation.specs.Notation.{Variables};
-    ghost use Rattle.mz_math_notation.specs.Kept.{AreVariables};
+    ghost use Rattle.mz_math_theory.specs.Notation.{Variables};
+    ghost use Rattle.mz_math_theory.specs.Kept.{AreVariables};
 
     ghost Value = { Variables };
 

@@ -1,69 +1,29 @@
 // What has been declared for math strings, and the statements that add to it.
 ghost use Rattle.std.specs.Prelude.{◌≡◌, ◌↔◌, ◌⊎◌, List, ℕ, IsTrue, MatchOption, Contains, OnOk, OnErr, IfErr, length, option_map};
 ghost use Rattle.mz_base.specs.Identifiers.{is_name};
-ghost use Rattle.mz_logic.specs.Declaration.{signatures};
-ghost use Rattle.mz_math_notation.specs.Answers.{IsAdded, IsPlain, IsShaped};
-ghost use Rattle.mz_math_notation.specs.Clear.{HasConstant, JoinedBy, LedBy};
-ghost use Rattle.mz_math_notation.specs.declared.notation.Notation.{Notation};
-ghost use Rattle.mz_math_coercions.specs.Coercions.{OnePath};
-ghost use Rattle.mz_math_notation.specs.Forms.{AddsDelimiters, AddsNotation, IsAnswer, IsGeneral, IsInfix, IsPrefix, coercion_checks, delimiter_checks, notation_checks};
-ghost use Rattle.mz_math_notation.specs.Kept.{IsTable};
+ghost use Rattle.mz_logic_theory.specs.Declaration.{signatures};
+ghost use Rattle.mz_math_theory.specs.NotationAnswers.{IsAdded, IsPlain, IsShaped};
+ghost use Rattle.mz_math_theory.specs.Clear.{HasConstant, JoinedBy, LedBy};
+ghost use Rattle.mz_math_theory.specs.declared.notation.Notation.{Notation};
+ghost use Rattle.mz_math_theory.specs.Coercions.{OnePath};
+ghost use Rattle.mz_math_theory.specs.Forms.{AddsDelimiters, AddsNotation, IsAnswer, IsGeneral, IsInfix, IsPrefix, coercion_checks, delimiter_checks, notation_checks};
+ghost use Rattle.mz_math_theory.specs.Kept.{IsTable};
 ghost use Rattle.mz_math_notation.specs.Names.{IsFoundAs};
-ghost use Rattle.mz_math_notation.specs.Notation.{TermName, empty_table, with_coercion, with_infix, with_leading, with_name, with_notation};
+ghost use Rattle.mz_math_theory.specs.Notation.{TermName, empty_table, with_coercion, with_infix, with_leading, with_name, with_notation};
 
 use crate::clear::{is_clear_with_infix, is_clear_with_leading};
 use crate::delimiter::declared;
-use crate::form::{Literal, Statement, Tail, general_of, infix_of, is_coercion, prefix_of};
+use crate::form::{Statement, general_of, infix_of, is_coercion, prefix_of};
 use crate::names::TermNames;
-use crate::notation::Notation;
 use crate::notations::NotationList;
 use crate::scope::Scope;
 use mz_base::Hashing;
-use mz_logic::{Env, ResultType};
-use mz_math_coercions::{Coercion, Coercions};
+use mz_logic_theory::{Env, ResultType};
+use mz_math_coercions::Coercions;
+use mz_math_theory::{Coercion, Literal, Notation, NoteFault, Tail};
 use mz_math_tokens::Delimiters;
-use std::alloc::{AllocError, AllocFailed, Global};
+use std::alloc::Global;
 use std::marker::Model;
-use thiserror::Error;
-
-/// Why a statement adds nothing.
-#[derive(Clone, Copy, Debug, PartialEq, Eq, Error)]
-pub enum NoteFault {
-    /// The notation can be mistaken for another one, or its constant has another level elsewhere.
-    #[error("the notation clashes with another one")]
-    Clash,
-    /// The notation, the coercion or the delimiter isn't of its form.
-    #[error("the statement isn't of its form")]
-    Form,
-    /// There would be two paths of coercions between two sorts.
-    #[error("there is another path of coercions")]
-    CoercionClash,
-    /// There is no memory.
-    #[error("there is no memory")]
-    Mem,
-}
-
-impl From<AllocError> for NoteFault {
-    ghost use Rattle.std.specs.Prelude.{◌≡◌};
-    ghost use Rattle.mz_math_notation.specs.declared.table.NoteFault.TheVariants.{Mem};
-
-    ghost from_gives = { λ _ fault. fault ≡ Mem };
-
-    fn from(_: AllocError) -> NoteFault {
-        NoteFault::Mem
-    }
-}
-
-impl<T: Drop> From<AllocFailed<T>> for NoteFault {
-    ghost use Rattle.std.specs.Prelude.{◌≡◌};
-    ghost use Rattle.mz_math_notation.specs.declared.table.NoteFault.TheVariants.{Mem};
-
-    ghost from_gives = { λ _ fault. fault ≡ Mem };
-
-    fn from(_: AllocFailed<T>) -> NoteFault {
-        NoteFault::Mem
-    }
-}
 
 /// The delimiters, notations, names of terms and coercions that have been declared.
 #[derive(Drop)]
@@ -77,9 +37,9 @@ pub struct Notations {
 }
 
 impl Model for Notations {
-    ghost use Rattle.mz_math_notation.specs.Notation.{Table};
+    ghost use Rattle.mz_math_theory.specs.Notation.{Table};
     ghost use Rattle.mz_math_tokens.specs.declared.pieces.Delimiters.{Delimiters};
-    ghost use Rattle.mz_math_notation.specs.Kept.{IsTable};
+    ghost use Rattle.mz_math_theory.specs.Kept.{IsTable};
 
     ghost Value = { Table };
 

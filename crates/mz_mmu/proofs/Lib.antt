@@ -1,13 +1,2 @@
-pub mod Declared
 pub mod TextSteps
 pub mod Roots
-pub mod OneAnswer
-pub mod Decided
-pub mod Ascending
-pub mod Found
-pub mod FoundStatements
-pub mod OneReading
-pub mod OneStatement
-pub mod Whole
-pub mod OnlyDrafts
-pub mod Offered

@@ -1,32 +1,28 @@
 -- Statements, one after another.
-use Rattle.std.proofs.Common.{ℕ, suc, ◌≡◌, ◌≤◌, ◌<◌, ◌+◌, ◌-◌, ◌∙◌, Bool, true, false, List, [], ◌∷◌, ◌++◌, length, Some, None, sym, ap, refl, subst, arith, append_assoc, append-nil}
-use Rattle.std.specs.Prelude.{bytes_eq, if◌then◌else◌}
+use Rattle.std.proofs.Common.{ℕ, suc, ◌≡◌, ◌≤◌, ◌<◌, ◌+◌, ◌-◌, ◌∙◌, Bool, List, [], ◌∷◌, ◌++◌, length, sym, ap, refl, subst, arith, append_assoc, append-nil}
 use Rattle.mz_base_theory.proofs.Offered.{length-push, Decides, decides-after, fails-before, retold-fails, retold-holds}
 use Rattle.mz_base_theory.specs.Checks.{Checks, retold, FailsFirst}
 use Rattle.mz_sexpr.specs.Node.{Node, Nodes, no_nodes, node, atom, list}
 use Rattle.mz_sexpr.specs.Number.{node_count, node_at}
 use Rattle.mz_sexpr.specs.declared.rule.TextRefusal.{TextRefusal}
-use Rattle.mz_logic.specs.Declaration.{Declaration, sort_decl, term_decl, assertion_decl}
-use Rattle.mz_logic.specs.declared.binder.Binder.{Binder}
+use Rattle.mz_logic_theory.specs.Declaration.{Declaration, sort_decl, term_decl, assertion_decl}
 use Rattle.mz_sexpr.specs.Grammar.{Reads as Spells}
 use Rattle.mz_sexpr.specs.Rows.{entries}
 use Rattle.mz_sexpr.specs.Token.{Token, close, spelled, spelled_node}
 use Rattle.mz_sexpr.proofs.Offered.{few_rows, tokens_when_read}
-use Rattle.mz_mmu_forms.specs.Cursor.{node_size, nodes_size}
-use Rattle.mz_mmu_forms.specs.Stops.{Stops}
+use Rattle.mz_mmu_theory.specs.Cursor.{node_size, nodes_size}
+use Rattle.mz_mmu_theory.specs.Stops.{Stops}
 use Rattle.mz_mmu.specs.TextStops.{IsStopped, TextStops}
-use Rattle.mz_mmu_forms.specs.declared.fault.Stop.{Stop}
-use Rattle.mz_mmu_forms.specs.declared.fault.Stop.TheVariants as stop
+use Rattle.mz_mmu_theory.specs.declared.fault.Stop.{Stop}
+use Rattle.mz_mmu_theory.specs.declared.fault.Stop.TheVariants as stop
 use Rattle.mz_mmu.specs.declared.text.TextStop.{TextStop}
-use Rattle.mz_mmu_forms.specs.declared.fault.Fault.{Fault}
-use Rattle.mz_base.specs.Names.{IsNew}
-use Rattle.mz_base.proofs.Offered.{new-both, new-parts}
-use Rattle.mz_mmu_forms.specs.Name.{Names, IsName, no_names, names_with, constant_name}
-use Rattle.mz_mmu_forms.specs.NamesMore.{AreFew}
+use Rattle.mz_mmu_theory.specs.declared.fault.Fault.{Fault}
+use Rattle.mz_mmu_theory.specs.Name.{Names, no_names, names_with, constant_name}
+use Rattle.mz_mmu_theory.specs.NamesMore.{AreFew}
 use Rattle.mz_mmu.specs.EntryView.{AreNumbers}
-use Rattle.mz_mmu_statements.specs.Statements.{Statement, IsStatement, AreStatements}
-use Rattle.mz_mmu_statements.specs.Order.{statement_asked, statements_asked, in_statement, names_after}
-use Rattle.mz_mmu.proofs.Declared.{Agrees, statement_says}
+use Rattle.mz_mmu_theory.specs.Statements.{Statement, IsStatement, AreStatements}
+use Rattle.mz_mmu_theory.specs.StatementOrder.{statement_asked, statements_asked, in_statement, names_after}
+use Rattle.mz_mmu_theory.proofs.Offered.{statement_says}
 
 module _ (names later : Names) (left ns : Nodes) (n : Node) (is : left ≡ node n ns) (s : Statement) (h : IsStatement names n s) (after : later ≡ names_with names s.name s.decl) where
   pub statements_read_more : (P : List Statement → Type 0) (sofar now : List Statement) → now ≡ sofar ++ s ∷ [] → ((ss : List Statement) → AreStatements names left ss → P (sofar ++ ss))
@@ -65,28 +61,6 @@ few_with names w (assertion_decl a) n few = let k = length-push names.assertions
 
 pub few_more : (names later : Names) (w : List ℕ) (d : Declaration) (n m : ℕ) → later ≡ names_with names w d → m ≡ suc n → AreFew names n → AreFew later m
 few_more names later w d n m after one few = subst (λ k. AreFew later k) (sym one) (subst (λ x. AreFew x (suc n)) (sym after) (few_with names w d n few))
-
-name_not_empty : (w : List ℕ) → IsName w → bytes_eq w [] ≡ false
-name_not_empty [] h = absurd (let f : false ≡ true = h in cc)
-name_not_empty (b ∷ w) h = refl
-
--- a name that is another than a term's is another than that of a constant
-constant_differs : (params : List Binder) (x w : List ℕ) → IsName w → IsNew (x ∷ []) w → IsNew (constant_name params x ∷ []) w
-constant_differs [] x w h new = new
-constant_differs (p ∷ ps) x w h new = ap (λ b. if b then Some 0 else None) (name_not_empty w h)
-
-agrees_with : (names : Names) (x : List ℕ) (d : Declaration) → Agrees names → Agrees (names_with names x d)
-agrees_with names x (sort_decl m) g = g
-agrees_with names x (assertion_decl a) g = g
-agrees_with names x (term_decl t) g = λ w h new.
-    let k = new-parts names.terms (x ∷ []) w new in
-    new-both names.constants (constant_name t.signature.params x ∷ []) w (g w h k.0) (constant_differs t.signature.params x w h k.1)
-
-pub agrees_more : (names later : Names) (x : List ℕ) (d : Declaration) → later ≡ names_with names x d → Agrees names → Agrees later
-agrees_more names later x d after g = subst Agrees (sym after) (agrees_with names x d g)
-
-pub agrees_first : (gaps : Bool) → Agrees (no_names gaps)
-agrees_first gaps w h new = refl
 
 pub few_first : (gaps : Bool) (n : ℕ) → AreFew (no_names gaps) n
 few_first gaps n = record { sorts = omega arith; terms = omega arith; constants = omega arith; assertions = omega arith }

@@ -4,10 +4,10 @@ use Rattle.mz_base.specs.Gaps.{gaps_of}
 use Rattle.mz_base.specs.declared.mode.Mode.{Mode}
 use Rattle.mz_sexpr.specs.Node.{Nodes, no_nodes, node}
 use Rattle.mz_sexpr.specs.Number.{node_count, node_at}
-use Rattle.mz_mmu_statements.specs.Statements.{Statement, AreStatements}
-use Rattle.mz_mmu_forms.specs.Name.{no_names}
-use Rattle.mz_mmu_statements.specs.StatementView.{stated}
-use Rattle.mz_mmu.specs.TextView.{Forms}
+use Rattle.mz_mmu_theory.specs.Statements.{Statement, AreStatements}
+use Rattle.mz_mmu_theory.specs.Name.{no_names}
+use Rattle.mz_mmu_theory.specs.StatementView.{stated}
+use Rattle.mz_mmu_theory.specs.TextView.{Forms}
 use Rattle.mz_mmu.specs.declared.text.Entry.{Entry}
 
 abbrev pub entry : Entry → Statement

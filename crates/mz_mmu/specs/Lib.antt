@@ -1,5 +1,3 @@
-pub mod TextView
 pub mod EntryView
 pub mod TextRead
 pub mod TextStops
-pub mod Laws

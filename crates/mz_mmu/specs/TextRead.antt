@@ -1,8 +1,8 @@
 -- What reading a text answers.
 use Rattle.std.specs.Prelude.{ℕ, ◌≡◌, ⊤, Bool, List, [], ◌∷◌}
 use Rattle.mz_sexpr.specs.Node.{Node, Nodes, no_nodes, node}
-use Rattle.mz_mmu_statements.specs.Statements.{Reads}
-use Rattle.mz_mmu_statements.specs.Order.{Refuses}
+use Rattle.mz_mmu_theory.specs.Statements.{Reads}
+use Rattle.mz_mmu_theory.specs.StatementOrder.{Refuses}
 use Rattle.mz_mmu.specs.declared.text.TextRead.{TextRead}
 use Rattle.mz_mmu.specs.declared.text.TextRead.TheVariants as read
 

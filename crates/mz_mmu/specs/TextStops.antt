@@ -2,9 +2,9 @@
 use Rattle.std.specs.Prelude.{ℕ, ◌≡◌, ⊤}
 use Rattle.mz_base_theory.specs.Checks.{Checks, FailsFirst}
 use Rattle.mz_sexpr.specs.declared.rule.TextRefusal.{TextRefusal}
-use Rattle.mz_mmu_statements.specs.Order.{in_statement}
-use Rattle.mz_mmu_forms.specs.declared.fault.Stop.{Stop}
-use Rattle.mz_mmu_forms.specs.declared.fault.Stop.TheVariants as stop
+use Rattle.mz_mmu_theory.specs.StatementOrder.{in_statement}
+use Rattle.mz_mmu_theory.specs.declared.fault.Stop.{Stop}
+use Rattle.mz_mmu_theory.specs.declared.fault.Stop.TheVariants as stop
 use Rattle.mz_mmu.specs.declared.text.TextStop.{TextStop}
 use Rattle.mz_mmu.specs.declared.text.TextStop.TheVariants as text_stop
 use Rattle.mz_mmu.specs.declared.text.TextRead.{TextRead}

@@ -1,8 +1,8 @@
 //! What follows from the definitions. Each function does nothing; its contract is the law.
 ghost use Rattle.std.specs.Prelude.{ℕ, Bool, List};
 ghost use Rattle.mz_sexpr.specs.Node.{Nodes};
-ghost use Rattle.mz_mmu_forms.specs.Name.{Names};
-ghost use Rattle.mz_mmu.specs.Laws.{AreOneList, AreWhole, HasOneReading, IsReadOrRefused, IsReadOrRefusedOnce, OnlyDraftsHaveGaps};
+ghost use Rattle.mz_mmu_theory.specs.Name.{Names};
+ghost use Rattle.mz_mmu_theory.specs.ReadingLaws.{AreOneList, AreWhole, HasOneReading, IsReadOrRefused, IsReadOrRefusedOnce, OnlyDraftsHaveGaps};
 
 /// A text that is read isn't refused, and no text is refused in two ways.
 pub fn read_or_refused_once()

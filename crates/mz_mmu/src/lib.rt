@@ -8,5 +8,5 @@ mod text;
 pub use laws::{
     one_reading, only_drafts_have_gaps, read_or_refused, read_or_refused_once, statements_are_whole,
 };
-pub use mz_mmu_forms::{Conv, ConvBox, Convs, Proof, ProofBox, Proofs, Vars};
+pub use mz_mmu_theory::{Conv, ConvBox, Convs, Proof, ProofBox, Proofs, Vars};
 pub use text::{Entry, Text, TextRead, TextStop, in_statement, read_text};

@@ -1,20 +1,21 @@
 //! Reading a whole text.
 ghost use Rattle.std.specs.Prelude.{◌≡◌, ◌<◌, ◌^◌, ◌-◌, ◌++◌, ◌∷◌, [], length, IfOk, IfErr, OnOk};
-ghost use Rattle.mz_logic.specs.DeclView.{declaration};
+ghost use Rattle.mz_logic_theory.specs.DeclView.{declaration};
 ghost use Rattle.mz_base.specs.Gaps.{gaps_of};
-ghost use Rattle.mz_mmu_forms.specs.Name.{IsName, no_names, names_with};
-ghost use Rattle.mz_mmu_forms.specs.NamesMore.{IsUnused, AreFew};
+ghost use Rattle.mz_mmu_theory.specs.Name.{IsName, no_names, names_with};
+ghost use Rattle.mz_mmu_theory.specs.NamesMore.{IsUnused, AreFew};
 ghost use Rattle.mz_mmu.specs.EntryView.{IsRooted};
-ghost use Rattle.mz_mmu_statements.specs.Order.{statements_asked};
+ghost use Rattle.mz_mmu_theory.specs.StatementOrder.{statements_asked};
 ghost use Rattle.mz_mmu_forms.specs.ScopeView.{names as names_view};
 ghost use Rattle.mz_mmu.specs.TextRead.{IsReading};
 ghost use Rattle.mz_mmu.specs.TextStops.{IsStopped, TextStops, IsRefusal};
-ghost use Rattle.mz_mmu_forms.specs.Cursor.{nodes_size};
+ghost use Rattle.mz_mmu_theory.specs.Cursor.{nodes_size};
 
-use mz_base::Mode;
-use mz_logic::{Binders, Decl};
-use mz_mmu_forms::{Fault, Hashing, Names, Proof, Reader, Stop};
-use mz_mmu_statements::{Declared, statement};
+use mz_base::{Hashing, Mode};
+use mz_logic_theory::{Binders, Decl};
+use mz_mmu_forms::{Names, Reader};
+use mz_mmu_statements::statement;
+use mz_mmu_theory::{Declared, Fault, Proof, Stop};
 use mz_sexpr::{SexprRead, Sexprs, TextRefusal, read_sexprs};
 use std::alloc::{AllocError, Global};
 use std::marker::Model;
@@ -39,7 +40,7 @@ pub struct Text<'a> {
 }
 
 impl<'a> Model for Text<'a> {
-    ghost use Rattle.mz_mmu.specs.TextView.{Forms, forms_code};
+    ghost use Rattle.mz_mmu_theory.specs.TextView.{Forms, forms_code};
 
     ghost Value = { Forms };
 
@@ -201,12 +202,12 @@ pub fn read_text<'a>(alloc: Global, hashing: Hashing, text: &'a [u8], mode: Mode
 
 impl<'a> Text<'a> {
     ghost use Rattle.std.specs.Prelude.{◌≡◌, ◌<◌, length, map, option_map, slice_get, Some};
-    ghost use Rattle.mz_logic.specs.DeclView.{declaration};
+    ghost use Rattle.mz_logic_theory.specs.DeclView.{declaration};
     ghost use Rattle.mz_sexpr.specs.Number.{node_count, node_at};
     ghost use Rattle.mz_mmu.specs.EntryView.{entry, IsRooted};
-    ghost use Rattle.mz_mmu_forms.specs.ProofView.{proof_view};
-    ghost use Rattle.mz_mmu_forms.specs.Name.{no_names};
-    ghost use Rattle.mz_mmu_statements.specs.Statements.{AreStatements};
+    ghost use Rattle.mz_mmu_theory.specs.ProofView.{proof_view};
+    ghost use Rattle.mz_mmu_theory.specs.Name.{no_names};
+    ghost use Rattle.mz_mmu_theory.specs.Statements.{AreStatements};
     ghost use Rattle.mz_mmu.specs.TextRead.{listed};
     ghost use Rattle.mz_base.specs.Gaps.{gaps_of};
 

@@ -3,12 +3,12 @@ use Rattle.std.proofs.Common.{◌≡◌, ◌∙◌, ℕ, List, [], ◌∷◌, �
 use Rattle.mz_base_theory.specs.Checks.{Checks, AllHold}
 use Rattle.mz_base_theory.proofs.Offered.{Decides, decides-after}
 use Rattle.mz_sexpr.specs.Node.{Node, Nodes, node, parts}
-use Rattle.mz_logic.specs.declared.binder.Binder.{Binder}
-use Rattle.mz_mmu_forms.specs.declared.fault.Fault.{Fault}
-use Rattle.mz_mmu_forms.specs.Name.{HasNumber}
-use Rattle.mz_mmu_forms.specs.Expressions.{AreVariables, AreBinders}
-use Rattle.mz_mmu_forms.specs.Order.{known_asked, variables_asked, first_word, binders_asked}
-use Rattle.mz_mmu_forms.proofs.Hold.{known_holds}
+use Rattle.mz_logic_theory.specs.declared.binder.Binder.{Binder}
+use Rattle.mz_mmu_theory.specs.declared.fault.Fault.{Fault}
+use Rattle.mz_mmu_theory.specs.Name.{HasNumber}
+use Rattle.mz_mmu_theory.specs.Expressions.{AreVariables, AreBinders}
+use Rattle.mz_mmu_theory.specs.FormOrder.{known_asked, variables_asked, first_word, binders_asked}
+use Rattle.mz_mmu_theory.proofs.Offered.{known_holds}
 
 module _ (vars : List (List ℕ)) (left ns : Nodes) (n : Node) (is : left ≡ node n ns) (x : ℕ) (h : HasNumber vars n x) where
   pub variables_read_more : (P : List ℕ → Type 0) (sofar now : List ℕ) → now ≡ sofar ++ x ∷ [] → ((xs : List ℕ) → AreVariables vars left xs → P (sofar ++ xs))

@@ -1,9 +1,9 @@
 -- Conversions, one after another.
 use Rattle.std.proofs.Common.{◌≡◌, List, [], ◌∷◌, ◌++◌, ap, refl}
-use Rattle.mz_logic.specs.Conversions.{Conversions, no_convs, more_convs}
-use Rattle.mz_mmu_forms.specs.ConvView.{conversion, conversions}
+use Rattle.mz_logic_theory.specs.Conversions.{Conversions, no_convs, more_convs}
+use Rattle.mz_mmu_theory.specs.ConvView.{conversion, conversions}
 use Rattle.mz_mmu_forms.specs.ConvSteps.{convs_then}
-use Rattle.mz_mmu_forms.specs.declared.conv.Conv.{Conv}
+use Rattle.mz_mmu_theory.specs.declared.conv.Conv.{Conv}
 
 pub convs_then_none : (cs : List Conv) → convs_then cs no_convs ≡ conversions cs
 convs_then_none [] = refl

@@ -4,26 +4,27 @@ use Rattle.std.specs.Prelude.{IfErr}
 use Rattle.mz_base_theory.specs.Checks.{Checks, nothing, ◌>>◌, AllHold}
 use Rattle.mz_sexpr.specs.Node.{Node, Nodes, atom, list, no_nodes, node, is_atom, place}
 use Rattle.mz_sexpr.specs.Number.{node_at, nodes_after}
-use Rattle.mz_logic.specs.Tree.{Tree, Trees}
-use Rattle.mz_logic.specs.Conversions.{Conversion, Conversions, refl_conv, sym_conv, cong_conv, unfold_conv, no_convs, more_convs}
-use Rattle.mz_mmu_forms.specs.Name.{Scope, HasNumber}
-use Rattle.mz_mmu_forms.specs.Cursor.{nodes_from, nodes_size, node_size, IsThere}
-use Rattle.mz_mmu_forms.specs.Expressions.{IsExpr, IsExprList, IsVariableList}
-use Rattle.mz_mmu_forms.specs.Proofs.{Keyword, sym_word, unfold_word, no_word, conv_keyword, IsConv, IsConvBy, AreConvs}
-use Rattle.mz_mmu_forms.specs.Order.{known_asked, expr_asked, expr_list_asked, variable_list_asked, conv_asked, conv_asked_by, convs_asked}
-use Rattle.mz_mmu_forms.specs.ConvView.{conversion}
+use Rattle.mz_logic_theory.specs.Tree.{Tree, Trees}
+use Rattle.mz_logic_theory.specs.Conversions.{Conversion, Conversions, refl_conv, sym_conv, cong_conv, unfold_conv, no_convs, more_convs}
+use Rattle.mz_mmu_theory.specs.Name.{Scope, HasNumber}
+use Rattle.mz_mmu_theory.specs.Cursor.{nodes_from, nodes_size, node_size, IsThere}
+use Rattle.mz_mmu_theory.specs.Expressions.{IsExpr, IsExprList, IsVariableList}
+use Rattle.mz_mmu_theory.specs.Proofs.{conv_keyword, IsConv, IsConvBy, AreConvs}
+use Rattle.mz_mmu_theory.specs.declared.keyword.Keyword.{Keyword}
+use Rattle.mz_mmu_theory.specs.declared.keyword.Keyword.TheVariants.{Sym as sym_word, Unfold as unfold_word, Other as no_word}
+use Rattle.mz_mmu_theory.specs.FormOrder.{known_asked, expr_asked, expr_list_asked, variable_list_asked, conv_asked, conv_asked_by, convs_asked}
+use Rattle.mz_mmu_theory.specs.ConvView.{conversion}
 use Rattle.mz_mmu_forms.specs.ConvSteps.{convs_then, conv_left, conv_made, ConvWaits, ConvSays, ConvSaysBy, IsNextConv, conv_turns}
-use Rattle.mz_mmu_forms.specs.Stops.{Stops}
-use Rattle.mz_mmu_forms.specs.declared.fault.Fault.{Fault}
-use Rattle.mz_mmu_forms.specs.declared.fault.Stop.{Stop}
-use Rattle.mz_mmu_forms.specs.declared.fault.Stop.TheVariants.{Refused, Mem}
-use Rattle.mz_mmu_forms.specs.declared.conv.Conv.{Conv}
+use Rattle.mz_mmu_theory.specs.Stops.{Stops}
+use Rattle.mz_mmu_theory.specs.declared.fault.Fault.{Fault}
+use Rattle.mz_mmu_theory.specs.declared.fault.Stop.{Stop}
+use Rattle.mz_mmu_theory.specs.declared.fault.Stop.TheVariants.{Refused, Mem}
+use Rattle.mz_mmu_theory.specs.declared.conv.Conv.{Conv}
 use Rattle.mz_mmu_forms.specs.declared.convs.ConvOuter.{ConvOuter}
 use Rattle.mz_mmu_forms.specs.declared.convs.ConvOuter.TheVariants as outers
 use Rattle.mz_mmu_forms.specs.declared.convs.ConvStep.{ConvStep}
 use Rattle.mz_mmu_forms.specs.declared.convs.ConvStep.TheVariants as steps
-use Rattle.mz_mmu_forms.proofs.Cursors.{stepped, stands_there, node_size_positive}
-use Rattle.mz_mmu_forms.proofs.Hold.{known_holds, expr_list_holds, variable_list_holds, conv_holds}
+use Rattle.mz_mmu_theory.proofs.Offered.{stepped, stands_there, node_size_positive, known_holds, expr_list_holds, variable_list_holds, conv_holds}
 use Rattle.mz_mmu_forms.proofs.ConvLists.{convs_then_none, convs_then_push}
 use Rattle.mz_mmu_forms.proofs.Dispatch.{if_ok, if_err, conv_by, conv_stops_by}
 use Rattle.mz_mmu_forms.proofs.Stopping.{stops_before, stops_after}

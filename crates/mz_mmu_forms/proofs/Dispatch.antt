@@ -2,13 +2,15 @@
 use Rattle.std.proofs.Common.{◌≡◌, ℕ, List, Bool, true, false, Result, Ok, Err, IfOk, sym, refl, subst}
 use Rattle.std.specs.Prelude.{IfErr, bytes_eq, codes, if◌then◌else◌}
 use Rattle.mz_sexpr.specs.Node.{Node, Nodes, list, node, place}
-use Rattle.mz_logic.specs.Conversions.{Conversion}
-use Rattle.mz_mmu_forms.specs.declared.fault.Stop.{Stop}
-use Rattle.mz_mmu_forms.specs.Name.{Scope}
-use Rattle.mz_mmu_forms.specs.Proof.{Proof}
-use Rattle.mz_mmu_forms.specs.Proofs.{Keyword, conv_word, let_word, refl_word, sym_word, unfold_word, sorry_word, no_word, conv_keyword, conv_keyword_of, proof_keyword, proof_keyword_of, IsConv, IsConvBy, IsProof, IsProofBy}
-use Rattle.mz_mmu_forms.specs.Order.{conv_asked, conv_asked_by, proof_asked, proof_asked_by}
-use Rattle.mz_mmu_forms.specs.Stops.{Stops}
+use Rattle.mz_logic_theory.specs.Conversions.{Conversion}
+use Rattle.mz_mmu_theory.specs.declared.fault.Stop.{Stop}
+use Rattle.mz_mmu_theory.specs.Name.{Scope}
+use Rattle.mz_mmu_theory.specs.Proof.{Proof}
+use Rattle.mz_mmu_theory.specs.Proofs.{conv_keyword, conv_keyword_of, proof_keyword, proof_keyword_of, IsConv, IsConvBy, IsProof, IsProofBy}
+use Rattle.mz_mmu_theory.specs.declared.keyword.Keyword.{Keyword}
+use Rattle.mz_mmu_theory.specs.declared.keyword.Keyword.TheVariants.{Conv as conv_word, Let as let_word, Refl as refl_word, Sym as sym_word, Unfold as unfold_word, Sorry as sorry_word, Other as no_word}
+use Rattle.mz_mmu_theory.specs.FormOrder.{conv_asked, conv_asked_by, proof_asked, proof_asked_by}
+use Rattle.mz_mmu_theory.specs.Stops.{Stops}
 
 pub if_ok : {A E : Type 0} (r : Result A E) (P Q : A → Type 0) → ((a : A) → P a → Q a) → IfOk r P → IfOk r Q
 if_ok (Ok a) P Q f h = f a h

@@ -2,12 +2,12 @@
 use Rattle.std.proofs.Common.{◌≡◌, ◌∙◌, sym, ap, refl, subst}
 use Rattle.mz_base_theory.proofs.Offered.{Decides, decides-after}
 use Rattle.mz_sexpr.specs.Node.{Node, Nodes, node}
-use Rattle.mz_logic.specs.Tree.{Tree, Trees, more, none, followed_by}
-use Rattle.mz_logic.proofs.Offered.{followed_by_push}
-use Rattle.mz_mmu_forms.specs.Name.{Scope}
-use Rattle.mz_mmu_forms.specs.Expressions.{IsExpr, AreExprs}
-use Rattle.mz_mmu_forms.specs.Order.{expr_asked, exprs_asked}
-use Rattle.mz_mmu_forms.proofs.Hold.{expr_holds}
+use Rattle.mz_logic_theory.specs.Tree.{Tree, Trees, more, none, followed_by}
+use Rattle.mz_logic_theory.proofs.Offered.{followed_by_push}
+use Rattle.mz_mmu_theory.specs.Name.{Scope}
+use Rattle.mz_mmu_theory.specs.Expressions.{IsExpr, AreExprs}
+use Rattle.mz_mmu_theory.specs.FormOrder.{expr_asked, exprs_asked}
+use Rattle.mz_mmu_theory.proofs.Offered.{expr_holds}
 
 module _ (sc : Scope) (left whole ns : Nodes) (n : Node) (is : left ≡ node n ns) (e : Tree) (h : IsExpr sc n e) where
   pub exprs_read_more : (sofar now : Trees) → now ≡ followed_by sofar (more e none) → ((es : Trees) → AreExprs sc left es → AreExprs sc whole (followed_by sofar es))

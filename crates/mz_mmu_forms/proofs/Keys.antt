@@ -8,7 +8,7 @@ use Rattle.mz_base_theory.proofs.Offered.{length-push}
 use Rattle.mz_base.proofs.Offered.{Tells}
 use Rattle.mz_base.specs.Identifiers.{is_name}
 use Rattle.mz_sexpr.proofs.Offered.{and_false}
-use Rattle.mz_mmu_forms.specs.Name.{IsName}
+use Rattle.mz_mmu_theory.specs.Name.{IsName}
 use Rattle.mz_mmu_forms.specs.SpaceView.{Key, word_of_key, IsKeyAt, AreKeysFrom}
 
 abbrev pub is_key : List ℕ → ℕ → Key → Bool

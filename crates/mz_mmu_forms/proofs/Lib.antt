@@ -1,7 +1,5 @@
 pub mod Keys
-pub mod Hold
 pub mod Stopping
-pub mod Cursors
 pub mod ExprLists
 pub mod Nesting
 pub mod Enclosing

@@ -3,23 +3,22 @@ use Rattle.std.proofs.Common.{◌≡◌, ◌<◌, ◌+◌, ◌*◌, ◌++◌, �
 use Rattle.mz_base_theory.specs.Checks.{◌>>◌}
 use Rattle.mz_sexpr.specs.Node.{Node, Nodes}
 use Rattle.mz_sexpr.specs.Number.{node_at, nodes_after, StandsFor}
-use Rattle.mz_logic.specs.Tree.{Tree, Trees, app, none, more, followed_by}
-use Rattle.mz_logic.specs.View.{tree}
-use Rattle.mz_logic.specs.declared.expr.Expr.{Expr}
-use Rattle.mz_logic.specs.declared.expr.Expr.TheVariants as exprs
-use Rattle.mz_logic.proofs.Offered.{followed_by_none, followed_by_push}
-use Rattle.mz_mmu_forms.specs.Name.{Scope}
-use Rattle.mz_mmu_forms.specs.Cursor.{nodes_from, nodes_size, node_size, IsThere}
-use Rattle.mz_mmu_forms.specs.Expressions.{IsExpr, AreExprs}
-use Rattle.mz_mmu_forms.specs.Order.{expr_asked, exprs_asked}
+use Rattle.mz_logic_theory.specs.Tree.{Tree, Trees, app, none, more, followed_by}
+use Rattle.mz_logic_theory.specs.View.{tree}
+use Rattle.mz_logic_theory.specs.declared.expr.Expr.{Expr}
+use Rattle.mz_logic_theory.specs.declared.expr.Expr.TheVariants as exprs
+use Rattle.mz_logic_theory.proofs.Offered.{followed_by_none, followed_by_push}
+use Rattle.mz_mmu_theory.specs.Name.{Scope}
+use Rattle.mz_mmu_theory.specs.Cursor.{nodes_from, nodes_size, node_size, IsThere}
+use Rattle.mz_mmu_theory.specs.Expressions.{IsExpr, AreExprs}
+use Rattle.mz_mmu_theory.specs.FormOrder.{expr_asked, exprs_asked}
 use Rattle.mz_mmu_forms.specs.Steps.{IsUnderWay, Says, turns}
-use Rattle.mz_mmu_forms.specs.Stops.{Stops}
-use Rattle.mz_mmu_forms.specs.declared.fault.Stop.{Stop}
+use Rattle.mz_mmu_theory.specs.Stops.{Stops}
+use Rattle.mz_mmu_theory.specs.declared.fault.Stop.{Stop}
 use Rattle.mz_mmu_forms.specs.declared.exprs.Application.{Application}
 use Rattle.mz_mmu_forms.specs.declared.exprs.Step.{Step}
 use Rattle.mz_mmu_forms.specs.declared.exprs.Step.TheVariants as steps
-use Rattle.mz_mmu_forms.proofs.Cursors.{stepped, stands_there, node_size_positive}
-use Rattle.mz_mmu_forms.proofs.Hold.{expr_holds}
+use Rattle.mz_mmu_theory.proofs.Offered.{stepped, stands_there, node_size_positive, expr_holds}
 use Rattle.mz_mmu_forms.proofs.Stopping.{stops_before, stops_after}
 
 -- the same where an operand, this node, is being read

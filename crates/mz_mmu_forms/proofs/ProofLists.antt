@@ -1,9 +1,9 @@
 -- Proofs, one after another.
 use Rattle.std.proofs.Common.{◌≡◌, List, [], ◌∷◌, ◌++◌, ap, refl}
-use Rattle.mz_mmu_forms.specs.Proof.{Proofs, no_proofs, more_proofs}
-use Rattle.mz_mmu_forms.specs.ProofView.{proof_view, proofs_view}
+use Rattle.mz_mmu_theory.specs.Proof.{Proofs, no_proofs, more_proofs}
+use Rattle.mz_mmu_theory.specs.ProofView.{proof_view, proofs_view}
 use Rattle.mz_mmu_forms.specs.ProofSteps.{proofs_then}
-use Rattle.mz_mmu_forms.specs.declared.proof.Proof.{Proof}
+use Rattle.mz_mmu_theory.specs.declared.proof.Proof.{Proof}
 
 pub proofs_then_none : (ps : List Proof) → proofs_then ps no_proofs ≡ proofs_view ps
 proofs_then_none [] = refl

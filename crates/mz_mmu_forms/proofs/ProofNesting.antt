@@ -5,29 +5,30 @@ use Rattle.mz_base_theory.proofs.Offered.{length-push}
 use Rattle.mz_base_theory.specs.Checks.{Checks, ◌>>◌}
 use Rattle.mz_sexpr.specs.Node.{Node, Nodes, list, no_nodes, node, place, word}
 use Rattle.mz_sexpr.specs.Number.{node_at, node_count, nodes_after}
-use Rattle.mz_logic.specs.Tree.{Tree, Trees}
-use Rattle.mz_logic.specs.Conversions.{Conversion}
-use Rattle.mz_logic.specs.View.{tree}
+use Rattle.mz_logic_theory.specs.Tree.{Tree, Trees}
+use Rattle.mz_logic_theory.specs.Conversions.{Conversion}
+use Rattle.mz_logic_theory.specs.View.{tree}
 use Rattle.mz_base.specs.Names.{IsNew}
 use Rattle.mz_base.proofs.Offered.{new-parts}
-use Rattle.mz_mmu_forms.specs.Name.{Scope, HasNumber, IsNewName}
-use Rattle.mz_mmu_forms.specs.Cursor.{nodes_from, nodes_size, node_size, IsThere}
-use Rattle.mz_mmu_forms.specs.Expressions.{IsExpr, IsExprList}
-use Rattle.mz_mmu_forms.specs.Proof.{Proof, Proofs, by_citation, by_conv, by_let, no_proofs, more_proofs}
-use Rattle.mz_mmu_forms.specs.Proofs.{Keyword, conv_word, let_word, no_word, proof_keyword, IsConv, IsProof, IsProofBy, AreProofs}
-use Rattle.mz_mmu_forms.specs.Order.{known_asked, new_asked, expr_asked, expr_list_asked, conv_asked, proof_asked, proof_asked_by, proofs_asked}
-use Rattle.mz_mmu_forms.specs.ProofView.{proof_view}
+use Rattle.mz_mmu_theory.specs.Name.{Scope, HasNumber, IsNewName}
+use Rattle.mz_mmu_theory.specs.Cursor.{nodes_from, nodes_size, node_size, IsThere}
+use Rattle.mz_mmu_theory.specs.Expressions.{IsExpr, IsExprList}
+use Rattle.mz_mmu_theory.specs.Proof.{Proof, Proofs, by_citation, by_conv, by_let, no_proofs, more_proofs}
+use Rattle.mz_mmu_theory.specs.Proofs.{proof_keyword, IsConv, IsProof, IsProofBy, AreProofs}
+use Rattle.mz_mmu_theory.specs.declared.keyword.Keyword.{Keyword}
+use Rattle.mz_mmu_theory.specs.declared.keyword.Keyword.TheVariants.{Conv as conv_word, Let as let_word, Other as no_word}
+use Rattle.mz_mmu_theory.specs.FormOrder.{known_asked, new_asked, expr_asked, expr_list_asked, conv_asked, proof_asked, proof_asked_by, proofs_asked}
+use Rattle.mz_mmu_theory.specs.ProofView.{proof_view}
 use Rattle.mz_mmu_forms.specs.ProofSteps.{proofs_then, WaitsForLast, WaitsForLet, WaitsForMore, cited, ProofWaits, CanGoOn, ProofSays, SaysOfProof, ProofSaysBy, IsNextProof, proof_turns}
-use Rattle.mz_mmu_forms.specs.Stops.{Stops}
-use Rattle.mz_mmu_forms.specs.declared.fault.Fault.{Fault}
-use Rattle.mz_mmu_forms.specs.declared.fault.Stop.{Stop}
-use Rattle.mz_mmu_forms.specs.declared.proof.Proof.{Proof as Kept}
+use Rattle.mz_mmu_theory.specs.Stops.{Stops}
+use Rattle.mz_mmu_theory.specs.declared.fault.Fault.{Fault}
+use Rattle.mz_mmu_theory.specs.declared.fault.Stop.{Stop}
+use Rattle.mz_mmu_theory.specs.declared.proof.Proof.{Proof as Kept}
 use Rattle.mz_mmu_forms.specs.declared.proofs.ProofOuter.{ProofOuter}
 use Rattle.mz_mmu_forms.specs.declared.proofs.ProofOuter.TheVariants as outers
 use Rattle.mz_mmu_forms.specs.declared.proofs.ProofStep.{ProofStep}
 use Rattle.mz_mmu_forms.specs.declared.proofs.ProofStep.TheVariants as steps
-use Rattle.mz_mmu_forms.proofs.Cursors.{stepped, stands_there, node_size_positive}
-use Rattle.mz_mmu_forms.proofs.Hold.{known_holds, new_holds, new_name_is, new_name_word, expr_holds, expr_list_holds, conv_holds, proof_holds}
+use Rattle.mz_mmu_theory.proofs.Offered.{stepped, stands_there, node_size_positive, known_holds, new_holds, new_name_is, new_name_word, expr_holds, expr_list_holds, conv_holds, proof_holds}
 use Rattle.mz_mmu_forms.proofs.ProofLists.{proofs_then_none, proofs_then_push}
 use Rattle.mz_mmu_forms.proofs.Dispatch.{if_ok, if_err, proof_by, proof_stops_by}
 use Rattle.mz_mmu_forms.proofs.Stopping.{stops_before, stops_after}

@@ -4,10 +4,10 @@ use Rattle.std.specs.Prelude.{IfErr}
 use Rattle.std.specs.Result.{IsErrAnd}
 use Rattle.mz_base_theory.specs.Checks.{Checks, ◌>>◌, AllHold}
 use Rattle.mz_base_theory.proofs.Offered.{fails-before, fails-after, Decides}
-use Rattle.mz_mmu_forms.specs.declared.fault.Fault.{Fault}
-use Rattle.mz_mmu_forms.specs.declared.fault.Stop.{Stop}
-use Rattle.mz_mmu_forms.specs.declared.fault.Stop.TheVariants.{Refused, Mem}
-use Rattle.mz_mmu_forms.specs.Stops.{Stops}
+use Rattle.mz_mmu_theory.specs.declared.fault.Fault.{Fault}
+use Rattle.mz_mmu_theory.specs.declared.fault.Stop.{Stop}
+use Rattle.mz_mmu_theory.specs.declared.fault.Stop.TheVariants.{Refused, Mem}
+use Rattle.mz_mmu_theory.specs.Stops.{Stops}
 
 pub stops_before : (s : Stop) (bs cs : Checks Fault) → Stops s bs → Stops s (bs >> cs)
 stops_before (Refused f) bs cs h = fails-before bs cs f h

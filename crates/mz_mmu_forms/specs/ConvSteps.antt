@@ -3,16 +3,17 @@ use Rattle.std.specs.Prelude.{ℕ, ◌≡◌, ◌<◌, ◌+◌, ◌*◌, List, [
 use Rattle.mz_base_theory.specs.Checks.{Checks, AllHold}
 use Rattle.mz_sexpr.specs.Node.{Node, Nodes}
 use Rattle.mz_sexpr.specs.Number.{node_count, node_at, nodes_after, StandsFor}
-use Rattle.mz_logic.specs.Conversions.{Conversion, Conversions, sym_conv, cong_conv, unfold_conv, more_convs}
-use Rattle.mz_mmu_forms.specs.Name.{Scope}
-use Rattle.mz_mmu_forms.specs.Cursor.{nodes_from, node_size, nodes_size, IsThere}
-use Rattle.mz_mmu_forms.specs.Proofs.{Keyword, IsConv, IsConvBy, AreConvs}
-use Rattle.mz_mmu_forms.specs.Order.{conv_asked, conv_asked_by, convs_asked}
-use Rattle.mz_mmu_forms.specs.Stops.{Stops}
-use Rattle.mz_mmu_forms.specs.ConvView.{conversion, conversions}
-use Rattle.mz_mmu_forms.specs.declared.fault.Fault.{Fault}
-use Rattle.mz_mmu_forms.specs.declared.fault.Stop.{Stop}
-use Rattle.mz_mmu_forms.specs.declared.conv.Conv.{Conv}
+use Rattle.mz_logic_theory.specs.Conversions.{Conversion, Conversions, sym_conv, cong_conv, unfold_conv, more_convs}
+use Rattle.mz_mmu_theory.specs.Name.{Scope}
+use Rattle.mz_mmu_theory.specs.Cursor.{nodes_from, node_size, nodes_size, IsThere}
+use Rattle.mz_mmu_theory.specs.Proofs.{IsConv, IsConvBy, AreConvs}
+use Rattle.mz_mmu_theory.specs.declared.keyword.Keyword.{Keyword}
+use Rattle.mz_mmu_theory.specs.FormOrder.{conv_asked, conv_asked_by, convs_asked}
+use Rattle.mz_mmu_theory.specs.Stops.{Stops}
+use Rattle.mz_mmu_theory.specs.ConvView.{conversion, conversions}
+use Rattle.mz_mmu_theory.specs.declared.fault.Fault.{Fault}
+use Rattle.mz_mmu_theory.specs.declared.fault.Stop.{Stop}
+use Rattle.mz_mmu_theory.specs.declared.conv.Conv.{Conv}
 use Rattle.mz_mmu_forms.specs.declared.convs.ConvOuter.{ConvOuter}
 use Rattle.mz_mmu_forms.specs.declared.convs.ConvOuter.TheVariants as outers
 use Rattle.mz_mmu_forms.specs.declared.convs.ConvStep.{ConvStep}

@@ -3,19 +3,20 @@ use Rattle.std.specs.Prelude.{ℕ, ◌≡◌, ◌<◌, ◌+◌, ◌*◌, ◌^◌
 use Rattle.mz_base_theory.specs.Checks.{Checks, AllHold}
 use Rattle.mz_sexpr.specs.Node.{Node, Nodes}
 use Rattle.mz_sexpr.specs.Number.{node_count, node_at, nodes_after, StandsFor}
-use Rattle.mz_logic.specs.Tree.{Trees}
-use Rattle.mz_logic.specs.View.{tree}
+use Rattle.mz_logic_theory.specs.Tree.{Trees}
+use Rattle.mz_logic_theory.specs.View.{tree}
 use Rattle.mz_base.specs.Names.{IsNew}
-use Rattle.mz_mmu_forms.specs.Name.{Scope, IsName}
-use Rattle.mz_mmu_forms.specs.Cursor.{nodes_from, node_size, nodes_size, IsThere}
-use Rattle.mz_mmu_forms.specs.Proof.{Proof, Proofs, by_citation, by_conv, by_let, more_proofs}
-use Rattle.mz_mmu_forms.specs.Proofs.{Keyword, IsProof, IsProofBy, AreProofs}
-use Rattle.mz_mmu_forms.specs.Order.{proof_asked, proof_asked_by, proofs_asked}
-use Rattle.mz_mmu_forms.specs.Stops.{Stops}
-use Rattle.mz_mmu_forms.specs.ProofView.{proof_view, proofs_view}
-use Rattle.mz_mmu_forms.specs.declared.fault.Fault.{Fault}
-use Rattle.mz_mmu_forms.specs.declared.fault.Stop.{Stop}
-use Rattle.mz_mmu_forms.specs.declared.proof.Proof.{Proof as Kept}
+use Rattle.mz_mmu_theory.specs.Name.{Scope, IsName}
+use Rattle.mz_mmu_theory.specs.Cursor.{nodes_from, node_size, nodes_size, IsThere}
+use Rattle.mz_mmu_theory.specs.Proof.{Proof, Proofs, by_citation, by_conv, by_let, more_proofs}
+use Rattle.mz_mmu_theory.specs.Proofs.{IsProof, IsProofBy, AreProofs}
+use Rattle.mz_mmu_theory.specs.declared.keyword.Keyword.{Keyword}
+use Rattle.mz_mmu_theory.specs.FormOrder.{proof_asked, proof_asked_by, proofs_asked}
+use Rattle.mz_mmu_theory.specs.Stops.{Stops}
+use Rattle.mz_mmu_theory.specs.ProofView.{proof_view, proofs_view}
+use Rattle.mz_mmu_theory.specs.declared.fault.Fault.{Fault}
+use Rattle.mz_mmu_theory.specs.declared.fault.Stop.{Stop}
+use Rattle.mz_mmu_theory.specs.declared.proof.Proof.{Proof as Kept}
 use Rattle.mz_mmu_forms.specs.declared.proofs.ProofOuter.{ProofOuter}
 use Rattle.mz_mmu_forms.specs.declared.proofs.ProofOuter.TheVariants as outers
 use Rattle.mz_mmu_forms.specs.declared.proofs.ProofStep.{ProofStep}

@@ -1,6 +1,6 @@
 -- What the code's names and scopes stand for.
 use Rattle.mz_base.specs.Gaps.{gaps_of}
-use Rattle.mz_mmu_forms.specs.Name.{Names, Scope}
+use Rattle.mz_mmu_theory.specs.Name.{Names, Scope}
 use Rattle.mz_mmu_forms.specs.declared.scope.Names.{Names as Kept}
 use Rattle.mz_mmu_forms.specs.declared.scope.Scope.{Scope as Seen}
 

@@ -3,7 +3,7 @@
 use Rattle.std.specs.Prelude.{ℕ, suc, ◌≡◌, ◌⊎◌, ⊤, false, List, [], ◌∷◌}
 use Rattle.std.specs.Borrow.{Bor}
 use Rattle.mz_base.specs.Identifiers.{is_name}
-use Rattle.mz_mmu_forms.specs.Name.{IsName}
+use Rattle.mz_mmu_theory.specs.Name.{IsName}
 
 abbrev pub Key : Type 0
 Key = Bor (List ℕ) × ℕ

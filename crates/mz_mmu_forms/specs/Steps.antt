@@ -1,14 +1,14 @@
 -- The steps in which an expression is read: how far it has been read.
 use Rattle.std.specs.Prelude.{ℕ, ◌+◌, ◌*◌}
 use Rattle.mz_sexpr.specs.Node.{Node, Nodes}
-use Rattle.mz_logic.specs.Tree.{Trees, app, followed_by}
-use Rattle.mz_logic.specs.View.{tree}
-use Rattle.mz_mmu_forms.specs.Name.{Scope}
-use Rattle.mz_mmu_forms.specs.Cursor.{nodes_from, nodes_size, IsThere}
-use Rattle.mz_mmu_forms.specs.Expressions.{IsExpr, AreExprs}
-use Rattle.mz_mmu_forms.specs.Order.{expr_asked, exprs_asked}
-use Rattle.mz_mmu_forms.specs.Stops.{Stops}
-use Rattle.mz_mmu_forms.specs.declared.fault.Stop.{Stop}
+use Rattle.mz_logic_theory.specs.Tree.{Trees, app, followed_by}
+use Rattle.mz_logic_theory.specs.View.{tree}
+use Rattle.mz_mmu_theory.specs.Name.{Scope}
+use Rattle.mz_mmu_theory.specs.Cursor.{nodes_from, nodes_size, IsThere}
+use Rattle.mz_mmu_theory.specs.Expressions.{IsExpr, AreExprs}
+use Rattle.mz_mmu_theory.specs.FormOrder.{expr_asked, exprs_asked}
+use Rattle.mz_mmu_theory.specs.Stops.{Stops}
+use Rattle.mz_mmu_theory.specs.declared.fault.Stop.{Stop}
 use Rattle.mz_mmu_forms.specs.declared.exprs.Application.{Application}
 use Rattle.mz_mmu_forms.specs.declared.exprs.Step.{Step}
 use Rattle.mz_mmu_forms.specs.declared.exprs.Step.TheVariants as steps

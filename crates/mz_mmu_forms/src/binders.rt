@@ -1,20 +1,20 @@
 //! Parameters, dummies and results, and the lists of variables in them.
 ghost use Rattle.std.specs.Prelude.{◌≡◌, ◌<◌, ◌≤◌, ◌+◌, ◌++◌, ◌∷◌, [], ◌^◌, length, IfOk, IfErr};
 ghost use Rattle.mz_sexpr.specs.Number.{node_count, node_at};
-ghost use Rattle.mz_mmu_forms.specs.Cursor.{node_size};
-ghost use Rattle.mz_mmu_forms.specs.Expressions.{AreVariables, IsVariableList, AreDeps, IsAscending, IsParam, IsDummy, AreParams, AreDummies, IsResult};
-ghost use Rattle.mz_mmu_forms.specs.Order.{variable_list_asked, param_asked, dummy_asked, params_asked, dummies_asked, result_asked, param_name_asked};
-ghost use Rattle.mz_mmu_forms.specs.Name.{IsParamName};
+ghost use Rattle.mz_mmu_theory.specs.Cursor.{node_size};
+ghost use Rattle.mz_mmu_theory.specs.Expressions.{AreVariables, IsVariableList, AreDeps, IsAscending, IsParam, IsDummy, AreParams, AreDummies, IsResult};
+ghost use Rattle.mz_mmu_theory.specs.FormOrder.{variable_list_asked, param_asked, dummy_asked, params_asked, dummies_asked, result_asked, param_name_asked};
+ghost use Rattle.mz_mmu_theory.specs.Name.{IsParamName};
 ghost use Rattle.mz_mmu_forms.specs.ScopeView.{names as names_view};
-ghost use Rattle.mz_mmu_forms.specs.Stops.{Stops};
+ghost use Rattle.mz_mmu_theory.specs.Stops.{Stops};
 
-use crate::fault::Stop;
 use crate::name::HIDDEN;
 use crate::reader::Reader;
 use crate::scope::Names;
 use crate::space::Space;
 use mz_base::is_identifier;
-use mz_logic::{Binder, Binders, Deps, ResultType};
+use mz_logic_theory::{Binder, Binders, Deps, ResultType};
+use mz_mmu_theory::Stop;
 use mz_sexpr::U;
 use std::alloc::AllocError;
 

@@ -2,22 +2,21 @@
 ghost use Rattle.std.specs.Prelude.{◌≡◌, ◌<◌, ◌+◌, ◌*◌, IfOk, IfErr, ℕ};
 ghost use Rattle.mz_sexpr.specs.Node.{Node, place};
 ghost use Rattle.mz_sexpr.specs.Number.{node_count, node_at};
-ghost use Rattle.mz_mmu_forms.specs.ConvView.{conversion};
-ghost use Rattle.mz_mmu_forms.specs.Name.{Scope as Visible};
-ghost use Rattle.mz_mmu_forms.specs.Cursor.{nodes_from, IsThere, node_size, nodes_size};
-ghost use Rattle.mz_mmu_forms.specs.Proofs.{IsConv, conv_keyword, refl_word, sym_word, unfold_word, sorry_word, no_word};
-ghost use Rattle.mz_mmu_forms.specs.Order.{conv_asked, conv_asked_by};
+ghost use Rattle.mz_mmu_theory.specs.ConvView.{conversion};
+ghost use Rattle.mz_mmu_theory.specs.Name.{Scope as Visible};
+ghost use Rattle.mz_mmu_theory.specs.Cursor.{nodes_from, IsThere, node_size, nodes_size};
+ghost use Rattle.mz_mmu_theory.specs.Proofs.{IsConv, conv_keyword};
+ghost use Rattle.mz_mmu_theory.specs.declared.keyword.Keyword.TheVariants.{Refl as refl_word, Sym as sym_word, Unfold as unfold_word, Sorry as sorry_word, Other as no_word};
+ghost use Rattle.mz_mmu_theory.specs.FormOrder.{conv_asked, conv_asked_by};
 ghost use Rattle.mz_mmu_forms.specs.ConvSteps.{conv_left, conv_turns, ConvWaits, ConvSays, ConvSaysBy, IsNextConv};
 ghost use Rattle.mz_mmu_forms.specs.ScopeView.{scope};
-ghost use Rattle.mz_mmu_forms.specs.Stops.{Stops};
-ghost use Rattle.mz_mmu_forms.specs.declared.fault.Stop.TheVariants.{Mem};
+ghost use Rattle.mz_mmu_theory.specs.Stops.{Stops};
+ghost use Rattle.mz_mmu_theory.specs.declared.fault.Stop.TheVariants.{Mem};
 
-use crate::conv::{Conv, ConvBox, Convs, Vars};
-use crate::fault::Stop;
-use crate::keyword::Keyword;
 use crate::reader::Reader;
 use crate::scope::Scope;
-use mz_logic::{Exprs, push_tightly};
+use mz_logic_theory::{Exprs, push_tightly};
+use mz_mmu_theory::{Conv, ConvBox, Convs, Keyword, Stop, Vars};
 use mz_sexpr::U;
 
 /// What a conversion is read for.

@@ -1,20 +1,20 @@
 //! Reading an expression.
 ghost use Rattle.std.specs.Prelude.{◌≡◌, ◌<◌, ◌+◌, ◌*◌, true, IfOk, IfErr};
-ghost use Rattle.mz_logic.specs.Tree.{none, more, followed_by};
-ghost use Rattle.mz_logic.specs.View.{tree};
+ghost use Rattle.mz_logic_theory.specs.Tree.{none, more, followed_by};
+ghost use Rattle.mz_logic_theory.specs.View.{tree};
 ghost use Rattle.mz_sexpr.specs.Node.{is_atom};
 ghost use Rattle.mz_sexpr.specs.Number.{node_count, node_at};
-ghost use Rattle.mz_mmu_forms.specs.Cursor.{nodes_from, IsThere, node_size};
-ghost use Rattle.mz_mmu_forms.specs.Expressions.{IsExpr, AreExprs, IsExprList};
-ghost use Rattle.mz_mmu_forms.specs.Order.{expr_asked, exprs_asked, expr_list_asked};
+ghost use Rattle.mz_mmu_theory.specs.Cursor.{nodes_from, IsThere, node_size};
+ghost use Rattle.mz_mmu_theory.specs.Expressions.{IsExpr, AreExprs, IsExprList};
+ghost use Rattle.mz_mmu_theory.specs.FormOrder.{expr_asked, exprs_asked, expr_list_asked};
 ghost use Rattle.mz_mmu_forms.specs.ScopeView.{scope};
 ghost use Rattle.mz_mmu_forms.specs.Steps.{Says, turns};
-ghost use Rattle.mz_mmu_forms.specs.Stops.{Stops};
+ghost use Rattle.mz_mmu_theory.specs.Stops.{Stops};
 
-use crate::fault::Stop;
 use crate::reader::Reader;
 use crate::scope::Scope;
-use mz_logic::{Expr, Exprs};
+use mz_logic_theory::{Expr, Exprs};
+use mz_mmu_theory::Stop;
 use mz_sexpr::U;
 use std::alloc::AllocFailed;
 

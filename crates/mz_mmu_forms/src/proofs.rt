@@ -2,24 +2,22 @@
 ghost use Rattle.std.specs.Prelude.{ℕ, List, ◌≡◌, ◌<◌, ◌+◌, ◌*◌, ◌^◌, ◌++◌, length, true, IfOk, IfErr, OnOk};
 ghost use Rattle.mz_sexpr.specs.Node.{Node, is_atom, place};
 ghost use Rattle.mz_sexpr.specs.Number.{node_count, node_at};
-ghost use Rattle.mz_mmu_forms.specs.ProofView.{proof_view};
-ghost use Rattle.mz_mmu_forms.specs.Cursor.{nodes_from, IsThere, node_size, nodes_size};
-ghost use Rattle.mz_mmu_forms.specs.Name.{Scope as Visible, IsNewName};
-ghost use Rattle.mz_mmu_forms.specs.Proofs.{IsProof, proof_keyword, conv_word, let_word, sorry_word, no_word};
-ghost use Rattle.mz_mmu_forms.specs.Order.{proof_asked, proof_asked_by, new_asked};
+ghost use Rattle.mz_mmu_theory.specs.ProofView.{proof_view};
+ghost use Rattle.mz_mmu_theory.specs.Cursor.{nodes_from, IsThere, node_size, nodes_size};
+ghost use Rattle.mz_mmu_theory.specs.Name.{Scope as Visible, IsNewName};
+ghost use Rattle.mz_mmu_theory.specs.Proofs.{IsProof, proof_keyword};
+ghost use Rattle.mz_mmu_theory.specs.declared.keyword.Keyword.TheVariants.{Conv as conv_word, Let as let_word, Sorry as sorry_word, Other as no_word};
+ghost use Rattle.mz_mmu_theory.specs.FormOrder.{proof_asked, proof_asked_by, new_asked};
 ghost use Rattle.mz_mmu_forms.specs.ProofSteps.{ProofWaits, CanGoOn, SaysOfProof, ProofSaysBy, IsNextProof, size_behind, proof_turns};
 ghost use Rattle.mz_mmu_forms.specs.ScopeView.{scope};
-ghost use Rattle.mz_mmu_forms.specs.Stops.{Stops};
-ghost use Rattle.mz_mmu_forms.specs.declared.fault.Stop.TheVariants.{Mem};
+ghost use Rattle.mz_mmu_theory.specs.Stops.{Stops};
+ghost use Rattle.mz_mmu_theory.specs.declared.fault.Stop.TheVariants.{Mem};
 
-use crate::conv::ConvBox;
-use crate::fault::Stop;
-use crate::keyword::Keyword;
-use crate::proof::{Proof, ProofBox, Proofs};
 use crate::reader::Reader;
 use crate::scope::Scope;
 use crate::space::Space;
-use mz_logic::{Expr, Exprs, push_tightly};
+use mz_logic_theory::{Expr, Exprs, push_tightly};
+use mz_mmu_theory::{ConvBox, Keyword, Proof, ProofBox, Proofs, Stop};
 use mz_sexpr::U;
 
 /// What a proof is read for.

@@ -4,15 +4,15 @@ ghost use Rattle.mz_sexpr.specs.Node;
 ghost use Rattle.mz_sexpr.specs.Node.{place, list};
 ghost use Rattle.mz_sexpr.specs.Number.{node_count, node_at};
 ghost use Rattle.mz_sexpr.specs.declared.rule.U.{U};
-ghost use Rattle.mz_mmu_forms.specs.Cursor.{nodes_from, IsThere, AreOne, AreTwo, AreThree, AreFour, AreFive, AreSix};
-ghost use Rattle.mz_mmu_forms.specs.Name.{IsName, HasNumber, IsNewName};
-ghost use Rattle.mz_mmu_forms.specs.Order.{fault, name_asked, known_asked, new_asked, list_asked};
-ghost use Rattle.mz_mmu_forms.specs.Stops.{Stops};
-ghost use Rattle.mz_mmu_forms.specs.declared.fault.Stop.TheVariants.{Refused};
+ghost use Rattle.mz_mmu_theory.specs.Cursor.{nodes_from, IsThere, AreOne, AreTwo, AreThree, AreFour, AreFive, AreSix};
+ghost use Rattle.mz_mmu_theory.specs.Name.{IsName, HasNumber, IsNewName};
+ghost use Rattle.mz_mmu_theory.specs.FormOrder.{fault, name_asked, known_asked, new_asked, list_asked};
+ghost use Rattle.mz_mmu_theory.specs.Stops.{Stops};
+ghost use Rattle.mz_mmu_theory.specs.declared.fault.Stop.TheVariants.{Refused};
 
-use crate::fault::{Fault, Stop};
 use crate::space::Space;
 use mz_base::is_identifier;
+use mz_mmu_theory::{Fault, Stop};
 use mz_sexpr::{Sexprs, U};
 use std::alloc::Global;
 

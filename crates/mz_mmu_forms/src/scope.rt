@@ -1,15 +1,15 @@
 //! The names that are known at a place of the text.
 ghost use Rattle.std.specs.Prelude.{◌≡◌, ◌^◌, ◌-◌, OnOk};
-ghost use Rattle.mz_logic.specs.DeclView.{declaration};
+ghost use Rattle.mz_logic_theory.specs.DeclView.{declaration};
 ghost use Rattle.mz_base.specs.Gaps.{gaps_of};
 ghost use Rattle.mz_base.specs.Names.{IsNew};
-ghost use Rattle.mz_mmu_forms.specs.Name.{IsName, no_names, names_with};
-ghost use Rattle.mz_mmu_forms.specs.NamesMore.{IsUnused, AreFew, with_term};
+ghost use Rattle.mz_mmu_theory.specs.Name.{IsName, no_names, names_with};
+ghost use Rattle.mz_mmu_theory.specs.NamesMore.{IsUnused, AreFew, with_term};
 ghost use Rattle.mz_mmu_forms.specs.ScopeView.{names};
 
 use crate::space::Space;
 use mz_base::{Hashing, Mode};
-use mz_logic::Decl;
+use mz_logic_theory::Decl;
 use std::alloc::{AllocError, Global};
 
 /// The names of the statements so far, how names are hashed, and the mode in which the text is read.

@@ -2,7 +2,7 @@
 ghost use Rattle.std.specs.Prelude.{◌≡◌, ◌++◌, ◌⊎◌, ◌∷◌, [], ◌<◌, ◌+◌, ◌^◌, ℕ, List, false, length, OnOk};
 ghost use Rattle.mz_base.specs.Names.{number_of, IsNew};
 ghost use Rattle.mz_base.specs.Identifiers.{is_name};
-ghost use Rattle.mz_mmu_forms.specs.Name.{hidden, IsName};
+ghost use Rattle.mz_mmu_theory.specs.Name.{hidden, IsName};
 
 use crate::name::HIDDEN;
 use indexmap::IndexSet;

@@ -3,14 +3,14 @@ use Rattle.std.proofs.Common.{◌≡◌, ◌∙◌, ℕ, List, [], ◌∷◌, �
 use Rattle.mz_base_theory.specs.Checks.{Checks}
 use Rattle.mz_base_theory.proofs.Offered.{Decides, decides-after}
 use Rattle.mz_sexpr.specs.Node.{Node, Nodes, node, parts}
-use Rattle.mz_logic.specs.Tree.{Tree, Trees, more, none, followed_by}
-use Rattle.mz_logic.proofs.Offered.{followed_by_push}
-use Rattle.mz_mmu_forms.specs.declared.fault.Fault.{Fault}
-use Rattle.mz_mmu_forms.specs.Name.{Scope}
-use Rattle.mz_mmu_statements.specs.Statements.{IsHyp, AreHyps}
-use Rattle.mz_mmu_forms.specs.Order.{first_word, binders_asked}
-use Rattle.mz_mmu_statements.specs.Order.{hyp_asked}
-use Rattle.mz_mmu_statements.proofs.HoldStatements.{hyp_holds, hyp_word}
+use Rattle.mz_logic_theory.specs.Tree.{Tree, Trees, more, none, followed_by}
+use Rattle.mz_logic_theory.proofs.Offered.{followed_by_push}
+use Rattle.mz_mmu_theory.specs.declared.fault.Fault.{Fault}
+use Rattle.mz_mmu_theory.specs.Name.{Scope}
+use Rattle.mz_mmu_theory.specs.Statements.{IsHyp, AreHyps}
+use Rattle.mz_mmu_theory.specs.FormOrder.{first_word, binders_asked}
+use Rattle.mz_mmu_theory.specs.StatementOrder.{hyp_asked}
+use Rattle.mz_mmu_theory.proofs.Offered.{hyp_holds, hyp_word}
 
 module _ (sc : Scope) (taken later : List (List ℕ)) (left ns : Nodes) (n : Node) (is : left ≡ node n ns) (w : List ℕ) (e : Tree) (h : IsHyp sc taken n w e)
     (more_taken : later ≡ taken ++ w ∷ []) where

@@ -2,13 +2,15 @@
 use Rattle.std.proofs.Common.{◌≡◌, ℕ, true, false, sym, refl, subst}
 use Rattle.mz_sexpr.specs.Node.{Node, Nodes, atom, list, no_nodes, node, place, parts}
 use Rattle.mz_sexpr.specs.declared.rule.U.{U}
-use Rattle.mz_mmu_forms.specs.declared.fault.Stop.{Stop}
-use Rattle.mz_mmu_forms.specs.Name.{Names}
-use Rattle.mz_mmu_statements.specs.Statements.{Statement, Kind, sort_kind, term_kind, axiom_kind, def_kind, theorem_kind, no_kind, kind_of, is_local_word, IsDeclared, IsLocal, IsMarked, IsStatement}
-use Rattle.mz_mmu_forms.specs.Order.{never}
-use Rattle.mz_mmu_statements.specs.Order.{declared_asked, local_asked, marked_asked, statement_asked}
-use Rattle.mz_mmu_forms.specs.Stops.{Stops}
-use Rattle.mz_mmu_forms.proofs.Offered.{list_of}
+use Rattle.mz_mmu_theory.specs.declared.fault.Stop.{Stop}
+use Rattle.mz_mmu_theory.specs.Name.{Names}
+use Rattle.mz_mmu_theory.specs.Statements.{Statement, kind_of, is_local_word, IsDeclared, IsLocal, IsMarked, IsStatement}
+use Rattle.mz_mmu_theory.specs.declared.kind.Kind.{Kind}
+use Rattle.mz_mmu_theory.specs.declared.kind.Kind.TheVariants.{Sort as sort_kind, Term as term_kind, Axiom as axiom_kind, Def as def_kind, Theorem as theorem_kind, Other as no_kind}
+use Rattle.mz_mmu_theory.specs.FormOrder.{never}
+use Rattle.mz_mmu_theory.specs.StatementOrder.{declared_asked, local_asked, marked_asked, statement_asked}
+use Rattle.mz_mmu_theory.specs.Stops.{Stops}
+use Rattle.mz_mmu_theory.proofs.Offered.{list_of}
 
 pub local_other : (k : Kind) (at : ℕ) (names : Names) (ns : Nodes) → (k ≡ def_kind → ⊥) → (k ≡ theorem_kind → ⊥) → local_asked k at names ns ≡ never at U.Form
 local_other sort_kind at names ns p q = refl

@@ -2,10 +2,8 @@
 //! resolved, or the first form or name that it gets wrong.
 #![tactic(auto)]
 
-mod kind;
-mod modifiers;
 mod statements;
 mod underscores;
 
-pub use statements::{Declared, statement};
+pub use statements::statement;
 pub use underscores::{leading_underscores, one_underscore_more};

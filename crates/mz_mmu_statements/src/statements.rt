@@ -1,38 +1,25 @@
 //! Reading a statement.
 ghost use Rattle.std.specs.Prelude.{◌≡◌, ◌<◌, ◌^◌, ◌+◌, [], Bool, IfOk, IfErr, OnOk, length};
-ghost use Rattle.mz_logic.specs.Tree.{none};
-ghost use Rattle.mz_logic.specs.View.{tree};
+ghost use Rattle.mz_logic_theory.specs.Tree.{none};
+ghost use Rattle.mz_logic_theory.specs.View.{tree};
 ghost use Rattle.mz_sexpr.specs.Node.{place};
 ghost use Rattle.mz_sexpr.specs.Number.{node_count, node_at};
-ghost use Rattle.mz_mmu_forms.specs.Expressions.{AreDummies, IsExpr, IsExprList};
-ghost use Rattle.mz_mmu_forms.specs.Proofs.{IsProof};
-ghost use Rattle.mz_mmu_forms.specs.Cursor.{nodes_from, IsThere, node_size, nodes_size};
-ghost use Rattle.mz_mmu_forms.specs.Name.{scope_of};
-ghost use Rattle.mz_mmu_statements.specs.Statements.{no_modifiers, AreModifiers, IsHyp, AreNamedHyps, IsDeclared, IsLocal, IsStatement, sort_kind, term_kind, axiom_kind, def_kind, theorem_kind};
-ghost use Rattle.mz_mmu_forms.specs.Order.{proof_asked};
-ghost use Rattle.mz_mmu_statements.specs.Order.{claims_asked, declared_asked, defined_asked, hyp_asked, hyps_asked, local_asked, modifiers_asked, plain_claims_asked, proved_asked, statement_asked};
+ghost use Rattle.mz_mmu_theory.specs.Expressions.{AreDummies, IsExpr, IsExprList};
+ghost use Rattle.mz_mmu_theory.specs.Proofs.{IsProof};
+ghost use Rattle.mz_mmu_theory.specs.Cursor.{nodes_from, IsThere, node_size, nodes_size};
+ghost use Rattle.mz_mmu_theory.specs.Name.{scope_of};
+ghost use Rattle.mz_mmu_theory.specs.Statements.{no_modifiers, AreModifiers, IsHyp, AreNamedHyps, IsDeclared, IsLocal, IsStatement};
+ghost use Rattle.mz_mmu_theory.specs.declared.kind.Kind.TheVariants.{Sort as sort_kind, Term as term_kind, Axiom as axiom_kind, Def as def_kind, Theorem as theorem_kind};
+ghost use Rattle.mz_mmu_theory.specs.FormOrder.{proof_asked};
+ghost use Rattle.mz_mmu_theory.specs.StatementOrder.{claims_asked, declared_asked, defined_asked, hyp_asked, hyps_asked, local_asked, modifiers_asked, plain_claims_asked, proved_asked, statement_asked};
 ghost use Rattle.mz_mmu_forms.specs.ScopeView.{names as names_view, scope};
-ghost use Rattle.mz_mmu_statements.specs.StatementView.{modifiers as modifiers_view, stated};
-ghost use Rattle.mz_mmu_forms.specs.Stops.{Stops};
+ghost use Rattle.mz_mmu_theory.specs.StatementView.{modifiers as modifiers_view, stated};
+ghost use Rattle.mz_mmu_theory.specs.Stops.{Stops};
 
-use crate::kind::Kind;
-use crate::modifiers::Modifiers;
-use mz_logic::{Binders, Decl, Expr, Hyps, TermDecl, TermForm, ThmDecl, ThmForm};
-use mz_mmu_forms::{Names, ProofBox, Reader, Scope, Space, Stop, is};
+use mz_logic_theory::{Binders, Decl, Expr, Hyps, TermDecl, TermForm, ThmDecl, ThmForm};
+use mz_mmu_forms::{Names, Reader, Scope, Space};
+use mz_mmu_theory::{Declared, Kind, Modifiers, ProofBox, Stop, is};
 use mz_sexpr::U;
-
-/// What a statement declares, with its name.
-#[derive(Drop)]
-pub struct Declared<'a> {
-    /// The name, as it stands in the text.
-    pub name: &'a [u8],
-    /// The declaration.
-    pub decl: Decl,
-    /// A theorem's dummies; a definition's stand in its declaration.
-    pub dummies: Binders,
-    /// A theorem's proof; nothing else has one.
-    pub proof: Option<ProofBox>,
-}
 
 /// A sort's modifiers, from the first on.
 fn modifiers(reader: &Reader<'_, '_>, first: Option<u32>) -> Result<Modifiers, Stop>

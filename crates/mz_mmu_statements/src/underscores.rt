@@ -1,6 +1,6 @@
 // The underscores with which names begin.
 ghost use Rattle.std.specs.Prelude.{◌≡◌, ◌++◌, replicate, suc, IfOk, OnOk};
-ghost use Rattle.mz_mmu_statements.specs.DeclaredNames;
+ghost use Rattle.mz_mmu_theory.specs.DeclaredNames;
 
 use std::alloc::{AllocError, Global};
 

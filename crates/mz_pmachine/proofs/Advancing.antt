@@ -7,7 +7,8 @@ use Rattle.mz_pmachine_theory.specs.Numbered.{Numbered, portable}
 use Rattle.mz_machine_theory.specs.MachineState.{Kind, State}
 use Rattle.mz_machine_theory.specs.Bodies.{body_command}
 use Rattle.mz_machine_env.specs.Before.{signatures_of, tables_of}
-use Rattle.mz_machine_env.specs.OwnRow.{byte_of, kind_at, kind_of, heading_of}
+use Rattle.mz_machine_env.specs.OwnRow.{byte_of, kind_of}
+use Rattle.mz_machine_theory.specs.Headings.{kind_at, heading_of}
 use Rattle.mz_unify.specs.declared.stop.Stop.{Stop}
 use Rattle.mz_unify.specs.declared.stop.Stop.TheVariants.{Rule, Mem}
 use Rattle.mz_pmachine.specs.OverNodes.{Grows}

@@ -1,13 +1,13 @@
 -- A machine between two commands.
 use Rattle.std.proofs.Common.{◌<◌, ◌^◌, ◌∙◌, ℕ, List, ◌++◌, length, ap, append_assoc}
 use Rattle.std.proofs.lemmas.List.Elements.{All-append}
-use Rattle.mz_logic.specs.Legality.{IsDummy}
+use Rattle.mz_logic_theory.specs.Legality.{IsDummy}
 use Rattle.mz_store.specs.declared.item.Id.{Id}
 use Rattle.mz_store.specs.declared.item.Item.{Item as Kept}
 use Rattle.mz_machine_theory.specs.MachineState.{signatures_in}
-use Rattle.mz_machine_env.specs.OwnRow.{heading_of}
+use Rattle.mz_machine_theory.specs.Headings.{heading_of}
 use Rattle.mz_machine_env.specs.Before.{tables_before}
-use Rattle.mz_layout.specs.declared.taken.Rows.{Rows}
+use Rattle.mz_layout_tables.specs.declared.taken.Rows.{Rows}
 use Rattle.mz_pmachine_unify.specs.Numbering.{Numbering, AreIn}
 use Rattle.mz_pmachine_unify.specs.Stored.{AreItemsIn}
 use Rattle.mz_pmachine_unify.proofs.Offered.{still-in}

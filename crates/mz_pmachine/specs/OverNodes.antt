@@ -3,20 +3,21 @@ use Rattle.std.specs.Prelude.{◌≡◌, ℕ, ◌<◌, ◌^◌, List, ◌++◌, 
 use Rattle.mz_cmd.specs.declared.rule.K.{K}
 use Rattle.mz_cmd.specs.declared.code.ProofCode.{ProofCode}
 use Rattle.mz_cmd.specs.declared.code.ProofCode.TheVariants as code
-use Rattle.mz_logic.specs.Signature.{Signature}
-use Rattle.mz_logic.specs.Legality.{IsDummy}
-use Rattle.mz_logic.specs.declared.binder.Binder.{Binder}
+use Rattle.mz_logic_theory.specs.Signature.{Signature}
+use Rattle.mz_logic_theory.specs.Legality.{IsDummy}
+use Rattle.mz_logic_theory.specs.declared.binder.Binder.{Binder}
 use Rattle.mz_store.specs.declared.item.Id.{Id}
 use Rattle.mz_store.specs.declared.item.Item.{Item as Kept}
 use Rattle.mz_unify_theory.specs.Steps.{◌>>=◌}
 use Rattle.mz_unify_theory.specs.Profile.{Item}
 use Rattle.mz_machine_theory.specs.MachineState.{State, signatures_in}
 use Rattle.mz_machine_theory.specs.Premises.{pop_expr, pop_sides}
-use Rattle.mz_machine_env.specs.OwnRow.{kind_at, heading_of, MayRun, mode_for}
+use Rattle.mz_machine_env.specs.OwnRow.{MayRun, mode_for}
+use Rattle.mz_machine_theory.specs.Headings.{kind_at, heading_of}
 use Rattle.mz_machine_env.specs.Before.{tables_before}
 use Rattle.mz_machine_env.specs.CommandCodes.{code_of_making, code_of_converting}
 use Rattle.mz_machine.specs.OverStore.{IsContextOf}
-use Rattle.mz_layout.specs.declared.taken.Rows.{Rows}
+use Rattle.mz_layout_tables.specs.declared.taken.Rows.{Rows}
 use Rattle.mz_pmachine_theory.specs.Numbered.{Numbered, a_variable, portable}
 use Rattle.mz_pmachine_unify.specs.Numbering.{Numbering, expr_of, IsIn, AreIn, IsOver, KeepsIds}
 use Rattle.mz_pmachine_unify.specs.Stored.{exprs_at, item_at, items_at, AreItemsIn}

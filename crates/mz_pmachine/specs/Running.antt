@@ -1,7 +1,8 @@
 -- A machine in two parts: the statement whose body runs, and what its commands change.
 use Rattle.std.specs.Prelude.{◌≡◌, length}
 use Rattle.mz_store.specs.Bits.{bound_vars}
-use Rattle.mz_machine_env.specs.OwnRow.{byte_of, heading_of}
+use Rattle.mz_machine_env.specs.OwnRow.{byte_of}
+use Rattle.mz_machine_theory.specs.Headings.{heading_of}
 use Rattle.mz_pmachine.specs.OverNodes.{IsUnderway, state_at}
 use Rattle.mz_pmachine.specs.Steps.{Underway}
 use Rattle.mz_pmachine.specs.declared.machine.Setting.{Setting}

@@ -5,10 +5,10 @@ use Rattle.mz_cmd.specs.declared.command.Cmd.{Cmd}
 use Rattle.mz_machine_theory.specs.MachineState.{RowsBefore, State, Heading}
 use Rattle.mz_machine_theory.specs.ProofMachine.{ends_with}
 use Rattle.mz_machine_theory.specs.Bodies.{BodyCommand, body_command, match_steps}
-use Rattle.mz_machine_env.specs.OwnRow.{heading_of}
+use Rattle.mz_machine_theory.specs.Headings.{heading_of}
 use Rattle.mz_machine_env.specs.Before.{tables_before}
 use Rattle.mz_machine_env.specs.OneCommand.{row_in, steps_in}
-use Rattle.mz_layout.specs.declared.taken.Rows.{Rows}
+use Rattle.mz_layout_tables.specs.declared.taken.Rows.{Rows}
 use Rattle.mz_pmachine_theory.specs.Numbered.{Numbered, portable}
 
 -- a machine between two commands: the file, the statement whose body runs with the rows before it, the state, and a

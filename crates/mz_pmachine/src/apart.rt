@@ -1,11 +1,11 @@
 //! Operands that are apart: none holds the variable of a bound parameter, but of its own and of those
 //! on which its parameter depends.
 ghost use Rattle.std.specs.Prelude.{ℕ, ◌≡◌, ◌<◌, ◌||◌, true, List, Ok, Some, length, not, slice_get};
-ghost use Rattle.mz_logic.specs.Tree.{Tree};
-ghost use Rattle.mz_logic.specs.Signature.{Signature};
-ghost use Rattle.mz_logic.specs.Words.{binders_of, bound_places};
-ghost use Rattle.mz_logic.specs.declared.binder.Binder.{Binder};
-ghost use Rattle.mz_layout.specs.Rows.{params_of};
+ghost use Rattle.mz_logic_theory.specs.Tree.{Tree};
+ghost use Rattle.mz_logic_theory.specs.Signature.{Signature};
+ghost use Rattle.mz_logic_theory.specs.Words.{binders_of, bound_places};
+ghost use Rattle.mz_logic_theory.specs.declared.binder.Binder.{Binder};
+ghost use Rattle.mz_layout_tables.specs.Rows.{params_of};
 ghost use Rattle.mz_pmachine_unify.specs.Numbering.{IsIn, AreIn, IsOver, tree_of, vars_of};
 ghost use Rattle.mz_pmachine_unify.specs.Stored.{trees_at};
 ghost use Rattle.mz_unify_theory.specs.Tests.{is_bound_var, var_within};
@@ -13,7 +13,7 @@ ghost use Rattle.mz_machine_theory.specs.Premises.{operands_fit, apart_from, are
 ghost use Rattle.mz_machine_env.specs.Before.{signatures_of};
 ghost use Rattle.mz_machine_env.specs.OperandRows.{IsBefore, AreAmong};
 
-use mz_layout::Row;
+use mz_layout_tables::Row;
 use mz_machine_env::{Earlier, dependencies, may_meet};
 use mz_pmachine_unify::Nodes;
 use mz_store::Id;

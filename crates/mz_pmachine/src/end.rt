@@ -1,6 +1,6 @@
 //! The END of a body: the one item that is left, and the row's own stream on it.
 ghost use Rattle.std.specs.Prelude.{◌≡◌, ◌≤◌, ◌<◌, ◌^◌, ◌+◌, ◌∷◌, [], List, IfOk, length};
-ghost use Rattle.mz_layout.specs.Tables.{term_row};
+ghost use Rattle.mz_layout_tables.specs.Tables.{term_row};
 ghost use Rattle.mz_pmachine_unify.specs.Numbering.{AreIn, IsIn, IsOver, expr_of, tree_of};
 ghost use Rattle.mz_store.specs.declared.item.Item.{Item as Kept};
 ghost use Rattle.mz_store.specs.declared.item.DepsMode.TheVariants.{Free};
@@ -11,7 +11,8 @@ ghost use Rattle.mz_machine_theory.specs.FreeVars.{free_within};
 ghost use Rattle.mz_machine_theory.specs.ProofMachine.{proof_end, ends_with, ending, last_item};
 ghost use Rattle.mz_machine_theory.specs.Bodies.{match_steps};
 ghost use Rattle.mz_machine_env.specs.Before.{tables_of, signatures_of};
-ghost use Rattle.mz_machine_env.specs.OwnRow.{heading_by, IsNextRow, mode_for, kind_of};
+ghost use Rattle.mz_machine_env.specs.OwnRow.{IsNextRow, mode_for, kind_of};
+ghost use Rattle.mz_machine_theory.specs.Headings.{heading_by};
 ghost use Rattle.mz_machine.specs.OverStore.{IsContextOf, Gives, GivesRule, UnlessMem};
 ghost use Rattle.mz_pmachine.specs.OverNodes.{state_at, AreFirst};
 ghost use Rattle.mz_machine.specs.Endings.{mode_at, IsOwnRun};
@@ -20,7 +21,7 @@ ghost use Rattle.mz_pmachine_theory.specs.Numbered.{Numbered, portable};
 
 use crate::commands::heap::is_provable;
 use mz_cmd::{K, Steps};
-use mz_logic::Word;
+use mz_logic_theory::Word;
 use mz_machine::mode_of;
 use mz_machine_env::{BodyKind, Earlier, Spare, first_ids, own_arity, own_proofs, own_stream};
 use mz_pmachine_unify::{Nodes, unify_in};

@@ -1,9 +1,9 @@
 //! The operands of a row: taken from the stack, and compared with its parameters.
 ghost use Rattle.std.specs.Prelude.{ℕ, ◌≡◌, List, [], ◌∷◌, OnOk, length};
-ghost use Rattle.mz_logic.specs.Signature.{Signature};
-ghost use Rattle.mz_logic.specs.Words.{binders_of, bound_places, word_bound, word_sort};
-ghost use Rattle.mz_logic.specs.declared.binder.Binder.{Binder};
-ghost use Rattle.mz_layout.specs.Rows.{params_of};
+ghost use Rattle.mz_logic_theory.specs.Signature.{Signature};
+ghost use Rattle.mz_logic_theory.specs.Words.{binders_of, bound_places, word_bound, word_sort};
+ghost use Rattle.mz_logic_theory.specs.declared.binder.Binder.{Binder};
+ghost use Rattle.mz_layout_tables.specs.Rows.{params_of};
 ghost use Rattle.mz_pmachine_unify.specs.Numbering.{IsIn, AreIn, IsOver, tree_of};
 ghost use Rattle.mz_pmachine_unify.specs.Stored.{items_at, exprs_at, trees_at, AreItemsIn};
 ghost use Rattle.mz_machine_theory.specs.Premises.{pop_operands, operands_fit};
@@ -12,8 +12,8 @@ ghost use Rattle.mz_machine_env.specs.OperandRows.{IsBefore};
 ghost use Rattle.mz_machine.specs.OverStore.{GivesRule, Gives};
 
 use mz_cmd::K;
-use mz_layout::Row;
-use mz_logic::Word;
+use mz_layout_tables::Row;
+use mz_logic_theory::Word;
 use mz_machine::read_exprs;
 use mz_machine_env::Earlier;
 use mz_pmachine_unify::Nodes;

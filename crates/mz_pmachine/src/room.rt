@@ -1,7 +1,7 @@
 //! Room that one body leaves to the next.
 
 use crate::machine::Parts;
-use mz_logic::Word;
+use mz_logic_theory::Word;
 use std::alloc::{AllocError, Global};
 
 /// What bodies have taken of memory, kept for the next one. It says nothing of them.

@@ -8,7 +8,7 @@ use Rattle.mz_cmd.specs.declared.command.CmdFault.{CmdFault}
 use Rattle.mz_cmd.specs.declared.code.ProofCode.{ProofCode}
 use Rattle.mz_cmd.specs.declared.code.ProofCode.TheVariants as code
 use Rattle.mz_cmd.specs.Reading.{first_command}
-use Rattle.mz_logic.specs.Tree.{Tree, Trees, var, app, none, more, listed}
+use Rattle.mz_logic_theory.specs.Tree.{Tree, Trees, var, app, none, more, listed}
 use Rattle.mz_unify_theory.specs.Steps.{Turn}
 use Rattle.mz_unify_theory.specs.Spells.{trees_of}
 use Rattle.mz_unify_theory.specs.Profile.{tree_parts}

@@ -6,7 +6,7 @@ use Rattle.mz_cmd.specs.declared.command.CmdFault.{CmdFault}
 use Rattle.mz_cmd.specs.declared.code.ProofCode.{ProofCode}
 use Rattle.mz_cmd.specs.declared.code.ProofCode.TheVariants as code
 use Rattle.mz_cmd.specs.Reading.{first_command}
-use Rattle.mz_logic.specs.Tree.{Tree, app, more, listed}
+use Rattle.mz_logic_theory.specs.Tree.{Tree, app, more, listed}
 use Rattle.mz_unify_theory.specs.Spells.{trees_of}
 use Rattle.mz_unify_theory.specs.Profile.{strict, tree_parts}
 use Rattle.mz_unify_theory.specs.Tests.{same_tree}

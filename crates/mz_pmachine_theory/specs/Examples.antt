@@ -2,7 +2,7 @@
 use Rattle.std.specs.Prelude.{◌≡◌, ℕ, List, [], ◌∷◌, Option, Some, None}
 use Rattle.mz_cmd.specs.declared.rule.K.{K}
 use Rattle.mz_cmd.specs.declared.rule.K.TheVariants as k
-use Rattle.mz_logic.specs.Tree.{Tree, var, app, none, more}
+use Rattle.mz_logic_theory.specs.Tree.{Tree, var, app, none, more}
 use Rattle.mz_machine_theory.specs.Bodies.{body_run}
 use Rattle.mz_machine_theory.specs.Examples.{outcome, dummy_body}
 use Rattle.mz_machine_theory.specs.Cases.{Case, stop, with_code, ax_1, ax_mp, a1i, gen, nn, fold, saved, dummy}

@@ -3,9 +3,9 @@
 use Rattle.std.specs.Prelude.{◌≡◌, ℕ, true, ◌↔◌, List, [], length, map, Ok}
 use Rattle.mz_cmd.specs.declared.code.ProofCode.{ProofCode}
 use Rattle.mz_cmd.specs.declared.code.ProofCode.TheVariants as code
-use Rattle.mz_logic.specs.Tree.{Tree, none}
-use Rattle.mz_logic.specs.Signature.{Signature}
-use Rattle.mz_logic.specs.declared.binder.Binder.{Binder}
+use Rattle.mz_logic_theory.specs.Tree.{Tree, none}
+use Rattle.mz_logic_theory.specs.Signature.{Signature}
+use Rattle.mz_logic_theory.specs.declared.binder.Binder.{Binder}
 use Rattle.mz_unify_theory.specs.Profile.{strict}
 use Rattle.mz_unify_theory.specs.Streams.{of_assertion, of_definition}
 use Rattle.mz_unify_theory.specs.UnifyMachine.{kind_of, Matching, UnifyState, unify}

@@ -7,7 +7,7 @@ use Rattle.mz_cmd.specs.declared.command.CmdFault.{CmdFault}
 use Rattle.mz_cmd.specs.declared.code.ProofCode.{ProofCode}
 use Rattle.mz_cmd.specs.declared.code.ProofCode.TheVariants as code
 use Rattle.mz_cmd.specs.Reading.{first_command}
-use Rattle.mz_logic.specs.Tree.{Tree, Trees, var, app, none, more}
+use Rattle.mz_logic_theory.specs.Tree.{Tree, Trees, var, app, none, more}
 use Rattle.mz_unify_theory.specs.Steps.{Turn, over, goes_on}
 use Rattle.mz_unify_theory.specs.Profile.{Profile, strict}
 use Rattle.mz_machine_theory.specs.MachineState.{RowsBefore, State, Heading}

@@ -1,8 +1,8 @@
 -- Patterns that save no application before its dummies are met (this project's own; marks are what a stream refers to, of
 -- the .mmb format).
 use Rattle.std.specs.Prelude.{◌≡◌, ℕ, ◌<◌, List, slice_get, Some}
-use Rattle.mz_logic.specs.Tree.{Tree, Trees, var, app}
-use Rattle.mz_logic.specs.Variables.{Occurs}
+use Rattle.mz_logic_theory.specs.Tree.{Tree, Trees, var, app}
+use Rattle.mz_logic_theory.specs.Variables.{Occurs}
 
 -- the variables of each application that is marked are marked before it
 abbrev pub AreWhole : List Tree → Type 0

@@ -4,8 +4,8 @@ use Rattle.std.proofs.lemmas.List.{length-append}
 use Rattle.std.proofs.lemmas.Option.{slice_get_within, none-some}
 use Rattle.mz_base_theory.proofs.Offered.{slice_get-last}
 use mir.Val.{bool_byte}
-use Rattle.mz_logic.specs.Signature.{Signature}
-use Rattle.mz_logic.proofs.Offered.{DepsInside}
+use Rattle.mz_logic_theory.specs.Signature.{Signature}
+use Rattle.mz_logic_theory.proofs.Offered.{DepsInside}
 use Rattle.mz_store.specs.Bits.{bound_vars}
 use Rattle.mz_store.specs.Nodes.{binder_after, IsVariableWord}
 use Rattle.mz_store.specs.declared.item.DepsMode.{DepsMode}

@@ -1,11 +1,11 @@
 -- The words of expressions stay right when a variable is entered.
 use Rattle.std.proofs.Common.{ℕ, ◌∷◌, [], ◌++◌, Bool, List, length, refl, sym, subst, inl, inr}
 use Rattle.mz_base_theory.proofs.Offered.{slice_get-last}
-use Rattle.mz_logic.specs.Tree.{var}
-use Rattle.mz_logic.specs.Signature.{Signature}
-use Rattle.mz_logic.specs.Variables.{InV}
-use Rattle.mz_logic.specs.declared.binder.Binder.{Binder}
-use Rattle.mz_logic.proofs.Offered.{Extends, extends_append, DepsInside}
+use Rattle.mz_logic_theory.specs.Tree.{var}
+use Rattle.mz_logic_theory.specs.Signature.{Signature}
+use Rattle.mz_logic_theory.specs.Variables.{InV}
+use Rattle.mz_logic_theory.specs.declared.binder.Binder.{Binder}
+use Rattle.mz_logic_theory.proofs.Offered.{Extends, extends_append, DepsInside}
 use Rattle.mz_store.specs.Bits.{Tells, bound_vars}
 use Rattle.mz_store.specs.Nodes.{binder_after, IsVariableWord}
 use Rattle.mz_store.specs.declared.item.DepsMode.TheVariants as of

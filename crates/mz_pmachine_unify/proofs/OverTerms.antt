@@ -1,8 +1,8 @@
 -- The words of expressions stay right when a term over expressions is added.
 use Rattle.std.proofs.Common.{ℕ, ◌≡◌, List, Vec, Global, inl, inr, sym, subst}
-use Rattle.mz_logic.specs.Tree.{app}
-use Rattle.mz_logic.specs.Variables.{InSomeV}
-use Rattle.mz_logic.specs.Words.{TermWords, term_at, word_sort, signature_of, signatures_of}
+use Rattle.mz_logic_theory.specs.Tree.{app}
+use Rattle.mz_logic_theory.specs.Variables.{InSomeV}
+use Rattle.mz_logic_theory.specs.Words.{TermWords, term_at, word_sort, signature_of, signatures_of}
 use Rattle.mz_store.specs.Bits.{Tells, bound_vars}
 use Rattle.mz_store.specs.Sharing.{IsTold, CanTake}
 use Rattle.mz_store.specs.declared.item.Id.{Id}

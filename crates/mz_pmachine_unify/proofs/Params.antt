@@ -1,6 +1,6 @@
 -- Operands by their places.
 use Rattle.std.proofs.Common.{ℕ, zero, suc, ◌≡◌, ◌<◌, List, [], ◌∷◌, length, get_or, refl, ap, arith}
-use Rattle.mz_logic.specs.Tree.{operand}
+use Rattle.mz_logic_theory.specs.Tree.{operand}
 use Rattle.mz_store.specs.declared.item.Id.{Id}
 use Rattle.mz_store.proofs.Offered.{many, nothing}
 use Rattle.mz_pmachine_unify.specs.Numbering.{Numbering, tree_of, trees_of, IsIn, AreIn}

@@ -1,10 +1,10 @@
 -- What is read of a node is what it stands for.
 use Rattle.std.proofs.Common.{ℕ, ◌≡◌, ◌<◌, ◌∙◌, ◌↔◌, Bool, false, IsTrue, List, Some, length, get_or, slice_get, sym, ap, subst, arith}
 use Rattle.std.proofs.lemmas.Option.{slice_get-get_or}
-use Rattle.mz_logic.specs.Sorts.{IsBoundVar}
-use Rattle.mz_logic.specs.Tree.{var}
-use Rattle.mz_logic.specs.declared.binder.Binder.{Binder}
-use Rattle.mz_logic.proofs.Offered.{no-application, one_at}
+use Rattle.mz_logic_theory.specs.Sorts.{IsBoundVar}
+use Rattle.mz_logic_theory.specs.Tree.{var}
+use Rattle.mz_logic_theory.specs.declared.binder.Binder.{Binder}
+use Rattle.mz_logic_theory.proofs.Offered.{no-application, one_at}
 use Rattle.mz_pmachine_theory.specs.Numbered.{Operands, an_application, operand_trees, tree_of as without_numbers}
 use Rattle.mz_store.specs.declared.item.DepsMode.{DepsMode}
 use Rattle.mz_pmachine_unify.specs.Numbering.{Numbering, IsIn, expr_of, tree_of}

@@ -1,8 +1,8 @@
 -- The expressions that a list of nodes stands for: they are never written out.
 use Rattle.std.specs.Prelude.{ℕ, suc, ◌≤◌, List, [], ◌∷◌, ◌++◌, length}
-use Rattle.mz_logic.specs.Words.{word_sort, word_deps, word_bound}
-use Rattle.mz_logic.specs.declared.word.Word.{Word}
-use Rattle.mz_logic.specs.declared.binder.Binder.{Binder}
+use Rattle.mz_logic_theory.specs.Words.{word_sort, word_deps, word_bound}
+use Rattle.mz_logic_theory.specs.declared.word.Word.{Word}
+use Rattle.mz_logic_theory.specs.declared.binder.Binder.{Binder}
 use Rattle.mz_store.specs.Nodes.{binder_after}
 use Rattle.mz_store.specs.declared.item.DepsMode.{DepsMode}
 use Rattle.mz_pmachine_theory.specs.Numbered.{Numbered, a_variable, an_application}

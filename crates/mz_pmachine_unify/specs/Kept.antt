@@ -1,7 +1,7 @@
 -- What holds between nodes and the expressions that they stand for.
 use Rattle.std.specs.Prelude.{ℕ, ◌≡◌, ◌<◌, ◌≤◌, Contains, List, length, slice_get, Some}
-use Rattle.mz_logic.specs.Legality.{Each}
-use Rattle.mz_logic.specs.declared.binder.Binder.{Binder}
+use Rattle.mz_logic_theory.specs.Legality.{Each}
+use Rattle.mz_logic_theory.specs.declared.binder.Binder.{Binder}
 use Rattle.mz_store.specs.Bits.{bound_vars}
 use Rattle.mz_pmachine_theory.specs.Numbered.{a_variable, an_application}
 use Rattle.mz_pmachine_unify.specs.Numbering.{Numbering, IsIn, AreIn, expr_of, exprs_of, sort_of, vars_of, deps_of, IsMadeBefore}

@@ -1,9 +1,9 @@
 -- What the nodes of a body are: the expressions that its commands make, each with the number of its command (the .mmb
 -- format, and verifiers that compare addresses).
 use Rattle.std.specs.Prelude.{ℕ, ◌≡◌, ◌<◌, ◌≤◌, ⊤, List, [], ◌∷◌, ◌++◌, length, get_or, Option, Some, None}
-use Rattle.mz_logic.specs.Tree.{Tree, Trees}
-use Rattle.mz_logic.specs.Signature.{Signature}
-use Rattle.mz_logic.specs.declared.binder.Binder.{Binder}
+use Rattle.mz_logic_theory.specs.Tree.{Tree, Trees}
+use Rattle.mz_logic_theory.specs.Signature.{Signature}
+use Rattle.mz_logic_theory.specs.declared.binder.Binder.{Binder}
 use Rattle.mz_store.specs.Sharing.{Shared, IsRight}
 use Rattle.mz_store.specs.declared.item.DepsMode.{DepsMode}
 use Rattle.mz_store.specs.declared.item.DepsMode.TheVariants.{All}

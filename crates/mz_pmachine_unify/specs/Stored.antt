@@ -1,6 +1,6 @@
 -- The unify machine over nodes: expressions are ids, and a run is that of the expressions, numbers and all.
 use Rattle.std.specs.Prelude.{ℕ, ⊤, List, [], ◌∷◌, map, reverse}
-use Rattle.mz_logic.specs.Tree.{Tree}
+use Rattle.mz_logic_theory.specs.Tree.{Tree}
 use Rattle.mz_store.specs.declared.item.Id.{Id}
 use Rattle.mz_store.specs.declared.item.Item.{Item as Kept}
 use Rattle.mz_store.specs.declared.item.Item.TheVariants.{Expr, Proof, Obligation, Conversion}

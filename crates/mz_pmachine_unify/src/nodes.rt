@@ -1,9 +1,9 @@
 //! The nodes of a body.
 ghost use Rattle.std.specs.Prelude.{ℕ, ◌≡◌, ◌↔◌, ◌<◌, ◌≤◌, ◌+◌, ◌∷◌, [], ◌++◌, List, map, OnOk, OnErr, IfOk, IsTrue, length};
-ghost use Rattle.mz_logic.specs.Sorts.{HasSort, IsBoundVar};
-ghost use Rattle.mz_logic.specs.Signature.{Signature};
-ghost use Rattle.mz_logic.specs.Variables.{InV};
-ghost use Rattle.mz_logic.specs.Words.{BitsRight, BitsRightAfter, binders_of, signatures_of};
+ghost use Rattle.mz_logic_theory.specs.Sorts.{HasSort, IsBoundVar};
+ghost use Rattle.mz_logic_theory.specs.Signature.{Signature};
+ghost use Rattle.mz_logic_theory.specs.Variables.{InV};
+ghost use Rattle.mz_logic_theory.specs.Words.{BitsRight, BitsRightAfter, binders_of, signatures_of};
 ghost use Rattle.mz_store.specs.Bits.{Tells, bound_vars};
 ghost use Rattle.mz_store.specs.Nodes.{IsVariableWord};
 ghost use Rattle.mz_store.specs.Sharing.{IsTold, CanTake, dummy_binder};
@@ -14,7 +14,7 @@ ghost use Rattle.mz_pmachine_unify.specs.declared.node.Form.TheVariants.{Variabl
 
 use crate::node::{Form, Node};
 use crate::variables::{all_vars, told_vars};
-use mz_logic::{Terms, Word};
+use mz_logic_theory::{Terms, Word};
 use mz_store::{DepsMode, Id};
 use std::alloc::{AllocError, Global};
 use std::marker::Model;

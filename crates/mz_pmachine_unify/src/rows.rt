@@ -1,7 +1,7 @@
 //! What each command does: its premises in order, and what it leaves.
 ghost use Rattle.std.specs.Prelude.{ℕ, ◌≡◌, ◌≤◌, ⊤, ◌+◌, ◌++◌, ◌∷◌, ◌⊎◌, [], List, Ok, Err, OnOk, IfOk, IfSome, IfNone, MatchResult, map, length};
 ghost use Rattle.mz_cmd.specs.declared.rule.K.{K};
-ghost use Rattle.mz_logic.specs.Signature.{Signature};
+ghost use Rattle.mz_logic_theory.specs.Signature.{Signature};
 ghost use Rattle.mz_pmachine_unify.specs.Numbering.{IsIn, AreIn, expr_of, IsOver};
 ghost use Rattle.mz_pmachine_theory.specs.Numbered.{Numbered, tree_of, portable};
 ghost use Rattle.mz_unify_theory.specs.Streams.{UnifyCommand, u_term, u_term_save, u_ref, u_dummy, u_hyp, u_end};

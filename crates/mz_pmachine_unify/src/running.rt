@@ -1,7 +1,7 @@
 //! A stream run against operands, on a target.
 ghost use Rattle.std.specs.Prelude.{ℕ, ◌≡◌, ◌≤◌, ◌<◌, ◌^◌, ◌+◌, List, length};
-ghost use Rattle.mz_logic.specs.Words.{signatures_of};
-ghost use Rattle.mz_logic.specs.Signature.{Signature};
+ghost use Rattle.mz_logic_theory.specs.Words.{signatures_of};
+ghost use Rattle.mz_logic_theory.specs.Signature.{Signature};
 ghost use Rattle.mz_pmachine_unify.specs.Numbering.{IsIn, AreIn, IsOver};
 ghost use Rattle.mz_pmachine_theory.specs.Numbered.{portable};
 ghost use Rattle.mz_unify_theory.specs.UnifyMachine.{unify, unify_from, unify_steps, unify_steps_from};
@@ -12,7 +12,7 @@ ghost use Rattle.mz_pmachine_unify.specs.Rows.{state_at};
 use crate::Nodes;
 use crate::rows::{step, variables};
 use mz_cmd::{K, Steps, cmd_at};
-use mz_logic::Terms;
+use mz_logic_theory::Terms;
 use mz_store::{Id, Item};
 use mz_unify::{Command, Stop, Unified, UnifyMode, decoded};
 use std::sync::ledger::Ledger;

@@ -1,18 +1,18 @@
 //! The words of an application's variables, from those of its operands.
 ghost use Rattle.std.specs.Prelude.{ℕ, ◌≡◌, ◌<◌, ◌%◌, ◌==◌, if◌then◌else◌, Contains, IfOk, List, length};
-ghost use Rattle.mz_logic.specs.Signature.{Signature};
-ghost use Rattle.mz_logic.specs.Tree.{app};
-ghost use Rattle.mz_logic.specs.Sorts.{Fits};
-ghost use Rattle.mz_logic.specs.Variables.{InSomeV, IsBoundAt, IsOperandAt};
-ghost use Rattle.mz_logic.specs.Words.{signatures_of, places_set};
-ghost use Rattle.mz_logic.specs.declared.binder.Binder.{Binder};
+ghost use Rattle.mz_logic_theory.specs.Signature.{Signature};
+ghost use Rattle.mz_logic_theory.specs.Tree.{app};
+ghost use Rattle.mz_logic_theory.specs.Sorts.{Fits};
+ghost use Rattle.mz_logic_theory.specs.Variables.{InSomeV, IsBoundAt, IsOperandAt};
+ghost use Rattle.mz_logic_theory.specs.Words.{signatures_of, places_set};
+ghost use Rattle.mz_logic_theory.specs.declared.binder.Binder.{Binder};
 ghost use Rattle.mz_store.specs.Bits.{Tells, bound_vars};
 ghost use Rattle.mz_store.specs.Sharing.{IsTold, CanTake};
 ghost use Rattle.mz_store.specs.declared.item.DepsMode.TheVariants.{Free};
 ghost use Rattle.mz_pmachine_unify.specs.Numbering.{IsIn, AreIn, deps_of, trees_of, IsOver};
 
 use crate::nodes::Nodes;
-use mz_logic::Terms;
+use mz_logic_theory::Terms;
 use mz_store::{DepsMode, Id};
 use std::alloc::{AllocError, Global};
 

@@ -5,8 +5,10 @@
 //! too.
 #![tactic(auto)]
 
+mod bodies;
 mod laws;
 mod portable;
 
+pub use bodies::PortableBodies;
 pub use laws::{each_pair_has_one_verdict_by_address, portable_pairs_are_accepted};
 pub use portable::portable_bytes;

@@ -3,7 +3,7 @@ ghost use Rattle.std.specs.Prelude.{◌≡◌, ◌⊎◌, ◌<◌, ◌≤◌, �
 ghost use Rattle.mz_match_theory.specs.Verdict.{IsSoundIfAccepted};
 ghost use Rattle.mz_portable.specs.Portable.{FirstPortableRefusal, IsAcceptedByTable, IsPortableVerdict, PortableTicks, PortablyAccepts};
 
-use mz_binary_theory::Standard;
+use crate::bodies::PortableBodies;
 use mz_cmd::Steps;
 use mz_match::verify_by;
 use mz_match_theory::{Counts, Verdict};
@@ -30,5 +30,5 @@ pub fn portable_bytes<L: Ledger>(
     ensures steps { PortableTicks bin.now steps.old steps.new result }
     ensures bound { steps.new ≤ steps.old + (length bin.now * length bin.now + length bin.now) }
 {
-    verify_by(alloc, seed, spec, bin, Standard::Portable, steps)
+    verify_by::<PortableBodies, L>(alloc, seed, spec, bin, steps)
 }

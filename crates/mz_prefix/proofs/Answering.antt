@@ -2,8 +2,8 @@
 use Rattle.std.proofs.Common.{false, ◌≡◌, ◌≤◌, ◌<◌, ◌∙◌, ℕ, List, length, ap, subst, inl, arith}
 use Rattle.mz_base_theory.specs.Checks.{AllHold, FailsFirst}
 use Rattle.mz_base_theory.proofs.Offered.{fails-before, fails-after, all_hold-both}
-use Rattle.mz_mmu_statements.specs.Statements.{Statement}
-use Rattle.mz_type.specs.TextOf.{TextOf}
+use Rattle.mz_mmu_theory.specs.Statements.{Statement}
+use Rattle.mz_mmu_theory.specs.TextOf.{TextOf}
 use Rattle.mz_prefix_theory.specs.AgreeLaws.{SpecificationsOfTextsDeclare}
 use Rattle.mz_prefix_theory.specs.Wording.{longest, local_in, long_in, too_long, local_checks, long_checks, local_terms, vocabulary_of, prefix_text, IsWordedAs, IsUnwritten}
 use Rattle.mz_prefix.specs.declared.names.Names.{Names}

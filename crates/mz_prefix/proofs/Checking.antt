@@ -3,7 +3,7 @@ use Rattle.std.proofs.Common.{◌≡◌, ◌≤◌, ◌<◌, ◌+◌, ◌∙◌,
 use Rattle.std.proofs.lemmas.List.{drop_all}
 use Rattle.mz_base_theory.specs.Checks.{Checks, ask, AllHold, FailsFirst}
 use Rattle.mz_base_theory.proofs.Offered.{Decides, decides-whole}
-use Rattle.mz_mmu_statements.specs.Statements.{Statement}
+use Rattle.mz_mmu_theory.specs.Statements.{Statement}
 use Rattle.mz_type.specs.TypedText.{statement_at}
 use Rattle.mz_prefix_theory.specs.Wording.{Unwritten}
 use Rattle.mz_prefix.proofs.Gathering.{from-there}

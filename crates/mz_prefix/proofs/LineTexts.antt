@@ -1,14 +1,14 @@
 -- The text of a line, part by part.
 use Rattle.std.specs.Prelude.{codes, ◌==◌, if◌then◌else◌}
 use Rattle.std.proofs.Common.{◌≡◌, ◌/◌, ◌%◌, ◌++◌, ◌∙◌, ℕ, Bool, true, false, List, [], ◌∷◌, refl, sym, ap, append_assoc}
-use Rattle.mz_logic.specs.Tree.{Tree, Trees, var, app, none, more}
-use Rattle.mz_logic.specs.Signature.{Signature}
-use Rattle.mz_logic.specs.Declaration.{plain_form, abstract_form, defined, Assertion, sort_decl, term_decl, assertion_decl}
-use Rattle.mz_logic.specs.declared.binder.Binder.{Binder}
-use Rattle.mz_logic.specs.declared.binder.SortMods.{SortMods}
-use Rattle.mz_spec_grammar.specs.Statement.{keyword_of}
-use Rattle.mz_spec_grammar.specs.declared.kind.Kind.{Kind}
-use Rattle.mz_spec_grammar.specs.declared.kind.Kind.TheVariants.{Term, Assert, Definition}
+use Rattle.mz_logic_theory.specs.Tree.{Tree, Trees, var, app, none, more}
+use Rattle.mz_logic_theory.specs.Signature.{Signature}
+use Rattle.mz_logic_theory.specs.Declaration.{plain_form, abstract_form, defined, Assertion, sort_decl, term_decl, assertion_decl}
+use Rattle.mz_logic_theory.specs.declared.binder.Binder.{Binder}
+use Rattle.mz_logic_theory.specs.declared.binder.SortMods.{SortMods}
+use Rattle.mz_spec_theory.specs.Statement.{keyword_of}
+use Rattle.mz_spec_theory.specs.declared.kind.Kind.{Kind}
+use Rattle.mz_spec_theory.specs.declared.kind.Kind.TheVariants.{Term, Assert, Definition}
 use Rattle.mz_prefix_theory.specs.Words.{Word, written}
 use Rattle.mz_prefix_theory.specs.Lines.{PlainBinder, PlainType, spaced_name, spaced_mark, math_word, type_words, head_words, colon_words, end_words, hyps_words, sort_words, line_text}
 use Rattle.mz_prefix_theory.proofs.Offered.{written-append}

@@ -2,9 +2,9 @@
 use Rattle.std.specs.Prelude.{nat_le, codes}
 use Rattle.std.proofs.Common.{◌≡◌, ◌≤◌, ◌<◌, ◌+◌, ◌++◌, ◌∙◌, ℕ, suc, true, List, [], ◌∷◌, length, Option, Some, None, MatchOption, is_some, refl, sym, ap, arith, length-append}
 use Rattle.std.proofs.lemmas.Bool.{leb-true, le-leb, and_from, and_parts, false_from_ne_true}
-use Rattle.mz_logic.specs.Tree.{Tree, Trees, var, app, none, more}
-use Rattle.mz_math.specs.Meaning.{height}
-use Rattle.mz_math.specs.Formula.{most}
+use Rattle.mz_logic_theory.specs.Tree.{Tree, Trees, var, app, none, more}
+use Rattle.mz_math_theory.specs.Meaning.{height}
+use Rattle.mz_math_theory.specs.Formula.{most}
 use Rattle.mz_prefix_theory.specs.Prefix.{tokens_of, operand_tokens, enclosed, IsShort}
 use Rattle.mz_prefix_theory.specs.Declared.{Vocabulary, formula_of}
 use Rattle.mz_prefix_theory.specs.Wording.{is_short}

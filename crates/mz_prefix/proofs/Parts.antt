@@ -3,11 +3,11 @@ use Rattle.std.proofs.Common.{◌≡◌, ◌≤◌, ◌<◌, ◌+◌, ◌++◌, 
 use Rattle.std.specs.Prelude.{codes}
 use Rattle.std.proofs.lemmas.List.{drop_more, drop_all}
 use Rattle.mz_base_theory.proofs.Offered.{one-further}
-use Rattle.mz_logic.specs.Tree.{Tree, var, app, none, more}
-use Rattle.mz_logic.specs.View.{tree, trees}
-use Rattle.mz_logic.specs.declared.expr.Expr.{Expr}
-use Rattle.mz_logic.specs.declared.binder.Binder.{Binder}
-use Rattle.mz_spec_grammar.specs.Statement.{opening_of, closing_of}
+use Rattle.mz_logic_theory.specs.Tree.{Tree, var, app, none, more}
+use Rattle.mz_logic_theory.specs.View.{tree, trees}
+use Rattle.mz_logic_theory.specs.declared.expr.Expr.{Expr}
+use Rattle.mz_logic_theory.specs.declared.binder.Binder.{Binder}
+use Rattle.mz_spec_theory.specs.Statement.{opening_of, closing_of}
 use Rattle.mz_prefix_theory.specs.Words.{written}
 use Rattle.mz_prefix_theory.specs.Lines.{Tokens, spaced, mark, spaced_mark, dep_words, type_words, binder_words, binders_words, hyp_words, hyps_words, math_word}
 use Rattle.mz_prefix_theory.specs.Prefix.{enclosed, operand_tokens}

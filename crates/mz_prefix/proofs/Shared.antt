@@ -1,9 +1,9 @@
 -- What is asked of each formula, where a formula stands for several hypotheses.
 use Rattle.std.proofs.Common.{ℕ, zero, suc, ◌≡◌, ◌↔◌, ◌∙◌, Bool, true, false, ◌||◌, List, refl, sym, ap}
-use Rattle.mz_logic.specs.Tree.{Tree, Trees, none, more, followed_by, copies}
-use Rattle.mz_logic.specs.Groups.{Repeats}
-use Rattle.mz_logic.specs.Legality.{EachTree}
-use Rattle.mz_logic.proofs.Offered.{each_repeated}
+use Rattle.mz_logic_theory.specs.Tree.{Tree, Trees, none, more, followed_by, copies}
+use Rattle.mz_logic_theory.specs.Groups.{Repeats}
+use Rattle.mz_logic_theory.specs.Legality.{EachTree}
+use Rattle.mz_logic_theory.proofs.Offered.{each_repeated}
 use Rattle.mz_prefix_theory.specs.PublicPart.{mentions_local, any_mentions_local}
 use Rattle.mz_prefix_theory.specs.Prefix.{IsShort}
 use Rattle.mz_prefix_theory.specs.Declared.{Vocabulary, AreShort, formula_of}

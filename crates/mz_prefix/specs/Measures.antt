@@ -1,6 +1,6 @@
 -- How many tokens the prefix form of an expression has.
 use Rattle.std.specs.Prelude.{ℕ, suc, ◌+◌, Bool, true, false, if◌then◌else◌}
-use Rattle.mz_logic.specs.Tree.{Tree, Trees, var, app, none, more}
+use Rattle.mz_logic_theory.specs.Tree.{Tree, Trees, var, app, none, more}
 
 -- a term over operands
 abbrev pub has_operands : Tree → Bool

@@ -1,9 +1,9 @@
 -- The names of a text as the code keeps them.
 use Rattle.std.specs.Prelude.{◌≡◌, ℕ, List, map}
 use Rattle.std.specs.Borrow.{Bor}
-use Rattle.mz_mmu_statements.specs.Statements.{Statement}
+use Rattle.mz_mmu_theory.specs.Statements.{Statement}
 use Rattle.mz_prefix_theory.specs.Declared.{Vocabulary}
-use Rattle.mz_mmu_statements.specs.DeclaredNames.{sort_names, term_names}
+use Rattle.mz_mmu_theory.specs.DeclaredNames.{sort_names, term_names}
 use Rattle.mz_prefix_theory.specs.Wording.{local_terms, variable_prefix, vocabulary_from}
 use Rattle.mz_prefix.specs.declared.names.Names.{Names}
 

@@ -1,8 +1,8 @@
 -- The text of lines, part by part.
 use Rattle.std.specs.Prelude.{◌++◌, ℕ, List, [], Bool, true, false, if◌then◌else◌, codes}
-use Rattle.mz_logic.specs.Signature.{Signature}
-use Rattle.mz_logic.specs.Declaration.{Declaration}
-use Rattle.mz_mmu_statements.specs.Statements.{Statement}
+use Rattle.mz_logic_theory.specs.Signature.{Signature}
+use Rattle.mz_logic_theory.specs.Declaration.{Declaration}
+use Rattle.mz_mmu_theory.specs.Statements.{Statement}
 use Rattle.mz_prefix_theory.specs.Words.{written}
 use Rattle.mz_prefix_theory.specs.Lines.{PlainBinder, binders_words, type_words, line_text}
 use Rattle.mz_prefix_theory.specs.PublicPart.{public_decl}

@@ -1,7 +1,7 @@
 // What can't be written, or isn't.
 ghost use Rattle.std.specs.Prelude.{◌≡◌, ◌↔◌, IsTrue};
-ghost use Rattle.mz_logic.specs.DeclView.{declaration};
-ghost use Rattle.mz_logic.specs.View.{tree};
+ghost use Rattle.mz_logic_theory.specs.DeclView.{declaration};
+ghost use Rattle.mz_logic_theory.specs.View.{tree};
 ghost use Rattle.mz_prefix_theory.specs.PublicPart.{any_mentions_local, IsSayable, mentions_local};
 ghost use Rattle.mz_prefix_theory.specs.Declared.{AreShort, Vocabulary};
 ghost use Rattle.mz_prefix_theory.specs.Wording;
@@ -10,7 +10,7 @@ ghost use Rattle.mz_prefix.specs.Names.{spoken};
 
 use crate::measure::is_short;
 use crate::names::Names;
-use mz_logic::{Decl, Expr, Exprs, Hyps};
+use mz_logic_theory::{Decl, Expr, Exprs, Hyps};
 
 impl<'a> Names<'a> {
     /// Whether a local term stands in the expression.

@@ -1,10 +1,10 @@
 // The line of a statement.
 ghost use Rattle.std.specs.Prelude.{◌≡◌, ◌++◌, [], OnOk};
-ghost use Rattle.mz_spec_grammar.specs.Statement.{keyword_of};
-ghost use Rattle.mz_spec_grammar.specs.declared.kind.Kind.TheVariants.{Assert};
-ghost use Rattle.mz_logic.specs.DeclView.{assertion_of, declaration, is_axiom, signature, term_of};
-ghost use Rattle.mz_logic.specs.Declaration.{defined, sort_decl};
-ghost use Rattle.mz_logic.specs.View.{tree};
+ghost use Rattle.mz_spec_theory.specs.Statement.{keyword_of};
+ghost use Rattle.mz_spec_theory.specs.declared.kind.Kind.TheVariants.{Assert};
+ghost use Rattle.mz_logic_theory.specs.DeclView.{assertion_of, declaration, is_axiom, signature, term_of};
+ghost use Rattle.mz_logic_theory.specs.Declaration.{defined, sort_decl};
+ghost use Rattle.mz_logic_theory.specs.View.{tree};
 ghost use Rattle.mz_prefix_theory.specs.Lines.{line_text};
 ghost use Rattle.mz_prefix_theory.specs.Declared.{Vocabulary, kind_of, line_of_decl, plain_binders, term_line_of};
 ghost use Rattle.mz_prefix.specs.Names.{spoken};
@@ -12,7 +12,7 @@ ghost use Rattle.mz_prefix.specs.Writing.{bare_text, head_text, modifier_text, t
 
 use crate::names::Names;
 use crate::words::put;
-use mz_logic::{Binder, Decl, Expr, SortMods, TermDecl, TermForm, ThmDecl, ThmForm};
+use mz_logic_theory::{Binder, Decl, Expr, SortMods, TermDecl, TermForm, ThmDecl, ThmForm};
 use std::alloc::AllocError;
 
 /// Appends a keyword and a space where a sort has the modifier.

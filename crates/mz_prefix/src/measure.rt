@@ -1,13 +1,13 @@
 // Whether the prefix form of an expression is within the limits of a math string.
 ghost use Rattle.std.specs.Prelude.{◌≡◌, ◌<◌, ◌≤◌, ◌+◌, ◌↔◌, IsTrue, MatchOption};
-ghost use Rattle.mz_logic.specs.View.{tree};
-ghost use Rattle.mz_math.specs.Meaning.{height, trees_height};
+ghost use Rattle.mz_logic_theory.specs.View.{tree};
+ghost use Rattle.mz_math_theory.specs.Meaning.{height, trees_height};
 ghost use Rattle.mz_prefix_theory.specs.Declared.{Vocabulary};
 ghost use Rattle.mz_prefix_theory.specs.Wording;
 ghost use Rattle.mz_prefix.specs.Measures.{operand_count, parentheses, token_count};
 
 use crate::tokens::has_operands;
-use mz_logic::{Expr, Exprs};
+use mz_logic_theory::{Expr, Exprs};
 
 /// A math string has at most so many tokens, and what it says is at most so high.
 const MOST: u32 = 4096;

@@ -1,7 +1,7 @@
 // From a text to a specification.
 ghost use Rattle.std.specs.Prelude.{◌≡◌, false, ◌<◌, ◌^◌, ◌++◌, IfOk, OnOk, ℕ, List, length};
 ghost use Rattle.mz_base_theory.specs.Checks.{AllHold};
-ghost use Rattle.mz_type.specs.TextOf.{TextOf};
+ghost use Rattle.mz_mmu_theory.specs.TextOf.{TextOf};
 ghost use Rattle.mz_type.specs.TypedText.{statement_at};
 ghost use Rattle.mz_prefix_theory.specs.Wording.{local_checks, long_checks, longest, prefix_text, vocabulary_of};
 ghost use Rattle.mz_prefix.specs.Names.{AreNamesOf};
@@ -10,9 +10,8 @@ ghost use Rattle.mz_prefix.specs.Writing.{statement_text};
 
 use crate::first::first_long;
 use crate::names::Names;
-use mz_base::Mode;
+use mz_base::{Hashing, Mode};
 use mz_mmu::{TextRead, read_text};
-use mz_mmu_forms::Hashing;
 use mz_prefix_theory::specifications_of_texts_declare;
 use mz_sexpr::TextRefusal;
 use mz_type::{Typed, TypedRead, check_text, typed_or_faulty};

@@ -3,7 +3,7 @@
 // What calls itself here goes no deeper than an expression is nested, which is at most as deep as a
 // text may be.
 ghost use Rattle.std.specs.Prelude.{◌≡◌, ◌++◌, OnOk, codes};
-ghost use Rattle.mz_logic.specs.View.{tree};
+ghost use Rattle.mz_logic_theory.specs.View.{tree};
 ghost use Rattle.mz_prefix_theory.specs.Lines.{spaced};
 ghost use Rattle.mz_prefix_theory.specs.Prefix.{enclosed, operand_tokens};
 ghost use Rattle.mz_prefix_theory.specs.Declared.{formula_of};
@@ -11,7 +11,7 @@ ghost use Rattle.mz_prefix.specs.Measures;
 ghost use Rattle.mz_prefix.specs.Names.{spoken};
 
 use crate::names::Names;
-use mz_logic::{Expr, Exprs};
+use mz_logic_theory::{Expr, Exprs};
 use std::alloc::AllocError;
 
 /// Whether it is a term over operands.

@@ -3,19 +3,19 @@ use Rattle.std.proofs.Common.{◌≡◌, ◌<◌, ◌++◌, ◌∙◌, ℕ, List
 use Rattle.std.specs.Prelude.{slice_get, if◌then◌else◌}
 use Rattle.std.proofs.lemmas.List.{map-append}
 use Rattle.mz_base_theory.specs.Checks.{AllHold}
-use Rattle.mz_logic.specs.Tree.{Tree, Trees, var, app, none, more}
-use Rattle.mz_logic.specs.Signature.{Signature}
-use Rattle.mz_logic.specs.Declaration.{Form, plain_form, abstract_form, defined, Declaration, sort_decl, term_decl, assertion_decl, signatures}
-use Rattle.mz_logic.specs.Legality.{InRange, AllInRange, NamesThere}
-use Rattle.mz_logic.specs.LegalLists.{Statement, LegalAfter, Legal, gap_free, declarations}
-use Rattle.mz_logic.specs.declared.binder.Binder.{Binder}
+use Rattle.mz_logic_theory.specs.Tree.{Tree, Trees, var, app, none, more}
+use Rattle.mz_logic_theory.specs.Signature.{Signature}
+use Rattle.mz_logic_theory.specs.Declaration.{Form, plain_form, abstract_form, defined, Declaration, sort_decl, term_decl, assertion_decl, signatures}
+use Rattle.mz_logic_theory.specs.Legality.{InRange, AllInRange, NamesThere}
+use Rattle.mz_logic_theory.specs.LegalLists.{Statement, LegalAfter, Legal, gap_free, declarations}
+use Rattle.mz_logic_theory.specs.declared.binder.Binder.{Binder}
 use Rattle.mz_prefix_theory.specs.PublicPart.{public_number, is_local_term, marks_of, mark_of, renamed, all_renamed, mentions_local, public_decl, public_decls, public_part, Hides, IsSayable, AreSayable}
 use Rattle.mz_prefix_theory.proofs.Renaming.{AllTerms, AllTermsIn}
 use Rattle.mz_prefix_theory.proofs.Beside.{all-public, all-public-in}
 use Rattle.mz_prefix_theory.proofs.Legal.{pick}
-use Rattle.mz_match_theory.specs.Match.{term_rows, partner_of, publics_after, publics, match_checks, Agrees}
-use Rattle.mz_match_theory.specs.Trees.{SameOver, AllSameOver, IsPaired, SameBody, SameTree}
-use Rattle.mz_match_theory.proofs.Offered.{own_pairs, pairs-own, paired-own}
+use Rattle.mz_spec_proved_theory.specs.Match.{term_rows, partner_of, publics_after, publics, match_checks, Agrees}
+use Rattle.mz_spec_proved_theory.specs.Trees.{SameOver, AllSameOver, IsPaired, SameBody, SameTree}
+use Rattle.mz_spec_proved_theory.proofs.Offered.{own_pairs, pairs-own, paired-own}
 use Rattle.mz_prefix_theory.proofs.Cases.{chosen}
 use Rattle.mz_prefix_theory.proofs.Rows.{IsTracked, row-at}
 

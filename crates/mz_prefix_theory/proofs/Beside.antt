@@ -3,12 +3,12 @@ use Rattle.std.proofs.Common.{◌≡◌, ◌<◌, ◌∙◌, ◌++◌, ℕ, suc,
 use Rattle.std.specs.Prelude.{slice_get}
 use Rattle.std.proofs.lemmas.Bool.{false≢true, or_parts, cases_order}
 use Rattle.mz_base_theory.proofs.Offered.{slice_get-last}
-use Rattle.mz_logic.specs.Tree.{Tree, Trees, var, app, none, more}
-use Rattle.mz_logic.specs.Signature.{Signature}
-use Rattle.mz_logic.specs.Declaration.{Term, Assertion, Declaration, sort_decl, term_decl, assertion_decl, sorts, signatures}
-use Rattle.mz_logic.specs.Legality.{InRange, AllInRange}
-use Rattle.mz_logic.specs.declared.binder.SortMods.{SortMods}
-use Rattle.mz_logic.proofs.Offered.{extends_append, sorts-append, signatures-append, same-sorts, same-signatures}
+use Rattle.mz_logic_theory.specs.Tree.{Tree, Trees, var, app, none, more}
+use Rattle.mz_logic_theory.specs.Signature.{Signature}
+use Rattle.mz_logic_theory.specs.Declaration.{Term, Assertion, Declaration, sort_decl, term_decl, assertion_decl, sorts, signatures}
+use Rattle.mz_logic_theory.specs.Legality.{InRange, AllInRange}
+use Rattle.mz_logic_theory.specs.declared.binder.SortMods.{SortMods}
+use Rattle.mz_logic_theory.proofs.Offered.{extends_append, sorts-append, signatures-append, same-sorts, same-signatures}
 use Rattle.mz_prefix_theory.specs.PublicPart.{public_number, is_local_term, mentions_local, any_mentions_local}
 use Rattle.mz_prefix_theory.proofs.Numbers.{local-number, public-number}
 use Rattle.mz_prefix_theory.proofs.Renaming.{AllTerms, AllTermsIn, IsKept, Kept, AllKept}

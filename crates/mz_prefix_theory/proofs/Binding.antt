@@ -7,22 +7,22 @@ use Rattle.std.proofs.lemmas.Option.{slice_get_within}
 use Rattle.mz_base_theory.specs.Checks.{AllHold, each_in_order}
 use Rattle.mz_base_theory.proofs.Offered.{all_hold-both}
 use Rattle.mz_lex.specs.Lexemes.{Lexeme}
-use Rattle.mz_logic.specs.Declaration.{sorts, DepsAscend}
-use Rattle.mz_logic.specs.Modifiers.{IsPure, IsStrict, IsFree, MayBeResultSort, MayBeDummySort}
-use Rattle.mz_logic.specs.Variables.{IsBoundAt}
-use Rattle.mz_logic.specs.Legality.{IsParam, AreParams, AreBindersThere, IsDummy}
-use Rattle.mz_logic.specs.declared.binder.Binder.{Binder}
-use Rattle.mz_logic.specs.declared.binder.SortMods.{SortMods}
-use Rattle.mz_logic.proofs.Offered.{one_at}
-use Rattle.mz_spec_grammar.specs.Statement.{TypeText}
+use Rattle.mz_logic_theory.specs.Declaration.{sorts, DepsAscend}
+use Rattle.mz_logic_theory.specs.Modifiers.{IsPure, IsStrict, IsFree, MayBeResultSort, MayBeDummySort}
+use Rattle.mz_logic_theory.specs.Variables.{IsBoundAt}
+use Rattle.mz_logic_theory.specs.Legality.{IsParam, AreParams, AreBindersThere, IsDummy}
+use Rattle.mz_logic_theory.specs.declared.binder.Binder.{Binder}
+use Rattle.mz_logic_theory.specs.declared.binder.SortMods.{SortMods}
+use Rattle.mz_logic_theory.proofs.Offered.{one_at}
+use Rattle.mz_spec_theory.specs.Statement.{TypeText}
 use Rattle.mz_prefix_theory.specs.Lines.{binders_at, binder_words, opening_words, naming_words, type_at}
 use Rattle.mz_prefix_theory.specs.Words.{stop}
 use Rattle.mz_base.specs.Names.{number_of, IsNew, IsKnown}
 use Rattle.mz_base.proofs.Offered.{known-first, known-later, new-more}
-use Rattle.mz_spec_variables.specs.View.{Variable, name_texts, group_types}
-use Rattle.mz_spec.specs.State.{State, binder_of}
-use Rattle.mz_spec_variables.specs.Dependencies.{dep_places, Every, IsCalled, IsBoundAmong}
-use Rattle.mz_spec.specs.Rules.{are_others, is_other, is_known, type_checks, mods_of, HasSortThat, IsBinder, AreBinders, DependsOnNothing, IsDummySort, IsNotPure}
+use Rattle.mz_spec_theory.specs.View.{Variable, name_texts, group_types}
+use Rattle.mz_spec_theory.specs.State.{State, binder_of}
+use Rattle.mz_spec_theory.specs.Dependencies.{dep_places, Every, IsCalled, IsBoundAmong}
+use Rattle.mz_spec_theory.specs.Rules.{are_others, is_other, is_known, type_checks, mods_of, HasSortThat, IsBinder, AreBinders, DependsOnNothing, IsDummySort, IsNotPure}
 use Rattle.mz_prefix_theory.specs.Declared.{Vocabulary, HasVariables, plain_binders, plain_dummies, plain_param, plain_dummy, plain_type}
 use Rattle.mz_prefix_theory.proofs.Shown.{AreTexts, IsTyped, typed-at, IsShown, AreShown, AllShown, names_from}
 use Rattle.mz_prefix_theory.proofs.Places.{AllBelow, below-all, ascending, among-same, places-are}

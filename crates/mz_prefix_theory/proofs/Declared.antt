@@ -4,23 +4,22 @@ use Rattle.std.specs.Prelude.{All, nat_le, not}
 use Rattle.std.proofs.lemmas.Bool.{and_parts, or_parts, leb-true}
 use Rattle.mz_base_theory.proofs.Offered.{all_hold-first, all_hold-rest}
 use Rattle.mz_base_theory.specs.Checks.{AllHold}
-use Rattle.mz_logic.specs.Tree.{Tree}
-use Rattle.mz_logic.specs.LegalLists.{Legal}
-use Rattle.mz_math.specs.Meaning.{height}
-use Rattle.mz_math.specs.Formula.{most}
-use Rattle.mz_mmu_statements.specs.Statements.{Statement}
-use Rattle.mz_mmu_forms.specs.Name.{no_names}
-use Rattle.mz_mmu.specs.Laws.{IsWhole}
-use Rattle.mz_mmu.proofs.Offered.{one_reading, are_whole}
-use Rattle.mz_type.specs.Meaning.{marked}
-use Rattle.mz_type.proofs.Offered.{stated_is_legal}
-use Rattle.mz_spec.specs.Spec.{SpecOf}
+use Rattle.mz_logic_theory.specs.Tree.{Tree}
+use Rattle.mz_logic_theory.specs.LegalLists.{Legal}
+use Rattle.mz_math_theory.specs.Meaning.{height}
+use Rattle.mz_math_theory.specs.Formula.{most}
+use Rattle.mz_mmu_theory.specs.Statements.{Statement}
+use Rattle.mz_mmu_theory.specs.Name.{no_names}
+use Rattle.mz_mmu_theory.specs.ReadingLaws.{IsWhole}
+use Rattle.mz_mmu_theory.proofs.Offered.{one_reading, are_whole, stated_is_legal}
+use Rattle.mz_mmu_theory.specs.Meaning.{marked}
+use Rattle.mz_spec_theory.specs.Spec.{SpecOf}
 use Rattle.mz_prefix_theory.specs.Lines.{Line, lines_text}
 use Rattle.mz_prefix_theory.specs.Prefix.{IsShort}
 use Rattle.mz_prefix_theory.specs.Declared.{HasVariables, formula_of, decls_of}
 use Rattle.mz_prefix_theory.proofs.Printed.{printed-declare}
 use Rattle.mz_prefix_theory.specs.PublicPart.{public_number, public_part, mentions_local, Hides, AreSayable}
-use Rattle.mz_match_theory.specs.Match.{publics, Agrees}
+use Rattle.mz_spec_proved_theory.specs.Match.{publics, Agrees}
 use Rattle.mz_prefix_theory.specs.Wording.{vocabulary_of, local_terms, is_short, is_hidden, prefix_text, local_checks, long_checks, wording_checks}
 use Rattle.mz_prefix_theory.specs.AgreeLaws.{SpecificationsOfTextsDeclare}
 use Rattle.mz_prefix_theory.proofs.Naming.{is-identifier, distinct-names}

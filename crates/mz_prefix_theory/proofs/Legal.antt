@@ -4,16 +4,16 @@ use Rattle.std.specs.Prelude.{All, if◌then◌else◌}
 use Rattle.std.proofs.Math.Seq.{get_or-append_seam}
 use Rattle.std.proofs.lemmas.Bool.{cases_Bool}
 use Rattle.std.proofs.lemmas.Option.{slice_get_within, slice_get-get_or}
-use Rattle.mz_logic.specs.Tree.{Tree}
-use Rattle.mz_logic.specs.Signature.{Signature}
-use Rattle.mz_logic.specs.Declaration.{Form, plain_form, abstract_form, defined, Term, Assertion, Declaration, sort_decl, term_decl, assertion_decl, sorts, signatures}
-use Rattle.mz_logic.specs.Modifiers.{MayBeResultSort, MayBeDummySort, MayBeClaimSort}
-use Rattle.mz_logic.specs.Variables.{IsBoundAt}
-use Rattle.mz_logic.specs.Legality.{AreBindersThere, AreParams, IsParam, IsClaim, NamesThere, BindersRight, NoResultPure, SortsRight, BoundRight, ClaimsProvable, DummySortsRight, DepsRight, IsLegalDecl, LegalEnvAfter, HasOperandSorts, HasBoundOperands, SortsFit, BoundFit, sort_of}
-use Rattle.mz_logic.specs.LegalLists.{Statement, LegalAfter, MayBeLocal, gap_free}
-use Rattle.mz_logic.specs.declared.binder.Binder.{Binder}
-use Rattle.mz_logic.specs.declared.binder.SortMods.{SortMods}
-use Rattle.mz_logic.proofs.Offered.{signatures-append, same-signatures}
+use Rattle.mz_logic_theory.specs.Tree.{Tree}
+use Rattle.mz_logic_theory.specs.Signature.{Signature}
+use Rattle.mz_logic_theory.specs.Declaration.{Form, plain_form, abstract_form, defined, Term, Assertion, Declaration, sort_decl, term_decl, assertion_decl, sorts, signatures}
+use Rattle.mz_logic_theory.specs.Modifiers.{MayBeResultSort, MayBeDummySort, MayBeClaimSort}
+use Rattle.mz_logic_theory.specs.Variables.{IsBoundAt}
+use Rattle.mz_logic_theory.specs.Legality.{AreBindersThere, AreParams, IsParam, IsClaim, NamesThere, BindersRight, NoResultPure, SortsRight, BoundRight, ClaimsProvable, DummySortsRight, DepsRight, IsLegalDecl, LegalEnvAfter, HasOperandSorts, HasBoundOperands, SortsFit, BoundFit, sort_of}
+use Rattle.mz_logic_theory.specs.LegalLists.{Statement, LegalAfter, MayBeLocal, gap_free}
+use Rattle.mz_logic_theory.specs.declared.binder.Binder.{Binder}
+use Rattle.mz_logic_theory.specs.declared.binder.SortMods.{SortMods}
+use Rattle.mz_logic_theory.proofs.Offered.{signatures-append, same-signatures}
 use Rattle.mz_prefix_theory.specs.PublicPart.{public_number, is_local_term, mark_of, marks_of, renamed, mentions_local, shown, renamed_assertion, public_decl, public_decls, Hides, IsSayable, AreSayable}
 use Rattle.mz_prefix_theory.specs.PublicLaws.{PublicPartsAreLegal}
 use Rattle.mz_prefix_theory.proofs.Renaming.{Kept, in-range, all-in-range, same-sort, operands-kept, sort-fits, bound-fits, each-kept, free-back}
@@ -23,7 +23,7 @@ pub pick : {A : Type 0} (P : A → Type 0) (b : Bool) (x y : A) → (b ≡ true 
 pick P true x y yes_ no_ = yes_ refl
 pick P false x y yes_ no_ = no_ refl
 
-bound-there : (ps : List Binder) (j : ℕ) → IsBoundAt ps j → j < length ps
+pub bound-there : (ps : List Binder) (j : ℕ) → IsBoundAt ps j → j < length ps
 bound-there ps j (b, at, bound) = slice_get_within ps j b at
 
 -- what parameters depend on are parameters
@@ -34,7 +34,7 @@ deps-there ss ps i b (bound, regular) =
       | inr is ↦ (λ k d less. bound-there ps (get_or b.deps k d) (regular is k d less).1)
     ]
 
-params-there : (ss : List SortMods) (n : ℕ) (ps : List Binder) → AreBindersThere ss n ps → AreParams ss ps → AreBindersThere ss (length ps) ps
+pub params-there : (ss : List SortMods) (n : ℕ) (ps : List Binder) → AreBindersThere ss n ps → AreParams ss ps → AreBindersThere ss (length ps) ps
 params-there ss n ps there are k d less = ((there k d less).0, deps-there ss ps k (get_or ps k d) (are k (get_or ps k d) (slice_get-get_or ps k d less)))
 
 module _ (ls : List Bool) (hidden : Tree → Bool) (hides : Hides ls hidden) (env env' : List Declaration) (beside : AreBeside ls env env') where

@@ -2,14 +2,14 @@
 use Rattle.std.proofs.Common.{◌≡◌, ◌≤◌, ◌∙◌, ◌++◌, ℕ, suc, List, [], ◌∷◌, length, Bool, false, Some, None, ap, ap₂, sym, refl, arith}
 use Rattle.std.specs.Prelude.{if◌then◌else◌}
 use Rattle.std.proofs.lemmas.Bool.{or_parts}
-use Rattle.mz_logic.specs.Tree.{Tree, Trees, var, app, none, more}
-use Rattle.mz_logic.specs.Signature.{Signature}
-use Rattle.mz_logic.specs.Declaration.{Form, plain_form, abstract_form, defined, Declaration, sort_decl, term_decl, assertion_decl, signatures}
-use Rattle.mz_logic.specs.Legality.{InRange, AllInRange, NamesThere}
-use Rattle.mz_logic.specs.LegalLists.{LegalAfter, Legal, gap_free}
-use Rattle.mz_logic.specs.declared.binder.Binder.{Binder}
-use Rattle.mz_mmu_statements.specs.Statements.{Statement}
-use Rattle.mz_type.specs.Meaning.{marked}
+use Rattle.mz_logic_theory.specs.Tree.{Tree, Trees, var, app, none, more}
+use Rattle.mz_logic_theory.specs.Signature.{Signature}
+use Rattle.mz_logic_theory.specs.Declaration.{Form, plain_form, abstract_form, defined, Declaration, sort_decl, term_decl, assertion_decl, signatures}
+use Rattle.mz_logic_theory.specs.Legality.{InRange, AllInRange, NamesThere}
+use Rattle.mz_logic_theory.specs.LegalLists.{LegalAfter, Legal, gap_free}
+use Rattle.mz_logic_theory.specs.declared.binder.Binder.{Binder}
+use Rattle.mz_mmu_theory.specs.Statements.{Statement}
+use Rattle.mz_mmu_theory.specs.Meaning.{marked}
 use Rattle.mz_prefix_theory.specs.Lines.{PlainBinder, Tokens, term_line, assert_line, definition_line}
 use Rattle.mz_prefix_theory.specs.Declared.{Vocabulary, plain_type, plain_param, plain_dummy, plain_dummies, plain_binders, formula_of, formulas_of, kind_of, term_line_of, line_of_decl, lines_of, decls_of}
 use Rattle.mz_prefix_theory.specs.PublicPart.{public_number, renamed, all_renamed, mentions_local, any_mentions_local, shown, public_decl, public_decls, public_part, Hides, IsSayable}

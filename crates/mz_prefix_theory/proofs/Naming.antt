@@ -7,9 +7,9 @@ use Rattle.std.proofs.lemmas.Fmt.{decimal_injective, decimal_is_IsNumeral}
 use Rattle.std.proofs.lemmas.List.{append_cancel_left}
 use Rattle.mz_base.specs.Identifiers.{is_name, is_name_byte}
 use Rattle.mz_base.proofs.Offered.{digits-named}
-use Rattle.mz_logic.specs.Declaration.{Declaration, sort_decl, term_decl, assertion_decl}
-use Rattle.mz_mmu_statements.specs.Statements.{Statement}
-use Rattle.mz_mmu_statements.specs.DeclaredNames.{underscores, term_name, term_names, text_names, longest_run}
+use Rattle.mz_logic_theory.specs.Declaration.{Declaration, sort_decl, term_decl, assertion_decl}
+use Rattle.mz_mmu_theory.specs.Statements.{Statement}
+use Rattle.mz_mmu_theory.specs.DeclaredNames.{underscores, term_name, term_names, text_names, longest_run}
 use Rattle.mz_prefix_theory.specs.Wording.{variable_prefix, vocabulary_of}
 
 -- ---- how they begin

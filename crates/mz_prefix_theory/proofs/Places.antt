@@ -7,9 +7,9 @@ use Rattle.std.proofs.lemmas.Bool.{cases_eq, ne_eqb, eq-eqb, or_from, or_left}
 use Rattle.std.proofs.lemmas.Slice.Eq.{bytes_eq-Decides}
 use Rattle.mz_base_theory.proofs.Offered.{other-bytes}
 use Rattle.mz_lex.specs.Lexemes.{Lexeme}
-use Rattle.mz_logic.specs.declared.binder.Binder.{Binder}
-use Rattle.mz_spec_variables.specs.View.{Variable, is_among}
-use Rattle.mz_spec_variables.specs.Dependencies.{dep_places}
+use Rattle.mz_logic_theory.specs.declared.binder.Binder.{Binder}
+use Rattle.mz_spec_theory.specs.View.{Variable, is_among}
+use Rattle.mz_spec_theory.specs.Dependencies.{dep_places}
 use Rattle.mz_prefix_theory.specs.Declared.{Vocabulary, HasVariables}
 use Rattle.mz_prefix_theory.proofs.Shown.{AreTexts, AreShown}
 

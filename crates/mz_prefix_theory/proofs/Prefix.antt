@@ -2,12 +2,12 @@
 use Rattle.std.proofs.Common.{◌≡◌, ◌<◌, ◌≤◌, ◌∙◌, ◌++◌, ◌∷◌, [], ℕ, suc, List, length, ap, ap₂, sym, refl, subst, arith}
 use Rattle.std.specs.Prelude.{codes, Contains}
 use Rattle.std.proofs.lemmas.Option.{slice_get-get_or}
-use Rattle.mz_logic.specs.Tree.{Tree, Trees, var, app, none, more, listed}
-use Rattle.mz_logic.specs.Legality.{InRange, AllInRange, signature_at}
-use Rattle.mz_math_notation.specs.Notation.{max_level}
-use Rattle.mz_math_notation.specs.declared.notation.Notation.{Notation}
-use Rattle.mz_math.specs.Grammar.{Words, variable, parens, applied, Parse, Parts, headed, end, word, part, operands_at_max, level_of, part_tokens, tree_of, part_trees, IsLeading, IsExp, AreParts}
-use Rattle.mz_math.specs.Grammar as grammar
+use Rattle.mz_logic_theory.specs.Tree.{Tree, Trees, var, app, none, more, listed}
+use Rattle.mz_logic_theory.specs.Legality.{InRange, AllInRange, signature_at}
+use Rattle.mz_math_theory.specs.Notation.{max_level}
+use Rattle.mz_math_theory.specs.declared.notation.Notation.{Notation}
+use Rattle.mz_math_theory.specs.Grammar.{Words, variable, parens, applied, Parse, Parts, headed, end, word, part, operands_at_max, level_of, part_tokens, tree_of, part_trees, IsLeading, IsExp, AreParts}
+use Rattle.mz_math_theory.specs.Grammar as grammar
 use Rattle.mz_prefix_theory.specs.Prefix.{tokens_of, operand_tokens, enclosed, IsSpoken}
 use Rattle.mz_prefix_theory.specs.PrintLaws.{PrefixFormsAreRead}
 

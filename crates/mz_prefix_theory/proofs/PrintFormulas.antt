@@ -5,22 +5,22 @@ use Rattle.std.proofs.lemmas.Option.{slice_get_within, get_or_from_slice_get}
 use Rattle.mz_base_theory.specs.Checks.{AllHold}
 use Rattle.mz_base_theory.proofs.Offered.{all_hold-both}
 use Rattle.mz_lex.specs.Kinds.{inside_of}
-use Rattle.mz_logic.specs.Tree.{Tree, Trees, var, app, none, more}
-use Rattle.mz_logic.specs.Signature.{Signature}
-use Rattle.mz_logic.specs.Declaration.{signatures}
-use Rattle.mz_logic.specs.Sorts.{HasSort, Fits}
-use Rattle.mz_logic.specs.Legality.{InRange, AllInRange}
-use Rattle.mz_logic.specs.declared.binder.Binder.{Binder}
-use Rattle.mz_logic.proofs.Offered.{range_of_sort}
-use Rattle.mz_math_coercions.specs.declared.coercion.Coercion.{Coercion}
+use Rattle.mz_logic_theory.specs.Tree.{Tree, Trees, var, app, none, more}
+use Rattle.mz_logic_theory.specs.Signature.{Signature}
+use Rattle.mz_logic_theory.specs.Declaration.{signatures}
+use Rattle.mz_logic_theory.specs.Sorts.{HasSort, Fits}
+use Rattle.mz_logic_theory.specs.Legality.{InRange, AllInRange}
+use Rattle.mz_logic_theory.specs.declared.binder.Binder.{Binder}
+use Rattle.mz_logic_theory.proofs.Offered.{range_of_sort}
+use Rattle.mz_math_theory.specs.declared.coercion.Coercion.{Coercion}
 use Rattle.mz_math_tokens.specs.declared.pieces.Delimiters.{Delimiters}
-use Rattle.mz_math.specs.declared.formula.Wanted.{Wanted}
-use Rattle.mz_math.specs.declared.formula.Wanted.TheVariants.{Provable as provable, Sort as of_sort}
+use Rattle.mz_math_theory.specs.declared.wanted.Wanted.{Wanted}
+use Rattle.mz_math_theory.specs.declared.wanted.Wanted.TheVariants.{Provable as provable, Sort as of_sort}
 use Rattle.mz_math_tokens.specs.Pieces.{Pieces, piece_texts}
-use Rattle.mz_math.specs.Grammar.{Words, IsKnown}
-use Rattle.mz_math.specs.Meaning.{Coerced, CoercedAll, IsSettled, IsClaimed}
-use Rattle.mz_math.specs.Formula.{Reader, words, StandsFor, Means, known_checks, token_checks}
-use Rattle.mz_math.proofs.Offered.{AllKnown, known-both, checks-hold}
+use Rattle.mz_math_theory.specs.Grammar.{Words, IsKnown}
+use Rattle.mz_math_theory.specs.Meaning.{Coerced, CoercedAll, IsSettled, IsClaimed}
+use Rattle.mz_math_theory.specs.Formula.{Reader, words, StandsFor, Means, known_checks, token_checks}
+use Rattle.mz_math_theory.proofs.Offered.{AllKnown, known-both, checks-hold}
 use Rattle.mz_prefix_theory.specs.Lines.{Tokens, math_text}
 use Rattle.mz_prefix_theory.specs.Plain.{pieces_at}
 use Rattle.mz_prefix_theory.specs.Prefix.{tokens_of, operand_tokens, enclosed, IsSpoken, IsOfWanted}

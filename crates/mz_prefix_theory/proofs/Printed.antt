@@ -7,35 +7,35 @@ use Rattle.std.proofs.lemmas.List.Elements.{All-nil, Contains-push}
 use Rattle.std.proofs.lemmas.Bool.{cases_order}
 use Rattle.mz_lex.specs.Lexemes.{Lexeme}
 use Rattle.mz_base.specs.Identifiers.{is_name}
-use Rattle.mz_logic.specs.Tree.{Tree, Trees, none, more}
-use Rattle.mz_logic.specs.Signature.{Signature}
-use Rattle.mz_logic.specs.Declaration.{Form, plain_form, abstract_form, defined, Term, Assertion, Declaration, sort_decl, term_decl, assertion_decl, sorts, signatures}
-use Rattle.mz_logic.specs.Modifiers.{MayBeDummySort}
-use Rattle.mz_logic.specs.Legality.{AreBindersThere, IsBinderThere, IsDummy, IsClaim, EachTree, AllInRange, InRange, HasOperandSorts, HasBoundOperands}
-use Rattle.mz_logic.specs.declared.binder.Binder.{Binder}
-use Rattle.mz_logic.specs.declared.binder.SortMods.{SortMods}
-use Rattle.mz_logic.proofs.Offered.{sorts-append, signatures-append, same-sorts, same-signatures}
-use Rattle.mz_math_notation.specs.Notation.{TermName}
-use Rattle.mz_spec_grammar.specs.declared.kind.AssertKind.{AssertKind}
-use Rattle.mz_spec_grammar.specs.declared.kind.Kind.TheVariants.{Term as TermKind, Assert, Definition}
-use Rattle.mz_spec_grammar.specs.Statement.{TypeText, Statement, sort_statement, term_statement, assert_statement, definition_statement, keyword_of}
-use Rattle.mz_spec_grammar.specs.Reading.{place_of_first}
+use Rattle.mz_logic_theory.specs.Tree.{Tree, Trees, none, more}
+use Rattle.mz_logic_theory.specs.Signature.{Signature}
+use Rattle.mz_logic_theory.specs.Declaration.{Form, plain_form, abstract_form, defined, Term, Assertion, Declaration, sort_decl, term_decl, assertion_decl, sorts, signatures}
+use Rattle.mz_logic_theory.specs.Modifiers.{MayBeDummySort}
+use Rattle.mz_logic_theory.specs.Legality.{AreBindersThere, IsBinderThere, IsDummy, IsClaim, EachTree, AllInRange, InRange, HasOperandSorts, HasBoundOperands}
+use Rattle.mz_logic_theory.specs.declared.binder.Binder.{Binder}
+use Rattle.mz_logic_theory.specs.declared.binder.SortMods.{SortMods}
+use Rattle.mz_logic_theory.proofs.Offered.{sorts-append, signatures-append, same-sorts, same-signatures}
+use Rattle.mz_math_theory.specs.Notation.{TermName}
+use Rattle.mz_spec_theory.specs.declared.kind.AssertKind.{AssertKind}
+use Rattle.mz_spec_theory.specs.declared.kind.Kind.TheVariants.{Term as TermKind, Assert, Definition}
+use Rattle.mz_spec_theory.specs.Statement.{TypeText, Statement, sort_statement, term_statement, assert_statement, definition_statement, keyword_of}
+use Rattle.mz_spec_theory.specs.Reading.{place_of_first}
 use Rattle.mz_prefix_theory.specs.Words.{lexeme_at, lexemes_at, stop}
 use Rattle.mz_prefix_theory.specs.Lines.{Line, math_word, math_text, spaced_mark, spaced_name, sort_words, hyps_words, type_words, title_words, binders_at, type_at, hyps_at, colon_at, line_words, statement_at, next_line, HasItsDummies, HaveNoDummies, name_word}
 use Rattle.mz_prefix_theory.specs.Plain.{IsPlain, ArePlain, lines_lexemes, AreNames, IsPlainType, ArePlainBinders, AreFormulas}
 use Rattle.mz_base.specs.Names.{number_of, IsNew}
 use Rattle.mz_base.proofs.Offered.{all-others, number-last, number-more}
-use Rattle.mz_spec_variables.specs.View.{sorts as sort_space, terms, assertions, body, Variable, variables_of, unnamed, types_of, group_types, group_stated, premise_stated, Stated, stated_claim, claim}
-use Rattle.mz_spec.specs.State.{State, signature_of, dummy_binders, param_binders, nothing, with_sort, with_term, with_assertion, entries_of}
-use Rattle.mz_spec.specs.Formulas.{IsMeant, AreHyps}
+use Rattle.mz_spec_theory.specs.View.{sorts as sort_space, terms, assertions, body, Variable, variables_of, unnamed, types_of, group_types, group_stated, premise_stated, Stated, stated_claim, claim}
+use Rattle.mz_spec_theory.specs.State.{State, signature_of, dummy_binders, param_binders, nothing, with_sort, with_term, with_assertion, entries_of}
+use Rattle.mz_spec_theory.specs.Formulas.{IsMeant, AreHyps}
 use Rattle.mz_prefix_theory.specs.Prefix.{IsShort}
-use Rattle.mz_spec.specs.Declaring.{After, sort_bits, bit, is_axiom}
-use Rattle.mz_spec.specs.Spec.{IsGood, Stand}
+use Rattle.mz_spec_theory.specs.Declaring.{After, sort_bits, bit, is_axiom}
+use Rattle.mz_spec_theory.specs.Spec.{IsGood, Stand}
 use Rattle.mz_prefix_theory.specs.Declared.{Named, Vocabulary, line_of, lines_of, decls_of, line_of_decl, modifiers_of, kind_of, plain_type, plain_binders, formula_of, formulas_of, HasVariables, AreShort, IsPrintable, ArePrintable, used_with, term_line_of, plain_dummies}
 use Rattle.mz_prefix_theory.specs.ReadLaws.{PrintedSpecificationsDeclare}
 use Rattle.mz_prefix_theory.proofs.Spelling.{lines-spell}
 use Rattle.mz_prefix_theory.proofs.PlainLines.{lines-lex}
-use Rattle.mz_spec.proofs.Offered.{entries-decls}
+use Rattle.mz_spec_theory.proofs.Offered.{entries-decls}
 use Rattle.mz_prefix_theory.proofs.Places.{AllBelow, below-all}
 use Rattle.mz_prefix_theory.proofs.ReadFormulas.{IsBehind, tokens-are}
 use Rattle.mz_prefix_theory.proofs.Statements.{GoodBy, good-by, good-typed, good-claims, no-stated, no-types, params-same, signature-same, dummies-same, meant-claim, meant-body, covered, hyps-meant}

@@ -5,26 +5,26 @@ use Rattle.std.proofs.Math.ListN.{get_or-append}
 use Rattle.std.proofs.Math.Seq.{get_or-append_seam}
 use Rattle.std.proofs.lemmas.Bool.{or_parts, cases_order}
 use Rattle.std.proofs.lemmas.Option.{get_or_from_slice_get}
-use Rattle.mz_logic.specs.Tree.{Tree, Trees, none, more}
-use Rattle.mz_logic.specs.Signature.{Signature}
-use Rattle.mz_logic.specs.Declaration.{Form, plain_form, abstract_form, defined, context_of, Term, Declaration, sort_decl, term_decl, assertion_decl, sorts, signatures}
-use Rattle.mz_logic.specs.Legality.{InRange, AllInRange, NamesThere}
-use Rattle.mz_logic.specs.declared.binder.SortMods.{SortMods}
-use Rattle.mz_logic.specs.LegalLists.{Statement as Marked, LegalAfter, Legal, gap_free, MayBeLocal, declarations}
-use Rattle.mz_logic.proofs.Offered.{sorts-append, signatures-append, same-sorts, same-signatures}
+use Rattle.mz_logic_theory.specs.Tree.{Tree, Trees, none, more}
+use Rattle.mz_logic_theory.specs.Signature.{Signature}
+use Rattle.mz_logic_theory.specs.Declaration.{Form, plain_form, abstract_form, defined, context_of, Term, Declaration, sort_decl, term_decl, assertion_decl, sorts, signatures}
+use Rattle.mz_logic_theory.specs.Legality.{InRange, AllInRange, NamesThere}
+use Rattle.mz_logic_theory.specs.declared.binder.SortMods.{SortMods}
+use Rattle.mz_logic_theory.specs.LegalLists.{Statement as Marked, LegalAfter, Legal, gap_free, MayBeLocal, declarations}
+use Rattle.mz_logic_theory.proofs.Offered.{sorts-append, signatures-append, same-sorts, same-signatures}
 use Rattle.mz_base.specs.Names.{IsNew}
 use Rattle.mz_base.proofs.Offered.{new-last, new-more, new-other}
-use Rattle.mz_mmu_forms.specs.Name.{Names, no_names, names_with}
-use Rattle.mz_mmu_statements.specs.Statements.{Statement}
-use Rattle.mz_mmu.specs.Laws.{IsWhole, Ascends}
-use Rattle.mz_type.specs.Meaning.{marked}
+use Rattle.mz_mmu_theory.specs.Name.{Names, no_names, names_with}
+use Rattle.mz_mmu_theory.specs.Statements.{Statement}
+use Rattle.mz_mmu_theory.specs.ReadingLaws.{IsWhole, Ascends}
+use Rattle.mz_mmu_theory.specs.Meaning.{marked}
 use Rattle.mz_prefix_theory.specs.Prefix.{IsShort}
 use Rattle.mz_prefix_theory.specs.Declared.{Named, Vocabulary, formula_of, AreShort, HasNewName, HasShortBody, IsWithin, used_with, ArePrintable}
 use Rattle.mz_prefix_theory.specs.PublicPart.{public_number, is_local_term, mark_of, marks_of, renamed, all_renamed, mentions_local, any_mentions_local, shown, public_decl, Hides, IsSayable}
 use Rattle.mz_prefix_theory.proofs.Beside.{AreBeside, none-beside, all-public}
 use Rattle.mz_prefix_theory.proofs.Legal.{pick, decl-legal, IsAt, mark-at, at-next, at-known, public-next, local-next}
-use Rattle.mz_match_theory.specs.Match.{term_rows}
-use Rattle.mz_mmu_statements.specs.DeclaredNames.{sort_name, term_name, sort_names, term_names}
+use Rattle.mz_spec_proved_theory.specs.Match.{term_rows}
+use Rattle.mz_mmu_theory.specs.DeclaredNames.{sort_name, term_name, sort_names, term_names}
 use Rattle.mz_prefix_theory.specs.Wording.{vocabulary_of, local_terms, IsBrief}
 use Rattle.mz_prefix_theory.proofs.Naming.{other-name}
 use Rattle.mz_prefix_theory.proofs.Rows.{IsTracked, row-at}

@@ -8,24 +8,24 @@ use Rattle.mz_base_theory.specs.Checks.{AllHold}
 use Rattle.mz_base_theory.proofs.Offered.{all_hold-both, retold-holds}
 use Rattle.mz_base.specs.Identifiers.{is_name, is_name_start, is_name_byte, is_between}
 use Rattle.mz_lex.specs.Kinds.{is_space, is_math_byte, is_allowed, inside_of}
-use Rattle.mz_logic.specs.Tree.{Tree, Trees, var, app, none, more}
-use Rattle.mz_logic.specs.Declaration.{sorts, signatures}
-use Rattle.mz_logic.specs.Sorts.{HasSort}
-use Rattle.mz_logic.specs.Legality.{InRange, AllInRange}
-use Rattle.mz_logic.specs.declared.binder.Binder.{Binder}
-use Rattle.mz_logic.proofs.Offered.{range_of_sort}
+use Rattle.mz_logic_theory.specs.Tree.{Tree, Trees, var, app, none, more}
+use Rattle.mz_logic_theory.specs.Declaration.{sorts, signatures}
+use Rattle.mz_logic_theory.specs.Sorts.{HasSort}
+use Rattle.mz_logic_theory.specs.Legality.{InRange, AllInRange}
+use Rattle.mz_logic_theory.specs.declared.binder.Binder.{Binder}
+use Rattle.mz_logic_theory.proofs.Offered.{range_of_sort}
 use Rattle.mz_math_tokens.specs.declared.pieces.Piece.{Piece}
-use Rattle.mz_math.specs.declared.formula.Wanted.{Wanted}
+use Rattle.mz_math_theory.specs.declared.wanted.Wanted.{Wanted}
 use Rattle.mz_math_tokens.specs.Pieces.{no_delimiters}
-use Rattle.mz_math.specs.Formula.{words, IsFormula}
+use Rattle.mz_math_theory.specs.Formula.{words, IsFormula}
 use Rattle.mz_prefix_theory.specs.Lines.{Tokens, math_text}
 use Rattle.mz_prefix_theory.specs.Plain.{is_token_byte, IsToken, AreTokens as AllTokens}
 use Rattle.mz_prefix_theory.specs.Prefix.{operand_tokens, enclosed, IsSpoken, IsOfWanted, IsShort}
 use Rattle.mz_prefix_theory.proofs.PrintFormulas.{prefix-meant}
 use Rattle.mz_base.specs.Names.{number_of}
-use Rattle.mz_spec_variables.specs.View.{Variable, Formula}
-use Rattle.mz_spec.specs.State.{State, scope_of, reader_of}
-use Rattle.mz_spec.specs.Formulas.{IsMeant, AreTokens, strings_checks, string_checks, math_of, told}
+use Rattle.mz_spec_theory.specs.View.{Variable, Formula}
+use Rattle.mz_spec_theory.specs.State.{State, scope_of, reader_of}
+use Rattle.mz_spec_theory.specs.Formulas.{IsMeant, AreTokens, strings_checks, string_checks, math_of, told}
 use Rattle.mz_prefix_theory.specs.Declared.{Vocabulary, HasVariables, formula_of}
 use Rattle.mz_prefix_theory.proofs.Shown.{names_from, length-names, name-there}
 

@@ -2,12 +2,12 @@
 use Rattle.std.proofs.Common.{◌≡◌, ◌⊎◌, ◌∙◌, ℕ, zero, suc, List, [], ◌∷◌, length, Some, ap, sym, refl, subst, inl, inr}
 use Rattle.std.specs.Prelude.{⊤, slice_get}
 use Rattle.std.proofs.lemmas.Option.{slice_get_within}
-use Rattle.mz_logic.specs.Tree.{Tree, Trees, var, app, none, more, listed, operand}
-use Rattle.mz_logic.specs.Signature.{Signature}
-use Rattle.mz_logic.specs.Variables.{InFV, InSomeFV, IsOperandAt}
-use Rattle.mz_logic.specs.Legality.{EachTree, SortsFit, BoundFit, sort_of, signature_at, InRange, AllInRange, Operands, OperandsOf}
-use Rattle.mz_logic.specs.declared.binder.Binder.{Binder}
-use Rattle.mz_logic.proofs.Offered.{signature_is}
+use Rattle.mz_logic_theory.specs.Tree.{Tree, Trees, var, app, none, more, listed, operand}
+use Rattle.mz_logic_theory.specs.Signature.{Signature}
+use Rattle.mz_logic_theory.specs.Variables.{InFV, InSomeFV, IsOperandAt}
+use Rattle.mz_logic_theory.specs.Legality.{EachTree, SortsFit, BoundFit, sort_of, signature_at, InRange, AllInRange, Operands, OperandsOf}
+use Rattle.mz_logic_theory.specs.declared.binder.Binder.{Binder}
+use Rattle.mz_logic_theory.proofs.Offered.{signature_is}
 use Rattle.mz_prefix_theory.specs.PublicPart.{renamed, all_renamed}
 
 -- the term t of the one list of signatures is f t of the other

@@ -3,13 +3,13 @@ use Rattle.std.proofs.Common.{◌≡◌, ◌≤◌, ◌++◌, ℕ, suc, List, []
 use Rattle.std.specs.Prelude.{if◌then◌else◌}
 use Rattle.std.proofs.lemmas.Bool.{true≢false}
 use Rattle.mz_base_theory.specs.Checks.{AllHold}
-use Rattle.mz_logic.specs.Tree.{Tree}
-use Rattle.mz_logic.specs.Signature.{Signature}
-use Rattle.mz_logic.specs.Declaration.{Form, plain_form, abstract_form, defined, dummies_of, Declaration, sort_decl, term_decl, assertion_decl}
-use Rattle.mz_logic.specs.declared.binder.Binder.{Binder}
-use Rattle.mz_spec_grammar.specs.declared.kind.Kind.{Kind}
-use Rattle.mz_spec_grammar.specs.declared.kind.Kind.TheVariants.{Term, Assert, Definition}
-use Rattle.mz_mmu_statements.specs.Statements.{Statement}
+use Rattle.mz_logic_theory.specs.Tree.{Tree}
+use Rattle.mz_logic_theory.specs.Signature.{Signature}
+use Rattle.mz_logic_theory.specs.Declaration.{Form, plain_form, abstract_form, defined, dummies_of, Declaration, sort_decl, term_decl, assertion_decl}
+use Rattle.mz_logic_theory.specs.declared.binder.Binder.{Binder}
+use Rattle.mz_spec_theory.specs.declared.kind.Kind.{Kind}
+use Rattle.mz_spec_theory.specs.declared.kind.Kind.TheVariants.{Term, Assert, Definition}
+use Rattle.mz_mmu_theory.specs.Statements.{Statement}
 use Rattle.mz_prefix_theory.specs.Words.{Word, written}
 use Rattle.mz_prefix_theory.specs.Lines.{PlainBinder, Line, binder_words, binders_words, colon_words, end_words, type_words, body_words, hyps_words, math_word, head_words, title_words, line_words, line_text, lines_text}
 use Rattle.mz_prefix_theory.proofs.PlainLines.{written-append}

@@ -2,10 +2,10 @@
 use Rattle.std.proofs.Common.{◌≡◌, ◌<◌, ◌+◌, ◌++◌, ◌∙◌, ℕ, zero, suc, List, [], ◌∷◌, length, Bool, true, false, Some, ap, arith}
 use Rattle.std.specs.Prelude.{if◌then◌else◌, slice_get}
 use Rattle.std.proofs.lemmas.Bool.{true≢false}
-use Rattle.mz_logic.specs.Declaration.{Declaration, sort_decl, term_decl, assertion_decl, terms, signatures}
-use Rattle.mz_logic.specs.LegalLists.{Statement, declarations}
+use Rattle.mz_logic_theory.specs.Declaration.{Declaration, sort_decl, term_decl, assertion_decl, terms, signatures}
+use Rattle.mz_logic_theory.specs.LegalLists.{Statement, declarations}
 use Rattle.mz_prefix_theory.specs.PublicPart.{public_number, is_local_term, mark_of, marks_of}
-use Rattle.mz_match_theory.specs.Match.{term_row_of, term_rows}
+use Rattle.mz_spec_proved_theory.specs.Match.{term_row_of, term_rows}
 
 -- the public number of t is the place of its row
 abbrev pub IsTracked : List ℕ → (ℕ → ℕ) → ℕ → Type 0

@@ -5,13 +5,13 @@ use Rattle.std.proofs.lemmas.Bool.{and_parts, not-true}
 use Rattle.mz_base_theory.proofs.Offered.{or-false}
 use Rattle.mz_base.specs.Identifiers.{is_name}
 use Rattle.mz_lex.specs.Lexemes.{Lexeme}
-use Rattle.mz_logic.specs.declared.binder.Binder.{Binder}
-use Rattle.mz_logic.specs.Legality.{IsDummy}
-use Rattle.mz_spec_grammar.specs.Statement.{TypeText}
+use Rattle.mz_logic_theory.specs.declared.binder.Binder.{Binder}
+use Rattle.mz_logic_theory.specs.Legality.{IsDummy}
+use Rattle.mz_spec_theory.specs.Statement.{TypeText}
 use Rattle.mz_prefix_theory.specs.Words.{lexeme_at, lexemes_at, stop}
 use Rattle.mz_prefix_theory.specs.Lines.{name_word, spaced_name, dep_words, type_at, opening_words, naming_words, binder_words, binders_at}
-use Rattle.mz_spec_variables.specs.View.{Variable, variables_of, name_of, params_of, dummies_of, names_of, name_texts}
-use Rattle.mz_spec.specs.State.{variable_bytes, bytes_of}
+use Rattle.mz_spec_theory.specs.View.{Variable, variables_of, name_of, params_of, dummies_of, names_of, name_texts}
+use Rattle.mz_spec_theory.specs.State.{variable_bytes, bytes_of}
 use Rattle.mz_prefix_theory.specs.Declared.{Vocabulary, plain_type, plain_param, plain_dummy, plain_dummies, plain_binders}
 
 -- ---- types and variables, whatever their places

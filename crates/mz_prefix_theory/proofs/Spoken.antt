@@ -1,9 +1,9 @@
 -- Expressions whose terms have other numbers and the same names are printed alike.
 use Rattle.std.proofs.Common.{◌≡◌, ◌≤◌, ◌++◌, ℕ, suc, List, [], ◌∷◌, length, ap, ap₂, sym, refl, subst, codes}
 use Rattle.std.specs.Prelude.{max}
-use Rattle.mz_logic.specs.Tree.{Tree, Trees, var, app, none, more}
-use Rattle.mz_math.specs.Meaning.{height, trees_height}
-use Rattle.mz_math.specs.Formula.{most}
+use Rattle.mz_logic_theory.specs.Tree.{Tree, Trees, var, app, none, more}
+use Rattle.mz_math_theory.specs.Meaning.{height, trees_height}
+use Rattle.mz_math_theory.specs.Formula.{most}
 use Rattle.mz_prefix_theory.specs.Prefix.{tokens_of, operand_tokens, enclosed, IsShort}
 use Rattle.mz_prefix_theory.specs.PublicPart.{renamed, all_renamed}
 use Rattle.mz_prefix_theory.proofs.Renaming.{AllTerms, AllTermsIn}

@@ -7,37 +7,38 @@ use Rattle.std.proofs.lemmas.Bool.{cases_Bool}
 use Rattle.mz_base_theory.specs.Checks.{AllHold, nothing, each_in_order, ◌>>◌}
 use Rattle.mz_base_theory.proofs.Offered.{all_hold-both}
 use Rattle.mz_lex.specs.Lexemes.{Lexeme}
-use Rattle.mz_logic.specs.Tree.{Tree, Trees, none, more}
-use Rattle.mz_logic.specs.Signature.{Signature}
-use Rattle.mz_logic.specs.Declaration.{sorts, signatures, DepsAscend}
-use Rattle.mz_logic.specs.Sorts.{HasSort}
-use Rattle.mz_math.specs.declared.formula.Wanted.TheVariants.{Provable as provable, Sort as of_sort}
-use Rattle.mz_math.specs.Formula.{IsFormula}
+use Rattle.mz_logic_theory.specs.Tree.{Tree, Trees, none, more}
+use Rattle.mz_logic_theory.specs.Signature.{Signature}
+use Rattle.mz_logic_theory.specs.Declaration.{sorts, signatures, DepsAscend}
+use Rattle.mz_logic_theory.specs.Sorts.{HasSort}
+use Rattle.mz_math_theory.specs.declared.wanted.Wanted.TheVariants.{Provable as provable, Sort as of_sort}
+use Rattle.mz_math_theory.specs.Formula.{IsFormula}
 use Rattle.mz_lex.specs.Kinds.{inside_of}
-use Rattle.mz_logic.specs.Modifiers.{MayBeResultSort, MayBeDummySort}
-use Rattle.mz_logic.specs.Variables.{IsBoundAt, InFV}
-use Rattle.mz_logic.specs.Legality.{IsClaim, AreBindersThere, AreParams, IsDummy, sort_of, InRange, HasOperandSorts, HasBoundOperands}
-use Rattle.mz_logic.specs.declared.binder.Binder.{Binder}
-use Rattle.mz_logic.specs.declared.binder.ResultType.{ResultType}
-use Rattle.mz_logic.specs.declared.binder.SortMods.{SortMods}
-use Rattle.mz_logic.proofs.Offered.{sort_by_rules}
+use Rattle.mz_logic_theory.specs.Modifiers.{MayBeResultSort, MayBeDummySort}
+use Rattle.mz_logic_theory.specs.Variables.{IsBoundAt, InFV}
+use Rattle.mz_logic_theory.specs.Legality.{IsClaim, AreBindersThere, AreParams, IsDummy, sort_of, InRange, HasOperandSorts, HasBoundOperands}
+use Rattle.mz_logic_theory.specs.declared.binder.Binder.{Binder}
+use Rattle.mz_logic_theory.specs.declared.binder.ResultType.{ResultType}
+use Rattle.mz_logic_theory.specs.declared.binder.SortMods.{SortMods}
+use Rattle.mz_logic_theory.proofs.Offered.{sort_by_rules}
 use Rattle.mz_math_tokens.specs.declared.pieces.Piece.{Piece}
-use Rattle.mz_spec_grammar.specs.Statement.{TypeText}
+use Rattle.mz_spec_theory.specs.Statement.{TypeText}
 use Rattle.mz_prefix_theory.specs.Words.{lexeme_at, stop}
 use Rattle.mz_prefix_theory.specs.Lines.{PlainBinder, Tokens, math_word, math_text, hyp_words, binders_at, type_at, hyps_at}
 use Rattle.mz_base.specs.Names.{IsKnown}
-use Rattle.mz_spec_variables.specs.View.{Named as NamedIn, Variable, Formula, claim, body, variables_of, types_of, group_types, group_stated, premise_stated, stated_claim, params_of, dummies_of, names_of}
-use Rattle.mz_spec.specs.State.{State, param_binders, dummy_binders, signature_of, reader_of, sort_number}
-use Rattle.mz_spec.specs.Formulas.{IsMeant, AreHyps, AreTokens, strings_checks, free_checks, CoversFreeVariables}
-use Rattle.mz_spec.specs.Rules.{is_new, are_others, type_checks, binder_rules, body_rules, HaveBinders, IsResult, IsDummySort, IsNotPure, AreBinders}
-use Rattle.mz_spec_variables.specs.Dependencies.{Every}
-use Rattle.mz_spec.proofs.Offered.{free-none}
+use Rattle.mz_spec_theory.specs.View.{Named as NamedIn, Variable, Formula, claim, body, variables_of, types_of, group_types, group_stated, premise_stated, stated_claim, params_of, dummies_of, names_of}
+use Rattle.mz_spec_theory.specs.State.{State, param_binders, dummy_binders, signature_of, reader_of, sort_number}
+use Rattle.mz_spec_theory.specs.Formulas.{IsMeant, AreHyps, AreTokens, strings_checks, free_checks, CoversFreeVariables}
+use Rattle.mz_spec_theory.specs.Rules.{is_new, are_others, type_checks, binder_rules, body_rules, HaveBinders, IsResult, IsDummySort, IsNotPure, AreBinders}
+use Rattle.mz_spec_theory.specs.Dependencies.{Every}
+use Rattle.mz_spec_theory.proofs.Offered.{free-none}
 use Rattle.mz_prefix_theory.specs.Declared.{Vocabulary, HasVariables, formula_of, formulas_of, plain_type, plain_binders}
 use Rattle.mz_prefix_theory.specs.Prefix.{IsShort}
 use Rattle.mz_prefix_theory.proofs.Shown.{AreShown, AllShown, typed-at, binders-shown, params-shown, dummies-apart, names_from, names-join, bytes-are, all-names}
 use Rattle.mz_prefix_theory.proofs.Places.{below-all}
 use Rattle.mz_prefix_theory.proofs.Binding.{Have, all-others, known-variable, sort-found, type-holds, types-hold, not-pure, dummies-hold, are-binders, result-among, deps-are, binders-same}
 use Rattle.mz_prefix_theory.proofs.ReadFormulas.{IsBehind, IsOver, formula-meant, AllMeant, strung}
+use Rattle.mz_prefix_theory.proofs.Legal.{bound-there, params-there}
 
 -- ---- what is asked of a statement, by what the rules see of it
 
@@ -68,21 +69,6 @@ no-stated (b ∷ bs) p = no-stated bs _
 pub no-types : (hs : List Tokens) (p : ℕ) → types_of (hyps_at p hs) ≡ []
 no-types [] p = refl
 no-types (h ∷ hs) p = no-types hs (stop p (hyp_words h))
-
-bound-there : (ps : List Binder) (j : ℕ) → IsBoundAt ps j → j < length ps
-bound-there ps j (b, at, bound) = slice_get_within ps j b at
-
--- what a parameter depends on is a parameter
-params-there : (ss : List SortMods) (m : ℕ) (ps : List Binder) → AreBindersThere ss m ps → AreParams ss ps → AreBindersThere ss (length ps) ps
-params-there ss m ps there are k d less =
-    let b : Binder = get_or ps k d in
-    let (bound, regular) = are k b (slice_get-get_or ps k d less) in (
-      (there k d less).0,
-      elim (cases_Bool b.bound) [
-        | inl is ↦ (let P : List ℕ → Type 0 = λ js. All (λ j. j < length ps) js in subst P (sym (bound is).0) (λ i e lt. absurd (omega arith)))
-        | inr is ↦ (λ i e lt. bound-there ps (get_or b.deps i e) (regular is i e lt).1)
-      ],
-    )
 
 -- a list of binders, shown as variables: parameters, then dummies
 module _ (v : Vocabulary) (n : ℕ) (variables : HasVariables v n) (σ : State) (behind : IsBehind v n σ)

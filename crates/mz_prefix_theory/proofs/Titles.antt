@@ -1,14 +1,14 @@
 -- The names of a text's statements: each is an identifier, and new in its space.
 use Rattle.std.proofs.Common.{◌≤◌, ◌<◌, ℕ, List, [], ◌∷◌, Bool, true, false, sym, subst, arith}
 use Rattle.std.specs.Prelude.{⊤}
-use Rattle.mz_logic.specs.Declaration.{Declaration, sort_decl, term_decl, assertion_decl}
+use Rattle.mz_logic_theory.specs.Declaration.{Declaration, sort_decl, term_decl, assertion_decl}
 use Rattle.mz_sexpr.specs.Node.{Node, Nodes, atom, list, no_nodes, node}
 use Rattle.mz_base.specs.Names.{IsNew}
-use Rattle.mz_mmu_forms.specs.Name.{Names, IsName, names_with}
-use Rattle.mz_mmu_forms.proofs.Offered.{new_name_is}
-use Rattle.mz_mmu_statements.specs.Statements.{Statement, kind_of, is_local_word, Modifiers, bit, modifier_bits, IsDeclared, IsLocal, IsMarked, IsStatement, AreStatements}
-use Rattle.mz_mmu_statements.specs.declared.kind.Kind.{Kind}
-use Rattle.mz_mmu_statements.specs.declared.kind.Kind.TheVariants.{Sort as sort_kind, Term as term_kind, Axiom as axiom_kind, Def as def_kind, Theorem as theorem_kind}
+use Rattle.mz_mmu_theory.specs.Name.{Names, IsName, names_with}
+use Rattle.mz_mmu_theory.proofs.Offered.{new_name_is}
+use Rattle.mz_mmu_theory.specs.Statements.{Statement, kind_of, is_local_word, Modifiers, bit, modifier_bits, IsDeclared, IsLocal, IsMarked, IsStatement, AreStatements}
+use Rattle.mz_mmu_theory.specs.declared.kind.Kind.{Kind}
+use Rattle.mz_mmu_theory.specs.declared.kind.Kind.TheVariants.{Sort as sort_kind, Term as term_kind, Axiom as axiom_kind, Def as def_kind, Theorem as theorem_kind}
 
 -- ---- what each statement has
 

@@ -1,12 +1,12 @@
 -- What the specification that is written of a text declares (mm0.md, section on the grammar; the match and the naming are this
 -- project's own).
 use Rattle.std.specs.Prelude.{◌<◌, ◌^◌, ℕ, false, List}
-use Rattle.mz_logic.specs.Declaration.{Declaration}
-use Rattle.mz_mmu_statements.specs.Statements.{Statement}
-use Rattle.mz_type.specs.Meaning.{marked}
-use Rattle.mz_type.specs.TextOf.{TextOf}
-use Rattle.mz_spec.specs.Spec.{SpecOf}
-use Rattle.mz_match_theory.specs.Match.{publics, Agrees}
+use Rattle.mz_logic_theory.specs.Declaration.{Declaration}
+use Rattle.mz_mmu_theory.specs.Statements.{Statement}
+use Rattle.mz_mmu_theory.specs.Meaning.{marked}
+use Rattle.mz_mmu_theory.specs.TextOf.{TextOf}
+use Rattle.mz_spec_theory.specs.Spec.{SpecOf}
+use Rattle.mz_spec_proved_theory.specs.Match.{publics, Agrees}
 use Rattle.mz_prefix_theory.specs.Wording.{IsWordedAs}
 
 -- what it declares agrees with the text's public statements, as the match compares them

@@ -3,15 +3,15 @@
 use Rattle.std.specs.Prelude.{◌≡◌, ◌<◌, ◌≤◌, ◌++◌, ◌/◌, ◌%◌, ◌==◌, ⊤, ℕ, suc, List, [], ◌∷◌, map, length, Bool, true, false, Some, None, IsTrue, if◌then◌else◌}
 use Rattle.std.specs.List.Sorted.{IsStrictlyIncreasing}
 use Rattle.mz_base.specs.Identifiers.{is_name}
-use Rattle.mz_logic.specs.Tree.{Tree, Trees, none, more}
-use Rattle.mz_logic.specs.Declaration.{Form, plain_form, abstract_form, defined, context_of, Declaration, sort_decl, term_decl, assertion_decl, sorts, signatures, DepsAscend}
-use Rattle.mz_logic.specs.Signature.{Signature}
-use Rattle.mz_logic.specs.Legality.{IsLegalDecl}
-use Rattle.mz_logic.specs.declared.binder.Binder.{Binder}
-use Rattle.mz_logic.specs.declared.binder.SortMods.{SortMods}
-use Rattle.mz_spec_grammar.specs.Statement.{Modifiers}
-use Rattle.mz_spec_grammar.specs.declared.kind.AssertKind.{AssertKind}
-use Rattle.mz_spec_grammar.specs.declared.kind.AssertKind.TheVariants.{Axiom, Theorem}
+use Rattle.mz_logic_theory.specs.Tree.{Tree, Trees, none, more}
+use Rattle.mz_logic_theory.specs.Declaration.{Form, plain_form, abstract_form, defined, context_of, Declaration, sort_decl, term_decl, assertion_decl, sorts, signatures, DepsAscend}
+use Rattle.mz_logic_theory.specs.Signature.{Signature}
+use Rattle.mz_logic_theory.specs.Legality.{IsLegalDecl}
+use Rattle.mz_logic_theory.specs.declared.binder.Binder.{Binder}
+use Rattle.mz_logic_theory.specs.declared.binder.SortMods.{SortMods}
+use Rattle.mz_spec_theory.specs.Statement.{Modifiers}
+use Rattle.mz_spec_theory.specs.declared.kind.AssertKind.{AssertKind}
+use Rattle.mz_spec_theory.specs.declared.kind.AssertKind.TheVariants.{Axiom, Theorem}
 use Rattle.mz_prefix_theory.specs.Lines.{PlainType, PlainBinder, Tokens, Line, sort_line, term_line, assert_line, definition_line}
 use Rattle.mz_prefix_theory.specs.Prefix.{tokens_of, IsShort}
 use Rattle.mz_base.specs.Names.{IsNew}

@@ -2,10 +2,10 @@
 -- (mm0.md, section on the grammar; where spaces stand is this project's own).
 use Rattle.std.specs.Prelude.{◌≡◌, ◌+◌, ◌++◌, ⊤, ℕ, List, [], ◌∷◌, Bool, true, false, Option, Some, None, codes}
 use Rattle.mz_lex.specs.declared.token.TokenKind.TheVariants as kinds
-use Rattle.mz_spec_grammar.specs.declared.kind.AssertKind.{AssertKind}
-use Rattle.mz_spec_grammar.specs.declared.kind.Kind.{Kind}
-use Rattle.mz_spec_grammar.specs.declared.kind.Kind.TheVariants.{Term, Assert, Definition}
-use Rattle.mz_spec_grammar.specs.Statement.{Modifiers, TypeText, Source, type_source, formula_source, Group, Head, Statement, sort_statement, term_statement, assert_statement, definition_statement, keyword_of, opening_of, closing_of}
+use Rattle.mz_spec_theory.specs.declared.kind.AssertKind.{AssertKind}
+use Rattle.mz_spec_theory.specs.declared.kind.Kind.{Kind}
+use Rattle.mz_spec_theory.specs.declared.kind.Kind.TheVariants.{Term, Assert, Definition}
+use Rattle.mz_spec_theory.specs.Statement.{Modifiers, TypeText, Source, type_source, formula_source, Group, Head, Statement, sort_statement, term_statement, assert_statement, definition_statement, keyword_of, opening_of, closing_of}
 use Rattle.mz_lex.specs.Lexemes.{Lexeme}
 use Rattle.mz_prefix_theory.specs.Words.{Word, written, lexeme_at, lexemes_at, stop}
 

@@ -1,16 +1,16 @@
 -- Expressions as tokens in prefix form, which need no notation, and what they are read over (mm0.md, section on
 -- notations: a term's name and its operands, an operand of an application in parentheses).
 use Rattle.std.specs.Prelude.{◌≡◌, ◌≢◌, ◌<◌, ◌≤◌, ◌++◌, ℕ, List, [], ◌∷◌, length, Some, slice_get, Contains, codes}
-use Rattle.mz_logic.specs.Tree.{Tree, Trees, var, app, none, more}
-use Rattle.mz_logic.specs.Declaration.{sorts}
-use Rattle.mz_logic.specs.Modifiers.{MayBeClaimSort}
-use Rattle.mz_math_notation.specs.Notation.{TermName}
+use Rattle.mz_logic_theory.specs.Tree.{Tree, Trees, var, app, none, more}
+use Rattle.mz_logic_theory.specs.Declaration.{sorts}
+use Rattle.mz_logic_theory.specs.Modifiers.{MayBeClaimSort}
+use Rattle.mz_math_theory.specs.Notation.{TermName}
 use Rattle.mz_math_tokens.specs.Pieces.{no_delimiters}
-use Rattle.mz_math.specs.Grammar.{Words, IsVariable}
-use Rattle.mz_math.specs.declared.formula.Wanted.{Wanted}
-use Rattle.mz_math.specs.declared.formula.Wanted.TheVariants.{Provable as provable, Sort as of_sort}
-use Rattle.mz_math.specs.Meaning.{height}
-use Rattle.mz_math.specs.Formula.{Reader, most}
+use Rattle.mz_math_theory.specs.Grammar.{Words, IsVariable}
+use Rattle.mz_math_theory.specs.declared.wanted.Wanted.{Wanted}
+use Rattle.mz_math_theory.specs.declared.wanted.Wanted.TheVariants.{Provable as provable, Sort as of_sort}
+use Rattle.mz_math_theory.specs.Meaning.{height}
+use Rattle.mz_math_theory.specs.Formula.{Reader, most}
 use Rattle.mz_prefix_theory.specs.Lines.{Tokens}
 
 -- the tokens, where terms and variables have these names by their numbers

@@ -2,18 +2,18 @@
 use Rattle.std.specs.Prelude.{◌≡◌, ◌+◌, ◌++◌, ℕ, List, length, Option}
 use Rattle.mz_lex.specs.Lexemes.{Lexeme, LexesFrom, Lexes}
 use Rattle.mz_lex.specs.declared.token.LexFault.{LexFault}
-use Rattle.mz_spec_grammar.specs.Statement.{Spells}
+use Rattle.mz_spec_theory.specs.Statement.{Spells}
 use Rattle.mz_prefix_theory.specs.Words.{Word, written, lexemes_at, AreWords}
 use Rattle.mz_prefix_theory.specs.Lines.{Line, Tokens, line_words, lines_text, math_text, statement_at, HasItsDummies}
 use Rattle.mz_prefix_theory.specs.Plain.{ArePlain, AreTokens, lines_lexemes, pieces_at}
 use Rattle.mz_lex.specs.Kinds.{inside_of}
-use Rattle.mz_logic.specs.Tree.{Tree}
-use Rattle.mz_logic.specs.Declaration.{signatures}
-use Rattle.mz_logic.specs.Sorts.{HasSort}
-use Rattle.mz_logic.specs.Legality.{InRange}
-use Rattle.mz_math.specs.Grammar.{Words, Exp}
-use Rattle.mz_math.specs.declared.formula.Wanted.{Wanted}
-use Rattle.mz_math.specs.Formula.{Reader, words, IsFormula}
+use Rattle.mz_logic_theory.specs.Tree.{Tree}
+use Rattle.mz_logic_theory.specs.Declaration.{signatures}
+use Rattle.mz_logic_theory.specs.Sorts.{HasSort}
+use Rattle.mz_logic_theory.specs.Legality.{InRange}
+use Rattle.mz_math_theory.specs.Grammar.{Words, Exp}
+use Rattle.mz_math_theory.specs.declared.wanted.Wanted.{Wanted}
+use Rattle.mz_math_theory.specs.Formula.{Reader, words, IsFormula}
 use Rattle.mz_prefix_theory.specs.Prefix.{tokens_of, IsSpoken, HasNoNotation, IsOfWanted, IsShort}
 use Rattle.mz_math_tokens.specs.Pieces.{Pieces, no_delimiters, piece_texts}
 

@@ -1,8 +1,8 @@
 -- What holds of the public part of a legal list.
 use Rattle.std.specs.Prelude.{List, Bool}
-use Rattle.mz_logic.specs.Tree.{Tree}
-use Rattle.mz_logic.specs.Legality.{IsLegalEnv}
-use Rattle.mz_logic.specs.LegalLists.{Statement, Legal}
+use Rattle.mz_logic_theory.specs.Tree.{Tree}
+use Rattle.mz_logic_theory.specs.Legality.{IsLegalEnv}
+use Rattle.mz_logic_theory.specs.LegalLists.{Statement, Legal}
 use Rattle.mz_prefix_theory.specs.PublicPart.{marks_of, public_part, Hides, AreSayable}
 
 -- it is legal, if no claim mentions a local definition and each body that mentions one is hidden

@@ -2,9 +2,9 @@
 -- are numbered anew, and some definitions are left abstract (mm0.md, section on definitions: a proof file may have
 -- local definitions and theorems of its own).
 use Rattle.std.specs.Prelude.{◌≡◌, ◌++◌, ◌||◌, ⊤, ℕ, zero, suc, List, [], ◌∷◌, Bool, false, get_or, if◌then◌else◌}
-use Rattle.mz_logic.specs.Tree.{Tree, Trees, var, app, none, more}
-use Rattle.mz_logic.specs.Declaration.{Form, plain_form, abstract_form, defined, Assertion, Declaration, sort_decl, term_decl, assertion_decl}
-use Rattle.mz_logic.specs.LegalLists.{Statement}
+use Rattle.mz_logic_theory.specs.Tree.{Tree, Trees, var, app, none, more}
+use Rattle.mz_logic_theory.specs.Declaration.{Form, plain_form, abstract_form, defined, Assertion, Declaration, sort_decl, term_decl, assertion_decl}
+use Rattle.mz_logic_theory.specs.LegalLists.{Statement}
 
 -- ---- terms, each local or public
 

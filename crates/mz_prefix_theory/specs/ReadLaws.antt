@@ -1,7 +1,7 @@
 -- What is read of a specification that is printed.
 use Rattle.std.specs.Prelude.{ℕ, List, []}
 use Rattle.mz_prefix_theory.specs.Lines.{lines_text}
-use Rattle.mz_spec.specs.Spec.{SpecOf}
+use Rattle.mz_spec_theory.specs.Spec.{SpecOf}
 use Rattle.mz_prefix_theory.specs.Declared.{Named, Vocabulary, lines_of, decls_of, HasVariables, ArePrintable}
 
 -- legal declarations with names, printed line by line, are a specification that declares them

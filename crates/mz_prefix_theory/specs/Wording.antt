@@ -1,18 +1,18 @@
 -- The specification that is written of a text (this project's own): its public statements, in prefix form.
 use Rattle.std.specs.Prelude.{◌≡◌, ◌≤◌, ◌++◌, ◌&&◌, ◌||◌, ⊤, ℕ, suc, List, [], ◌∷◌, length, get_or, Bool, false, not, nat_le, if◌then◌else◌, codes, decimal}
 use Rattle.mz_base_theory.specs.Checks.{Checks, nothing, demand, ◌>>◌, AllHold, FailsFirst}
-use Rattle.mz_logic.specs.Tree.{Tree}
-use Rattle.mz_logic.specs.Declaration.{Declaration, sort_decl, term_decl, assertion_decl}
+use Rattle.mz_logic_theory.specs.Tree.{Tree}
+use Rattle.mz_logic_theory.specs.Declaration.{Declaration, sort_decl, term_decl, assertion_decl}
 use Rattle.mz_prefix_theory.specs.PublicPart.{marks_of, mentions_local, public_decl, IsSayable}
-use Rattle.mz_math.specs.Meaning.{height}
-use Rattle.mz_math.specs.Formula.{most}
+use Rattle.mz_math_theory.specs.Meaning.{height}
+use Rattle.mz_math_theory.specs.Formula.{most}
 use Rattle.mz_prefix_theory.specs.Prefix.{IsShort}
 use Rattle.mz_prefix_theory.specs.Lines.{Line, lines_text}
 use Rattle.mz_prefix_theory.specs.Declared.{Named, Vocabulary, formula_of, AreShort, lines_of}
-use Rattle.mz_mmu_statements.specs.Statements.{Statement}
-use Rattle.mz_mmu_statements.specs.DeclaredNames.{prefix_beside, text_names, sort_names, term_names}
-use Rattle.mz_type.specs.Meaning.{marked}
-use Rattle.mz_type.specs.TextOf.{TextOf}
+use Rattle.mz_mmu_theory.specs.Statements.{Statement}
+use Rattle.mz_mmu_theory.specs.DeclaredNames.{prefix_beside, text_names, sort_names, term_names}
+use Rattle.mz_mmu_theory.specs.Meaning.{marked}
+use Rattle.mz_mmu_theory.specs.TextOf.{TextOf}
 
 -- ---- names
 

@@ -1,3 +1,6 @@
+//! The specification of a text: what is printed of its public statements, that it is read back, and
+//! that it declares them.
+//!
 //! Specifications of texts: what is written of a text's public statements declares them.
 //!
 //! Specifications as a printer writes them: words with whitespace between them, statements as lines, math strings as

@@ -5,8 +5,8 @@ use Rattle.mz_base_theory.proofs.Offered.{all_hold-excludes, all_hold-or_fails, 
 use Rattle.mz_cmd.specs.declared.rule.K.{K}
 use Rattle.mz_cmd.specs.declared.rule.Refusal.{Refusal}
 use Rattle.mz_cmd.specs.Codes.{statement_byte}
-use Rattle.mz_layout.specs.Layout.{Layout, layout_checks}
-use Rattle.mz_layout.proofs.Offered.{head-ahead, layout-decided}
+use Rattle.mz_layout_tables.specs.Layout.{Layout, layout_checks}
+use Rattle.mz_layout_tables.proofs.Offered.{head-ahead, layout-decided}
 use Rattle.mz_show.specs.declared.place.Place.{Place}
 use Rattle.mz_show.specs.Statements.{Statement, Stands, first_place, after, statement_checks, statement_text}
 use Rattle.mz_show.specs.Listing.{Chain, chain_text, EndsAt, StopsAt, IsListing, IsListedUpTo, IsListed}

@@ -5,8 +5,8 @@ use Rattle.mz_base_theory.specs.Checks.{AllHold, FailsFirst}
 use Rattle.mz_base_theory.proofs.Offered.{fails-after, all_hold-both}
 use Rattle.mz_cmd.specs.declared.rule.K.TheVariants as rules
 use Rattle.mz_cmd.specs.declared.rule.Refusal.{Refusal}
-use Rattle.mz_layout.specs.declared.head.Head.{Head}
-use Rattle.mz_layout.specs.Heads.{IsHeadAt, empty_checks}
+use Rattle.mz_layout_tables.specs.declared.head.Head.{Head}
+use Rattle.mz_layout_tables.specs.Heads.{IsHeadAt, empty_checks}
 use Rattle.mz_show.specs.declared.place.Place.{Place}
 use Rattle.mz_show.specs.declared.stream.Stream.TheVariants.{Unify, Proof}
 use Rattle.mz_show.specs.declared.stop.Stop.{Stop}

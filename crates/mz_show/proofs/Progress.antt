@@ -4,10 +4,10 @@ use Rattle.std.proofs.lemmas.List.{take_at, take-append-drop}
 use Rattle.mz_base_theory.specs.Checks.{AllHold}
 use Rattle.mz_cmd.specs.Codes.{statement_byte}
 use Rattle.mz_io.specs.Calls.{Call, Grows, IsWritten, IsCut}
-use Rattle.mz_io.proofs.Logs.{grows-both, written-both, cut-after}
+use Rattle.mz_io.proofs.Offered.{grows-both, written-both, cut-after}
 use Rattle.mz_io.specs.Outside.{AppendsPrefix}
-use Rattle.mz_layout.specs.Layout.{Layout}
-use Rattle.mz_layout.proofs.Offered.{head-ahead}
+use Rattle.mz_layout_tables.specs.Layout.{Layout}
+use Rattle.mz_layout_tables.proofs.Offered.{head-ahead}
 use Rattle.mz_show.specs.declared.place.Place.{Place}
 use Rattle.mz_show.specs.Statements.{Statement, Stands, first_place, after, statement_checks, statement_text}
 use Rattle.mz_show.specs.Listing.{Chain, chain_text, EndsAt, IsListed}

@@ -10,9 +10,9 @@ use Rattle.mz_cmd.specs.declared.statement.StmtAt.TheVariants as stands
 use Rattle.mz_cmd.specs.declared.statement.StmtFault.{StmtFault}
 use Rattle.mz_cmd.specs.Codes.{statement_byte, statement_code}
 use Rattle.mz_cmd.specs.StatementList.{statement_at}
-use Rattle.mz_layout.specs.declared.head.Head.{Head}
-use Rattle.mz_layout.specs.Heads.{IsHeadAt, body_bytes, checks_of, head_checks, kind_checks}
-use Rattle.mz_layout.proofs.Offered.{code-is, empty-decided, head-decided}
+use Rattle.mz_layout_tables.specs.declared.head.Head.{Head}
+use Rattle.mz_layout_tables.specs.Heads.{IsHeadAt, body_bytes, checks_of, head_checks, kind_checks}
+use Rattle.mz_layout_tables.proofs.Offered.{code-is, empty-decided, head-decided}
 use Rattle.mz_show.specs.declared.place.Place.{Place}
 use Rattle.mz_show.specs.declared.stream.Stream.TheVariants.{Unify, Proof}
 use Rattle.mz_show.specs.Streams.{Run, IsLongest}

@@ -3,7 +3,7 @@ use Rattle.std.specs.Prelude.{◌≡◌, ◌≤◌, ⊤, ℕ, ◌+◌, ◌*◌, 
 use Rattle.mz_base_theory.specs.Checks.{AllHold, FailsFirst}
 use Rattle.mz_cmd.specs.declared.command.Cmd.{Cmd}
 use Rattle.mz_cmd.specs.declared.rule.Refusal.{Refusal}
-use Rattle.mz_layout.specs.declared.head.Head.{Head}
+use Rattle.mz_layout_tables.specs.declared.head.Head.{Head}
 use Rattle.mz_show.specs.declared.place.Place.{Place}
 use Rattle.mz_show.specs.declared.statement.Next.{Next}
 use Rattle.mz_show.specs.declared.statement.Next.TheVariants as next

@@ -2,9 +2,9 @@
 use Rattle.std.specs.Prelude.{◌≡◌, ◌⊎◌, ℕ, ◌++◌, List, [], ◌∷◌, codes}
 use Rattle.mz_base_theory.specs.Checks.{AllHold, FailsFirst}
 use Rattle.mz_cmd.specs.declared.rule.Refusal.{Refusal}
-use Rattle.mz_layout.specs.Layout.{Layout, layout_checks}
-use Rattle.mz_layout.specs.Heads.{StandsAt}
-use Rattle.mz_layout.specs.declared.head.HeadOrEnd.TheVariants.{End}
+use Rattle.mz_layout_tables.specs.Layout.{Layout, layout_checks}
+use Rattle.mz_layout_tables.specs.Heads.{StandsAt}
+use Rattle.mz_layout_tables.specs.declared.head.HeadOrEnd.TheVariants.{End}
 use Rattle.mz_show.specs.declared.place.Place.{Place}
 use Rattle.mz_show.specs.Statements.{Statement, Stands, first_place, after, place_checks, statement_checks, statement_text}
 

@@ -7,9 +7,9 @@ use Rattle.mz_cmd.specs.declared.code.StatementCode.TheVariants as codes_of
 use Rattle.mz_cmd.specs.declared.rule.K.{K}
 use Rattle.mz_cmd.specs.declared.rule.K.TheVariants as rules
 use Rattle.mz_cmd.specs.declared.rule.Refusal.{Refusal}
-use Rattle.mz_layout.specs.Tables.{list_at, mods_of, term_row, thm_row}
-use Rattle.mz_layout.specs.Heads.{IsHeadAt, empty_checks, head_checks, next_row, rows_after}
-use Rattle.mz_layout.specs.declared.head.Head.{Head}
+use Rattle.mz_layout_tables.specs.Tables.{list_at, mods_of, term_row, thm_row}
+use Rattle.mz_layout_tables.specs.Heads.{IsHeadAt, empty_checks, head_checks, next_row, rows_after}
+use Rattle.mz_layout_tables.specs.declared.head.Head.{Head}
 use Rattle.mz_show.specs.declared.place.Place.{Place}
 use Rattle.mz_show.specs.declared.stream.Stream.TheVariants.{Unify, Proof}
 use Rattle.mz_show.specs.Words.{texts, numbered, param_line, result_line}

@@ -1,10 +1,10 @@
 // Places in the list of statements.
 ghost use Rattle.std.specs.Prelude.{◌≡◌, ◌<◌, ◌^◌, ◌+◌};
-ghost use Rattle.mz_layout.specs.Heads.{next_row};
+ghost use Rattle.mz_layout_tables.specs.Heads.{next_row};
 ghost use Rattle.mz_show.specs.Statements.{place_after, refusal_at};
 
 use mz_cmd::{K, Refusal, StatementCode};
-use mz_layout::Rows;
+use mz_layout_tables::Rows;
 
 /// A place in the list of statements.
 #[derive(Clone, Copy)]

@@ -1,18 +1,18 @@
 // The lines of the row that a statement takes.
 ghost use Rattle.std.specs.Prelude.{◌≡◌, ◌<◌, ◌++◌, IfOk, OnOk, string_bytes};
-ghost use Rattle.mz_layout.specs.Tables.{term_count, thm_count};
-ghost use Rattle.mz_layout.specs.Heads.{next_row, row_count};
+ghost use Rattle.mz_layout_tables.specs.Tables.{term_count, thm_count};
+ghost use Rattle.mz_layout_tables.specs.Heads.{next_row, row_count};
 ghost use Rattle.mz_show.specs.Statements.{has_streams, heading, kind_name, row_number, row_text, term_lines, thm_lines, unify_at, word_lines};
 
 use crate::place::Place;
 use crate::words;
 use mz_cmd::{Mem, StatementCode};
-use mz_layout::Mmb;
-use mz_logic::Terms;
+use mz_layout_tables::Mmb;
+use mz_logic_theory::Terms;
 use std::alloc::Global;
 
 /// Whether the statement has a unify stream and a body with commands.
-#[tactic(auto, using(mz_layout::proofs::TableLists::row_facts))]
+#[tactic(auto, using(mz_layout_tables::proofs::TableLists::row_facts))]
 pub fn has_streams(mmb: &Mmb, place: Place, code: StatementCode) -> bool
     requires { next_row place.rows code < row_count mmb.now code }
     ensures { result ≡ has_streams mmb.now place code }
@@ -57,7 +57,7 @@ pub fn list_row(
 }
 
 /// The name of the statement's kind.
-#[tactic(auto, using(mz_layout::proofs::TableLists::row_facts))]
+#[tactic(auto, using(mz_layout_tables::proofs::TableLists::row_facts))]
 fn kind_name(mmb: &Mmb, place: Place, code: StatementCode) -> &'static str
     requires { next_row place.rows code < row_count mmb.now code }
     ensures { result.now ≡ kind_name mmb.now place code }
@@ -79,7 +79,7 @@ fn kind_name(mmb: &Mmb, place: Place, code: StatementCode) -> &'static str
 }
 
 /// A sort's modifiers, or how many parameters the row has.
-#[tactic(auto, using(mz_layout::proofs::TableLists::row_facts))]
+#[tactic(auto, using(mz_layout_tables::proofs::TableLists::row_facts))]
 fn row_number(mmb: &Mmb, place: Place, code: StatementCode) -> u32
     requires { next_row place.rows code < row_count mmb.now code }
     ensures { result ≡ row_number mmb.now place code }
@@ -127,7 +127,7 @@ fn list_words(
 }
 
 /// Appends the lines of a term's parameters and of its result.
-#[tactic(auto, using(mz_layout::proofs::TableLists::row_facts))]
+#[tactic(auto, using(mz_layout_tables::proofs::TableLists::row_facts))]
 fn list_term(alloc: Global, mmb: &Mmb, t: u32, text: &mut Vec<u8>) -> Result<(), Mem>
     requires { t < term_count mmb.now }
     ensures { OnOk result (text.new.items ≡ text.old.items ++ term_lines mmb.now t) }
@@ -141,7 +141,7 @@ fn list_term(alloc: Global, mmb: &Mmb, t: u32, text: &mut Vec<u8>) -> Result<(),
 }
 
 /// Appends the lines of the parameters of an axiom or a theorem.
-#[tactic(auto, using(mz_layout::proofs::TableLists::row_facts))]
+#[tactic(auto, using(mz_layout_tables::proofs::TableLists::row_facts))]
 fn list_thm(alloc: Global, mmb: &Mmb, thm: u32, text: &mut Vec<u8>) -> Result<(), Mem>
     requires { thm < thm_count mmb.now }
     ensures { OnOk result (text.new.items ≡ text.old.items ++ thm_lines mmb.now thm) }

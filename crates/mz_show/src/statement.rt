@@ -1,7 +1,7 @@
 // A statement of the list: what is asked of it, and its lines.
 ghost use Rattle.std.specs.Prelude.{◌≡◌, ◌≤◌, length};
 ghost use Rattle.mz_base_theory.specs.Checks.{AllHold, Judges};
-ghost use Rattle.mz_layout.specs.Heads.{IsNextHead, empty_checks};
+ghost use Rattle.mz_layout_tables.specs.Heads.{IsNextHead, empty_checks};
 ghost use Rattle.mz_show.specs.Statements.{place_checks, told_there};
 ghost use Rattle.mz_show.specs.Answers.{IsNext, IsWithin, TellsStatement, TellsStreams};
 
@@ -10,7 +10,7 @@ use crate::row::{has_streams, list_row, unify_at};
 use crate::stop::Stop;
 use crate::stream::{Stream, end_stands, leads_to, list_commands};
 use mz_cmd::{K, Refusal};
-use mz_layout::{Head, HeadOrEnd, Mmb, head_at};
+use mz_layout_tables::{Head, HeadOrEnd, Mmb, head_at};
 use std::alloc::Global;
 
 /// What stands at a place of the list of statements.

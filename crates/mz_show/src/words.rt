@@ -3,7 +3,7 @@ ghost use Rattle.std.specs.Prelude.{◌≡◌, IsTrue, IfOk, string_bytes};
 ghost use Rattle.mz_show.specs.Words.{command_words, param_line, proof_has_number, proof_name, result_line, unify_has_number, unify_name, word_text};
 
 use mz_cmd::{Mem, ProofCode, UnifyCode};
-use mz_logic::Word;
+use mz_logic_theory::Word;
 use std::alloc::Global;
 
 /// A word's sixteen hexadecimal digits, the most significant first.

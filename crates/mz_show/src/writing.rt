@@ -10,7 +10,7 @@ use crate::place::Place;
 use crate::statement::{Next, list_next};
 use mz_cmd::Refusal;
 use mz_io::{Sink, write_whole};
-use mz_layout::{Mmb, Rows};
+use mz_layout_tables::{Mmb, Rows};
 use std::alloc::Global;
 
 /// What came of a listing.

@@ -1,15 +1,15 @@
 -- Parameters, one after another, each behind those before it.
 use Rattle.std.proofs.Common.{◌≡◌, ◌∙◌, ◌++◌, ◌<◌, ◌+◌, ◌↔◌, ℕ, zero, suc, List, [], ◌∷◌, length, map, take, drop, get_or, Option, Some, ap, sym, subst, inl, inr, arith}
 use Rattle.mz_lex.specs.Lexemes.{Lexeme}
-use Rattle.mz_spec_grammar.specs.Code.{type_text}
-use Rattle.mz_spec_grammar.specs.Statement.{TypeText}
-use Rattle.mz_logic.proofs.Offered.{one_at}
+use Rattle.mz_spec_theory.specs.StatementCode.{type_text}
+use Rattle.mz_spec_theory.specs.Statement.{TypeText}
+use Rattle.mz_logic_theory.proofs.Offered.{one_at}
 use Rattle.mz_spec_variables.specs.Code.{IsOfTypes, IsTypedBy, typed, variable}
 use Rattle.mz_spec_variables.specs.declared.variables.Variable.{Variable as VariableRead}
-use Rattle.mz_spec_variables.specs.Dependencies.{Every, IsBoundAmong}
-use Rattle.mz_spec_variables.specs.View.{Variable}
-use Rattle.mz_spec.specs.Rules.{IsBinder, AreBinders}
-use Rattle.mz_spec.specs.State.{State}
+use Rattle.mz_spec_theory.specs.Dependencies.{Every, IsBoundAmong}
+use Rattle.mz_spec_theory.specs.View.{Variable}
+use Rattle.mz_spec_theory.specs.Rules.{IsBinder, AreBinders}
+use Rattle.mz_spec_theory.specs.State.{State}
 use Rattle.std.proofs.lemmas.List.{map-append}
 use Rattle.mz_base_theory.proofs.Offered.{drop-item}
 

@@ -4,31 +4,29 @@ use Rattle.mz_lex.specs.Lexemes.{Lexeme}
 use Rattle.mz_lex.specs.declared.rule.S.TheVariants as rules
 use Rattle.mz_base_theory.specs.Checks.{AllHold, FailsFirst, each_in_order}
 use Rattle.mz_base_theory.proofs.Offered.{all_hold-both, fails-after}
-use Rattle.mz_logic.specs.Tree.{Tree}
-use Rattle.mz_logic.specs.Declaration.{signatures}
-use Rattle.mz_logic.specs.Variables.{InFV}
-use Rattle.mz_logic.specs.declared.binder.ResultType.{ResultType}
+use Rattle.mz_logic_theory.specs.Tree.{Tree}
+use Rattle.mz_logic_theory.specs.Declaration.{signatures}
+use Rattle.mz_logic_theory.specs.Variables.{InFV}
+use Rattle.mz_logic_theory.specs.declared.binder.ResultType.{ResultType}
 use Rattle.mz_math_tokens.specs.declared.pieces.Piece.{Piece}
-use Rattle.mz_math.specs.declared.formula.Wanted.TheVariants.{Sort as of_sort}
-use Rattle.mz_math_notation.specs.Notation.{Variables}
+use Rattle.mz_math_theory.specs.declared.wanted.Wanted.TheVariants.{Sort as of_sort}
+use Rattle.mz_math_theory.specs.Notation.{Variables}
 use Rattle.mz_math_tokens.specs.Pieces.{Pieces}
-use Rattle.mz_math_notation.specs.Kept.{IsTable, AreVariables}
-use Rattle.mz_math.proofs.Offered.{one-meaning}
-use Rattle.mz_spec_grammar.specs.Reading.{OnFault}
-use Rattle.mz_spec_grammar.specs.Statement.{TypeText, Head, definition_statement}
-use Rattle.mz_spec_grammar.specs.declared.refusal.Halt.{Halt}
+use Rattle.mz_math_theory.specs.Kept.{IsTable, AreVariables}
+use Rattle.mz_math_theory.proofs.Offered.{one-meaning}
+use Rattle.mz_spec_theory.specs.Reading.{OnFault}
+use Rattle.mz_spec_theory.specs.Statement.{TypeText, Head, definition_statement}
+use Rattle.mz_spec_theory.specs.declared.refusal.Halt.{Halt}
 use Rattle.mz_spec_variables.specs.Code.{AreParts, all_of, variable}
-use Rattle.mz_spec.specs.Code.{EndsSmall}
-use Rattle.mz_spec.specs.Formulas.{AreTokens, IsMeant, CoversFreeVariables, inner, string_checks, strings_checks, free_checks}
-use Rattle.mz_spec.specs.Kept.{IsSpelled}
-use Rattle.mz_spec_variables.specs.Dependencies.{Every}
-use Rattle.mz_spec.specs.Rules.{body_rules}
-use Rattle.mz_spec.specs.State.{State, result_of, scope_of, reader_of, sort_number, variable_bytes}
-use Rattle.mz_spec_variables.specs.View.{Variable, body, params_of}
+use Rattle.mz_spec_theory.specs.SpecCode.{EndsSmall}
+use Rattle.mz_spec_theory.specs.Formulas.{AreTokens, IsMeant, CoversFreeVariables, inner, string_checks, strings_checks, free_checks}
+use Rattle.mz_spec_theory.specs.Kept.{IsSpelled}
+use Rattle.mz_spec_theory.specs.Dependencies.{Every}
+use Rattle.mz_spec_theory.specs.Rules.{body_rules}
+use Rattle.mz_spec_theory.specs.State.{State, result_of, scope_of, reader_of, sort_number, variable_bytes}
+use Rattle.mz_spec_theory.specs.View.{Variable, body, params_of}
 use Rattle.mz_spec_variables.specs.declared.parts.Parts.{Parts}
-use Rattle.mz_spec.proofs.Loops.{mem-before}
-use Rattle.mz_spec.proofs.Naming.{body-small}
-use Rattle.mz_spec.proofs.Strung.{last-halt, all-strings}
+use Rattle.mz_spec_theory.proofs.Offered.{mem-before, body-small, last-halt, all-strings}
 
 -- ---- its rules
 

@@ -2,20 +2,20 @@
 use Rattle.std.proofs.Common.{◌≡◌, ◌∙◌, ◌<◌, ◌+◌, ℕ, List, [], ◌∷◌, length, map, drop, get_or, ap, sym, refl, subst}
 use Rattle.mz_base_theory.proofs.Offered.{drop-item, Decides, decides-after, fails-before}
 use Rattle.mz_base_theory.specs.Checks.{Checks, AllHold, FailsFirst}
-use Rattle.mz_logic.specs.Tree.{Tree, Trees, none, followed_by}
-use Rattle.mz_logic.proofs.Offered.{followed_by_assoc, followed_by_none}
+use Rattle.mz_logic_theory.specs.Tree.{Tree, Trees, none, followed_by}
+use Rattle.mz_logic_theory.proofs.Offered.{followed_by_assoc, followed_by_none}
 use Rattle.mz_math_tokens.specs.declared.pieces.Piece.{Piece}
 use Rattle.mz_math_tokens.specs.Pieces.{Pieces}
-use Rattle.mz_spec_grammar.specs.Reading.{OnFault}
-use Rattle.mz_spec_grammar.specs.declared.refusal.Fault.{Fault}
-use Rattle.mz_spec_grammar.specs.declared.refusal.Halt.{Halt}
-use Rattle.mz_spec_grammar.specs.declared.refusal.Halt.TheVariants as halts
-use Rattle.mz_spec.specs.declared.formulas.Stated.{Stated as StatedRead}
-use Rattle.mz_spec.specs.Code.{stated}
-use Rattle.mz_spec_variables.specs.Dependencies.{Every}
-use Rattle.mz_spec_variables.specs.View.{Variable, Formula, claim, Stated, stated_claim}
-use Rattle.mz_spec.specs.State.{State}
-use Rattle.mz_spec.specs.Formulas.{AreHyps, AreTokens, IsMeant, copies, inner, math_of, string_checks, strings_checks}
+use Rattle.mz_spec_theory.specs.Reading.{OnFault}
+use Rattle.mz_spec_theory.specs.declared.refusal.Fault.{Fault}
+use Rattle.mz_spec_theory.specs.declared.refusal.Halt.{Halt}
+use Rattle.mz_spec_theory.specs.declared.refusal.Halt.TheVariants as halts
+use Rattle.mz_spec_theory.specs.declared.stated.Stated.{Stated as StatedRead}
+use Rattle.mz_spec_theory.specs.SpecCode.{stated}
+use Rattle.mz_spec_theory.specs.Dependencies.{Every}
+use Rattle.mz_spec_theory.specs.View.{Variable, Formula, claim, Stated, stated_claim}
+use Rattle.mz_spec_theory.specs.State.{State}
+use Rattle.mz_spec_theory.specs.Formulas.{AreHyps, AreTokens, IsMeant, copies, inner, math_of, string_checks, strings_checks}
 
 -- ---- strings
 

@@ -3,21 +3,19 @@ use Rattle.std.proofs.Common.{◌≡◌, ◌∙◌, ◌<◌, ◌≤◌, ◌+◌,
 use Rattle.std.proofs.lemmas.List.{length-map}
 use Rattle.mz_base_theory.specs.Checks.{Checks, ◌>>◌, AllHold, FailsFirst, each_in_order}
 use Rattle.mz_base_theory.proofs.Offered.{all_hold-both, all_hold-first}
-use Rattle.mz_logic.specs.Declaration.{Declaration, sort_decl, term_decl, assertion_decl, sorts, signatures}
-use Rattle.mz_spec_grammar.specs.Reading.{OnFault}
-use Rattle.mz_spec_grammar.specs.Statement.{TypeText, Statement}
-use Rattle.mz_spec_grammar.specs.declared.refusal.Fault.{Fault}
-use Rattle.mz_spec_grammar.specs.declared.refusal.Halt.{Halt}
+use Rattle.mz_logic_theory.specs.Declaration.{Declaration, sort_decl, term_decl, assertion_decl, sorts, signatures}
+use Rattle.mz_spec_theory.specs.Reading.{OnFault}
+use Rattle.mz_spec_theory.specs.Statement.{TypeText, Statement}
+use Rattle.mz_spec_theory.specs.declared.refusal.Fault.{Fault}
+use Rattle.mz_spec_theory.specs.declared.refusal.Halt.{Halt}
 use Rattle.mz_spec_variables.specs.Code.{AreParts, variable}
-use Rattle.mz_spec.specs.Kept.{IsKept, IsSpelled}
-use Rattle.mz_spec.specs.Rules.{are_others, type_checks, binder_rules, variable_rules, parts_rules}
-use Rattle.mz_spec.specs.State.{State, variable_bytes}
-use Rattle.mz_spec_variables.specs.View.{Variable, names_of, view, params_of}
+use Rattle.mz_spec_theory.specs.Kept.{IsKept, IsSpelled}
+use Rattle.mz_spec_theory.specs.Rules.{are_others, type_checks, binder_rules, variable_rules, parts_rules}
+use Rattle.mz_spec_theory.specs.State.{State, variable_bytes}
+use Rattle.mz_spec_theory.specs.View.{Variable, names_of, view, params_of}
 use Rattle.mz_spec_variables.specs.declared.parts.Parts.{Parts}
-use Rattle.mz_spec.proofs.Loops.{assoc, mem-before, mem-after}
-use Rattle.mz_math_notation.specs.Kept.{AreVariables}
-use Rattle.mz_spec.proofs.Naming.{parts-few, variables-named}
-use Rattle.mz_spec.proofs.Places.{split-variables}
+use Rattle.mz_spec_theory.proofs.Offered.{assoc, mem-before, mem-after, parts-few, variables-named, split-variables}
+use Rattle.mz_math_theory.specs.Kept.{AreVariables}
 
 module _ (σ : State) (place : ℕ) (vs : List Variable) (ts rs : List TypeText) (new rest : Checks Fault) where
   -- the rules behind that of the name

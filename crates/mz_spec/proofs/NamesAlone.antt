@@ -5,17 +5,17 @@ use Rattle.std.proofs.lemmas.Bool.{true≢false}
 use Rattle.std.proofs.lemmas.List.{length-map, map-append}
 use Rattle.std.proofs.lemmas.Slice.Eq.{bytes_eq-Decides}
 use Rattle.mz_lex.specs.Lexemes.{Lexeme}
-use Rattle.mz_logic.specs.Declaration.{Declaration}
+use Rattle.mz_logic_theory.specs.Declaration.{Declaration}
 use Rattle.mz_base.specs.Names.{number_of, IsNew, IsKnown}
 use Rattle.mz_base.proofs.Offered.{all-others, known-first, known-later, new-both}
-use Rattle.mz_math_notation.specs.declared.notation.Notation.{Notation}
-use Rattle.mz_math_notation.specs.Forms.{AddsNotation, AddsDelimiters}
+use Rattle.mz_math_theory.specs.declared.notation.Notation.{Notation}
+use Rattle.mz_math_theory.specs.Forms.{AddsNotation, AddsDelimiters}
 use Rattle.mz_math_notation.specs.Names.{IsFoundAs}
-use Rattle.mz_math_notation.specs.Notation.{Table, begins_with_slot, with_infix, with_leading, with_name, TermName}
+use Rattle.mz_math_theory.specs.Notation.{Table, begins_with_slot, with_infix, with_leading, with_name, TermName}
 use Rattle.mz_spec.specs.Entries.{names_alone}
-use Rattle.mz_spec.specs.Kept.{numbered}
-use Rattle.mz_spec.specs.State.{State, mark_at, with_table, with_term}
-use Rattle.mz_spec.specs.declared.spec.Mark.{Mark}
+use Rattle.mz_spec_theory.specs.Kept.{numbered}
+use Rattle.mz_spec_theory.specs.State.{State, mark_at, with_table, with_term}
+use Rattle.mz_spec_theory.specs.declared.spec.Mark.{Mark}
 
 -- ---- whether a term has a name
 

@@ -4,39 +4,36 @@ use Rattle.std.specs.Prelude.{option_map}
 use Rattle.mz_lex.specs.Lexemes.{Lexeme}
 use Rattle.mz_base_theory.specs.Checks.{Checks, nothing, each_in_order, ◌>>◌, retold, AllHold, FailsFirst}
 use Rattle.mz_base_theory.proofs.Offered.{fails-before, fails-after, all_hold-both, retold-fails, retold-holds}
-use Rattle.mz_logic.specs.Declaration.{signatures}
-use Rattle.mz_logic.specs.Signature.{Signature}
+use Rattle.mz_logic_theory.specs.Declaration.{signatures}
+use Rattle.mz_logic_theory.specs.Signature.{Signature}
 use Rattle.mz_math_tokens.specs.declared.pieces.Delimiters.{Delimiters}
 use Rattle.mz_math_tokens.specs.declared.pieces.Piece.{Piece}
-use Rattle.mz_math_coercions.specs.declared.coercion.Coercion.{Coercion}
-use Rattle.mz_math_notation.specs.declared.notation.Notation.{Notation}
-use Rattle.mz_math_notation.specs.declared.table.NoteFault.{NoteFault}
-use Rattle.mz_math_notation.specs.declared.table.NoteFault.TheVariants as faults
-use Rattle.mz_math_notation.specs.Notation.{Table, with_coercion}
-use Rattle.mz_math_notation.specs.Forms.{IsInfix, IsPrefix, IsGeneral, General, coercion_checks, notation_checks, IsAnswer, AddsDelimiters, AddsNotation}
-use Rattle.mz_math_notation.specs.Kept.{AreVariables}
-use Rattle.mz_spec_grammar.specs.declared.kind.Fixity.{Fixity}
-use Rattle.mz_spec_grammar.specs.declared.refusal.Fault.{Fault}
-use Rattle.mz_spec_grammar.specs.declared.refusal.Halt.{Halt}
-use Rattle.mz_spec_grammar.specs.declared.refusal.Halt.TheVariants as halts
-use Rattle.mz_spec_grammar.specs.Reading.{OnFault}
-use Rattle.mz_spec_grammar.specs.Statement.{TypeText, Head, Level, LiteralText, TailText, Statement, coercion_statement, delimiter_statement, operator_statement, notation_statement}
+use Rattle.mz_math_theory.specs.declared.coercion.Coercion.{Coercion}
+use Rattle.mz_math_theory.specs.declared.notation.Notation.{Notation}
+use Rattle.mz_math_theory.specs.declared.fault.NoteFault.{NoteFault}
+use Rattle.mz_math_theory.specs.declared.fault.NoteFault.TheVariants as faults
+use Rattle.mz_math_theory.specs.Notation.{Table, with_coercion}
+use Rattle.mz_math_theory.specs.Forms.{IsInfix, IsPrefix, IsGeneral, General, coercion_checks, notation_checks, IsAnswer, AddsDelimiters, AddsNotation}
+use Rattle.mz_math_theory.specs.Kept.{AreVariables}
+use Rattle.mz_spec_theory.specs.declared.kind.Fixity.{Fixity}
+use Rattle.mz_spec_theory.specs.declared.refusal.Fault.{Fault}
+use Rattle.mz_spec_theory.specs.declared.refusal.Halt.{Halt}
+use Rattle.mz_spec_theory.specs.declared.refusal.Halt.TheVariants as halts
+use Rattle.mz_spec_theory.specs.Reading.{OnFault}
+use Rattle.mz_spec_theory.specs.Statement.{TypeText, Head, Level, LiteralText, TailText, Statement, coercion_statement, delimiter_statement, operator_statement, notation_statement}
 use Rattle.mz_spec.specs.Answers.{JudgesOrMem, JudgesStatement}
-use Rattle.mz_spec.specs.Formulas.{AreTokens, inner}
-use Rattle.mz_spec.specs.Forms.{ArePartsOf, MakesOperator, MakesNotation, at_statement, coercion_of, form_checks}
+use Rattle.mz_spec_theory.specs.Formulas.{AreTokens, inner}
+use Rattle.mz_spec_theory.specs.Forms.{ArePartsOf, MakesOperator, MakesNotation, at_statement, coercion_of, form_checks}
 use Rattle.mz_spec.specs.Noting.{halt_of, noting_rules}
-use Rattle.mz_spec_variables.specs.Dependencies.{Every}
-use Rattle.mz_spec.specs.Rules.{is_level, is_known, are_others, type_checks, binder_rules, statement_checks}
+use Rattle.mz_spec_theory.specs.Dependencies.{Every}
+use Rattle.mz_spec_theory.specs.Rules.{is_level, is_known, are_others, type_checks, binder_rules, statement_checks}
 use Rattle.mz_spec.specs.Entries.{names_alone}
-use Rattle.mz_spec.specs.State.{State, sort_number, term_number, variable_bytes}
+use Rattle.mz_spec_theory.specs.State.{State, sort_number, term_number, variable_bytes}
 use Rattle.mz_spec_variables.specs.Code.{AreParts, variable}
-use Rattle.mz_spec.specs.Declaring.{After}
+use Rattle.mz_spec_theory.specs.Declaring.{After}
 use Rattle.mz_spec_variables.specs.declared.parts.Parts.{Parts}
-use Rattle.mz_spec_variables.specs.View.{Variable, alone, params_of, variables_of, group_types, names_of, literal_levels, tail_levels}
-use Rattle.mz_spec.proofs.Loops.{assoc, fails-front, judges-behind, mem-before, mem-after}
-use Rattle.mz_spec.proofs.Naming.{IsNamed}
-use Rattle.mz_spec.proofs.Places.{split-variables}
-use Rattle.mz_spec.proofs.Keeping.{general-other}
+use Rattle.mz_spec_theory.specs.View.{Variable, alone, params_of, variables_of, group_types, names_of, literal_levels, tail_levels}
+use Rattle.mz_spec_theory.proofs.Offered.{assoc, fails-front, judges-behind, mem-before, mem-after, IsNamed, split-variables, general-other}
 use Rattle.mz_spec.proofs.NamesAlone.{over_table, same-names, notation-same, delimiters-same}
 
 -- ---- statements without formulas

@@ -14,14 +14,14 @@ use Rattle.mz_base.specs.Identifiers.{is_digit}
 use Rattle.mz_base.proofs.Offered.{digit-at, digit-between}
 use Rattle.mz_lex.specs.Kinds.{is_number_start, is_number, is_of_kind}
 use Rattle.mz_lex.specs.Lexemes.{Lexeme}
-use Rattle.mz_spec_grammar.specs.declared.kind.Kind.TheVariants.{Notation}
-use Rattle.mz_spec_grammar.specs.declared.kind.Fixity.{Fixity}
-use Rattle.mz_spec_grammar.specs.Statement.{TypeText, Head, Level, number_level, max_level, LiteralText, constant_literal, name_literal, TailText, Statement, operator_statement, notation_statement, Sign, keyword, symbol, name, name_or_blank, formula, number, only_if, IsSign, AreSigns, each, end_signs, type_signs, group_signs, level_sign, literal_signs, tail_signs, statement_signs}
-use Rattle.mz_spec.specs.Kept.{AreOfText, IsSpelled}
+use Rattle.mz_spec_theory.specs.declared.kind.Kind.TheVariants.{Notation}
+use Rattle.mz_spec_theory.specs.declared.kind.Fixity.{Fixity}
+use Rattle.mz_spec_theory.specs.Statement.{TypeText, Head, Level, number_level, max_level, LiteralText, constant_literal, name_literal, TailText, Statement, operator_statement, notation_statement, Sign, keyword, symbol, name, name_or_blank, formula, number, only_if, IsSign, AreSigns, each, end_signs, type_signs, group_signs, level_sign, literal_signs, tail_signs, statement_signs}
+use Rattle.mz_spec_theory.specs.Kept.{AreOfText, IsSpelled}
 use Rattle.mz_spec.specs.Noting.{IsNumeral}
-use Rattle.mz_spec_variables.specs.Dependencies.{Every}
-use Rattle.mz_spec_variables.specs.View.{literal_levels, tail_levels}
-use Rattle.mz_spec.proofs.Naming.{every-front}
+use Rattle.mz_spec_theory.specs.Dependencies.{Every}
+use Rattle.mz_spec_theory.specs.View.{literal_levels, tail_levels}
+use Rattle.mz_spec_theory.proofs.Offered.{every-front}
 
 start-digit : (c : ℕ) → is_number_start c ≡ true → is_digit c ≡ true
 start-digit c is = grind (arith, nat_tests)

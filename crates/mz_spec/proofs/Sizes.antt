@@ -3,11 +3,11 @@ use Rattle.std.proofs.Common.{◌≡◌, ◌∙◌, ◌++◌, ◌<◌, ◌≤◌
 use Rattle.std.specs.Prelude.{codes}
 use Rattle.mz_lex.specs.Kinds.{inside_of}
 use Rattle.mz_lex.specs.Lexemes.{Lexeme}
-use Rattle.mz_spec_grammar.specs.Code.{literal}
-use Rattle.mz_spec_grammar.specs.declared.kind.Kind.TheVariants.{Notation}
-use Rattle.mz_spec_grammar.specs.declared.statement.LiteralText.{LiteralText as LiteralRead}
-use Rattle.mz_spec_grammar.specs.Statement.{Head, TypeText, LiteralText, constant_literal, name_literal, TailText, Sign, keyword, symbol, name, name_or_blank, formula, number, only_if, IsSign, AreSigns, each, end_signs, type_signs, group_signs, literal_signs, tail_signs, statement_signs, notation_statement}
-use Rattle.mz_spec.specs.Kept.{IsSpelled, bytes_of}
+use Rattle.mz_spec_theory.specs.StatementCode.{literal}
+use Rattle.mz_spec_theory.specs.declared.kind.Kind.TheVariants.{Notation}
+use Rattle.mz_spec_theory.specs.declared.statement.LiteralText.{LiteralText as LiteralRead}
+use Rattle.mz_spec_theory.specs.Statement.{Head, TypeText, LiteralText, constant_literal, name_literal, TailText, Sign, keyword, symbol, name, name_or_blank, formula, number, only_if, IsSign, AreSigns, each, end_signs, type_signs, group_signs, literal_signs, tail_signs, statement_signs, notation_statement}
+use Rattle.mz_spec_theory.specs.Kept.{IsSpelled, bytes_of}
 use Rattle.mz_spec.specs.Noting.{literal_size, literals_size}
 
 -- ---- signs

@@ -2,21 +2,21 @@
 use Rattle.std.proofs.Common.{◌≡◌, ◌∙◌, ◌++◌, ◌<◌, ◌≤◌, ◌+◌, ◌-◌, ℕ, zero, suc, List, [], ◌∷◌, length, map, take, drop, get_or, ap, sym, refl, subst, arith, length-append, drop-cons, add-one, append_assoc}
 use Rattle.mz_base_theory.specs.Checks.{Checks, nothing, each_in_order, ◌>>◌, AllHold, FailsFirst}
 use Rattle.mz_base_theory.proofs.Offered.{Decides, decides-after, fails-before}
-use Rattle.mz_math_notation.specs.declared.form.Literal.{Literal}
-use Rattle.mz_math_notation.specs.declared.form.Literal.TheVariants.{Constant as constant, Name as name}
-use Rattle.mz_spec_grammar.specs.declared.refusal.Fault.{Fault}
-use Rattle.mz_spec_grammar.specs.declared.refusal.Halt.{Halt}
-use Rattle.mz_spec_grammar.specs.declared.refusal.Halt.TheVariants as halts
-use Rattle.mz_spec_grammar.specs.Code.{literal}
-use Rattle.mz_spec_grammar.specs.declared.statement.LiteralText.{LiteralText as LiteralRead}
-use Rattle.mz_spec_grammar.specs.Reading.{OnFault}
-use Rattle.mz_spec_grammar.specs.Statement.{LiteralText, constant_literal, name_literal}
-use Rattle.mz_spec.specs.Forms.{IsLiteral, AreLiterals}
+use Rattle.mz_math_theory.specs.declared.literal.Literal.{Literal}
+use Rattle.mz_math_theory.specs.declared.literal.Literal.TheVariants.{Constant as constant, Name as name}
+use Rattle.mz_spec_theory.specs.declared.refusal.Fault.{Fault}
+use Rattle.mz_spec_theory.specs.declared.refusal.Halt.{Halt}
+use Rattle.mz_spec_theory.specs.declared.refusal.Halt.TheVariants as halts
+use Rattle.mz_spec_theory.specs.StatementCode.{literal}
+use Rattle.mz_spec_theory.specs.declared.statement.LiteralText.{LiteralText as LiteralRead}
+use Rattle.mz_spec_theory.specs.Reading.{OnFault}
+use Rattle.mz_spec_theory.specs.Statement.{LiteralText, constant_literal, name_literal}
+use Rattle.mz_spec_theory.specs.Forms.{IsLiteral, AreLiterals}
 use Rattle.mz_spec.specs.Noting.{IsNumeral, literal_size, literals_size}
-use Rattle.mz_spec_variables.specs.Dependencies.{Every}
-use Rattle.mz_spec.specs.Rules.{is_level}
-use Rattle.mz_spec_variables.specs.View.{literal_levels}
-use Rattle.mz_spec.proofs.Loops.{assoc}
+use Rattle.mz_spec_theory.specs.Dependencies.{Every}
+use Rattle.mz_spec_theory.specs.Rules.{is_level}
+use Rattle.mz_spec_theory.specs.View.{literal_levels}
+use Rattle.mz_spec_theory.proofs.Offered.{assoc}
 
 -- ---- spans
 

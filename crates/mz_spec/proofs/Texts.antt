@@ -5,27 +5,26 @@ use Rattle.std.specs.Prelude.{slice_range, IsTrue, codes}
 use Rattle.mz_lex.specs.Kinds.{is_of_kind}
 use Rattle.mz_lex.specs.Lexemes.{Lexeme, IsBlank, IsNext, LexemesTo}
 use Rattle.mz_lex.proofs.Offered.{ended, begun, some-lexing, blank-forward}
-use Rattle.mz_spec_grammar.specs.declared.refusal.Fault.{Fault}
-use Rattle.mz_spec_grammar.specs.declared.refusal.Halt.{Halt}
-use Rattle.mz_spec_grammar.specs.declared.refusal.Halt.TheVariants as halts
-use Rattle.mz_spec_grammar.specs.declared.reader.StatementRead.{StatementRead}
-use Rattle.mz_spec_grammar.specs.Code.{statement}
-use Rattle.mz_spec_grammar.specs.Statement.{Statement, sort_statement, term_statement, assert_statement, definition_statement, operator_statement, coercion_statement, delimiter_statement, notation_statement, keyword, name, end_signs, modifier_signs, statement_signs, Spells}
-use Rattle.mz_spec_grammar.specs.Reading.{place_of_first, IsRead, StopsFrom, OnFault}
+use Rattle.mz_spec_theory.specs.declared.refusal.Fault.{Fault}
+use Rattle.mz_spec_theory.specs.declared.refusal.Halt.{Halt}
+use Rattle.mz_spec_theory.specs.declared.refusal.Halt.TheVariants as halts
+use Rattle.mz_spec_theory.specs.declared.read.StatementRead.{StatementRead}
+use Rattle.mz_spec_theory.specs.StatementCode.{statement}
+use Rattle.mz_spec_theory.specs.Statement.{Statement, sort_statement, term_statement, assert_statement, definition_statement, operator_statement, coercion_statement, delimiter_statement, notation_statement, keyword, name, end_signs, modifier_signs, statement_signs, Spells}
+use Rattle.mz_spec_theory.specs.Reading.{place_of_first, IsRead, StopsFrom, OnFault}
 use Rattle.mz_spec.specs.Answers.{IsAnswer, halted}
-use Rattle.mz_spec.specs.Code.{EndsSmall}
-use Rattle.mz_spec.specs.Kept.{AreOfText, IsSpelled, bytes_of}
-use Rattle.mz_spec.specs.State.{State, nothing, entries_of, mark_at}
-use Rattle.mz_spec_variables.specs.View.{view}
-use Rattle.mz_spec.specs.Declaring.{After}
-use Rattle.mz_spec.specs.Spec.{Stand, SpecMakes, SpecFault, IsGood, Fails}
+use Rattle.mz_spec_theory.specs.SpecCode.{EndsSmall}
+use Rattle.mz_spec_theory.specs.Kept.{AreOfText, IsSpelled, bytes_of}
+use Rattle.mz_spec_theory.specs.State.{State, nothing, entries_of, mark_at}
+use Rattle.mz_spec_theory.specs.View.{view}
+use Rattle.mz_spec_theory.specs.Declaring.{After}
+use Rattle.mz_spec_theory.specs.Spec.{Stand, SpecMakes, SpecFault, IsGood, Fails}
 use Rattle.mz_spec.specs.Reading.{StandTo}
 use Rattle.mz_base_theory.specs.Checks.{AllHold, FailsFirst}
 use Rattle.mz_math_tokens.specs.declared.pieces.Piece.{Piece}
-use Rattle.mz_spec_grammar.proofs.Offered.{lexemes-long, signs-long}
-use Rattle.mz_spec.specs.Formulas.{AreTokens}
-use Rattle.mz_spec.specs.Rules.{statement_checks}
-use Rattle.mz_spec.proofs.Tokens.{formulas-tokens}
+use Rattle.mz_spec_theory.proofs.Offered.{lexemes-long, signs-long, formulas-tokens}
+use Rattle.mz_spec_theory.specs.Formulas.{AreTokens}
+use Rattle.mz_spec_theory.specs.Rules.{statement_checks}
 
 lexemes-append : (text : List ℕ) (from at to : ℕ) (ls ms : List Lexeme) → LexemesTo text from ls at → LexemesTo text at ms to → LexemesTo text from (ls ++ ms) to
 lexemes-append text from at to [] ms first second = subst (λ i. LexemesTo text i ms to) first second

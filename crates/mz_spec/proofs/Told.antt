@@ -4,15 +4,15 @@ use Rattle.mz_base_theory.proofs.Offered.{take-short, retold-fails, retold-holds
 use Rattle.mz_lex.specs.Lexemes.{Lexeme}
 use Rattle.mz_lex.specs.declared.rule.S.{S}
 use Rattle.mz_base_theory.specs.Checks.{Checks, ◌>>◌, retold, AllHold, FailsFirst}
-use Rattle.mz_logic.specs.Tree.{Tree}
+use Rattle.mz_logic_theory.specs.Tree.{Tree}
 use Rattle.mz_math_tokens.specs.declared.pieces.Piece.{Piece}
-use Rattle.mz_math.specs.declared.formula.Wanted.{Wanted}
+use Rattle.mz_math_theory.specs.declared.wanted.Wanted.{Wanted}
 use Rattle.mz_math_tokens.specs.Pieces.{Pieces, PiecesFrom, piece_texts}
-use Rattle.mz_math.specs.Grammar.{Words}
-use Rattle.mz_math.specs.Formula.{Reader, Misreading, words, known_checks, token_checks, formula_checks, IsFormula, Misreads}
+use Rattle.mz_math_theory.specs.Grammar.{Words}
+use Rattle.mz_math_theory.specs.Formula.{Reader, Misreading, words, known_checks, token_checks, formula_checks, IsFormula, Misreads}
 use Rattle.mz_math_tokens.proofs.Offered.{pieces-one}
-use Rattle.mz_spec.specs.Code.{EndsSmall}
-use Rattle.mz_spec.specs.Formulas.{inner, place_of, told}
+use Rattle.mz_spec_theory.specs.SpecCode.{EndsSmall}
+use Rattle.mz_spec_theory.specs.Formulas.{inner, place_of, told}
 
 -- ---- strings
 

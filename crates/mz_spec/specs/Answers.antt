@@ -2,19 +2,19 @@
 use Rattle.std.specs.Prelude.{⊤, ℕ, List}
 use Rattle.std.proofs.Common.{Result, Ok, Err}
 use Rattle.mz_base_theory.specs.Checks.{Checks, AllHold, FailsFirst}
-use Rattle.mz_spec_grammar.specs.Reading.{OnFault}
-use Rattle.mz_spec_grammar.specs.Statement.{Statement}
-use Rattle.mz_spec_grammar.specs.declared.refusal.Fault.{Fault}
-use Rattle.mz_spec_grammar.specs.declared.refusal.Halt.{Halt}
-use Rattle.mz_spec_grammar.specs.declared.refusal.Halt.TheVariants as halts
+use Rattle.mz_spec_theory.specs.Reading.{OnFault}
+use Rattle.mz_spec_theory.specs.Statement.{Statement}
+use Rattle.mz_spec_theory.specs.declared.refusal.Fault.{Fault}
+use Rattle.mz_spec_theory.specs.declared.refusal.Halt.{Halt}
+use Rattle.mz_spec_theory.specs.declared.refusal.Halt.TheVariants as halts
 use Rattle.mz_math_tokens.specs.declared.pieces.Piece.{Piece}
 use Rattle.mz_spec.specs.declared.reader.SpecRead.{SpecRead}
 use Rattle.mz_spec.specs.declared.reader.SpecRead.TheVariants.{Spec, Refused, Mem}
-use Rattle.mz_spec_variables.specs.View.{view}
-use Rattle.mz_spec.specs.State.{State}
-use Rattle.mz_spec.specs.Formulas.{AreTokens}
-use Rattle.mz_spec.specs.Rules.{statement_checks}
-use Rattle.mz_spec.specs.Spec.{SpecMakes, SpecFault}
+use Rattle.mz_spec_theory.specs.View.{view}
+use Rattle.mz_spec_theory.specs.State.{State}
+use Rattle.mz_spec_theory.specs.Formulas.{AreTokens}
+use Rattle.mz_spec_theory.specs.Rules.{statement_checks}
+use Rattle.mz_spec_theory.specs.Spec.{SpecMakes, SpecFault}
 
 -- the declarations of the text, or its first fault
 abbrev pub IsAnswer : List ℕ → SpecRead → Type 0

@@ -1,8 +1,8 @@
 -- What the code's states stand for.
 use Rattle.std.specs.Prelude.{ℕ, List, map}
-use Rattle.mz_math_notation.specs.Notation.{TermName}
+use Rattle.mz_math_theory.specs.Notation.{TermName}
 use Rattle.mz_spec.specs.declared.state.State.{State as StateRead}
-use Rattle.mz_spec.specs.State.{State}
+use Rattle.mz_spec_theory.specs.State.{State}
 
 -- the names of terms alone
 abbrev pub names_alone : List TermName → List (List ℕ)

@@ -1,8 +1,8 @@
 -- What is kept of the dependencies that were looked up last.
 use Rattle.std.specs.Prelude.{◌≡◌, ℕ, List, Option, Some}
-use Rattle.mz_spec_grammar.specs.Statement.{TypeText}
-use Rattle.mz_spec_variables.specs.Dependencies.{dep_places}
-use Rattle.mz_spec_variables.specs.View.{Variable}
+use Rattle.mz_spec_theory.specs.Statement.{TypeText}
+use Rattle.mz_spec_theory.specs.Dependencies.{dep_places}
+use Rattle.mz_spec_theory.specs.View.{Variable}
 use Rattle.mz_spec.specs.declared.scope.Found.{Found}
 
 -- they are those of the group, where it has a type

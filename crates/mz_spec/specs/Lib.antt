@@ -1,14 +1,5 @@
-pub mod State
-pub mod Formulas
-pub mod Forms
-pub mod Rules
-pub mod Declaring
-pub mod Kept
-pub mod Spec
-pub mod Code
 pub mod Entries
 pub mod Reading
 pub mod Answers
 pub mod Noting
 pub mod Found
-pub mod Laws

@@ -4,17 +4,17 @@ use Rattle.std.specs.List.{list_all}
 use Rattle.mz_base.specs.Identifiers.{is_digit}
 use Rattle.mz_lex.specs.Lexemes.{Lexeme}
 use Rattle.mz_base_theory.specs.Checks.{Checks, each_in_order, ◌>>◌}
-use Rattle.mz_math_notation.specs.declared.table.NoteFault.{NoteFault}
-use Rattle.mz_math_notation.specs.declared.table.NoteFault.TheVariants as faults
-use Rattle.mz_spec_grammar.specs.declared.refusal.Halt.{Halt}
-use Rattle.mz_spec_grammar.specs.declared.refusal.Halt.TheVariants as halts
-use Rattle.mz_spec_grammar.specs.Statement.{TypeText, Level, number_level, max_level, LiteralText, constant_literal, name_literal}
-use Rattle.mz_spec_grammar.specs.declared.refusal.Fault.{Fault}
-use Rattle.mz_spec_variables.specs.View.{Variable, names_of}
-use Rattle.mz_spec.specs.State.{State}
-use Rattle.mz_spec.specs.Rules.{are_others, is_known, type_checks, binder_rules}
-use Rattle.mz_spec.specs.Formulas.{inner}
-use Rattle.mz_spec.specs.Forms.{at_statement}
+use Rattle.mz_math_theory.specs.declared.fault.NoteFault.{NoteFault}
+use Rattle.mz_math_theory.specs.declared.fault.NoteFault.TheVariants as faults
+use Rattle.mz_spec_theory.specs.declared.refusal.Halt.{Halt}
+use Rattle.mz_spec_theory.specs.declared.refusal.Halt.TheVariants as halts
+use Rattle.mz_spec_theory.specs.Statement.{TypeText, Level, number_level, max_level, LiteralText, constant_literal, name_literal}
+use Rattle.mz_spec_theory.specs.declared.refusal.Fault.{Fault}
+use Rattle.mz_spec_theory.specs.View.{Variable, names_of}
+use Rattle.mz_spec_theory.specs.State.{State}
+use Rattle.mz_spec_theory.specs.Rules.{are_others, is_known, type_checks, binder_rules}
+use Rattle.mz_spec_theory.specs.Formulas.{inner}
+use Rattle.mz_spec_theory.specs.Forms.{at_statement}
 
 -- a level that is a number is written in digits
 abbrev pub IsNumeral : Level → Type 0

@@ -1,37 +1,39 @@
 // Statements that declare something: sorts, terms, axioms and theorems, and definitions.
 ghost use Rattle.std.specs.Prelude.{◌≡◌, ◌+◌, ◌<◌, ◌^◌, ◌++◌, ◌∷◌, ⊤, [], List, Some, IfErr, IfOk, IsTrue, MatchOption, OnOk, length, map, option_map};
-ghost use Rattle.mz_spec_grammar.specs.Code.{assertion as assertion_lem, definition as definition_lem, head, lexeme, modifiers as modifiers_lem, source, term as term_lem, type_text};
+ghost use Rattle.mz_spec_theory.specs.StatementCode.{assertion as assertion_lem, definition as definition_lem, head, lexeme, modifiers as modifiers_lem, source, term as term_lem, type_text};
 ghost use Rattle.mz_base_theory.specs.Checks.{AllHold};
-ghost use Rattle.mz_spec_grammar.specs.Statement.{TypeText as TypeLem, sort_statement};
+ghost use Rattle.mz_spec_theory.specs.Statement.{TypeText as TypeLem, sort_statement};
 ghost use Rattle.mz_base.specs.Identifiers.{is_name};
-ghost use Rattle.mz_logic.specs.DeclView.{assertion_of, form, is_axiom as is_axiom_lem, term_of};
-ghost use Rattle.mz_logic.specs.Legality.{IsLegalDecl};
-ghost use Rattle.mz_logic.specs.View.{tree};
-ghost use Rattle.mz_math_notation.specs.Kept.{AreVariables};
+ghost use Rattle.mz_logic_theory.specs.DeclView.{assertion_of, form, is_axiom as is_axiom_lem, term_of};
+ghost use Rattle.mz_logic_theory.specs.Legality.{IsLegalDecl};
+ghost use Rattle.mz_logic_theory.specs.View.{tree};
+ghost use Rattle.mz_math_theory.specs.Kept.{AreVariables};
 ghost use Rattle.mz_math_tokens.specs.declared.pieces.Piece.{Piece};
 ghost use Rattle.mz_spec.specs.Answers.{JudgesOrMem, JudgesStatement};
 ghost use Rattle.mz_spec_variables.specs.Code.{AreGrouped, AreParts, all_of, variable};
-ghost use Rattle.mz_spec.specs.Code.{EndsSmall, stated as stated_lem};
-ghost use Rattle.mz_spec.specs.Declaring.{After, Declares, IsForm, is_axiom, sort_bits};
+ghost use Rattle.mz_spec_theory.specs.SpecCode.{EndsSmall, stated as stated_lem};
+ghost use Rattle.mz_spec_theory.specs.Declaring.{After, Declares, IsForm, is_axiom, sort_bits};
 ghost use Rattle.mz_spec.specs.Entries.{state};
-ghost use Rattle.mz_spec.specs.Kept.{IsKept, IsSpelled};
-ghost use Rattle.mz_spec.specs.Formulas.{AreHyps, AreTokens, IsMeant, math_of, strings_checks};
+ghost use Rattle.mz_spec_theory.specs.Kept.{IsKept, IsSpelled};
+ghost use Rattle.mz_spec_theory.specs.Formulas.{AreHyps, AreTokens, IsMeant, math_of, strings_checks};
 ghost use Rattle.mz_base.specs.Names.{IsNew};
 ghost use Rattle.mz_spec_variables.specs.Index.{IsIndexOf};
-ghost use Rattle.mz_spec_variables.specs.Dependencies.{Every};
-ghost use Rattle.mz_spec.specs.Rules.{body_rules, new_name, parts_rules, variable_rules};
-ghost use Rattle.mz_spec.specs.State.{result_of, scope_of, variable_bytes, with_term};
-ghost use Rattle.mz_spec_variables.specs.View.{Variable as VariableLem, body, body_formulas, claim, stated_of as stated_of_lem, view};
+ghost use Rattle.mz_spec_theory.specs.Dependencies.{Every};
+ghost use Rattle.mz_spec_theory.specs.Rules.{body_rules, new_name, parts_rules, variable_rules};
+ghost use Rattle.mz_spec_theory.specs.State.{result_of, scope_of, variable_bytes, with_term};
+ghost use Rattle.mz_spec_theory.specs.View.{Variable as VariableLem, body, body_formulas, claim, stated_of as stated_of_lem, view};
 
-use crate::formulas::{Stated, push_group_stated, push_premise_stated};
+use crate::formulas::{push_group_stated, push_premise_stated};
 use crate::rules::{check_new, index_of, push_names};
-use crate::spec::Mark;
 use crate::state::State;
 use mz_lex::S;
-use mz_logic::{Decl, Expr, Hyps, ResultType, SortMods, TermDecl, TermForm, ThmDecl, ThmForm};
-use mz_math::{Scope, Wanted};
-use mz_spec_grammar::{
-    AssertKind, AssertText, DefinitionText, Fault, Halt, Lexeme, Modifiers, TermText,
+use mz_logic_theory::{
+    Decl, Expr, Hyps, ResultType, SortMods, TermDecl, TermForm, ThmDecl, ThmForm,
+};
+use mz_math::Scope;
+use mz_math_theory::Wanted;
+use mz_spec_theory::{
+    AssertKind, AssertText, DefinitionText, Fault, Halt, Lexeme, Mark, Modifiers, Stated, TermText,
 };
 use mz_spec_variables::{NameIndex, Names, Parts, TypeAt, Variable};
 use std::alloc::{AllocError, Global};

@@ -1,38 +1,32 @@
 // The formulas of a statement.
 ghost use Rattle.std.specs.Prelude.{◌≡◌, ◌↔◌, ◌+◌, ◌<◌, ◌^◌, ◌++◌, ℕ, List, IfOk, IsTrue, OnOk, Contains, map};
 ghost use Rattle.mz_base_theory.specs.Checks.{retold};
-ghost use Rattle.mz_spec_grammar.specs.Code.{group as group_lem, lexeme, source as source_lem};
-ghost use Rattle.mz_logic.specs.Declaration.{signatures};
-ghost use Rattle.mz_logic.specs.Sorts.{HasSort};
-ghost use Rattle.mz_logic.specs.Tree.{Tree, followed_by};
-ghost use Rattle.mz_logic.specs.Variables.{InFV};
-ghost use Rattle.mz_logic.specs.View.{tree};
-ghost use Rattle.mz_math.specs.Formula.{IsFormula, formula_checks};
+ghost use Rattle.mz_spec_theory.specs.StatementCode.{group as group_lem, lexeme, source as source_lem};
+ghost use Rattle.mz_logic_theory.specs.Declaration.{signatures};
+ghost use Rattle.mz_logic_theory.specs.Sorts.{HasSort};
+ghost use Rattle.mz_logic_theory.specs.Tree.{Tree, followed_by};
+ghost use Rattle.mz_logic_theory.specs.Variables.{InFV};
+ghost use Rattle.mz_logic_theory.specs.View.{tree};
+ghost use Rattle.mz_math_theory.specs.Formula.{IsFormula, formula_checks};
 ghost use Rattle.mz_math_tokens.specs.Pieces.{Pieces};
-ghost use Rattle.mz_math.specs.declared.formula.Wanted.TheVariants.{Provable as provable};
+ghost use Rattle.mz_math_theory.specs.declared.wanted.Wanted.TheVariants.{Provable as provable};
 ghost use Rattle.mz_math_tokens.specs.declared.pieces.Piece.{Piece};
 ghost use Rattle.mz_spec.specs.Answers.{JudgesOrMem};
-ghost use Rattle.mz_spec.specs.Code.{EndsSmall, stated as stated_lem};
+ghost use Rattle.mz_spec_theory.specs.SpecCode.{EndsSmall, stated as stated_lem};
 ghost use Rattle.mz_spec.specs.Entries.{state};
-ghost use Rattle.mz_spec.specs.Formulas.{AreHyps, AreTokens, copies, inner as inner_lem, place_of, strings_checks, told as told_lem};
-ghost use Rattle.mz_spec_variables.specs.Dependencies.{Every};
-ghost use Rattle.mz_spec.specs.State.{scope_of};
-ghost use Rattle.mz_spec_variables.specs.View.{Variable, group_stated, premise_stated, source_stated, stated_claim};
+ghost use Rattle.mz_spec_theory.specs.Formulas.{AreHyps, AreTokens, copies, inner as inner_lem, place_of, strings_checks, told as told_lem};
+ghost use Rattle.mz_spec_theory.specs.Dependencies.{Every};
+ghost use Rattle.mz_spec_theory.specs.State.{scope_of};
+ghost use Rattle.mz_spec_theory.specs.View.{Variable, group_stated, premise_stated, source_stated, stated_claim};
 
 use crate::state::State;
 use mz_lex::S;
-use mz_logic::{Context, Deps, Expr, Hyps};
 use mz_logic_free::free_vars_are_among;
-use mz_math::{Parsed, Scope, Wanted, parse_formula};
-use mz_spec_grammar::{Fault, Group, Halt, Lexeme, Source};
+use mz_logic_theory::{Context, Deps, Expr, Hyps};
+use mz_math::{Scope, parse_formula};
+use mz_math_theory::{Parsed, Wanted};
+use mz_spec_theory::{Fault, Group, Halt, Lexeme, Source, Stated};
 use std::alloc::{AllocError, Global};
-
-/// A formula of an axiom or a theorem, with the number of hypotheses that it makes.
-#[derive(Clone, Copy)]
-pub struct Stated<'a> {
-    pub math: Lexeme<'a>,
-    pub times: usize,
-}
 
 /// Adds a formula that makes so many hypotheses, where it is one.
 fn push_stated<'a>(

@@ -1,5 +1,5 @@
 // What holds of every text. Each function does nothing; its contract is the law.
-ghost use Rattle.mz_spec.specs.Laws.{DeclaresLegally, NotBoth, OneFault, OneOfBoth, OneReading};
+ghost use Rattle.mz_spec_theory.specs.Laws.{DeclaresLegally, NotBoth, OneFault, OneOfBoth, OneReading};
 
 /// Each text is a specification in one way, or has one first fault, and never both.
 pub fn readings_are_one()

@@ -3,17 +3,17 @@ ghost use Rattle.std.specs.Prelude.{◌≡◌, ◌≤◌, ◌<◌, IfOk, IsTrue,
 ghost use Rattle.std.specs.List.{list_all};
 ghost use Rattle.std.specs.Str.Parse.{digits_value};
 ghost use Rattle.mz_base_theory.specs.Checks.{Judges, each_in_order};
-ghost use Rattle.mz_spec_grammar.specs.Code.{level as level_lem, tail as tail_lem};
+ghost use Rattle.mz_spec_theory.specs.StatementCode.{level as level_lem, tail as tail_lem};
 ghost use Rattle.mz_base.specs.Identifiers.{is_digit};
-ghost use Rattle.mz_spec.specs.Forms.{highest_level, level_of as level_of_lem, tail_of as tail_of_lem};
+ghost use Rattle.mz_spec_theory.specs.Forms.{highest_level, level_of as level_of_lem, tail_of as tail_of_lem};
 ghost use Rattle.mz_spec.specs.Noting.{IsNumeral};
-ghost use Rattle.mz_spec_variables.specs.Dependencies.{Every};
-ghost use Rattle.mz_spec.specs.Rules.{is_level};
-ghost use Rattle.mz_spec_variables.specs.View.{tail_levels};
+ghost use Rattle.mz_spec_theory.specs.Dependencies.{Every};
+ghost use Rattle.mz_spec_theory.specs.Rules.{is_level};
+ghost use Rattle.mz_spec_theory.specs.View.{tail_levels};
 
 use mz_lex::S;
-use mz_math::Tail;
-use mz_spec_grammar::{Fault, Level, TailText};
+use mz_math_theory::Tail;
+use mz_spec_theory::{Fault, Level, TailText};
 
 /// The highest level that is a number.
 const HIGHEST_LEVEL: u64 = 4_294_967_294;

@@ -1,20 +1,20 @@
 // Statements for math strings: operators, coercions, delimiters and general notations.
 ghost use Rattle.std.specs.Prelude.{◌≡◌, ◌+◌, ◌<◌, ◌^◌, ◌++◌, ◌∷◌, ⊤, [], List, MatchOption, OnOk, length, map, option_map};
 ghost use Rattle.mz_base_theory.specs.Checks.{AllHold, each_in_order};
-ghost use Rattle.mz_spec_grammar.specs.Statement.{TypeText};
-ghost use Rattle.mz_spec_grammar.specs.Code.{coercion as coercion_lem, delimiter as delimiter_lem, lexeme, level as level_lem, literal as literal_lem, notation as notation_lem, operator as operator_lem, tail as tail_lem, type_text};
-ghost use Rattle.mz_math_notation.specs.Forms.{IsAnswer, notation_checks};
+ghost use Rattle.mz_spec_theory.specs.Statement.{TypeText};
+ghost use Rattle.mz_spec_theory.specs.StatementCode.{coercion as coercion_lem, delimiter as delimiter_lem, lexeme, level as level_lem, literal as literal_lem, notation as notation_lem, operator as operator_lem, tail as tail_lem, type_text};
+ghost use Rattle.mz_math_theory.specs.Forms.{IsAnswer, notation_checks};
 ghost use Rattle.mz_spec.specs.Answers.{JudgesOrMem, JudgesStatement};
 ghost use Rattle.mz_spec_variables.specs.Code.{AreGrouped, AreParts, variable};
-ghost use Rattle.mz_spec.specs.Declaring.{After};
+ghost use Rattle.mz_spec_theory.specs.Declaring.{After};
 ghost use Rattle.mz_spec.specs.Entries.{state};
-ghost use Rattle.mz_spec.specs.Formulas.{inner as inner_lem};
-ghost use Rattle.mz_spec.specs.Forms.{AreLiterals, MakesNotation, level_of as level_of_lem, tail_of as tail_of_lem};
-ghost use Rattle.mz_spec.specs.Kept.{IsKept, IsSpelled};
+ghost use Rattle.mz_spec_theory.specs.Formulas.{inner as inner_lem};
+ghost use Rattle.mz_spec_theory.specs.Forms.{AreLiterals, MakesNotation, level_of as level_of_lem, tail_of as tail_of_lem};
+ghost use Rattle.mz_spec_theory.specs.Kept.{IsKept, IsSpelled};
 ghost use Rattle.mz_spec.specs.Noting.{halt_of as halt_of_lem, named_rules, noting_rules};
-ghost use Rattle.mz_spec.specs.Rules.{are_others, is_level};
+ghost use Rattle.mz_spec_theory.specs.Rules.{are_others, is_level};
 ghost use Rattle.mz_spec_variables.specs.Index.{IsIndexOf};
-ghost use Rattle.mz_spec_variables.specs.View.{Variable as VariableLem, literal_levels, tail_levels, view};
+ghost use Rattle.mz_spec_theory.specs.View.{Variable as VariableLem, literal_levels, tail_levels, view};
 
 use crate::formulas::inner;
 use crate::levels::{level_of, tail_of};
@@ -22,8 +22,8 @@ use crate::literals::Literals;
 use crate::rules::{check_known, index_of, push_names};
 use crate::state::State;
 use mz_lex::S;
-use mz_math::{NoteFault, Tail};
-use mz_spec_grammar::{
+use mz_math_theory::{NoteFault, Tail};
+use mz_spec_theory::{
     CoercionText, DelimiterText, Fault, Fixity, Halt, Lexeme, NotationText, OperatorText,
 };
 use mz_spec_variables::{NameIndex, Names, Parts, TypeAt, Variable};

@@ -2,15 +2,14 @@
 ghost use Rattle.std.specs.Prelude.{◌≡◌, ◌<◌, ◌^◌, length, IfErr, OnOk};
 ghost use Rattle.mz_spec.specs.Answers.{IsAnswer, halted as halted_lem};
 ghost use Rattle.mz_spec.specs.Entries.{state as state_lem};
-ghost use Rattle.mz_spec.specs.Kept.{IsKept};
-ghost use Rattle.mz_spec.specs.Spec.{SpecMakes};
-ghost use Rattle.mz_spec.specs.State.{entries_of, nothing};
+ghost use Rattle.mz_spec_theory.specs.Kept.{IsKept};
+ghost use Rattle.mz_spec_theory.specs.Spec.{SpecMakes};
+ghost use Rattle.mz_spec_theory.specs.State.{entries_of, nothing};
 
-use crate::refusal::SpecRefusal;
-use crate::spec::Spec;
 use crate::state::State;
 use mz_base::Hashing;
-use mz_spec_grammar::{Halt, read_statement};
+use mz_spec_grammar::read_statement;
+use mz_spec_theory::{Halt, Spec, SpecRefusal};
 use std::alloc::Global;
 
 /// What reading a specification comes to.

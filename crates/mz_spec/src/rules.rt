@@ -1,23 +1,23 @@
 // The rules of a statement on its names and binders.
 ghost use Rattle.std.specs.Prelude.{◌≡◌, ◌↔◌, ◌⊎◌, ◌≤◌, ◌++◌, ⊤, ℕ, [], IfOk, IsTrue, List, MatchOption, OnOk, Some, length, map, option_map, take};
 ghost use Rattle.mz_base_theory.specs.Checks.{Judges, each_in_order};
-ghost use Rattle.mz_logic.specs.Modifiers.{IsPure, IsStrict, IsFree};
-ghost use Rattle.mz_spec_grammar.specs.Code.{lexeme, type_text};
+ghost use Rattle.mz_logic_theory.specs.Modifiers.{IsPure, IsStrict, IsFree};
+ghost use Rattle.mz_spec_theory.specs.StatementCode.{lexeme, type_text};
 ghost use Rattle.mz_spec.specs.Answers.{JudgesOrMem};
 ghost use Rattle.mz_spec_variables.specs.Code.{AreGrouped, AreParts, all_of, variable as variable_lem};
 ghost use Rattle.mz_spec.specs.Entries.{state};
 ghost use Rattle.mz_spec_variables.specs.Index.{IsIndexOf};
-ghost use Rattle.mz_spec.specs.Kept.{IsKept};
-ghost use Rattle.mz_spec.specs.Rules.{AreBinders, DependsOnNothing, HasSortThat, HaveBinders, IsBinder, IsDummySort, IsNotPure, IsResult, are_others, binder_rules, is_known, is_other, mods_of as mods_of_lem, new_name, type_checks};
-ghost use Rattle.mz_spec_variables.specs.Dependencies.{Every, IsBoundAmong};
-ghost use Rattle.mz_spec_variables.specs.View.{Variable as VariableLem, name_texts, names_of};
-ghost use Rattle.mz_spec_grammar.specs.Statement.{TypeText as TypeLem};
+ghost use Rattle.mz_spec_theory.specs.Kept.{IsKept};
+ghost use Rattle.mz_spec_theory.specs.Rules.{AreBinders, DependsOnNothing, HasSortThat, HaveBinders, IsBinder, IsDummySort, IsNotPure, IsResult, are_others, binder_rules, is_known, is_other, mods_of as mods_of_lem, new_name, type_checks};
+ghost use Rattle.mz_spec_theory.specs.Dependencies.{Every, IsBoundAmong};
+ghost use Rattle.mz_spec_theory.specs.View.{Variable as VariableLem, name_texts, names_of};
+ghost use Rattle.mz_spec_theory.specs.Statement.{TypeText as TypeLem};
 
 use crate::state::State;
 use mz_base::Hashing;
 use mz_lex::S;
-use mz_logic::SortMods;
-use mz_spec_grammar::{Fault, Halt, Lexeme, TypeText};
+use mz_logic_theory::SortMods;
+use mz_spec_theory::{Fault, Halt, Lexeme, TypeText};
 use mz_spec_variables::{NameIndex, Names, Parts, TypeAt, Variable, are_bound_before, places_of};
 use std::alloc::{AllocError, Global};
 

@@ -1,21 +1,21 @@
 // The variables of a statement over what is declared.
 ghost use Rattle.std.specs.Prelude.{◌≡◌, ◌+◌, ◌<◌, ◌^◌, ◌++◌, ⊤, [], ℕ, List, Option, IfOk, MatchOption, OnOk, length, map, option_map};
-ghost use Rattle.mz_spec_grammar.specs.Code.{lexeme, type_text};
-ghost use Rattle.mz_spec_grammar.specs.Statement.{TypeText as TypeLem};
-ghost use Rattle.mz_math_notation.specs.Kept.{AreVariables};
+ghost use Rattle.mz_spec_theory.specs.StatementCode.{lexeme, type_text};
+ghost use Rattle.mz_spec_theory.specs.Statement.{TypeText as TypeLem};
+ghost use Rattle.mz_math_theory.specs.Kept.{AreVariables};
 ghost use Rattle.mz_spec_variables.specs.Code.{AreGrouped, AreParts, IsOfTypes, typed, variable as variable_lem};
-ghost use Rattle.mz_spec_variables.specs.Dependencies.{dep_places};
+ghost use Rattle.mz_spec_theory.specs.Dependencies.{dep_places};
 ghost use Rattle.mz_spec.specs.Entries.{state};
 ghost use Rattle.mz_spec.specs.Found.{IsFound};
 ghost use Rattle.mz_spec_variables.specs.Index.{IsIndexOf};
-ghost use Rattle.mz_spec.specs.Kept.{IsKept};
-ghost use Rattle.mz_spec.specs.State.{binder_of as binder_of_lem, bytes_of as bytes_of_lem, result_of, scope_of as scope_of_lem, sort_number as sort_number_lem, term_number as term_number_lem, variable_bytes};
-ghost use Rattle.mz_spec_variables.specs.View.{Variable as VariableLem, alone};
+ghost use Rattle.mz_spec_theory.specs.Kept.{IsKept};
+ghost use Rattle.mz_spec_theory.specs.State.{binder_of as binder_of_lem, bytes_of as bytes_of_lem, result_of, scope_of as scope_of_lem, sort_number as sort_number_lem, term_number as term_number_lem, variable_bytes};
+ghost use Rattle.mz_spec_theory.specs.View.{Variable as VariableLem, alone};
 
 use crate::state::State;
-use mz_logic::{Binder, Binders, Deps, ResultType};
+use mz_logic_theory::{Binder, Binders, Deps, ResultType};
 use mz_math::Scope;
-use mz_spec_grammar::{Lexeme, TypeText};
+use mz_spec_theory::{Lexeme, TypeText};
 use mz_spec_variables::{NameIndex, Parts, Variable, places_among};
 use std::alloc::{AllocError, Global};
 

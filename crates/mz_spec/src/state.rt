@@ -1,17 +1,16 @@
 // What the statements before declare.
 ghost use Rattle.std.specs.Prelude.{◌≡◌, ◌+◌, ◌<◌, ◌^◌, length, OnOk};
-ghost use Rattle.mz_spec_grammar.specs.Code.{statement as statement_lem};
+ghost use Rattle.mz_spec_theory.specs.StatementCode.{statement as statement_lem};
 ghost use Rattle.mz_spec.specs.Answers.{JudgesStatement};
-ghost use Rattle.mz_spec.specs.Declaring.{After};
+ghost use Rattle.mz_spec_theory.specs.Declaring.{After};
 ghost use Rattle.mz_spec.specs.Entries.{state};
-ghost use Rattle.mz_spec.specs.Kept.{IsKept, IsSpelled};
-ghost use Rattle.mz_spec.specs.State.{nothing};
+ghost use Rattle.mz_spec_theory.specs.Kept.{IsKept, IsSpelled};
+ghost use Rattle.mz_spec_theory.specs.State.{nothing};
 
-use crate::spec::Mark;
 use mz_base::Hashing;
-use mz_logic::Env;
+use mz_logic_theory::Env;
 use mz_math::Notations;
-use mz_spec_grammar::{Halt, Statement};
+use mz_spec_theory::{Halt, Mark, Statement};
 use mz_spec_variables::Names;
 use std::alloc::Global;
 

@@ -1,7 +1,7 @@
 -- Reading a statement lexeme by lexeme.
 use Rattle.std.proofs.Common.{◌≡◌, ◌∙◌, ◌++◌, ℕ, List, [], ◌∷◌, length, Option, Some, None, sym, refl, subst, append_assoc, Ok}
 use Rattle.mz_lex.specs.declared.token.Token.{Token}
-use Rattle.mz_spec_grammar.specs.declared.lexeme.Lexeme.{Lexeme as LexemeRead}
+use Rattle.mz_spec_theory.specs.declared.lexeme.Lexeme.{Lexeme as LexemeRead}
 use Rattle.mz_spec_grammar.specs.declared.progress.Parts.{Parts}
 use Rattle.mz_spec_grammar.specs.declared.progress.At.{At}
 use Rattle.mz_spec_grammar.specs.declared.progress.At.TheVariants as places
@@ -18,17 +18,15 @@ use Rattle.mz_lex.specs.declared.token.LexFault.{LexFault}
 use Rattle.mz_lex.specs.RuleText.{place_of, rule_of}
 use Rattle.mz_lex.specs.Lexemes.{Lexeme, lexeme as lexeme_at, IsNext, ComesNext, EndsBy, LexemesTo}
 use Rattle.mz_lex.proofs.Offered.{one-more, ended, begun, one-lexing}
-use Rattle.mz_spec_grammar.specs.declared.refusal.Fault.{Fault}
-use Rattle.mz_spec_grammar.specs.declared.reader.StatementRead.{StatementRead}
-use Rattle.mz_spec_grammar.specs.Code.{lexeme, statement}
+use Rattle.mz_spec_theory.specs.declared.refusal.Fault.{Fault}
+use Rattle.mz_spec_theory.specs.declared.read.StatementRead.{StatementRead}
+use Rattle.mz_spec_theory.specs.StatementCode.{lexeme, statement}
 use Rattle.mz_spec_grammar.specs.CodeProgress.{at as at_lem}
-use Rattle.mz_spec_grammar.specs.Statement.{IsPrefix}
-use Rattle.mz_spec_grammar.specs.Progress.{Progress, whole, start, next, Leads}
-use Rattle.mz_spec_grammar.specs.Stops.{StopsBy, misfit_rule}
-use Rattle.mz_spec_grammar.specs.Reading.{IsReadTo, IsRead, StopsFrom, EndsAt}
-use Rattle.mz_spec_grammar.proofs.Adding.{leads-spells}
-use Rattle.mz_spec_grammar.proofs.Leading.{leads-append}
-use Rattle.mz_spec_grammar.proofs.Grammar.{leads-prefix, misfit-prefix, open-statement, no-empty, IsOpen}
+use Rattle.mz_spec_theory.specs.Statement.{IsPrefix}
+use Rattle.mz_spec_theory.specs.Progress.{Progress, whole, start, next, Leads}
+use Rattle.mz_spec_theory.specs.Stops.{StopsBy, misfit_rule}
+use Rattle.mz_spec_theory.specs.Reading.{IsReadTo, IsRead, StopsFrom, EndsAt}
+use Rattle.mz_spec_theory.proofs.Offered.{leads-spells, leads-append, leads-prefix, misfit-prefix, open-statement, no-empty, IsOpen}
 
 pub read-first : (text : List ℕ) (from : ℕ) (l : Lexeme) (p : Progress) → IsNext text from l → next start l ≡ Some p → IsReadTo text from l.from p l.to
 read-first text from l p is e = (l, [], (is, refl), refl, (p, e, refl))

@@ -1,6 +1,6 @@
 -- What the code's progress stands for: its parts, and where the statement has come to.
 use Rattle.std.specs.Prelude.{◌≡◌, Bool, Option, Some, None, map, option_map}
-use Rattle.mz_spec_grammar.specs.declared.kind.Fixity.{Fixity}
+use Rattle.mz_spec_theory.specs.declared.kind.Fixity.{Fixity}
 use Rattle.mz_spec_grammar.specs.declared.progress.Parts.{Parts}
 use Rattle.mz_spec_grammar.specs.declared.progress.OpenGroup.{OpenGroup as OpenGroupRead}
 use Rattle.mz_spec_grammar.specs.declared.progress.Slot.{Slot as SlotRead}
@@ -21,9 +21,9 @@ use Rattle.mz_spec_grammar.specs.declared.progress.Whole.{Whole as WholeRead}
 use Rattle.mz_spec_grammar.specs.declared.progress.Whole.TheVariants as wholes
 use Rattle.mz_spec_grammar.specs.declared.progress.At.{At as AtRead}
 use Rattle.mz_spec_grammar.specs.declared.progress.At.TheVariants as places
-use Rattle.mz_spec_grammar.specs.Code.{lexeme, modifiers, type_text, source, name_text, head, level, literal}
-use Rattle.mz_spec_grammar.specs.Statement.{Statement, TailText, sort_statement, term_statement, assert_statement, definition_statement, operator_statement, coercion_statement, delimiter_statement, notation_statement}
-use Rattle.mz_spec_grammar.specs.Progress
+use Rattle.mz_spec_theory.specs.StatementCode.{lexeme, modifiers, type_text, source, name_text, head, level, literal}
+use Rattle.mz_spec_theory.specs.Statement.{Statement, TailText, sort_statement, term_statement, assert_statement, definition_statement, operator_statement, coercion_statement, delimiter_statement, notation_statement}
+use Rattle.mz_spec_theory.specs.Progress
 
 abbrev pub open_group : Parts → OpenGroupRead → Progress.OpenGroup
 open_group p g = record { kind = g.kind; head = head p.head; is_bound = g.is_bound; names = map name_text p.names.items }

@@ -1,5 +1,5 @@
 // What holds of all lexemes. Each function does nothing; its contract is the law.
-ghost use Rattle.mz_spec_grammar.specs.Laws.{FaultOrBlank, NotBoth, NoneEmpty, OneFault, OneFront, OneOfAll, OneRead, OneStatement, OneStop, ReadOrBlank, ReadOrFault, TakesBytes};
+ghost use Rattle.mz_spec_theory.specs.GrammarLaws.{FaultOrBlank, NotBoth, NoneEmpty, OneFault, OneFront, OneOfAll, OneRead, OneStatement, OneStop, ReadOrBlank, ReadOrFault, TakesBytes};
 
 /// Lexemes spell one statement at most, none begins another one, and none is empty.
 pub fn statements_are_one()

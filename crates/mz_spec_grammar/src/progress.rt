@@ -1,16 +1,16 @@
 // How far a statement has been read.
 ghost use Rattle.std.specs.Prelude.{◌≡◌, IfOk, None, if◌then◌else◌, map, option_map};
-ghost use Rattle.mz_spec_grammar.specs.Code.{head as head_lem, lexeme, source, statement, tail as tail_lem, type_text};
+ghost use Rattle.mz_spec_theory.specs.StatementCode.{head as head_lem, lexeme, source, statement, tail as tail_lem, type_text};
 ghost use Rattle.mz_spec_grammar.specs.CodeProgress.{at as at_lem, notation_with as notation_lem, whole as whole_lem};
-ghost use Rattle.mz_spec_grammar.specs.Progress.{next as next_lem};
-ghost use Rattle.mz_spec_grammar.specs.Statement.{assert_statement, definition_statement, term_statement};
+ghost use Rattle.mz_spec_theory.specs.Progress.{next as next_lem};
+ghost use Rattle.mz_spec_theory.specs.Statement.{assert_statement, definition_statement, term_statement};
 
-use crate::kind::{AssertKind, Fixity, Kind};
-use crate::lexeme::Lexeme;
-use crate::statement::{
-    AssertText, CoercionText, DefinitionText, DelimiterText, Head, Level, LiteralText, Modifiers,
-    NameText, NotationText, OperatorText, Source, Statement, TailText, TermText, TypeText,
+use mz_spec_theory::{
+    AssertKind, AssertText, CoercionText, DefinitionText, DelimiterText, Fixity, Head, Kind, Level,
+    Lexeme, LiteralText, Modifiers, NameText, NotationText, OperatorText, Source, Statement,
+    TailText, TermText, TypeText,
 };
+use opening::after_modifiers;
 use std::alloc::{AllocError, Global};
 use std::mem;
 
@@ -258,7 +258,7 @@ impl<'a> Parts<'a> {
         ensures { IfOk result (λ r. option_map (at_lem self.new) r ≡ next_lem (at_lem self.old at) (lexeme found.entry)) }
     {
         match at {
-            At::Opening(modifiers) => Ok(modifiers.next(found)),
+            At::Opening(modifiers) => Ok(after_modifiers(modifiers, found)),
             At::HeadOpened(kind) => Ok(self.named(alloc, kind, found)),
             At::Headed(kind) => Ok(self.headed(alloc, kind, found)),
             At::GroupOpened(group) => self.grouped(group, found),

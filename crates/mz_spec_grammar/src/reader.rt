@@ -2,28 +2,15 @@
 ghost use Rattle.std.specs.Prelude.{◌≡◌, ◌≤◌, ◌<◌, ◌^◌, [], ⊤, length, IfOk, IfErr, MatchOption};
 ghost use Rattle.mz_lex.specs.Lexemes.{IsBlank, IsNext};
 ghost use Rattle.mz_lex.specs.RuleText.{place_of, rule_of};
-ghost use Rattle.mz_spec_grammar.specs.Code.{lexeme};
+ghost use Rattle.mz_spec_theory.specs.StatementCode.{lexeme};
 ghost use Rattle.mz_spec_grammar.specs.CodeProgress.{at as at_lem};
-ghost use Rattle.mz_spec_grammar.specs.Reading.{EndsAt, IfFault, IsRead, IsReadTo, StopsFrom};
-ghost use Rattle.mz_spec_grammar.specs.Stops.{misfit_rule};
+ghost use Rattle.mz_spec_theory.specs.Reading.{EndsAt, IfFault, IsRead, IsReadTo, StopsFrom};
+ghost use Rattle.mz_spec_theory.specs.Stops.{misfit_rule};
 
-use crate::lexeme::Lexeme;
 use crate::progress::{At, Parts};
-use crate::refusal::{Fault, Halt};
-use crate::statement::{Modifiers, Statement};
 use mz_lex::{LexFault, S, next_token};
+use mz_spec_theory::{Fault, Halt, Lexeme, Modifiers, Statement, StatementRead};
 use std::alloc::Global;
-
-/// A statement, and where it stands in the text, in bytes.
-#[derive(Drop)]
-pub struct StatementRead<'a> {
-    /// The statement.
-    pub statement: Statement<'a>,
-    /// The place of its first byte.
-    pub place: u32,
-    /// The place behind its last one.
-    pub end: usize,
-}
 
 /// The fault where no lexeme comes.
 fn no_lexeme(fault: LexFault) -> Fault

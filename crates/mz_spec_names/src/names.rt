@@ -1,10 +1,11 @@
 // Names, found in the text.
 ghost use Rattle.std.specs.Prelude.{◌≡◌, ◌<◌, ◌++◌, ◌^◌, List, length, slice_range, IfOk, OnOk};
-ghost use Rattle.mz_spec.specs.State.{Entry};
-ghost use Rattle.mz_spec.specs.Spec.{SpecMakes};
-ghost use Rattle.mz_spec_names.specs.Names.{name_at};
+ghost use Rattle.mz_spec_theory.specs.State.{Entry};
+ghost use Rattle.mz_spec_theory.specs.Spec.{SpecMakes};
+ghost use Rattle.mz_spec_theory.specs.Names.{name_at};
 
-use mz_spec::{Hashing, Spec, SpecRead, read_spec};
+use mz_spec::{Hashing, SpecRead, read_spec};
+use mz_spec_theory::Spec;
 use std::alloc::{AllocError, Global};
 
 /// The declarations of a text that is known to be a specification, with the places of their names.

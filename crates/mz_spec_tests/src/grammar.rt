@@ -1,5 +1,6 @@
 use mz_lex::S;
-use mz_spec_grammar::{Fault, Halt, read_statement};
+use mz_spec_grammar::read_statement;
+use mz_spec_theory::{Fault, Halt};
 use std::alloc::Global;
 use std::process::Abort;
 

@@ -3,8 +3,8 @@ mod coercions;
 mod limits;
 mod world;
 
-use mz_logic::SortMods;
-use mz_math::Tail;
+use mz_logic_theory::SortMods;
+use mz_math_theory::Tail;
 use world::{A, B, Case, N, NAT, Step, Var, WFF, Word, compare};
 
 const C: Var<'static> = ("c", WFF, false, &[]);

@@ -4,8 +4,8 @@ use Rattle.std.proofs.lemmas.Bool.{cond-true, cond-false}
 use Rattle.std.proofs.lemmas.List.{map-append}
 use Rattle.mz_spec_variables.specs.declared.variables.Variable.{Variable}
 use Rattle.mz_spec_variables.specs.Code.{dummies_read, params_read, variable}
-use Rattle.mz_spec_variables.specs.View.{dummies_of, is_among, params_of}
-use Rattle.mz_spec_variables.specs.Dependencies.{dep_places}
+use Rattle.mz_spec_theory.specs.View.{dummies_of, is_among, params_of}
+use Rattle.mz_spec_theory.specs.Dependencies.{dep_places}
 use Rattle.mz_lex.specs.Lexemes.{Lexeme}
 
 -- one more is taken

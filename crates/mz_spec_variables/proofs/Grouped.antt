@@ -1,14 +1,11 @@
 -- Groups, whose variables have one type.
 use Rattle.std.proofs.Common.{◌≡◌, ◌+◌, ◌++◌, ℕ, suc, List, [], ◌∷◌, map, Bool, true, false, Option, Some, None, slice_get, sym, refl, subst, arith}
 use Rattle.std.specs.Prelude.{⊤, if◌then◌else◌}
-use Rattle.mz_spec_grammar.specs.Statement.{Group, NameText, Source, type_source, formula_source, TypeText}
+use Rattle.mz_spec_theory.specs.Statement.{Group, NameText, Source, type_source, formula_source, TypeText}
 use Rattle.mz_spec_variables.specs.Code.{AreGrouped, IsOfTypes, Typed, dummies_read, params_read, typed, typed_alone, typed_group, typed_groups, typed_in, typed_names}
 use Rattle.mz_spec_variables.specs.declared.variables.Variable.{Variable as VariableRead}
-use Rattle.mz_spec_variables.specs.Dependencies.{Every}
-
-pub every-join : {A : Type 0} → (P : A → Type 0) (xs ys : List A) → Every P xs → Every P ys → Every P (xs ++ ys)
-every-join P [] ys a b = b
-every-join P (x ∷ xs) ys (p, a) b = (p, every-join P xs ys a b)
+use Rattle.mz_spec_theory.specs.Dependencies.{Every}
+use Rattle.mz_spec_theory.proofs.Offered.{every-join-Places as every-join}
 
 -- ---- the types of groups, by their numbers
 

@@ -14,14 +14,14 @@ use Rattle.std.proofs.lemmas.Slice.Eq.{bytes_eq-Decides}
 use Rattle.std.proofs.lemmas.Bool.{or_right}
 use Rattle.mz_base_theory.proofs.Offered.{slice_get-map_at, contains_tail, contains_head, contains_cases}
 use Rattle.mz_lex.specs.Lexemes.{Lexeme}
-use Rattle.mz_logic.proofs.Offered.{one_at}
+use Rattle.mz_logic_theory.proofs.Offered.{one_at}
 use Rattle.mz_math_tokens.specs.Places.{place_of}
 use Rattle.mz_spec_variables.specs.Code.{variable}
 use Rattle.mz_spec_variables.specs.declared.variables.Variable.{Variable as VariableRead}
 use Rattle.mz_spec_variables.specs.Index.{IsNamedAt, IsIndexUpTo, IsIndexOf, found_in, all_found}
-use Rattle.mz_spec_variables.specs.Dependencies.{IsCalled, IsBoundAmong, dep_places}
-use Rattle.mz_spec_variables.specs.View.{Variable, is_among}
-use Rattle.mz_spec_variables.proofs.Places.{bound-place, all-places, get-back, get-take}
+use Rattle.mz_spec_theory.specs.Dependencies.{IsCalled, IsBoundAmong, dep_places}
+use Rattle.mz_spec_theory.specs.View.{Variable, is_among}
+use Rattle.mz_spec_theory.proofs.Offered.{bound-place, all-places, get-back, get-take}
 
 called-same : (o : Option Lexeme) (a b : List ℕ) → IsCalled o a → IsCalled o b → a ≡ b
 called-same None a b p q = absurd p

@@ -1,5 +1,4 @@
 pub mod Keyed
-pub mod Places
 mod Chosen
 pub mod Grouped
 pub mod Joins

@@ -1,11 +1,11 @@
 -- What the code's variables and parts of statements stand for.
 use Rattle.std.specs.Prelude.{◌≡◌, ◌+◌, ◌++◌, ⊤, ℕ, List, [], ◌∷◌, map, option_map, Option, Some, None, if◌then◌else◌}
-use Rattle.mz_spec_grammar.specs.Code.{lexeme, type_text}
-use Rattle.mz_spec_grammar.specs.Statement.{Group, NameText, Source, type_source, formula_source, TypeText}
+use Rattle.mz_spec_theory.specs.StatementCode.{lexeme, type_text}
+use Rattle.mz_spec_theory.specs.Statement.{Group, NameText, Source, type_source, formula_source, TypeText}
 use Rattle.mz_spec_variables.specs.declared.variables.Variable.{Variable as VariableRead}
 use Rattle.mz_spec_variables.specs.declared.parts.Parts.{Parts}
-use Rattle.mz_spec_variables.specs.Dependencies.{Every}
-use Rattle.mz_spec_variables.specs.View.{Variable, params_of, dummies_of}
+use Rattle.mz_spec_theory.specs.Dependencies.{Every}
+use Rattle.mz_spec_theory.specs.View.{Variable, params_of, dummies_of}
 
 abbrev pub variable : VariableRead → Variable
 variable v = record { name = option_map lexeme v.name; is_dummy = v.is_dummy; is_bound = v.is_bound; type = type_text v.ty.now }

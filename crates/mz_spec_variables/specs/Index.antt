@@ -2,8 +2,8 @@
 use Rattle.std.specs.Prelude.{◌≡◌, ◌<◌, ◌++◌, ℕ, List, [], ◌∷◌, Option, Some, None, length, slice_get, MatchOption}
 use Rattle.mz_lex.specs.Lexemes.{Lexeme}
 use Rattle.mz_math_tokens.specs.Places.{place_of}
-use Rattle.mz_spec_variables.specs.Dependencies.{IsCalled}
-use Rattle.mz_spec_variables.specs.View.{Variable}
+use Rattle.mz_spec_theory.specs.Dependencies.{IsCalled}
+use Rattle.mz_spec_theory.specs.View.{Variable}
 
 abbrev pub all_found : Option ℕ → List ℕ
 all_found None = []

@@ -1,4 +1,2 @@
-pub mod View
-pub mod Dependencies
 pub mod Index
 pub mod Code

@@ -1,17 +1,17 @@
 // Variables by their names.
 ghost use Rattle.std.specs.Prelude.{◌≡◌, ◌↔◌, ◌+◌, ◌<◌, ◌≤◌, ◌^◌, ◌++◌, ⊤, List, Some, true, IsTrue, IfOk, OnOk, MatchOption, length, map, slice_get, take};
-ghost use Rattle.mz_spec_grammar.specs.Code.{lexeme};
+ghost use Rattle.mz_spec_theory.specs.StatementCode.{lexeme};
 ghost use Rattle.mz_spec_variables.specs.Code.{variable as variable_lem};
 ghost use Rattle.mz_spec_variables.specs.Index.{IsIndexOf, IsIndexUpTo, all_found, found_in};
-ghost use Rattle.mz_spec_variables.specs.Dependencies.{Every, IsBoundAmong, dep_places as dep_places_lem};
-ghost use Rattle.mz_spec_variables.specs.View.{Variable as VariableLem};
+ghost use Rattle.mz_spec_theory.specs.Dependencies.{Every, IsBoundAmong, dep_places as dep_places_lem};
+ghost use Rattle.mz_spec_theory.specs.View.{Variable as VariableLem};
 ghost use Rattle.mz_spec_variables.specs.declared.variables.Variable.{Variable as VariableRead};
 
 use crate::index::NameIndex;
 use crate::variables::{Variable, dep_places, is_bound};
 use mz_base::Hashing;
-use mz_logic::Deps;
-use mz_spec_grammar::Lexeme;
+use mz_logic_theory::Deps;
+use mz_spec_theory::Lexeme;
 use std::alloc::{AllocError, Global};
 
 /// Fewer variables than this are gone through faster than an index of them is made.

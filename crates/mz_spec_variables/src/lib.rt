@@ -2,8 +2,8 @@
 //! definitions, axioms and theorems): names by number, parameters and dummies, and on which of them a type
 //! depends.
 //!
-//! `specs/View.antt` says what the rules see of a statement, and `specs/Dependencies.antt` which variables a
-//! type depends on. Which number a name has is said in `mz_base`.
+//! What the rules see of a statement, and which variables a type depends on, is said in `mz_spec_theory`. Which
+//! number a name has is said in `mz_base`.
 #![tactic(auto)]
 
 mod by_name;

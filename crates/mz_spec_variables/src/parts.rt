@@ -1,13 +1,11 @@
 // What the rules see of a statement: its variables, its types and its result.
 ghost use Rattle.std.specs.Prelude.{◌++◌, ◌∷◌, ◌≡◌, [], IfOk, OnOk, map, option_map};
-ghost use Rattle.mz_spec_grammar.specs.Code.{assertion as assertion_lem, definition as definition_lem, group as group_lem, notation as notation_lem, source as source_lem, term as term_lem, type_text};
+ghost use Rattle.mz_spec_theory.specs.StatementCode.{assertion as assertion_lem, definition as definition_lem, group as group_lem, notation as notation_lem, source as source_lem, term as term_lem, type_text};
 ghost use Rattle.mz_spec_variables.specs.Code.{AreGrouped, AreParts, all_of, typed, typed_alone, typed_groups, variable};
-ghost use Rattle.mz_spec_variables.specs.View.{group_types as group_types_lem, source_types, types_of as types_of_lem, unnamed, variables_of as variables_of_lem, view};
+ghost use Rattle.mz_spec_theory.specs.View.{group_types as group_types_lem, source_types, types_of as types_of_lem, unnamed, variables_of as variables_of_lem, view};
 
 use crate::variables::{Variable, dummies_of, params_of, push_groups};
-use mz_spec_grammar::{
-    AssertText, DefinitionText, Group, NotationText, Source, TermText, TypeText,
-};
+use mz_spec_theory::{AssertText, DefinitionText, Group, NotationText, Source, TermText, TypeText};
 use std::alloc::{AllocError, Global};
 
 /// A type where it stands in the statement.

@@ -1,13 +1,13 @@
 // The variables of a statement.
 ghost use Rattle.std.specs.Prelude.{◌≡◌, ◌↔◌, ◌<◌, ◌^◌, ◌++◌, ℕ, Some, length, IfOk, IsTrue, OnOk, bytes_eq, true, map, option_map};
 ghost use Rattle.std.specs.List.{list_any};
-ghost use Rattle.mz_spec_grammar.specs.Code.{group as group_lem, lexeme, name_text, type_text};
+ghost use Rattle.mz_spec_theory.specs.StatementCode.{group as group_lem, lexeme, name_text, type_text};
 ghost use Rattle.mz_spec_variables.specs.Code.{dummies_read, params_read, typed, typed_alone, typed_group, typed_groups, typed_in, variable};
-ghost use Rattle.mz_spec_variables.specs.Dependencies.{IsBoundAmong, IsCalled, dep_places as dep_places_lem};
-ghost use Rattle.mz_spec_variables.specs.View.{dummies_of as dummies_lem, group_variables, is_among as is_among_lem, name_of as name_of_lem, params_of as params_lem, unnamed, variable_of as variable_of_lem, variables_of as variables_of_lem};
+ghost use Rattle.mz_spec_theory.specs.Dependencies.{IsBoundAmong, IsCalled, dep_places as dep_places_lem};
+ghost use Rattle.mz_spec_theory.specs.View.{dummies_of as dummies_lem, group_variables, is_among as is_among_lem, name_of as name_of_lem, params_of as params_lem, unnamed, variable_of as variable_of_lem, variables_of as variables_of_lem};
 
-use mz_logic::Deps;
-use mz_spec_grammar::{Group, Lexeme, NameText, Source, TypeText};
+use mz_logic_theory::Deps;
+use mz_spec_theory::{Group, Lexeme, NameText, Source, TypeText};
 use std::alloc::{AllocError, Global};
 
 /// A variable of a statement.

@@ -1,8 +1,8 @@
 -- The variables of all operands, gathered one operand after another.
 use Rattle.std.proofs.Common.{ℕ, suc, ◌≡◌, ◌<◌, ◌≤◌, ◌⊎◌, List, ap, sym, ◌∙◌, subst, inl, inr, bit_or}
-use Rattle.mz_logic.specs.Tree.{Trees, more, operand}
-use Rattle.mz_logic.specs.Variables.{InV, InSomeV}
-use Rattle.mz_logic.specs.declared.binder.Binder.{Binder}
+use Rattle.mz_logic_theory.specs.Tree.{Trees, more, operand}
+use Rattle.mz_logic_theory.specs.Variables.{InV, InSomeV}
+use Rattle.mz_logic_theory.specs.declared.binder.Binder.{Binder}
 use Rattle.mz_store.specs.Bits.{Tells, bound_vars}
 use Rattle.mz_store.proofs.Gathering.{Gathers, gather-step, gather-end}
 use Rattle.mz_store.proofs.Params.{many}

@@ -5,14 +5,14 @@ use Rattle.std.proofs.lemmas.Nat.Bits.{bit_at-zero}
 use Rattle.std.proofs.lemmas.Option.{slice_get-get_or, slice_get_within, none-some}
 use Rattle.std.proofs.lemmas.List.Elements.{Contains-append_cases}
 use Rattle.mz_base_theory.proofs.Offered.{contains_none, contains_cases}
-use Rattle.mz_logic.specs.Tree.{Trees, var, operand}
-use Rattle.mz_logic.specs.Signature.{Signature}
-use Rattle.mz_logic.specs.Sorts.{Fits}
-use Rattle.mz_logic.specs.Variables.{IsBoundAt, IsOperandAt}
-use Rattle.mz_logic.specs.Words.{word_bound, bound_places, places_set, binder_of, binders_of}
-use Rattle.mz_logic.specs.declared.word.Word.{Word}
-use Rattle.mz_logic.specs.declared.binder.Binder.{Binder}
-use Rattle.mz_logic.proofs.Offered.{one_at}
+use Rattle.mz_logic_theory.specs.Tree.{Trees, var, operand}
+use Rattle.mz_logic_theory.specs.Signature.{Signature}
+use Rattle.mz_logic_theory.specs.Sorts.{Fits}
+use Rattle.mz_logic_theory.specs.Variables.{IsBoundAt, IsOperandAt}
+use Rattle.mz_logic_theory.specs.Words.{word_bound, bound_places, places_set, binder_of, binders_of}
+use Rattle.mz_logic_theory.specs.declared.word.Word.{Word}
+use Rattle.mz_logic_theory.specs.declared.binder.Binder.{Binder}
+use Rattle.mz_logic_theory.proofs.Offered.{one_at}
 use Rattle.mz_store.specs.Bits.{Tells, bound_vars}
 use Rattle.mz_store.specs.Sharing.{IsTold}
 use Rattle.mz_store.specs.declared.item.DepsMode.{DepsMode}

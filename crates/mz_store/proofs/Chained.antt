@@ -4,7 +4,7 @@ use Rattle.std.proofs.lemmas.Bool.Decides.{Decides-eqb}
 use Rattle.std.proofs.lemmas.List.{length-append}
 use Rattle.std.proofs.lemmas.Option.{slice_get_within, none-some}
 use Rattle.mz_base_theory.proofs.Offered.{slice_get-last, length-push}
-use Rattle.mz_logic.proofs.Offered.{one_at, extends_append, split_at}
+use Rattle.mz_logic_theory.proofs.Offered.{one_at, extends_append, split_at}
 use Rattle.mz_store.specs.Nodes.{Made, variable, application, operands_at, made_of, all_made}
 use Rattle.mz_store.specs.Prints.{print_of}
 use Rattle.mz_store.specs.Chains.{IsLast, HasPrint, Links}

@@ -6,11 +6,11 @@ use Rattle.std.proofs.lemmas.Nat.Bits.{bit_at-pow_same, bit_at-pow_other, bit_at
 use Rattle.std.proofs.lemmas.Option.{slice_get-get_or, none-some}
 use Rattle.std.proofs.lemmas.Bool.{cases_lt}
 use Rattle.mz_base_theory.proofs.Offered.{slice_get-last, contains_none, slice_get-append_add}
-use Rattle.mz_logic.specs.Tree.{var}
-use Rattle.mz_logic.specs.Signature.{Signature}
-use Rattle.mz_logic.specs.Variables.{InV}
-use Rattle.mz_logic.specs.declared.binder.Binder.{Binder}
-use Rattle.mz_logic.proofs.Offered.{one_at, Extends, extends_append, extends_itself, sort_extends, split_at, DepsInside, place_to}
+use Rattle.mz_logic_theory.specs.Tree.{var}
+use Rattle.mz_logic_theory.specs.Signature.{Signature}
+use Rattle.mz_logic_theory.specs.Variables.{InV}
+use Rattle.mz_logic_theory.specs.declared.binder.Binder.{Binder}
+use Rattle.mz_logic_theory.proofs.Offered.{one_at, Extends, extends_append, extends_itself, sort_extends, split_at, DepsInside, place_to}
 use Rattle.mz_store.specs.Bits.{Tells, HasAt, bound_vars}
 use Rattle.mz_store.specs.Sharing.{Shared, Sharing, entry_of, IsOver, IsRight, IsTold}
 use Rattle.mz_store.specs.Nodes.{Made, variable, entered, binder_after, IsVariableWord}

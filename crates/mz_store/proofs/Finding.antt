@@ -1,7 +1,7 @@
 -- A term is looked for along the chain of its print.
 use Rattle.std.proofs.Common.{ℕ, suc, ◌≡◌, ◌<◌, ◌≤◌, Bool, true, false, IsTrue, List, length, get_or, slice_get, Option, Some, None, ap, sym, ◌∙◌, subst, arith}
 use Rattle.std.proofs.lemmas.Option.{slice_get_within, slice_get-get_or}
-use Rattle.mz_logic.proofs.Offered.{one_at}
+use Rattle.mz_logic_theory.proofs.Offered.{one_at}
 use Rattle.mz_store.specs.Nodes.{Made, MadeOf, variable, application, operands_at, form_of, made_of, all_made}
 use Rattle.mz_store.specs.Prints.{print_of}
 use Rattle.mz_store.specs.Chains.{IsOf, IsNode, IsLast, HasPrint, Links, IsLinked, IsChain}

@@ -1,13 +1,13 @@
 -- The free variables of a term over operands, gathered one parameter after another.
 use Rattle.std.proofs.Common.{ℕ, suc, ◌≡◌, ◌<◌, ◌≤◌, ◌^◌, ◌⊎◌, true, false, List, [], ◌∷◌, length, take, drop, slice_get, Some, ap, sym, ◌∙◌, subst, inl, inr, bit_and, bit_or, w64, if◌then◌else◌}
 use Rattle.std.specs.Int.{bit_not}
-use Rattle.mz_logic.specs.Tree.{Tree, Trees, app, operand}
-use Rattle.mz_logic.specs.Signature.{Signature}
-use Rattle.mz_logic.specs.Variables.{InFV, InSomeFV, IsOperandAt}
-use Rattle.mz_logic.specs.Words.{TermWords, term_at, word_bound, word_deps, bound_places, places_set, binder_of, binders_of, signature_of, signatures_of}
-use Rattle.mz_logic.specs.declared.word.Word.{Word}
-use Rattle.mz_logic.specs.declared.binder.Binder.{Binder}
-use Rattle.mz_logic.proofs.Offered.{one_at}
+use Rattle.mz_logic_theory.specs.Tree.{Tree, Trees, app, operand}
+use Rattle.mz_logic_theory.specs.Signature.{Signature}
+use Rattle.mz_logic_theory.specs.Variables.{InFV, InSomeFV, IsOperandAt}
+use Rattle.mz_logic_theory.specs.Words.{TermWords, term_at, word_bound, word_deps, bound_places, places_set, binder_of, binders_of, signature_of, signatures_of}
+use Rattle.mz_logic_theory.specs.declared.word.Word.{Word}
+use Rattle.mz_logic_theory.specs.declared.binder.Binder.{Binder}
+use Rattle.mz_logic_theory.proofs.Offered.{one_at}
 use Rattle.mz_store.specs.Bits.{Tells, bound_vars}
 use Rattle.mz_store.specs.Sharing.{IsTold, CanTake}
 use Rattle.mz_store.specs.declared.item.DepsMode.TheVariants as of

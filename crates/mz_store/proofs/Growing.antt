@@ -4,9 +4,9 @@ use Rattle.std.proofs.lemmas.List.{get_or_append_left, length-append}
 use Rattle.std.proofs.lemmas.Option.{slice_get_within, none-some}
 use Rattle.std.proofs.Math.Seq.{get_or-append_seam}
 use Rattle.mz_base_theory.proofs.Offered.{length-push}
-use Rattle.mz_logic.specs.Tree.{app, none, more}
-use Rattle.mz_logic.specs.declared.binder.Binder.{Binder}
-use Rattle.mz_logic.proofs.Offered.{extends_append, split_at, DepsInside}
+use Rattle.mz_logic_theory.specs.Tree.{app, none, more}
+use Rattle.mz_logic_theory.specs.declared.binder.Binder.{Binder}
+use Rattle.mz_logic_theory.proofs.Offered.{extends_append, split_at, DepsInside}
 use Rattle.mz_store.specs.Bits.{bound_vars}
 use Rattle.mz_store.specs.Sharing.{Shared, Sharing, entry_of, tree_of, trees_of, IsIn, AreIn}
 use Rattle.mz_store.specs.Nodes.{Made, MadeOf, variable, application, made_of, all_made, entered, entered_all, no_expressions, context_with, tree_with, binder_after}

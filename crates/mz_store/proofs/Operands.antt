@@ -1,13 +1,13 @@
 -- Operands by their places, whoever keeps them.
 use Rattle.std.proofs.Common.{ℕ, zero, suc, ◌≡◌, ◌<◌, ◌≤◌, true, List, [], ◌∷◌, length, slice_get, Some, refl, ap, ◌∙◌, arith}
 use Rattle.std.proofs.lemmas.Option.{none-some}
-use Rattle.mz_logic.specs.Tree.{Trees, none, more, operand}
-use Rattle.mz_logic.specs.Signature.{Signature}
-use Rattle.mz_logic.specs.Sorts.{Fits, IsBoundVar}
-use Rattle.mz_logic.specs.Words.{binders_of}
-use Rattle.mz_logic.specs.declared.word.Word.{Word}
-use Rattle.mz_logic.specs.declared.binder.Binder.{Binder}
-use Rattle.mz_logic.proofs.Offered.{one_at, length-binders}
+use Rattle.mz_logic_theory.specs.Tree.{Trees, none, more, operand}
+use Rattle.mz_logic_theory.specs.Signature.{Signature}
+use Rattle.mz_logic_theory.specs.Sorts.{Fits, IsBoundVar}
+use Rattle.mz_logic_theory.specs.Words.{binders_of}
+use Rattle.mz_logic_theory.specs.declared.word.Word.{Word}
+use Rattle.mz_logic_theory.specs.declared.binder.Binder.{Binder}
+use Rattle.mz_logic_theory.proofs.Offered.{one_at, length-binders}
 use Rattle.mz_store.proofs.Params.{many}
 
 -- those from the i-th on

@@ -1,7 +1,7 @@
 -- What is kept with expressions stays right when a term over operands is added.
 use Rattle.std.proofs.Common.{ℕ, zero, suc, ◌≡◌, ◌<◌, List, [], ◌∷◌, length, slice_get, Some, inl, inr, Result, Ok, Err, OnOk, OnErr, refl, sym, subst, arith}
-use Rattle.mz_logic.specs.Tree.{app}
-use Rattle.mz_logic.specs.Words.{TermWords, term_at, word_sort, signature_of, signatures_of}
+use Rattle.mz_logic_theory.specs.Tree.{app}
+use Rattle.mz_logic_theory.specs.Words.{TermWords, term_at, word_sort, signature_of, signatures_of}
 use Rattle.mz_store.specs.Bits.{Tells, bound_vars}
 use Rattle.mz_store.specs.Sharing.{Sharing, entry_of, trees_of, IsOver, IsRight, IsTold, CanTake}
 use Rattle.mz_store.specs.Nodes.{Made, application, entered}

@@ -4,14 +4,14 @@ use Rattle.std.specs.Int.{bit_at}
 use Rattle.std.proofs.lemmas.Nat.Bits.{bit_at-zero}
 use Rattle.std.proofs.lemmas.Option.{none-some}
 use Rattle.mz_base_theory.proofs.Offered.{contains_none, contains_tail, contains_head, contains_cases}
-use Rattle.mz_logic.specs.Tree.{Tree, Trees, var, none, more, operand}
-use Rattle.mz_logic.specs.Signature.{Signature}
-use Rattle.mz_logic.specs.Sorts.{IsBoundVar}
-use Rattle.mz_logic.specs.Variables.{IsBoundAt, IsOperandAt}
-use Rattle.mz_logic.specs.Words.{word_bound, bound_places, places_set, binder_of, binders_from, binders_of}
-use Rattle.mz_logic.specs.declared.word.Word.{Word}
-use Rattle.mz_logic.specs.declared.binder.Binder.{Binder}
-use Rattle.mz_logic.proofs.Offered.{one_at}
+use Rattle.mz_logic_theory.specs.Tree.{Tree, Trees, var, none, more, operand}
+use Rattle.mz_logic_theory.specs.Signature.{Signature}
+use Rattle.mz_logic_theory.specs.Sorts.{IsBoundVar}
+use Rattle.mz_logic_theory.specs.Variables.{IsBoundAt, IsOperandAt}
+use Rattle.mz_logic_theory.specs.Words.{word_bound, bound_places, places_set, binder_of, binders_from, binders_of}
+use Rattle.mz_logic_theory.specs.declared.word.Word.{Word}
+use Rattle.mz_logic_theory.specs.declared.binder.Binder.{Binder}
+use Rattle.mz_logic_theory.proofs.Offered.{one_at}
 use Rattle.mz_store.specs.Bits.{Tells}
 use Rattle.mz_store.specs.Sharing.{Sharing, tree_of, trees_of, IsIn, AreIn, IsTold}
 use Rattle.mz_store.specs.declared.item.DepsMode.{DepsMode}

@@ -1,7 +1,7 @@
 -- A term is looked for and put in at once.
 use Rattle.std.proofs.Common.{ℕ, ◌≡◌, ◌+◌, List, [], ◌∷◌, length, Option, Some, None, Result, Ok, Err, IfOk, OnErr, inl, inr, refl, ap, sym, ◌∙◌, subst, arith, append-nil}
-use Rattle.mz_logic.specs.Tree.{app}
-use Rattle.mz_logic.specs.Words.{TermWords, term_at, word_sort, signatures_of}
+use Rattle.mz_logic_theory.specs.Tree.{app}
+use Rattle.mz_logic_theory.specs.Words.{TermWords, term_at, word_sort, signatures_of}
 use Rattle.mz_store.specs.Bits.{Tells, bound_vars}
 use Rattle.mz_store.specs.Sharing.{Sharing, Shared, AreIn, Holds, KeepsIds, trees_of, IsOver, IsTold, CanTake}
 use Rattle.mz_store.specs.Nodes.{Made, all_made, application, entered}

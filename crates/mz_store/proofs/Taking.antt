@@ -1,12 +1,12 @@
 -- Operands that are tested one by one fit a term's parameters.
 use Rattle.std.proofs.Common.{ℕ, suc, ◌≡◌, ◌<◌, ◌≤◌, true, List, [], ◌∷◌, length, take, drop, get_or, slice_get, Some, Result, Ok, Err, OnOk, OnErr, ap, sym, subst, arith}
 use Rattle.mz_base_theory.proofs.Offered.{drop-past}
-use Rattle.mz_logic.specs.Signature.{Signature}
-use Rattle.mz_logic.specs.Sorts.{HasSort, Fits, IsBoundVar}
-use Rattle.mz_logic.specs.Words.{word_bound, word_sort, bound_places, binder_of, binders_of}
-use Rattle.mz_logic.specs.declared.word.Word.{Word}
-use Rattle.mz_logic.specs.declared.binder.Binder.{Binder}
-use Rattle.mz_logic.proofs.Offered.{length-binders}
+use Rattle.mz_logic_theory.specs.Signature.{Signature}
+use Rattle.mz_logic_theory.specs.Sorts.{HasSort, Fits, IsBoundVar}
+use Rattle.mz_logic_theory.specs.Words.{word_bound, word_sort, bound_places, binder_of, binders_of}
+use Rattle.mz_logic_theory.specs.declared.word.Word.{Word}
+use Rattle.mz_logic_theory.specs.declared.binder.Binder.{Binder}
+use Rattle.mz_logic_theory.proofs.Offered.{length-binders}
 use Rattle.mz_store.specs.Sharing.{Sharing, tree_of, trees_of, IsIn, AreIn, IsOver, IsEmpty}
 use Rattle.mz_store.specs.declared.item.Id.{Id}
 use Rattle.mz_store.proofs.Params.{nothing, next-id, next-binder}

@@ -2,8 +2,8 @@
 -- bits of dependencies).
 use Rattle.std.specs.Prelude.{ℕ, ◌≡◌, ◌↔◌, List, slice_get, Some}
 use Rattle.std.specs.Int.{bit_at}
-use Rattle.mz_logic.specs.declared.binder.Binder.{Binder}
-pub use Rattle.mz_logic.specs.WordsWritten.{bound_from}
+use Rattle.mz_logic_theory.specs.declared.binder.Binder.{Binder}
+pub use Rattle.mz_logic_theory.specs.WordsWritten.{bound_from}
 
 -- the places of the bound variables of a context, in order
 abbrev pub bound_vars : List Binder → List ℕ

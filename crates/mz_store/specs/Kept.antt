@@ -1,9 +1,9 @@
 -- What holds between a store's nodes, their prints and the trees that they stand for.
 use Rattle.std.specs.Prelude.{ℕ, ◌≡◌, ◌<◌, ◌≤◌, ◌+◌, Contains, List, [], ◌∷◌, ◌++◌, length, slice_get, Option, Some}
-use Rattle.mz_logic.specs.Tree.{var, app}
-use Rattle.mz_logic.specs.Legality.{Each}
-use Rattle.mz_logic.specs.Words.{TermWords, term_at, word_sort, signatures_of}
-use Rattle.mz_logic.specs.declared.binder.Binder.{Binder}
+use Rattle.mz_logic_theory.specs.Tree.{var, app}
+use Rattle.mz_logic_theory.specs.Legality.{Each}
+use Rattle.mz_logic_theory.specs.Words.{TermWords, term_at, word_sort, signatures_of}
+use Rattle.mz_logic_theory.specs.declared.binder.Binder.{Binder}
 use Rattle.mz_store.specs.Bits.{Tells, bound_vars}
 use Rattle.mz_store.specs.Sharing.{Sharing, IsIn, AreIn, IsTold, tree_of, trees_of, sort_of, deps_of}
 use Rattle.mz_store.specs.Nodes.{MadeOf, Made, variable, application, made_of, all_made, sharing_of}

@@ -1,8 +1,8 @@
 -- What follows from the definitions: the statements of the laws that `laws.rt` proves.
 use Rattle.std.specs.Prelude.{ℕ, ◌≡◌, ◌↔◌, List, bit_and}
-use Rattle.mz_logic.specs.Tree.{var}
-use Rattle.mz_logic.specs.Signature.{Signature}
-use Rattle.mz_logic.specs.Variables.{IsBoundAt}
+use Rattle.mz_logic_theory.specs.Tree.{var}
+use Rattle.mz_logic_theory.specs.Signature.{Signature}
+use Rattle.mz_logic_theory.specs.Variables.{IsBoundAt}
 use Rattle.mz_store.specs.Sharing.{Sharing, tree_of, trees_of, deps_of, IsIn, AreIn, IsOver, IsTold, KeepsIds}
 use Rattle.mz_store.specs.declared.item.Id.{Id}
 

@@ -1,9 +1,9 @@
 -- The trees that a list of nodes stands for: they are never written out.
 use Rattle.std.specs.Prelude.{ℕ, ◌≡◌, ◌<◌, ◌≤◌, ◌-◌, ◌^◌, Bool, MatchBool, List, [], ◌∷◌, ◌++◌, length, map, take, drop, if◌then◌else◌}
-use Rattle.mz_logic.specs.Tree.{Tree, var, app}
-use Rattle.mz_logic.specs.Words.{places_set, word_sort, word_deps, word_bound}
-use Rattle.mz_logic.specs.declared.word.Word.{Word}
-use Rattle.mz_logic.specs.declared.binder.Binder.{Binder}
+use Rattle.mz_logic_theory.specs.Tree.{Tree, var, app}
+use Rattle.mz_logic_theory.specs.Words.{places_set, word_sort, word_deps, word_bound}
+use Rattle.mz_logic_theory.specs.declared.word.Word.{Word}
+use Rattle.mz_logic_theory.specs.declared.binder.Binder.{Binder}
 use Rattle.mz_store.specs.Bits.{bound_vars}
 use Rattle.mz_store.specs.Sharing.{Sharing, trees_of}
 use Rattle.mz_store.specs.declared.item.DepsMode.{DepsMode}

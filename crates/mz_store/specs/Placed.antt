@@ -1,7 +1,7 @@
 -- Where the id of a term comes from.
 use Rattle.std.specs.Prelude.{ℕ, ◌≡◌, ◌⊎◌, List, length}
-use Rattle.mz_logic.specs.Tree.{app}
-use Rattle.mz_logic.specs.Words.{TermWords, signatures_of}
+use Rattle.mz_logic_theory.specs.Tree.{app}
+use Rattle.mz_logic_theory.specs.Words.{TermWords, signatures_of}
 use Rattle.mz_store.specs.Sharing.{Sharing, Holds, trees_of, IsOver}
 use Rattle.mz_store.specs.Nodes.{application, entered}
 use Rattle.mz_store.specs.declared.item.Id.{Id}

@@ -1,11 +1,11 @@
 -- What a store of shared expressions is.
 use Rattle.std.specs.Prelude.{ℕ, ◌≡◌, ◌<◌, ◌≤◌, ⊤, true, List, [], ◌∷◌, ◌++◌, length, get_or, Option, Some, None}
-use Rattle.mz_logic.specs.Tree.{Tree, Trees, var, app, none, more}
-use Rattle.mz_logic.specs.Signature.{Signature}
-use Rattle.mz_logic.specs.Sorts.{HasSort, Fits}
-use Rattle.mz_logic.specs.Variables.{InV, InFV}
-use Rattle.mz_logic.specs.Words.{TermWords, signature_of, signatures_of, term_at}
-use Rattle.mz_logic.specs.declared.binder.Binder.{Binder}
+use Rattle.mz_logic_theory.specs.Tree.{Tree, Trees, var, app, none, more}
+use Rattle.mz_logic_theory.specs.Signature.{Signature}
+use Rattle.mz_logic_theory.specs.Sorts.{HasSort, Fits}
+use Rattle.mz_logic_theory.specs.Variables.{InV, InFV}
+use Rattle.mz_logic_theory.specs.Words.{TermWords, signature_of, signatures_of, term_at}
+use Rattle.mz_logic_theory.specs.declared.binder.Binder.{Binder}
 use Rattle.mz_store.specs.Bits.{Tells, bound_vars}
 use Rattle.mz_store.specs.declared.item.DepsMode.{DepsMode}
 use Rattle.mz_store.specs.declared.item.DepsMode.TheVariants as of

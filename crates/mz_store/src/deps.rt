@@ -1,11 +1,11 @@
 //! The word of an application's variables, from those of its operands.
 ghost use Rattle.std.specs.Prelude.{ℕ, ◌≡◌, ◌<◌, ◌%◌, ◌==◌, if◌then◌else◌, Contains, IfOk, List, length};
-ghost use Rattle.mz_logic.specs.Signature.{Signature};
-ghost use Rattle.mz_logic.specs.Tree.{app};
-ghost use Rattle.mz_logic.specs.Sorts.{Fits};
-ghost use Rattle.mz_logic.specs.Variables.{InSomeV, IsBoundAt, IsOperandAt};
-ghost use Rattle.mz_logic.specs.Words.{signatures_of, places_set};
-ghost use Rattle.mz_logic.specs.declared.binder.Binder.{Binder};
+ghost use Rattle.mz_logic_theory.specs.Signature.{Signature};
+ghost use Rattle.mz_logic_theory.specs.Tree.{app};
+ghost use Rattle.mz_logic_theory.specs.Sorts.{Fits};
+ghost use Rattle.mz_logic_theory.specs.Variables.{InSomeV, IsBoundAt, IsOperandAt};
+ghost use Rattle.mz_logic_theory.specs.Words.{signatures_of, places_set};
+ghost use Rattle.mz_logic_theory.specs.declared.binder.Binder.{Binder};
 ghost use Rattle.mz_store.specs.Bits.{Tells, bound_vars};
 ghost use Rattle.mz_store.specs.Sharing.{IsIn, AreIn, deps_of, trees_of, IsOver, IsTold, CanTake};
 ghost use Rattle.mz_store.specs.Kept.{shared_by, AreKept};
@@ -13,7 +13,7 @@ ghost use Rattle.mz_store.specs.declared.item.DepsMode.TheVariants.{All, Free};
 
 use crate::expressions::Expressions;
 use crate::item::{DepsMode, Id};
-use mz_logic::Terms;
+use mz_logic_theory::Terms;
 use std::alloc::{AllocError, Global};
 
 /// The word of the term `t` over these operands.

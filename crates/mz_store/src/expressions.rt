@@ -2,8 +2,8 @@
 //! they grow.
 ghost use Rattle.std.specs.Prelude.{ℕ, ◌≡◌, ◌++◌, IfOk, OnOk, OnErr, List, length};
 ghost use Rattle.mz_store.specs.declared.item.Id.{Id};
-ghost use Rattle.mz_logic.specs.Signature.{Signature};
-ghost use Rattle.mz_logic.specs.Words.{signatures_of};
+ghost use Rattle.mz_logic_theory.specs.Signature.{Signature};
+ghost use Rattle.mz_logic_theory.specs.Words.{signatures_of};
 ghost use Rattle.mz_store.specs.Bits.{Tells, bound_vars};
 ghost use Rattle.mz_store.specs.Sharing.{IsIn, AreIn, tree_of, trees_of, deps_of, IsOver, IsTold, CanTake};
 ghost use Rattle.mz_store.specs.Kept.{shared_by, AreKept, IsAdded, HasMore};
@@ -11,7 +11,7 @@ ghost use Rattle.mz_store.specs.Kept.{shared_by, AreKept, IsAdded, HasMore};
 use crate::deps::deps_of_term;
 use crate::item::{DepsMode, Id};
 use crate::node::{Application, Form, Node};
-use mz_logic::Terms;
+use mz_logic_theory::Terms;
 use std::alloc::{AllocError, Global};
 
 /// Expressions over the variables of one context. The id of each is its place.

@@ -1,9 +1,9 @@
 //! The store.
 ghost use Rattle.std.specs.Prelude.{ℕ, ◌≡◌, ◌↔◌, ◌<◌, ◌≤◌, ◌+◌, ◌∷◌, [], ◌++◌, List, map, OnOk, OnErr, IfOk, IsTrue, length};
-ghost use Rattle.mz_logic.specs.Sorts.{HasSort, IsBoundVar};
-ghost use Rattle.mz_logic.specs.Signature.{Signature};
-ghost use Rattle.mz_logic.specs.Tree.{var, app};
-ghost use Rattle.mz_logic.specs.Words.{BitsRight, BitsRightAfter, binders_of, signatures_of};
+ghost use Rattle.mz_logic_theory.specs.Sorts.{HasSort, IsBoundVar};
+ghost use Rattle.mz_logic_theory.specs.Signature.{Signature};
+ghost use Rattle.mz_logic_theory.specs.Tree.{var, app};
+ghost use Rattle.mz_logic_theory.specs.Words.{BitsRight, BitsRightAfter, binders_of, signatures_of};
 ghost use Rattle.mz_store.specs.Bits.{Tells, bound_vars};
 ghost use Rattle.mz_store.specs.Sharing.{IsIn, AreIn, Holds, tree_of, trees_of, sort_of, deps_of, head_of, operands_of, IsOver, IsTold, CanTake, KeepsIds, IsEmpty, dummy_binder};
 ghost use Rattle.mz_store.specs.Nodes.{IsVariableWord, variable, variable_node, entered, entered_all};
@@ -14,7 +14,7 @@ use crate::expressions::Expressions;
 use crate::item::{DepsMode, Id};
 use crate::node::{Form, Node};
 use crate::seed::Seed;
-use mz_logic::{Terms, Word};
+use mz_logic_theory::{Terms, Word};
 use std::alloc::{AllocError, Global};
 use std::collections::HashMap;
 use std::collections::hash_map::Entry;

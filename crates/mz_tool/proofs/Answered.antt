@@ -6,14 +6,14 @@ use Rattle.std.specs.List.{list_any}
 use Rattle.std.proofs.lemmas.Bool.{or_cases, or_left, or_right, and_parts, and_from, le-leb, leb-true}
 use Rattle.mz_io.specs.Outside.{SameFiles, Rooms, HasRoom, serves}
 use Rattle.mz_base_theory.proofs.Offered.{all_hold-rest}
-use Rattle.mz_mmu_statements.specs.Statements.{Statement}
-use Rattle.mz_type.specs.TextOf.{TextOf}
-use Rattle.mz_type.specs.Weight.{byte_bound, each_within, bound_limit, bound_count, parameter_limit, parameter_count}
-use Rattle.mz_emit.specs.declared.compiled.Compiled.{Compiled}
-use Rattle.mz_emit.specs.declared.compiled.Compiled.TheVariants as answers
-use Rattle.mz_emit.specs.Lines.{line_of as line_of_compiled}
-use Rattle.mz_emit.specs.Limits.{limit, over}
-use Rattle.mz_emit.specs.Compiling.{IsCompilation, CompilesTo, IsCompilable, IsDecided}
+use Rattle.mz_mmu_theory.specs.Statements.{Statement}
+use Rattle.mz_mmu_theory.specs.TextOf.{TextOf}
+use Rattle.mz_mmu_theory.specs.Weight.{byte_bound, each_within, bound_limit, bound_count, parameter_limit, parameter_count}
+use Rattle.mz_emit_accepted_theory.specs.declared.compiled.Compiled.{Compiled}
+use Rattle.mz_emit_accepted_theory.specs.declared.compiled.Compiled.TheVariants as answers
+use Rattle.mz_emit_accepted_theory.specs.Lines.{line_of as line_of_compiled}
+use Rattle.mz_emit_accepted_theory.specs.Limits.{limit, over}
+use Rattle.mz_emit_accepted_theory.specs.Compiling.{IsCompilation, CompilesTo, IsCompilable, IsDecided}
 use Rattle.mz_tool.specs.declared.outcome.Outcome.TheVariants as outcomes
 use Rattle.mz_prefix_theory.specs.Wording.{longest}
 use Rattle.mz_tool.specs.Request.{Request, verify, compile, Files, Hold, names_read, IsPut}

@@ -1,7 +1,7 @@
 -- What comes of a listing: it is assembled, or one of its lines breaks a rule, or its binary would be too long.
 use Rattle.std.proofs.Common.{◌≡◌, ◌≤◌, ◌∙◌, ℕ, List, Option, length, ap, inl, inr, refl, arith}
-use Rattle.mz_layout.specs.Normal.{file_length}
-use Rattle.mz_layout.proofs.Offered.{file-length}
+use Rattle.mz_layout_tables.specs.Normal.{file_length}
+use Rattle.mz_layout_tables.proofs.Offered.{file-length}
 use Rattle.mz_asm.specs.declared.assembled.Assembled.{Assembled}
 use Rattle.mz_asm.specs.declared.assembled.Assembled.TheVariants as answers
 use Rattle.mz_asm.specs.Statements.{parts_of}

@@ -2,7 +2,7 @@
 use Rattle.std.proofs.Common.{◌≡◌, ◌++◌, ◌∙◌, [], ◌∷◌, ℕ, List, Option, Some, None, true, false, refl, sym, ap, subst, inl, inr, append_assoc}
 use Rattle.std.proofs.lemmas.List.{append-nil}
 use Rattle.mz_io.specs.Calls.{Call, puts, Grows, IsRead, AreRead, AreReadAndPut, AreReadNotPut, IsPutting, IsWritten, IsCut}
-use Rattle.mz_io.proofs.Logs.{grows-both, written-both, cut-after}
+use Rattle.mz_io.proofs.Offered.{grows-both, written-both, cut-after}
 use Rattle.mz_cmd.specs.declared.rule.Refusal.{Refusal}
 use Rattle.mz_binary_theory.specs.RefusalLine.{refusal_line}
 use Rattle.mz_show.specs.Listing.{IsListed, IsListedUpTo}

@@ -3,7 +3,7 @@ use Rattle.std.proofs.Common.{◌≡◌, ◌≤◌, ℕ, List, Option, length, a
 use Rattle.mz_base_theory.proofs.Offered.{all_hold-rest}
 use Rattle.mz_match_theory.specs.Verdict.{Accepts, IsSound}
 use Rattle.mz_decompile_text_theory.specs.Phrasing.{text_of}
-use Rattle.mz_decompile_names.specs.Names.{vocabulary_of}
+use Rattle.mz_decompile_text_theory.specs.Names.{vocabulary_of}
 use Rattle.mz_decompile_theory.specs.Restated.{deep, too_long, depth_checks, greater_length}
 use Rattle.mz_decompile_theory.specs.Texts.{IsPlainText}
 use Rattle.mz_decompile.specs.declared.decompiled.Decompiled.{Decompiled}

@@ -1,13 +1,13 @@
 -- What comes of a sample: its text is compiled, and the binary verified.
 use Rattle.std.proofs.Common.{◌≡◌, ◌∙◌, ◌++◌, ℕ, List, [], Option, Some, None, sym, subst, inl, inr, refl, ap, false}
-use Rattle.mz_logic.specs.LegalLists.{Statement}
+use Rattle.mz_logic_theory.specs.LegalLists.{Statement}
 use Rattle.mz_binary_theory.proofs.Offered.{one-list, good-spelled}
-use Rattle.mz_match_theory.specs.Match.{publics, Agrees}
+use Rattle.mz_spec_proved_theory.specs.Match.{publics, Agrees}
 use Rattle.mz_match_theory.specs.Verdict.{Accepts, IsSound, counts_of}
 use Rattle.mz_match_theory.proofs.Offered.{accepted-excludes}
-use Rattle.mz_type.specs.Laws.{IsTypedOrFaulty}
-use Rattle.mz_type.specs.Meaning.{marked}
-use Rattle.mz_emit.specs.Compiling.{CompilesTo, IsDecided}
+use Rattle.mz_mmu_theory.specs.TypeLaws.{IsTypedOrFaulty}
+use Rattle.mz_mmu_theory.specs.Meaning.{marked}
+use Rattle.mz_emit_accepted_theory.specs.Compiling.{CompilesTo, IsDecided}
 use Rattle.mz_sample.specs.Samples.{sample_specification, sample_text}
 use Rattle.mz_tool.specs.declared.outcome.Outcome.{Outcome}
 use Rattle.mz_tool.specs.declared.outcome.Outcome.TheVariants as outcomes

@@ -6,7 +6,7 @@ use Rattle.mz_prefix.specs.declared.spec_text.SpecText.{SpecText}
 use Rattle.mz_prefix.specs.declared.spec_text.SpecText.TheVariants as answers
 use Rattle.mz_prefix.specs.SpecTexts.{IsWording, IsDecided}
 use Rattle.mz_match_theory.specs.Verdict.{Accepts}
-use Rattle.mz_emit.specs.Compiling.{CompilesTo}
+use Rattle.mz_emit_accepted_theory.specs.Compiling.{CompilesTo}
 use Rattle.mz_prefix_theory.specs.AgreeLaws.{DeclaresText}
 use Rattle.mz_tool.specs.Run.{IsSpecifiedTo, IsNotSpecified, AreItsSpecifications}
 use Rattle.mz_tool.specs.Specified.{spec_line}

@@ -3,16 +3,16 @@
 use Rattle.std.proofs.Common.{◌≡◌, ◌<◌, ◌+◌, ℕ, zero, suc, Bool, true, false, cond, List, [], ◌∷◌, ◌++◌, length, Option, Some, None, slice_get, refl, ap, sym, ◌∙◌, subst, arith, inl, inr, ◌==◌}
 use Rattle.std.proofs.lemmas.Bool.{eqb-true, eq-eqb, ne_eqb}
 use Rattle.std.proofs.lemmas.Option.{slice_get_within}
-use Rattle.mz_logic.specs.Tree.{Tree, Trees, var, app, none, more, operand, instance, instances, followed_by, variables}
-use Rattle.mz_logic.specs.Conversions.{AreFresh}
-use Rattle.mz_logic.specs.declared.binder.Binder.{Binder}
-use Rattle.mz_logic.proofs.Offered.{split_at}
+use Rattle.mz_logic_theory.specs.Tree.{Tree, Trees, var, app, none, more, operand, instance, instances, followed_by, variables}
+use Rattle.mz_logic_theory.specs.Conversions.{AreFresh}
+use Rattle.mz_logic_theory.specs.declared.binder.Binder.{Binder}
+use Rattle.mz_logic_theory.proofs.Offered.{split_at}
 use Rattle.mz_unify_theory.specs.Spells.{variables_from}
 use Rattle.mz_unify_theory.proofs.Offered.{some_is, distinct, in-some, operand-trees_of, length-params}
 use Rattle.mz_emit_theory.specs.Sameness.{own}
 use Rattle.mz_emit_theory.proofs.Offered.{operand-front, operand-behind, operand-variables}
 use Rattle.mz_emit_accepted_theory.proofs.Offered.{fresh-back, own-of}
-use Rattle.mz_match_theory.specs.Trees.{SameOver, AllSameOver, Pairs, IsPaired, SameBody}
+use Rattle.mz_spec_proved_theory.specs.Trees.{SameOver, AllSameOver, Pairs, IsPaired, SameBody}
 
 -- ---- fresh variables
 

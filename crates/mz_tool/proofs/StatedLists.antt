@@ -1,13 +1,13 @@
 -- A specification that agrees with the statements of a binary agrees with those of the text, of which they are the same.
 use Rattle.std.proofs.Common.{◌≡◌, ℕ, Bool, true, false, List, [], ◌∷◌, ◌++◌, length, ap, sym, ◌∙◌, subst, if◌then◌else◌}
 use Rattle.mz_base_theory.specs.Checks.{AllHold}
-use Rattle.mz_logic.specs.Declaration.{Form, plain_form, abstract_form, defined, Declaration, sort_decl, term_decl, assertion_decl}
-use Rattle.mz_logic.specs.LegalLists.{Statement}
-use Rattle.mz_logic.specs.Signature.{Signature}
-use Rattle.mz_logic.specs.declared.binder.Binder.{Binder}
+use Rattle.mz_logic_theory.specs.Declaration.{Form, plain_form, abstract_form, defined, Declaration, sort_decl, term_decl, assertion_decl}
+use Rattle.mz_logic_theory.specs.LegalLists.{Statement}
+use Rattle.mz_logic_theory.specs.Signature.{Signature}
+use Rattle.mz_logic_theory.specs.declared.binder.Binder.{Binder}
 use Rattle.mz_emit_theory.specs.Sameness.{IsSameForm}
 use Rattle.mz_emit_theory.specs.SameLists.{IsSameDeclaration, IsSameList}
-use Rattle.mz_match_theory.specs.Match.{term_rows, partner_of, publics, publics_after, form_checks, match_checks, Agrees}
+use Rattle.mz_spec_proved_theory.specs.Match.{term_rows, partner_of, publics, publics_after, form_checks, match_checks, Agrees}
 use Rattle.mz_emit_accepted_theory.proofs.Offered.{form-kind, same-longer, same-rows}
 use Rattle.mz_tool.proofs.StatedBodies.{same-body-after}
 

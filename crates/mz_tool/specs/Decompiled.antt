@@ -1,8 +1,8 @@
 -- The line of what making a text of a binary answers (this project's own).
 use Rattle.std.specs.Prelude.{⊤, ℕ, List, [], length}
 use Rattle.mz_match_theory.specs.Verdict.{line_of}
-use Rattle.mz_emit.specs.declared.rule.L.TheVariants.{Bytes}
-use Rattle.mz_emit.specs.Lines.{limit_line}
+use Rattle.mz_emit_accepted_theory.specs.declared.rule.L.TheVariants.{Bytes}
+use Rattle.mz_emit_accepted_theory.specs.Lines.{limit_line}
 use Rattle.mz_decompile_theory.specs.Restated.{Unstated, deep, too_long}
 use Rattle.mz_decompile.specs.declared.decompiled.Decompiled.{Decompiled}
 use Rattle.mz_decompile.specs.declared.decompiled.Decompiled.TheVariants as answers

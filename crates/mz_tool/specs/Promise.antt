@@ -1,6 +1,6 @@
 -- What a yes promises of a specification, without a word of binaries (this project's own).
 use Rattle.std.specs.Prelude.{◌≡◌, ℕ, List, Some}
-use Rattle.mz_match_theory.specs.Headline.{Proves}
+use Rattle.mz_spec_proved_theory.specs.Headline.{Proves}
 use Rattle.mz_sample.specs.Samples.{sample_specification}
 use Rattle.mz_tool.specs.Request.{Request, verify, show, compile, assemble, axioms, draft, portable, specify, decompile, sample, Files}
 

@@ -12,12 +12,12 @@ use Rattle.mz_match.specs.Drafts.{DraftAccepts, IsDraftSound}
 use Rattle.mz_binary_theory.specs.RefusalLine.{refusal_line}
 use Rattle.mz_show.specs.Listing.{IsListing, IsListedUpTo, IsListed}
 use Rattle.mz_sexpr.specs.declared.rule.TextRefusal.{TextRefusal}
-use Rattle.mz_type.specs.TextOf.{TextFault}
-use Rattle.mz_emit.specs.declared.rule.L.{L}
-use Rattle.mz_emit.specs.declared.rule.L.TheVariants.{Bytes}
-use Rattle.mz_emit.specs.Lines.{bytes_line, refusal_line as text_refusal_line, limit_line}
-use Rattle.mz_emit.specs.Limits.{limit, over}
-use Rattle.mz_emit.specs.Compiling.{IsCompilable, CompilesTo, PassesLimit}
+use Rattle.mz_mmu_theory.specs.TextOf.{TextFault}
+use Rattle.mz_emit_accepted_theory.specs.declared.rule.L.{L}
+use Rattle.mz_emit_accepted_theory.specs.declared.rule.L.TheVariants.{Bytes}
+use Rattle.mz_emit_accepted_theory.specs.Lines.{bytes_line, refusal_line as text_refusal_line, limit_line}
+use Rattle.mz_emit_accepted_theory.specs.Limits.{limit, over}
+use Rattle.mz_emit_accepted_theory.specs.Compiling.{IsCompilable, CompilesTo, PassesLimit}
 use Rattle.mz_asm.specs.declared.rule.A.{A}
 use Rattle.mz_asm.specs.Spoken.{bytes_line as assembled_line, refusal_line as listing_refusal_line, limit_line as length_line}
 use Rattle.mz_asm.specs.Assembling.{IsBinaryOf, Breaks, IsTooLong}

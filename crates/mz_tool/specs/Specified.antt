@@ -1,6 +1,6 @@
 -- The line of what making a specification answers (this project's own).
 use Rattle.std.specs.Prelude.{ℕ, List, [], length}
-use Rattle.mz_emit.specs.Lines.{refusal_line}
+use Rattle.mz_emit_accepted_theory.specs.Lines.{refusal_line}
 use Rattle.mz_prefix_theory.specs.Wording.{local_in, long_in, too_long}
 use Rattle.mz_prefix.specs.Told.{specified_line}
 use Rattle.mz_prefix.specs.declared.spec_text.SpecText.{SpecText}

@@ -7,9 +7,9 @@ ghost use Rattle.mz_tool.specs.Outcomes.{IfYes, IfNo, OnYes, OnNo};
 
 use crate::outcome::Outcome;
 use crate::output::Put;
-use mz_base::Mode;
-use mz_emit::{Compiled, compilation_is_decided, compile_bytes, compiled_line};
-use mz_mmu_forms::Hashing;
+use mz_base::{Hashing, Mode};
+use mz_emit::{compilation_is_decided, compile_bytes, compiled_line};
+use mz_emit_accepted_theory::Compiled;
 use mz_store::Seed;
 use std::alloc::Global;
 

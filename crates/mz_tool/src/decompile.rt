@@ -13,7 +13,8 @@ use mz_cmd::{Mem, Steps};
 use mz_decompile::{
     Decompiled, decompilation_is_decided, decompile_bytes, decompiled_line, deep_line,
 };
-use mz_emit::{Compiled, L, compiled_line};
+use mz_emit::compiled_line;
+use mz_emit_accepted_theory::{Compiled, L};
 use mz_match::verdict_line;
 use mz_match_theory::accepted_pairs_are_sound;
 use mz_store::Seed;

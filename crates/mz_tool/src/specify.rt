@@ -7,9 +7,10 @@ ghost use Rattle.mz_tool.specs.Specified;
 
 use crate::outcome::Outcome;
 use crate::output::Put;
+use mz_base::Hashing;
 use mz_cmd::Mem;
-use mz_emit::{Compiled, L, compiled_line};
-use mz_mmu_forms::Hashing;
+use mz_emit::compiled_line;
+use mz_emit_accepted_theory::{Compiled, L};
 use mz_prefix::{
     SpecText, local_line, long_line, spec_of, specification_is_decided, specified_line,
 };

@@ -4,7 +4,8 @@ use crate::files::{IMP, IMP_SPEC, ONE, ONE_SPEC};
 use crate::runs::{folder_of, words_of};
 use crate::texts::SORT;
 use mz_io::{Folder, MemFolder, MemSink};
-use mz_tool::{Command, Seed, Status, answer, run};
+use mz_store::Seed;
+use mz_tool::{Command, Status, answer, run};
 use std::process::Abort;
 
 const ACCEPTED_ONE: &str = "accepted: 1 sorts, 0 terms, 0 axioms, 0 definitions, 0 theorems\n";

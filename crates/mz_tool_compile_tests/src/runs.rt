@@ -1,7 +1,8 @@
 // Runs of the program over a folder and a sink in memory.
 use crate::expect::expect_of;
 use mz_io::{MemFolder, MemSink};
-use mz_tool::{Seed, Status, run};
+use mz_store::Seed;
+use mz_tool::{Status, run};
 use std::alloc::{AllocError, Global};
 use std::process::Abort;
 

@@ -2,7 +2,8 @@
 use crate::expect::expect_of;
 use crate::runs::{folder_of, words_of};
 use mz_io::{Folder, MemSink};
-use mz_tool::{Seed, Status, run};
+use mz_store::Seed;
+use mz_tool::{Status, run};
 use std::alloc::{AllocError, Global};
 use std::process::Abort;
 

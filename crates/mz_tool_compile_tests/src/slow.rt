@@ -4,8 +4,9 @@ ghost use Rattle.std.specs.Prelude.{◌≡◌};
 use crate::expect::expect_of;
 use crate::failing::{RUNS, assert_files, smallest};
 use crate::runs::words_of;
-use mz_io::{Failed, Folder, MemFolder, MemSink};
-use mz_tool::{Seed, Status, run};
+use mz_io::{Failed, Folder, Log, MemFolder, MemSink, Note};
+use mz_store::Seed;
+use mz_tool::{Status, run};
 use std::process::Abort;
 
 /// A folder in memory that gives one byte at a time. It tells nothing of its files.
@@ -14,10 +15,13 @@ struct SlowFolder {
     folder: MemFolder,
     faults: u64,
     put_faults: u64,
+    log: Log,
 }
 
 impl Folder for SlowFolder {
     ghost use Rattle.std.specs.Prelude.{[], None};
+
+    ghost calls = { λ folder. folder.log.calls };
 
     ghost told = { ⊥ };
 
@@ -36,7 +40,9 @@ impl Folder for SlowFolder {
     ghost clear_tells = { λ d clear. clear };
 
     fn start(&mut self, name: &str) -> Result<(), Failed> {
-        match self.folder.start(name) {
+        let done = self.folder.start(name);
+        self.log.note(&Note::Start(name, done.is_ok()));
+        match done {
             Ok(()) => Ok(()),
             Err(_) => {
                 self.faults = self.faults.saturating_add(1);
@@ -48,15 +54,21 @@ impl Folder for SlowFolder {
     fn pull(&mut self, buf: &mut [u8]) -> Result<usize, Failed> {
         let mut one = [0u8];
         if buf.is_empty() {
+            self.log.note(&Note::Pull(buf.len(), &buf[..0]));
             return Ok(0);
         }
         match self.folder.pull(&mut one) {
-            Ok(0) => Ok(0),
+            Ok(0) => {
+                self.log.note(&Note::Pull(buf.len(), &buf[..0]));
+                Ok(0)
+            }
             Ok(_) => {
                 buf[0] = one[0];
+                self.log.note(&Note::Pull(buf.len(), &buf[..1]));
                 Ok(1)
             }
             Err(_) => {
+                self.log.note(&Note::PullFails);
                 self.faults = self.faults.saturating_add(1);
                 Err(Failed)
             }
@@ -64,7 +76,9 @@ impl Folder for SlowFolder {
     }
 
     fn put(&mut self, name: &str, bytes: &[u8]) -> Result<(), Failed> {
-        match self.folder.put(name, bytes) {
+        let done = self.folder.put(name, bytes);
+        self.log.note(&Note::Put(name, bytes, done.is_ok()));
+        match done {
             Ok(()) => Ok(()),
             Err(_) => {
                 self.put_faults = self.put_faults.saturating_add(1);
@@ -80,6 +94,7 @@ fn expect_slow(rt: &(impl Abort + AllocGlobal), line: &str, is_put: bool, text: 
         folder: smallest(rt),
         faults: 0,
         put_faults: 0,
+        log: Log::new(),
     };
     let mut out = MemSink::new(rt.alloc(), 200).expect(rt, "memory");
     out.take_at_most(1);

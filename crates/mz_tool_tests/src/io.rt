@@ -42,10 +42,10 @@ const LIMITS: &[(u64, u64, &str)] = &[
     (51, 50, "too long"),
     (51, 51, "bytes"),
     (51, u64::MAX, "bytes"),
-    (1024, 1024, "bytes"),
-    (1024, 1023, "too long"),
-    (2500, 2499, "too long"),
-    (2500, 2500, "bytes"),
+    (16_384, 16_384, "bytes"),
+    (16_384, 16_383, "too long"),
+    (40_000, 39_999, "too long"),
+    (40_000, 40_000, "bytes"),
 ];
 
 /// Reads a file under a limit, and compares how this ends.
@@ -99,7 +99,7 @@ fn the_smallest_binary_is_read_up_to_its_length(rt: HostRuntime) {
 fn expect_failing(rt: &(impl Abort + AllocGlobal), bytes: &[u8], call: u64) {
     let mut folder = folder_of(rt, &[("file", bytes)]);
     folder.fail_call(call).expect(rt, "memory");
-    let read = read_bounded(rt.alloc(), &mut folder, "file", 4000);
+    let read = read_bounded(rt.alloc(), &mut folder, "file", 50_000);
     let word = if call <= 5 { "fault" } else { "bytes" };
     assert!(rt; shown(&read).0 == word, "where call {call} fails");
     assert_file(rt, &folder, "file", bytes);
@@ -107,13 +107,13 @@ fn expect_failing(rt: &(impl Abort + AllocGlobal), bytes: &[u8], call: u64) {
 
 #[test]
 fn a_failing_start_or_pull_is_a_fault(rt: HostRuntime) {
-    // One start, two whole pulls, one of 452 bytes, and one at the end.
-    let bytes = counting(rt.alloc(), 2500).expect(&rt, "memory");
+    // One start, two whole pulls of 16,384 bytes, one of 7,232, and one at the end.
+    let bytes = counting(rt.alloc(), 40_000).expect(&rt, "memory");
     for call in 1..8u64 {
         expect_failing(&rt, &bytes, call);
     }
     let mut folder = MemFolder::new(rt.alloc());
-    expect_read(&rt, &mut folder, "file", 4000, "fault", b"");
+    expect_read(&rt, &mut folder, "file", 50_000, "fault", b"");
 }
 
 /// Puts a file, and compares whether this succeeds.
@@ -233,11 +233,11 @@ fn expect_started(rt: &impl Abort, folder: &mut impl Folder, name: &str, succeed
 fn expect_kept(rt: &(impl Abort + AllocGlobal), folder: &mut impl Folder, bytes: &[u8]) {
     expect_put(rt, folder, FILE, bytes, true);
     expect_read(rt, folder, FILE, 2499, "too long", b"");
-    expect_read(rt, folder, FILE, 2500, "bytes", bytes);
+    expect_read(rt, folder, FILE, 40_000, "bytes", bytes);
     expect_put(rt, folder, FILE, b"short", true);
     let pulled = folder.pull(&mut [0; 8]);
     expect_that(rt, pulled == Ok(0), "nothing is being read");
-    expect_read(rt, folder, FILE, 2500, "bytes", b"short");
+    expect_read(rt, folder, FILE, 40_000, "bytes", b"short");
     // Nothing is left beside it.
     expect_started(rt, folder, "mz_io_folder_test.part0", false);
     // What is no file is written as it stands.
@@ -255,7 +255,7 @@ fn expect_gone(rt: &impl Abort, folder: &mut impl Folder) {
 
 #[test]
 fn files_of_the_system(rt: HostRuntime) {
-    let bytes = counting(rt.alloc(), 2500).expect(&rt, "memory");
+    let bytes = counting(rt.alloc(), 40_000).expect(&rt, "memory");
     let mut folder = DiskFolder::new(&rt);
     expect_kept(&rt, &mut folder, &bytes);
     fs::remove_file(&rt, FILE).expect(&rt, "the file is there");

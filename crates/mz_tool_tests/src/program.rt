@@ -19,7 +19,8 @@ mod worked;
 use crate::expect::expect_of;
 use change::{Change, changed};
 use mz_io::{MemFolder, MemSink};
-use mz_tool::{Seed, Status, run};
+use mz_store::Seed;
+use mz_tool::{Status, run};
 use std::alloc::{AllocError, Global};
 use std::process::Abort;
 

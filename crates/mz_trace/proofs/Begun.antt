@@ -2,18 +2,19 @@
 use Rattle.std.proofs.Common.{◌≡◌, ℕ, zero, suc, ◌+◌, List, [], ◌∷◌, ◌++◌, Ok, length, map, refl, sym, ap, ◌∙◌, subst, arith}
 use Rattle.std.proofs.lemmas.List.{append-nil, map-append}
 use Rattle.mz_base_theory.proofs.Offered.{one-further}
-use Rattle.mz_logic.specs.Tree.{Tree, var}
-use Rattle.mz_logic.specs.declared.binder.Binder.{Binder}
+use Rattle.mz_logic_theory.specs.Tree.{Tree, var}
+use Rattle.mz_logic_theory.specs.declared.binder.Binder.{Binder}
 use Rattle.mz_unify_theory.specs.Profile.{strict, expr, proof, obligation, conversion, Item as MachineItem}
 use Rattle.mz_unify_theory.specs.Spells.{dummy_of}
 use Rattle.mz_unify_theory.proofs.Offered.{from_bind}
 use Rattle.mz_machine_theory.specs.MachineState.{RowsBefore, State, is_theorem, Heading}
 use Rattle.mz_machine_theory.specs.ProofMachine.{own_variables, last_item, ends_with, proof_end}
 use Rattle.mz_machine_theory.specs.Bodies.{body_start, body_from, Runs}
-use Rattle.mz_layout.specs.Tables.{thm_row}
-use Rattle.mz_machine_env.specs.OwnRow.{MayRun, heading_of}
+use Rattle.mz_layout_tables.specs.Tables.{thm_row}
+use Rattle.mz_machine_env.specs.OwnRow.{MayRun}
+use Rattle.mz_machine_theory.specs.Headings.{heading_of}
 use Rattle.mz_machine_env.specs.Before.{tables_before}
-use Rattle.mz_layout.specs.declared.taken.Rows.{Rows}
+use Rattle.mz_layout_tables.specs.declared.taken.Rows.{Rows}
 use Rattle.mz_machine_env.proofs.Offered.{binders_many}
 use Rattle.mz_trace_theory.specs.Parts.{Part, expression, proved}
 use Rattle.mz_trace_theory.specs.Traces.{Trace, trace_start, trace_from, trace_body}

@@ -3,10 +3,10 @@ use Rattle.std.proofs.Common.{◌≡◌, ℕ, List, [], length, map, drop, Optio
 use Rattle.std.specs.Prelude.{slice_get}
 use Rattle.std.proofs.lemmas.List.{drop_at}
 use Rattle.std.proofs.lemmas.Option.{get_or_from_slice_get}
-use Rattle.mz_logic.specs.Tree.{Tree, var, app, none, instance, followed_by, variables}
-use Rattle.mz_logic.specs.Signature.{Signature}
-use Rattle.mz_logic.specs.Declaration.{Form, plain_form, abstract_form, defined, Term, Declaration, terms, signatures, body_tree}
-use Rattle.mz_logic.specs.declared.binder.Binder.{Binder}
+use Rattle.mz_logic_theory.specs.Tree.{Tree, var, app, none, instance, followed_by, variables}
+use Rattle.mz_logic_theory.specs.Signature.{Signature}
+use Rattle.mz_logic_theory.specs.Declaration.{Form, plain_form, abstract_form, defined, Term, Declaration, terms, signatures, body_tree}
+use Rattle.mz_logic_theory.specs.declared.binder.Binder.{Binder}
 use Rattle.mz_unify_theory.specs.Streams.{of_definition}
 use Rattle.mz_unify_theory.specs.Spells.{trees_of, Text, SpelledTerm, SpellsForm, SpellsTerm}
 use Rattle.mz_unify_theory.specs.Profile.{strict}

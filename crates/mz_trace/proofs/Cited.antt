@@ -2,11 +2,11 @@
 use Rattle.std.proofs.Common.{◌≡◌, ℕ, List, length, Some, Ok, sym, ap, ◌∙◌, subst}
 use Rattle.std.specs.Prelude.{slice_get}
 use Rattle.std.proofs.lemmas.Option.{get_or_from_slice_get}
-use Rattle.mz_logic.specs.Tree.{Tree, instance}
-use Rattle.mz_logic.specs.Signature.{Signature}
-use Rattle.mz_logic.specs.Declaration.{Assertion, Declaration, signatures, assertions}
-use Rattle.mz_logic.specs.declared.binder.Binder.{Binder}
-use Rattle.mz_type_rules.specs.Sides.{assertion_at}
+use Rattle.mz_logic_theory.specs.Tree.{Tree, instance}
+use Rattle.mz_logic_theory.specs.Signature.{Signature}
+use Rattle.mz_logic_theory.specs.Declaration.{Assertion, Declaration, signatures, assertions}
+use Rattle.mz_logic_theory.specs.declared.binder.Binder.{Binder}
+use Rattle.mz_mmu_theory.specs.Sides.{assertion_at}
 use Rattle.mz_unify_theory.specs.Laws.{citing}
 use Rattle.mz_unify_theory.specs.Profile.{strict, Item}
 use Rattle.mz_unify_theory.specs.Spells.{SpelledThm, SpellsThm, trees_of}

@@ -8,10 +8,10 @@ use Rattle.std.proofs.lemmas.List.FromFn.{length-map-range_with_len}
 use Rattle.mz_cmd.specs.declared.rule.K.{K}
 use Rattle.mz_cmd.specs.declared.rule.K.TheVariants as k
 use Rattle.mz_cmd.specs.declared.code.ProofCode.TheVariants as code
-use Rattle.mz_logic.specs.Tree.{Tree}
-use Rattle.mz_logic.specs.declared.binder.Binder.{Binder}
-use Rattle.mz_mmu_forms.specs.Proof.{Proof, by_citation, no_proofs}
-use Rattle.mz_layout.specs.Tables.{thm_row, thm_count}
+use Rattle.mz_logic_theory.specs.Tree.{Tree}
+use Rattle.mz_logic_theory.specs.declared.binder.Binder.{Binder}
+use Rattle.mz_mmu_theory.specs.Proof.{Proof, by_citation, no_proofs}
+use Rattle.mz_layout_tables.specs.Tables.{thm_row, thm_count}
 use Rattle.mz_unify_theory.specs.Profile.{strict, proof, Item as MachineItem}
 use Rattle.mz_unify_theory.specs.Laws.{citing}
 use Rattle.mz_unify_theory.specs.Spells.{SpelledThm, trees_of}

@@ -1,6 +1,6 @@
 -- Where the nodes have their parts, citations and unfoldings have their claims.
 use Rattle.std.proofs.Common.{List, [], ◌∷◌, ◌++◌}
-use Rattle.mz_logic.specs.Declaration.{Declaration}
+use Rattle.mz_logic_theory.specs.Declaration.{Declaration}
 use Rattle.mz_machine_theory.specs.MachineState.{RowsBefore, Declares}
 use Rattle.mz_trace.specs.Nodes.{Value, value_of, HasParts, HavePartsAfter}
 use Rattle.mz_trace.specs.Claims.{HasClaim, HasClaimsAfter}

@@ -5,8 +5,8 @@ use Rattle.mz_cmd.specs.declared.rule.K.{K}
 use Rattle.mz_cmd.specs.declared.rule.K.TheVariants as k
 use Rattle.mz_cmd.specs.declared.code.ProofCode.{ProofCode}
 use Rattle.mz_cmd.specs.declared.code.ProofCode.TheVariants as code
-use Rattle.mz_logic.specs.Tree.{Tree}
-use Rattle.mz_logic.specs.declared.binder.Binder.{Binder}
+use Rattle.mz_logic_theory.specs.Tree.{Tree}
+use Rattle.mz_logic_theory.specs.declared.binder.Binder.{Binder}
 use Rattle.mz_unify_theory.specs.Profile.{strict, Item}
 use Rattle.mz_unify_theory.specs.Steps.{◌>>=◌, ◌>>◌, need, want}
 use Rattle.mz_machine_theory.specs.MachineState.{RowsBefore, State}

@@ -3,7 +3,7 @@ use Rattle.std.proofs.Common.{◌≡◌, ℕ, List, [], ◌∷◌, ◌++◌, map
 use Rattle.std.specs.Prelude.{reverse}
 use Rattle.std.proofs.lemmas.List.{reverse-append}
 use Rattle.mz_base_theory.proofs.Offered.{slice_get-append}
-use Rattle.mz_logic.specs.Tree.{app}
+use Rattle.mz_logic_theory.specs.Tree.{app}
 use Rattle.mz_unify_theory.specs.Profile.{expr, proof}
 use Rattle.mz_unify_theory.specs.Spells.{trees_of}
 use Rattle.mz_machine_theory.specs.MachineState.{RowsBefore}

@@ -8,9 +8,9 @@ use Rattle.std.proofs.lemmas.List.FromFn.{length-map-range_with_len}
 use Rattle.mz_cmd.specs.declared.rule.K.{K}
 use Rattle.mz_cmd.specs.declared.rule.K.TheVariants as k
 use Rattle.mz_cmd.specs.declared.code.ProofCode.TheVariants as code
-use Rattle.mz_logic.specs.Tree.{Tree, app}
-use Rattle.mz_logic.specs.declared.binder.Binder.{Binder}
-use Rattle.mz_layout.specs.Tables.{term_row, term_count}
+use Rattle.mz_logic_theory.specs.Tree.{Tree, app}
+use Rattle.mz_logic_theory.specs.declared.binder.Binder.{Binder}
+use Rattle.mz_layout_tables.specs.Tables.{term_row, term_count}
 use Rattle.mz_unify_theory.specs.Profile.{strict, expr, Item as MachineItem}
 use Rattle.mz_unify_theory.specs.Spells.{SpelledTerm, trees_of}
 use Rattle.mz_unify_theory.specs.Steps.{◌>>=◌, want}

@@ -1,7 +1,7 @@
 -- What stands there where a command goes through.
 use Rattle.std.proofs.Common.{◌≡◌, ℕ, List, ◌∷◌, Ok, ap, ◌∙◌, subst}
 use Rattle.mz_cmd.specs.declared.code.ProofCode.TheVariants as code
-use Rattle.mz_logic.specs.Tree.{Tree}
+use Rattle.mz_logic_theory.specs.Tree.{Tree}
 use Rattle.mz_unify_theory.specs.Profile.{Item as MachineItem}
 use Rattle.mz_unify_theory.proofs.Offered.{from_bind}
 use Rattle.mz_machine_theory.specs.MachineState.{RowsBefore}

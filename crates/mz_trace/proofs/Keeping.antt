@@ -5,9 +5,9 @@ use Rattle.std.proofs.lemmas.List.{map-append, append_assoc, length-map}
 use Rattle.mz_base_theory.proofs.Offered.{slice_get-map_at, not-true}
 use Rattle.mz_cmd.specs.declared.rule.K.TheVariants as k
 use Rattle.mz_cmd.specs.declared.code.ProofCode.TheVariants as code
-use Rattle.mz_logic.specs.Tree.{Tree, var}
-use Rattle.mz_logic.specs.declared.binder.Binder.{Binder}
-use Rattle.mz_mmu_forms.specs.Proof.{by_hyp, by_name}
+use Rattle.mz_logic_theory.specs.Tree.{Tree, var}
+use Rattle.mz_logic_theory.specs.declared.binder.Binder.{Binder}
+use Rattle.mz_mmu_theory.specs.Proof.{by_hyp, by_name}
 use Rattle.mz_unify_theory.specs.Profile.{strict, expr, proof, obligation, Item as MachineItem}
 use Rattle.mz_unify_theory.specs.Spells.{dummy_of}
 use Rattle.mz_unify_theory.specs.Steps.{◌>>=◌}

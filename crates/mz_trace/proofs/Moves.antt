@@ -5,9 +5,9 @@ use Rattle.mz_cmd.specs.declared.rule.K.{K}
 use Rattle.mz_cmd.specs.declared.rule.K.TheVariants as k
 use Rattle.mz_cmd.specs.declared.code.ProofCode.{ProofCode}
 use Rattle.mz_cmd.specs.declared.code.ProofCode.TheVariants as code
-use Rattle.mz_logic.specs.Tree.{Tree}
-use Rattle.mz_logic.specs.Conversions.{Conversion, refl_conv}
-use Rattle.mz_logic.specs.declared.binder.Binder.{Binder}
+use Rattle.mz_logic_theory.specs.Tree.{Tree}
+use Rattle.mz_logic_theory.specs.Conversions.{Conversion, refl_conv}
+use Rattle.mz_logic_theory.specs.declared.binder.Binder.{Binder}
 use Rattle.mz_unify_theory.specs.Profile.{strict}
 use Rattle.mz_unify_theory.specs.Tests.{same_tree}
 use Rattle.mz_unify_theory.proofs.Offered.{from_need, taken-is}

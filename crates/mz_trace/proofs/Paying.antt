@@ -2,9 +2,9 @@
 use Rattle.std.proofs.Common.{Vec, Global, ◌≡◌, ◌<◌, ℕ, suc, List, [], ◌∷◌, ◌++◌, length, map, refl, sym, ap, ◌∙◌, subst, arith, length-append}
 use Rattle.std.specs.Prelude.{reverse}
 use Rattle.std.proofs.lemmas.List.{reverse-append}
-use Rattle.mz_logic.specs.Conversions.{Conversion, sym_conv, cong_conv, unfold_conv, more_convs}
-use Rattle.mz_logic.specs.declared.binder.Binder.{Binder}
-use Rattle.mz_mmu_forms.specs.Proof.{by_conv}
+use Rattle.mz_logic_theory.specs.Conversions.{Conversion, sym_conv, cong_conv, unfold_conv, more_convs}
+use Rattle.mz_logic_theory.specs.declared.binder.Binder.{Binder}
+use Rattle.mz_mmu_theory.specs.Proof.{by_conv}
 use Rattle.mz_unify_theory.specs.Spells.{trees_of}
 use Rattle.mz_machine_theory.specs.MachineState.{RowsBefore}
 use Rattle.mz_trace_theory.specs.Parts.{Part, then_conv, paid, for_operand, owed}

@@ -1,10 +1,10 @@
 -- A stage with one node more: what was named stays what it was.
 use Rattle.std.proofs.Common.{◌≡◌, ℕ, List, [], ◌∷◌, ◌++◌, Some, length, map, refl, sym, ap, ◌∙◌, subst}
 use Rattle.std.specs.Prelude.{slice_get}
-use Rattle.mz_logic.specs.Tree.{Tree}
-use Rattle.mz_logic.specs.Conversions.{Conversion}
-use Rattle.mz_logic.specs.declared.binder.Binder.{Binder}
-use Rattle.mz_mmu_forms.specs.Proof.{Proof}
+use Rattle.mz_logic_theory.specs.Tree.{Tree}
+use Rattle.mz_logic_theory.specs.Conversions.{Conversion}
+use Rattle.mz_logic_theory.specs.declared.binder.Binder.{Binder}
+use Rattle.mz_mmu_theory.specs.Proof.{Proof}
 use Rattle.mz_unify_theory.specs.Profile.{Item as MachineItem}
 use Rattle.mz_machine_theory.specs.MachineState.{RowsBefore, State}
 use Rattle.mz_trace_theory.specs.Parts.{Part}

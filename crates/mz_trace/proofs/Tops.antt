@@ -4,8 +4,8 @@ use Rattle.std.specs.Prelude.{reverse, drop}
 use Rattle.std.proofs.lemmas.List.{reverse-append, map-append, append_assoc, length-reverse, reverse-reverse}
 use Rattle.mz_cmd.specs.declared.rule.K.{K}
 use Rattle.mz_cmd.specs.declared.rule.K.TheVariants as k
-use Rattle.mz_logic.specs.Tree.{Tree}
-use Rattle.mz_mmu_forms.specs.Proof.{Proofs, no_proofs, more_proofs}
+use Rattle.mz_logic_theory.specs.Tree.{Tree}
+use Rattle.mz_mmu_theory.specs.Proof.{Proofs, no_proofs, more_proofs}
 use Rattle.mz_unify_theory.specs.Profile.{strict, Item as MachineItem}
 use Rattle.mz_unify_theory.specs.Tests.{same_tree}
 use Rattle.mz_unify_theory.proofs.Offered.{from_bind, from_need, taken-is}

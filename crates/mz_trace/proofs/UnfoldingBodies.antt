@@ -4,12 +4,12 @@ use Rattle.std.specs.Prelude.{drop, slice_get, if◌then◌else◌}
 use Rattle.mz_cmd.specs.declared.rule.K.{K}
 use Rattle.mz_cmd.specs.declared.rule.K.TheVariants as k
 use Rattle.mz_cmd.specs.declared.code.ProofCode.TheVariants as code
-use Rattle.mz_layout.specs.Tables.{term_row, term_count}
-use Rattle.mz_logic.specs.Tree.{Tree, Trees, var, app, listed, instance, followed_by, variables}
-use Rattle.mz_logic.specs.Signature.{Signature}
-use Rattle.mz_logic.specs.Declaration.{signatures, body_tree}
-use Rattle.mz_logic.specs.declared.binder.Binder.{Binder}
-use Rattle.mz_type_rules.specs.Sides.{term_at}
+use Rattle.mz_layout_tables.specs.Tables.{term_row, term_count}
+use Rattle.mz_logic_theory.specs.Tree.{Tree, Trees, var, app, listed, instance, followed_by, variables}
+use Rattle.mz_logic_theory.specs.Signature.{Signature}
+use Rattle.mz_logic_theory.specs.Declaration.{signatures, body_tree}
+use Rattle.mz_logic_theory.specs.declared.binder.Binder.{Binder}
+use Rattle.mz_mmu_theory.specs.Sides.{term_at}
 use Rattle.mz_unify_theory.specs.Profile.{strict, tree_parts, obligation, Item as MachineItem}
 use Rattle.mz_unify_theory.specs.Spells.{SpelledTerm, trees_of}
 use Rattle.mz_unify_theory.specs.Steps.{◌>>=◌, want}

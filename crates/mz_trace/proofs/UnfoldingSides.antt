@@ -6,9 +6,9 @@ use Rattle.std.proofs.lemmas.List.{drop_more, drop_all, length-map, length-rever
 use Rattle.mz_cmd.specs.declared.rule.K.{K}
 use Rattle.mz_cmd.specs.declared.rule.K.TheVariants as k
 use Rattle.mz_cmd.specs.declared.code.ProofCode.TheVariants as code
-use Rattle.mz_logic.specs.Tree.{Tree, Trees, var, app, none, listed}
-use Rattle.mz_logic.specs.Conversions.{refl_conv}
-use Rattle.mz_logic.specs.declared.binder.Binder.{Binder}
+use Rattle.mz_logic_theory.specs.Tree.{Tree, Trees, var, app, none, listed}
+use Rattle.mz_logic_theory.specs.Conversions.{refl_conv}
+use Rattle.mz_logic_theory.specs.declared.binder.Binder.{Binder}
 use Rattle.mz_unify_theory.specs.Profile.{strict, tree_parts, Item as MachineItem}
 use Rattle.mz_unify_theory.specs.Spells.{SpelledTerm, trees_of}
 use Rattle.mz_unify_theory.specs.Steps.{◌>>=◌, ◌>>◌, need}

@@ -1,7 +1,7 @@
 -- Of each citation and unfolding among the nodes the expression that it stands for is there too (Carneiro, the rules of
 -- derivation and conversion).
 use Rattle.std.specs.Prelude.{◌≡◌, ⊤, List, [], ◌∷◌, ◌++◌}
-use Rattle.mz_logic.specs.Declaration.{Declaration}
+use Rattle.mz_logic_theory.specs.Declaration.{Declaration}
 use Rattle.mz_trace.specs.Nodes.{Value, expression_at, expressions_at, value_of, conclusion_under, body_under}
 use Rattle.mz_trace.specs.declared.node.RunNode.{RunNode}
 use Rattle.mz_trace.specs.declared.node.RunNode.TheVariants as node

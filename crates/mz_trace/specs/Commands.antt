@@ -1,19 +1,19 @@
 -- What a command makes of what is made so far: the machine's next state, and the parts beside it.
 use Rattle.std.specs.Prelude.{◌≡◌, ◌<◌, ◌+◌, ℕ, zero, suc, ⊤, List, ◌++◌, ◌∷◌, [], length, map, reverse, drop, Option, Some, None, Ok}
 use Rattle.mz_cmd.specs.declared.code.ProofCode.{ProofCode}
-use Rattle.mz_logic.specs.Tree.{Tree}
-use Rattle.mz_logic.specs.Declaration.{Declaration}
-use Rattle.mz_logic.specs.Derivations.{Uses as MayUse}
-use Rattle.mz_logic.specs.declared.binder.Binder.{Binder}
+use Rattle.mz_logic_theory.specs.Tree.{Tree}
+use Rattle.mz_logic_theory.specs.Declaration.{Declaration}
+use Rattle.mz_logic_theory.specs.Derivations.{Uses as MayUse}
+use Rattle.mz_logic_theory.specs.declared.binder.Binder.{Binder}
 use Rattle.mz_unify_theory.specs.Profile.{strict}
 use Rattle.mz_unify_theory.specs.Spells.{dummy_of}
 use Rattle.mz_machine_theory.specs.MachineState.{RowsBefore, State, Declares}
 use Rattle.mz_machine_theory.specs.Facts.{IsFront, Fact}
 use Rattle.mz_machine_theory.specs.ProofMachine.{proof_row}
 use Rattle.mz_machine_env.specs.Before.{AreWithin, tables_before}
-use Rattle.mz_layout.specs.declared.taken.Rows.{Rows}
-use Rattle.mz_logic.specs.Signature.{Signature}
-use Rattle.mz_layout.specs.Tables.{term_row, thm_row, term_count, thm_count}
+use Rattle.mz_layout_tables.specs.declared.taken.Rows.{Rows}
+use Rattle.mz_logic_theory.specs.Signature.{Signature}
+use Rattle.mz_layout_tables.specs.Tables.{term_row, thm_row, term_count, thm_count}
 use Rattle.mz_unify_theory.specs.UnifyMachine.{in_citation, in_definition, Matching, UnifyState, unify}
 use Rattle.mz_trace_theory.specs.Parts.{paid}
 use Rattle.mz_trace_theory.specs.Traces.{Trace, stacked, traced, variables_in}

@@ -1,11 +1,11 @@
 -- What the nodes of a proof stand for: trees, none of which is written out (this project's own form of proofs that share
 -- their parts).
 use Rattle.std.specs.Prelude.{ℕ, ◌≡◌, ⊤, List, [], ◌∷◌, ◌++◌, length, map, Option, Some, None, slice_get}
-use Rattle.mz_logic.specs.Tree.{Tree, var, app, none, instance, followed_by, variables}
-use Rattle.mz_logic.specs.Declaration.{Declaration, body_tree}
-use Rattle.mz_logic.specs.Conversions.{Conversion, Conversions, refl_conv, sym_conv, cong_conv, unfold_conv, no_convs, more_convs}
-use Rattle.mz_mmu_forms.specs.Proof.{Proof, Proofs, by_hyp, by_name, by_citation, by_conv, no_proofs, more_proofs}
-use Rattle.mz_type_rules.specs.Sides.{assertion_at, term_at}
+use Rattle.mz_logic_theory.specs.Tree.{Tree, var, app, none, instance, followed_by, variables}
+use Rattle.mz_logic_theory.specs.Declaration.{Declaration, body_tree}
+use Rattle.mz_logic_theory.specs.Conversions.{Conversion, Conversions, refl_conv, sym_conv, cong_conv, unfold_conv, no_convs, more_convs}
+use Rattle.mz_mmu_theory.specs.Proof.{Proof, Proofs, by_hyp, by_name, by_citation, by_conv, no_proofs, more_proofs}
+use Rattle.mz_mmu_theory.specs.Sides.{assertion_at, term_at}
 use Rattle.mz_unify_theory.specs.Spells.{SpelledTerm, trees_of}
 use Rattle.mz_machine_theory.specs.MachineState.{RowsBefore, Declares}
 use Rattle.mz_trace.specs.declared.node.RunNode.{RunNode}

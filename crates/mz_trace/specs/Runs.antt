@@ -1,18 +1,19 @@
 -- The proof that a run has.
 use Rattle.std.specs.Prelude.{◌≡◌, ⊤, ℕ, List, [], ◌∷◌, map, Ok}
-use Rattle.mz_logic.specs.Declaration.{Declaration}
-use Rattle.mz_logic.specs.declared.binder.Binder.{Binder}
-use Rattle.mz_mmu_forms.specs.Proof.{Proof}
+use Rattle.mz_logic_theory.specs.Declaration.{Declaration}
+use Rattle.mz_logic_theory.specs.declared.binder.Binder.{Binder}
+use Rattle.mz_mmu_theory.specs.Proof.{Proof}
 use Rattle.mz_unify_theory.specs.Spells.{dummy_of}
 use Rattle.mz_machine_theory.specs.MachineState.{RowsBefore, State, is_theorem, Heading}
-use Rattle.mz_logic.specs.Tree.{Tree}
+use Rattle.mz_logic_theory.specs.Tree.{Tree}
 use Rattle.mz_unify_theory.specs.Profile.{strict}
 use Rattle.mz_machine_theory.specs.ProofMachine.{proof_end}
 use Rattle.mz_machine_theory.specs.Bodies.{body_from, Runs}
-use Rattle.mz_layout.specs.Heads.{body_bytes}
-use Rattle.mz_machine_env.specs.OwnRow.{MayRun, heading_of}
+use Rattle.mz_layout_tables.specs.Heads.{body_bytes}
+use Rattle.mz_machine_env.specs.OwnRow.{MayRun}
+use Rattle.mz_machine_theory.specs.Headings.{heading_of}
 use Rattle.mz_machine_env.specs.Before.{tables_before}
-use Rattle.mz_layout.specs.declared.taken.Rows.{Rows}
+use Rattle.mz_layout_tables.specs.declared.taken.Rows.{Rows}
 use Rattle.mz_cmd.specs.declared.statement.StmtAt.TheVariants.{Head}
 use Rattle.mz_cmd.specs.StatementList.{statement_at}
 use Rattle.mz_trace_theory.specs.Traces.{Made, trace_from}

@@ -1,7 +1,7 @@
 //! What a body has made between two of its commands, and what each command makes.
 ghost use Rattle.std.specs.Prelude.{ℕ, ◌≡◌, ◌≤◌, ◌<◌, ◌+◌, ◌^◌, ◌++◌, ◌∷◌, [], List, IfOk, OnOk, length, map, reverse, drop};
 ghost use Rattle.mz_cmd.specs.declared.code.ProofCode.TheVariants as code;
-ghost use Rattle.mz_layout.specs.Tables.{thm_count};
+ghost use Rattle.mz_layout_tables.specs.Tables.{thm_count};
 ghost use Rattle.mz_trace.specs.Nodes.{IsConversion};
 ghost use Rattle.mz_trace.specs.Entries.{HasOwed};
 ghost use Rattle.mz_trace.specs.Commands.{stage_of, Stage, IsAny, IsRead, Goes, Leads, with_variable, with_kept, on_stack, with_name, MayBuild, IsBuilt, MayCite, IsCited, MayPay, Pays, PaysOne, no_stage};
@@ -17,8 +17,8 @@ use crate::stack::{
 };
 use crate::streams::{hypotheses, met_variables};
 use mz_cmd::{ProofCode, Steps};
-use mz_layout::Mmb;
-use mz_logic::Terms;
+use mz_layout_tables::Mmb;
+use mz_logic_theory::Terms;
 use std::alloc::{AllocError, Global};
 use std::sync::ledger::Ledger;
 

@@ -1,12 +1,12 @@
 //! A whole body, read in place.
 ghost use Rattle.std.specs.Prelude.{ℕ, Some, slice_get, ◌≡◌, ◌≤◌, ◌<◌, ◌+◌, ◌-◌, ◌*◌, ◌^◌, IfOk, List, length};
-ghost use Rattle.mz_layout.specs.Tables.{thm_count, thm_row};
-ghost use Rattle.mz_logic.specs.Declaration.{Declaration};
+ghost use Rattle.mz_layout_tables.specs.Tables.{thm_count, thm_row};
+ghost use Rattle.mz_logic_theory.specs.Declaration.{Declaration};
 ghost use Rattle.mz_machine_theory.specs.MachineState.{Declares};
-ghost use Rattle.mz_layout.specs.Heads.{body_bytes};
-ghost use Rattle.mz_machine_env.specs.OwnRow.{heading_of};
+ghost use Rattle.mz_layout_tables.specs.Heads.{body_bytes};
+ghost use Rattle.mz_machine_theory.specs.Headings.{heading_of};
 ghost use Rattle.mz_machine_env.specs.Before.{tables_before};
-ghost use Rattle.mz_layout.specs.declared.taken.Rows.{Rows};
+ghost use Rattle.mz_layout_tables.specs.declared.taken.Rows.{Rows};
 ghost use Rattle.mz_trace.specs.Commands.{stage_of, begun};
 ghost use Rattle.mz_trace.specs.Runs.{IsTraced, ClaimsIn, IsTheoremAt, RunsOver, IsRunOf, RunsFrom, LeadsToEnd, HasRoot, IsFinished};
 
@@ -15,7 +15,7 @@ use crate::making::Making;
 use crate::node::RunNode;
 use mz_binary_theory::Statement;
 use mz_cmd::{ProofCode, Steps, StmtAt, cmd_at, stmt_at};
-use mz_layout::Mmb;
+use mz_layout_tables::Mmb;
 use std::alloc::{AllocError, Global};
 use std::sync::ledger::Ledger;
 

@@ -3,17 +3,17 @@ use Rattle.std.proofs.Common.{◌≡◌, ℕ, false, List, [], ◌∷◌, length
 use Rattle.std.specs.Prelude.{slice_get, ⊤}
 use Rattle.std.proofs.lemmas.List.{drop_at}
 use Rattle.mz_cmd.specs.declared.code.ProofCode.{ProofCode}
-use Rattle.mz_logic.specs.Tree.{Tree, var, app}
-use Rattle.mz_logic.specs.Signature.{Signature}
-use Rattle.mz_logic.specs.Declaration.{Declaration, terms, signatures, assertions}
-use Rattle.mz_logic.specs.Sorts.{Fits}
-use Rattle.mz_logic.specs.Variables.{Apart}
-use Rattle.mz_logic.specs.Conversions.{Conversions, unfold_conv, no_convs, more_convs, Between, AllBetween, GapsOnly, AllGapsOnly, AreFresh}
-use Rattle.mz_logic.specs.Derivations.{Uses, no_derivs, AllDerive}
-use Rattle.mz_logic.specs.declared.binder.Binder.{Binder}
-use Rattle.mz_logic.proofs.Offered.{extends_itself, sort_extends, fits_extends, apart_extends, fresh_extends}
-use Rattle.mz_mmu_forms.specs.Proof.{Proof, Proofs, no_proofs, more_proofs}
-use Rattle.mz_type.specs.Meaning.{derivations}
+use Rattle.mz_logic_theory.specs.Tree.{Tree, var, app}
+use Rattle.mz_logic_theory.specs.Signature.{Signature}
+use Rattle.mz_logic_theory.specs.Declaration.{Declaration, terms, signatures, assertions}
+use Rattle.mz_logic_theory.specs.Sorts.{Fits}
+use Rattle.mz_logic_theory.specs.Variables.{Apart}
+use Rattle.mz_logic_theory.specs.Conversions.{Conversions, unfold_conv, no_convs, more_convs, Between, AllBetween, GapsOnly, AllGapsOnly, AreFresh}
+use Rattle.mz_logic_theory.specs.Derivations.{Uses, no_derivs, AllDerive}
+use Rattle.mz_logic_theory.specs.declared.binder.Binder.{Binder}
+use Rattle.mz_logic_theory.proofs.Offered.{extends_itself, sort_extends, fits_extends, apart_extends, fresh_extends}
+use Rattle.mz_mmu_theory.specs.Proof.{Proof, Proofs, no_proofs, more_proofs}
+use Rattle.mz_mmu_theory.specs.Meaning.{derivations}
 use Rattle.mz_unify_theory.specs.Spells.{trees_of, SpellsTerm, SpellsThm}
 use Rattle.mz_unify_theory.specs.Profile.{strict, Item, expr}
 use Rattle.mz_unify_theory.specs.Sorted.{Sorted, AllSorted, ItemsSorted}

@@ -2,15 +2,15 @@
 use Rattle.std.proofs.Common.{◌≡◌, ℕ, zero, suc, ◌+◌, ◌<◌, ◌≤◌, List, [], ◌∷◌, ◌++◌, length, Some, refl, sym, ap, ap₂, subst, ◌∙◌, arith}
 use Rattle.std.specs.Prelude.{slice_get, ⊤}
 use Rattle.std.proofs.lemmas.List.{length-append}
-use Rattle.mz_logic.specs.Tree.{Tree, Trees, none, more, listed}
-use Rattle.mz_logic.specs.Declaration.{Declaration}
-use Rattle.mz_logic.specs.Conversions.{GapsOnly}
-use Rattle.mz_logic.specs.Derivations.{Derivation, Derivations, hypothesis, cite, convert, gap, no_derivs, more_derivs, Derives, AllDerive, derivation_at}
-use Rattle.mz_logic.specs.declared.binder.Binder.{Binder}
-use Rattle.mz_mmu_forms.specs.Proof.{Proof, Proofs, by_hyp, by_name, by_citation, by_conv, by_let, by_gap, no_proofs, more_proofs}
-use Rattle.mz_mmu_forms.specs.Gaps.{LeavesOnly, AllLeaveOnly}
+use Rattle.mz_logic_theory.specs.Tree.{Tree, Trees, none, more, listed}
+use Rattle.mz_logic_theory.specs.Declaration.{Declaration}
+use Rattle.mz_logic_theory.specs.Conversions.{GapsOnly}
+use Rattle.mz_logic_theory.specs.Derivations.{Derivation, Derivations, hypothesis, cite, convert, gap, no_derivs, more_derivs, Derives, AllDerive, derivation_at}
+use Rattle.mz_logic_theory.specs.declared.binder.Binder.{Binder}
+use Rattle.mz_mmu_theory.specs.Proof.{Proof, Proofs, by_hyp, by_name, by_citation, by_conv, by_let, by_gap, no_proofs, more_proofs}
+use Rattle.mz_mmu_theory.specs.Gaps.{LeavesOnly, AllLeaveOnly}
 use Rattle.mz_unify_theory.specs.Spells.{trees_of}
-use Rattle.mz_type.specs.Meaning.{then_deriv, derivation, derivations, LetsDerive, AllLetsDerive}
+use Rattle.mz_mmu_theory.specs.Meaning.{then_deriv, derivation, derivations, LetsDerive, AllLetsDerive}
 use Rattle.mz_trace_theory.specs.Traces.{under_lets}
 
 -- it has no let and no gap of its own, gaps in conversions only where N holds, and names of the first n lets

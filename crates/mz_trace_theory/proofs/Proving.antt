@@ -3,13 +3,13 @@ use Rattle.std.proofs.Common.{◌≡◌, ℕ, suc, ◌+◌, true, false, List, [
 use Rattle.std.specs.Prelude.{slice_get}
 use Rattle.std.proofs.lemmas.List.{append-nil, append_cancel_left}
 use Rattle.mz_cmd.specs.declared.code.ProofCode.{ProofCode}
-use Rattle.mz_logic.specs.Tree.{Tree}
-use Rattle.mz_logic.specs.Declaration.{Assertion, Declaration, sorts, signatures}
-use Rattle.mz_logic.specs.LegalLists.{AreDummies}
-use Rattle.mz_logic.specs.declared.binder.Binder.{Binder}
-use Rattle.mz_mmu_forms.specs.Proof.{Proof}
-use Rattle.mz_type.specs.Meaning.{IsProofOf}
-use Rattle.mz_type.proofs.Offered.{allowed}
+use Rattle.mz_logic_theory.specs.Tree.{Tree}
+use Rattle.mz_logic_theory.specs.Declaration.{Assertion, Declaration, sorts, signatures}
+use Rattle.mz_logic_theory.specs.LegalLists.{AreDummies}
+use Rattle.mz_logic_theory.specs.declared.binder.Binder.{Binder}
+use Rattle.mz_mmu_theory.specs.Proof.{Proof}
+use Rattle.mz_mmu_theory.specs.Meaning.{IsProofOf}
+use Rattle.mz_mmu_theory.proofs.Offered.{allowed}
 use Rattle.mz_unify_theory.specs.Streams.{of_assertion}
 use Rattle.mz_unify_theory.specs.Spells.{trees_of, Text, SpellsThm}
 use Rattle.mz_unify_theory.specs.Profile.{strict, proof}

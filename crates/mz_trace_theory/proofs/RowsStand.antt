@@ -7,10 +7,10 @@ use Rattle.mz_base_theory.proofs.Offered.{both-true}
 use Rattle.mz_cmd.specs.declared.rule.K.TheVariants as k
 use Rattle.mz_cmd.specs.declared.code.ProofCode.{ProofCode}
 use Rattle.mz_cmd.specs.declared.code.ProofCode.TheVariants as code
-use Rattle.mz_logic.specs.Tree.{Tree, var, app, none, listed}
-use Rattle.mz_logic.specs.Conversions.{Conversion, Conversions, refl_conv, sym_conv, cong_conv, unfold_conv}
-use Rattle.mz_logic.specs.declared.binder.Binder.{Binder}
-use Rattle.mz_mmu_forms.specs.Proof.{Proof, Proofs, by_hyp, by_name, by_citation, by_conv, no_proofs}
+use Rattle.mz_logic_theory.specs.Tree.{Tree, var, app, none, listed}
+use Rattle.mz_logic_theory.specs.Conversions.{Conversion, Conversions, refl_conv, sym_conv, cong_conv, unfold_conv}
+use Rattle.mz_logic_theory.specs.declared.binder.Binder.{Binder}
+use Rattle.mz_mmu_theory.specs.Proof.{Proof, Proofs, by_hyp, by_name, by_citation, by_conv, no_proofs}
 use Rattle.mz_unify_theory.specs.Spells.{trees_of, dummy_of, SpelledTerm, SpelledThm}
 use Rattle.mz_unify_theory.specs.Profile.{strict, tree_parts, Item, expr, proof, obligation, conversion}
 use Rattle.mz_unify_theory.specs.Tests.{same_tree}

@@ -4,9 +4,9 @@ use Rattle.std.proofs.Common.{◌≡◌, ℕ, zero, suc, ◌+◌, leb, List, [],
 use Rattle.std.specs.Prelude.{reverse, ⊤}
 use Rattle.std.proofs.lemmas.List.{reverse-append, append_assoc}
 use Rattle.mz_cmd.specs.declared.rule.K.TheVariants as k
-use Rattle.mz_logic.specs.Tree.{Tree, app, none}
-use Rattle.mz_logic.specs.Conversions.{Conversion, Conversions, refl_conv, cong_conv, no_convs, more_convs}
-use Rattle.mz_mmu_forms.specs.Proof.{Proof, Proofs, no_proofs, more_proofs}
+use Rattle.mz_logic_theory.specs.Tree.{Tree, app, none}
+use Rattle.mz_logic_theory.specs.Conversions.{Conversion, Conversions, refl_conv, cong_conv, no_convs, more_convs}
+use Rattle.mz_mmu_theory.specs.Proof.{Proof, Proofs, no_proofs, more_proofs}
 use Rattle.mz_unify_theory.specs.Profile.{strict, Item, expr, proof, obligation, conversion}
 use Rattle.mz_unify_theory.specs.Tests.{same_tree}
 use Rattle.mz_unify_theory.proofs.Offered.{from_bind, from_need, taken-is}

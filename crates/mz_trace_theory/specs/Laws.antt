@@ -1,11 +1,11 @@
 -- What is promised of the proofs that bodies make.
 use Rattle.std.specs.Prelude.{◌≡◌, ℕ, false, List, ◌++◌}
-use Rattle.mz_logic.specs.Declaration.{Assertion, Declaration, sorts, signatures}
-use Rattle.mz_logic.specs.LegalLists.{AreDummies}
-use Rattle.mz_logic.specs.Legality.{IsLegalEnv}
-use Rattle.mz_logic.specs.declared.binder.Binder.{Binder}
-use Rattle.mz_mmu_forms.specs.Proof.{Proof}
-use Rattle.mz_type.specs.Meaning.{IsProofOf}
+use Rattle.mz_logic_theory.specs.Declaration.{Assertion, Declaration, sorts, signatures}
+use Rattle.mz_logic_theory.specs.LegalLists.{AreDummies}
+use Rattle.mz_logic_theory.specs.Legality.{IsLegalEnv}
+use Rattle.mz_logic_theory.specs.declared.binder.Binder.{Binder}
+use Rattle.mz_mmu_theory.specs.Proof.{Proof}
+use Rattle.mz_mmu_theory.specs.Meaning.{IsProofOf}
 use Rattle.mz_unify_theory.specs.Profile.{strict}
 use Rattle.mz_unify_theory.specs.Spells.{SpellsThm}
 use Rattle.mz_machine_theory.specs.MachineState.{RowsBefore, Heading, is_theorem, Declares}

@@ -1,9 +1,9 @@
 -- Trees of a proof with a hole for what is still to be shown (this project's own form of the proofs that a body makes; what
 -- stands on the stack is the .mmb format's).
 use Rattle.std.specs.Prelude.{ℕ, zero, suc, List, ◌∷◌}
-use Rattle.mz_logic.specs.Tree.{Tree, Trees, none, app}
-use Rattle.mz_logic.specs.Conversions.{Conversion, Conversions, refl_conv, sym_conv, cong_conv, unfold_conv, no_convs, more_convs}
-use Rattle.mz_mmu_forms.specs.Proof.{Proof, Proofs, by_conv, more_proofs}
+use Rattle.mz_logic_theory.specs.Tree.{Tree, Trees, none, app}
+use Rattle.mz_logic_theory.specs.Conversions.{Conversion, Conversions, refl_conv, sym_conv, cong_conv, unfold_conv, no_convs, more_convs}
+use Rattle.mz_mmu_theory.specs.Proof.{Proof, Proofs, by_conv, more_proofs}
 
 -- What an item of the machine's stack or heap stands for: an expression; a proof, with its tree; an obligation, which is
 -- a hole; a conversion that is paid, with its tree. And below an obligation, what its tree goes into when it is paid: a

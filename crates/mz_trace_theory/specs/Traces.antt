@@ -8,10 +8,10 @@ use Rattle.mz_cmd.specs.declared.command.CmdFault.{CmdFault}
 use Rattle.mz_cmd.specs.declared.code.ProofCode.{ProofCode}
 use Rattle.mz_cmd.specs.declared.code.ProofCode.TheVariants as code
 use Rattle.mz_cmd.specs.Reading.{first_command}
-use Rattle.mz_logic.specs.Tree.{Tree, var, app}
-use Rattle.mz_logic.specs.Conversions.{refl_conv}
-use Rattle.mz_logic.specs.declared.binder.Binder.{Binder}
-use Rattle.mz_mmu_forms.specs.Proof.{Proof, by_hyp, by_name, by_citation, by_let, no_proofs}
+use Rattle.mz_logic_theory.specs.Tree.{Tree, var, app}
+use Rattle.mz_logic_theory.specs.Conversions.{refl_conv}
+use Rattle.mz_logic_theory.specs.declared.binder.Binder.{Binder}
+use Rattle.mz_mmu_theory.specs.Proof.{Proof, by_hyp, by_name, by_citation, by_let, no_proofs}
 use Rattle.mz_unify_theory.specs.Steps.{◌>>=◌, want, Turn, over, goes_on, follow}
 use Rattle.mz_unify_theory.specs.Spells.{trees_of}
 use Rattle.mz_unify_theory.specs.Profile.{strict, tree_parts}

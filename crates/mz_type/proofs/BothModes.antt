@@ -2,26 +2,25 @@
 use Rattle.std.proofs.Common.{ℕ, ◌≡◌, Bool, true, false, List, [], ◌∷◌, ◌++◌, All, Option, Some, None, refl, subst}
 use Rattle.std.proofs.lemmas.List.Elements.{All-nil, All-cons, All-head, All-tail}
 use Rattle.mz_sexpr.specs.Node.{Node, Nodes, atom, list, no_nodes, node}
-use Rattle.mz_logic.specs.Tree.{Tree, Trees}
-use Rattle.mz_logic.specs.Conversions.{Conversion, Conversions, refl_conv, sym_conv, cong_conv, unfold_conv, gap_conv, no_convs, more_convs, GapsOnly, AllGapsOnly}
-use Rattle.mz_logic.specs.Declaration.{Declaration, sort_decl, term_decl, assertion_decl}
-use Rattle.mz_logic.specs.declared.binder.Binder.{Binder}
-use Rattle.mz_logic.specs.declared.binder.ResultType.{ResultType}
-use Rattle.mz_mmu_forms.specs.Name.{Names, Scope, scope_of, no_names, names_with}
-use Rattle.mz_mmu_forms.specs.Expressions.{IsExpr, AreExprs, IsExprList, IsParam, IsDummy, AreBinders, AreParams, AreDummies, IsResult}
-use Rattle.mz_mmu_forms.specs.Gaps.{LeavesOnly, AllLeaveOnly, SomeLeavesOnly}
-use Rattle.mz_mmu_statements.specs.Statements.{HasGapsOnly, Statement, kind_of, is_local_word, IsHyp, AreHyps, AreNamedHyps, IsDeclared, IsLocal, IsMarked, IsStatement, AreStatements}
-use Rattle.mz_mmu_forms.specs.Proof.{Proof, Proofs, by_hyp, by_name, by_citation, by_conv, by_let, by_gap, no_proofs, more_proofs}
-use Rattle.mz_mmu_forms.specs.declared.keyword.Keyword.{Keyword}
-use Rattle.mz_mmu_forms.specs.declared.keyword.Keyword.TheVariants.{Conv as conv_word, Let as let_word, Refl as refl_word, Sym as sym_word, Unfold as unfold_word, Sorry as sorry_word, Other as no_word}
-use Rattle.mz_mmu_statements.specs.declared.kind.Kind.{Kind}
-use Rattle.mz_mmu_statements.specs.declared.kind.Kind.TheVariants.{Sort as sort_kind, Term as term_kind, Axiom as axiom_kind, Def as def_kind, Theorem as theorem_kind, Other as no_kind}
-use Rattle.mz_mmu_forms.specs.Proofs.{conv_keyword, proof_keyword, IsConv, IsConvBy, AreConvs, IsProof, IsProofBy, AreProofs}
-use Rattle.mz_mmu.proofs.Offered.{only_drafts}
-use Rattle.mz_type.specs.Laws.{ModesAgree}
-use Rattle.mz_type.specs.Meaning.{IsProvedAsStated, LegalAsStatedAfter}
-use Rattle.mz_type.specs.TextOf.{TextOf}
-use Rattle.mz_type.proofs.GapFree.{allowed}
+use Rattle.mz_logic_theory.specs.Tree.{Tree, Trees}
+use Rattle.mz_logic_theory.specs.Conversions.{Conversion, Conversions, refl_conv, sym_conv, cong_conv, unfold_conv, gap_conv, no_convs, more_convs, GapsOnly, AllGapsOnly}
+use Rattle.mz_logic_theory.specs.Declaration.{Declaration, sort_decl, term_decl, assertion_decl}
+use Rattle.mz_logic_theory.specs.declared.binder.Binder.{Binder}
+use Rattle.mz_logic_theory.specs.declared.binder.ResultType.{ResultType}
+use Rattle.mz_mmu_theory.specs.Name.{Names, Scope, scope_of, no_names, names_with}
+use Rattle.mz_mmu_theory.specs.Expressions.{IsExpr, AreExprs, IsExprList, IsParam, IsDummy, AreBinders, AreParams, AreDummies, IsResult}
+use Rattle.mz_mmu_theory.specs.Gaps.{LeavesOnly, AllLeaveOnly, SomeLeavesOnly}
+use Rattle.mz_mmu_theory.specs.Statements.{HasGapsOnly, Statement, kind_of, is_local_word, IsHyp, AreHyps, AreNamedHyps, IsDeclared, IsLocal, IsMarked, IsStatement, AreStatements}
+use Rattle.mz_mmu_theory.specs.Proof.{Proof, Proofs, by_hyp, by_name, by_citation, by_conv, by_let, by_gap, no_proofs, more_proofs}
+use Rattle.mz_mmu_theory.specs.declared.keyword.Keyword.{Keyword}
+use Rattle.mz_mmu_theory.specs.declared.keyword.Keyword.TheVariants.{Conv as conv_word, Let as let_word, Refl as refl_word, Sym as sym_word, Unfold as unfold_word, Sorry as sorry_word, Other as no_word}
+use Rattle.mz_mmu_theory.specs.declared.kind.Kind.{Kind}
+use Rattle.mz_mmu_theory.specs.declared.kind.Kind.TheVariants.{Sort as sort_kind, Term as term_kind, Axiom as axiom_kind, Def as def_kind, Theorem as theorem_kind, Other as no_kind}
+use Rattle.mz_mmu_theory.specs.Proofs.{conv_keyword, proof_keyword, IsConv, IsConvBy, AreConvs, IsProof, IsProofBy, AreProofs}
+use Rattle.mz_mmu_theory.proofs.Offered.{only_drafts, allowed}
+use Rattle.mz_mmu_theory.specs.TypeLaws.{ModesAgree}
+use Rattle.mz_mmu_theory.specs.Meaning.{IsProvedAsStated, LegalAsStatedAfter}
+use Rattle.mz_mmu_theory.specs.TextOf.{TextOf}
 
 abbrev in_mode : Bool → Names → Names
 in_mode h names = record names { gaps = h }

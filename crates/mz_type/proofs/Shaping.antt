@@ -2,15 +2,15 @@
 use Rattle.std.proofs.Common.{ℕ, zero, suc, true, Result, Ok, Err, OnOk, OnErr, ◌≡◌, ◌<◌, ◌≤◌, ◌+◌, ◌*◌, List, [], ◌∷◌, ◌++◌, length, get_or, drop, slice_set, replicate, map, sum_by, refl, sym, ap, ◌∙◌, subst, arith, add-one, append-nil, add-mul}
 use Rattle.std.proofs.lemmas.List.{map-append}
 use Rattle.std.proofs.lemmas.List.Sums.{sum_by-cons, get_or-le-sum_by}
-use Rattle.mz_logic.specs.Tree.{Tree, Trees, var, app, none, more, operand, instance, instances, size, trees_size}
-use Rattle.mz_logic.specs.Declaration.{plain_form, Term, Assertion, Declaration, sort_decl, term_decl, assertion_decl, terms, assertions, body_tree}
-use Rattle.mz_logic.specs.Legality.{InRange, AllInRange}
-use Rattle.mz_logic.specs.Signature.{Signature}
-use Rattle.mz_logic.specs.View.{tree, trees}
-use Rattle.mz_logic.specs.declared.binder.SortMods.{SortMods}
-use Rattle.mz_logic.specs.declared.expr.Expr.{Expr}
-use Rattle.mz_logic.proofs.Offered.{terms-append, assertions-append}
-use Rattle.mz_type_rules.specs.Sides.{assertion_at, term_at}
+use Rattle.mz_logic_theory.specs.Tree.{Tree, Trees, var, app, none, more, operand, instance, instances, size, trees_size}
+use Rattle.mz_logic_theory.specs.Declaration.{plain_form, Term, Assertion, Declaration, sort_decl, term_decl, assertion_decl, terms, assertions, body_tree}
+use Rattle.mz_logic_theory.specs.Legality.{InRange, AllInRange}
+use Rattle.mz_logic_theory.specs.Signature.{Signature}
+use Rattle.mz_logic_theory.specs.View.{tree, trees}
+use Rattle.mz_logic_theory.specs.declared.binder.SortMods.{SortMods}
+use Rattle.mz_logic_theory.specs.declared.expr.Expr.{Expr}
+use Rattle.mz_logic_theory.proofs.Offered.{terms-append, assertions-append}
+use Rattle.mz_mmu_theory.specs.Sides.{assertion_at, term_at}
 use Rattle.mz_type_rules.proofs.Offered.{trees_cut}
 use Rattle.mz_type.specs.Shapes.{one_more, counted, all_counted, beneath, put_on, IsShapeOf, AreShapes, bodies_of, conclusions_of}
 use Rattle.mz_type.specs.declared.shapes.Shape.{Shape}

@@ -5,18 +5,17 @@ use Rattle.mz_base_theory.specs.Checks.{AllHold}
 use Rattle.mz_base_theory.proofs.Offered.{Decides, decides-whole}
 use Rattle.mz_sexpr.specs.Node.{Nodes}
 use Rattle.mz_sexpr.specs.Number.{first, rest, node_count}
-use Rattle.mz_logic.specs.Declaration.{Declaration}
-use Rattle.mz_mmu_statements.specs.Statements.{Statement, AreStatements}
-use Rattle.mz_mmu_forms.specs.Name.{no_names}
-use Rattle.mz_type_rules.specs.Names.{StatementsThere}
-use Rattle.mz_type_rules.specs.Rules.{statement_rules}
-use Rattle.mz_type.specs.Meaning.{LegalAsStated}
-use Rattle.mz_type.specs.TextRules.{rules_from, text_rules}
+use Rattle.mz_logic_theory.specs.Declaration.{Declaration}
+use Rattle.mz_mmu_theory.specs.Statements.{Statement, AreStatements}
+use Rattle.mz_mmu_theory.specs.Name.{no_names}
+use Rattle.mz_mmu_theory.specs.Names.{StatementsThere}
+use Rattle.mz_mmu_theory.specs.Rules.{statement_rules}
+use Rattle.mz_mmu_theory.specs.Meaning.{LegalAsStated}
+use Rattle.mz_mmu_theory.specs.TextRules.{rules_from, text_rules}
 use Rattle.mz_type.specs.StatedView.{Stated, with_decl, statements_of, IsTyped}
-use Rattle.mz_type.specs.Weight.{statement_weight, weight_after, weight_of}
+use Rattle.mz_mmu_theory.specs.Weight.{statement_weight, weight_after, weight_of}
 use Rattle.mz_type.specs.declared.typed.Beside.{Beside}
-use Rattle.mz_type.proofs.StatementsRead.{statements_there}
-use Rattle.mz_type.proofs.Texts.{rules_are_the_meaning}
+use Rattle.mz_mmu_theory.proofs.Offered.{statements_there, rules_are_the_meaning}
 use Rattle.mz_type.proofs.TypedSteps.{AreMarked, marks_are, there_cut, marked_cut, weight_cut, rules_step, all_rules}
 use Rattle.mz_type.proofs.Written.{few_weigh}
 

@@ -4,14 +4,13 @@ use Rattle.mz_base_theory.specs.Checks.{FailsFirst}
 use Rattle.mz_base_theory.proofs.Offered.{fails_first-unique}
 use Rattle.mz_sexpr.specs.Node.{Nodes}
 use Rattle.mz_sexpr.specs.declared.rule.TextRefusal.{TextRefusal}
-use Rattle.mz_mmu_statements.specs.Statements.{Statement, Reads}
-use Rattle.mz_mmu_statements.specs.Order.{Refuses}
-use Rattle.mz_mmu.proofs.Offered.{one_reading, some_answer}
-use Rattle.mz_type.specs.Laws.{IsTypedOrFaulty}
-use Rattle.mz_type.specs.Meaning.{LegalAsStated}
-use Rattle.mz_type.specs.TextRules.{text_rules}
-use Rattle.mz_type.specs.TextOf.{TextOf, TextFault}
-use Rattle.mz_type.proofs.Texts.{each_typed_or_refused}
+use Rattle.mz_mmu_theory.specs.Statements.{Statement, Reads}
+use Rattle.mz_mmu_theory.specs.StatementOrder.{Refuses}
+use Rattle.mz_mmu_theory.proofs.Offered.{one_reading, some_answer, each_typed_or_refused}
+use Rattle.mz_mmu_theory.specs.TypeLaws.{IsTypedOrFaulty}
+use Rattle.mz_mmu_theory.specs.Meaning.{LegalAsStated}
+use Rattle.mz_mmu_theory.specs.TextRules.{text_rules}
+use Rattle.mz_mmu_theory.specs.TextOf.{TextOf, TextFault}
 
 module _ (gaps : Bool) (text : List ℕ) where
   abbrev Answered : Type 0

@@ -6,19 +6,19 @@ use Rattle.mz_base_theory.proofs.Offered.{Decides, retold-fails, retold-holds}
 use Rattle.mz_sexpr.specs.Node.{Node, Nodes, atom, list, no_nodes, node, parts}
 use Rattle.mz_sexpr.specs.Number.{first, rest}
 use Rattle.mz_sexpr.specs.declared.rule.TextRefusal.{TextRefusal}
-use Rattle.mz_logic.specs.Declaration.{Declaration}
-use Rattle.mz_mmu_forms.specs.Name.{Names, names_with}
-use Rattle.mz_mmu_statements.specs.Order.{in_statement}
-use Rattle.mz_mmu_statements.specs.Statements.{Statement, is_local_word, IsMarked, IsStatement, AreStatements}
-use Rattle.mz_mmu_forms.specs.Stops.{Stops}
-use Rattle.mz_mmu_forms.specs.declared.fault.Stop.{Stop}
-use Rattle.mz_mmu_forms.specs.declared.fault.Stop.TheVariants as stop
-use Rattle.mz_type_rules.specs.Names.{StatementThere, StatementsThere}
-use Rattle.mz_type_rules.specs.Rules.{statement_rules}
+use Rattle.mz_logic_theory.specs.Declaration.{Declaration}
+use Rattle.mz_mmu_theory.specs.Name.{Names, names_with}
+use Rattle.mz_mmu_theory.specs.StatementOrder.{in_statement}
+use Rattle.mz_mmu_theory.specs.Statements.{Statement, is_local_word, IsMarked, IsStatement, AreStatements}
+use Rattle.mz_mmu_theory.specs.Stops.{Stops}
+use Rattle.mz_mmu_theory.specs.declared.fault.Stop.{Stop}
+use Rattle.mz_mmu_theory.specs.declared.fault.Stop.TheVariants as stop
+use Rattle.mz_mmu_theory.specs.Names.{StatementThere, StatementsThere}
+use Rattle.mz_mmu_theory.specs.Rules.{statement_rules}
 use Rattle.mz_type_rules.proofs.Offered.{left_fails, left_step}
-use Rattle.mz_type.specs.TextRules.{rules_from}
+use Rattle.mz_mmu_theory.specs.TextRules.{rules_from}
 use Rattle.mz_mmu.specs.TextStops.{TextStops, IsStopped}
-use Rattle.mz_type.specs.Weight.{statement_weight, weight_after}
+use Rattle.mz_mmu_theory.specs.Weight.{statement_weight, weight_after}
 use Rattle.mz_mmu.specs.declared.text.TextStop.{TextStop}
 use Rattle.mz_mmu.specs.declared.text.TextStop.TheVariants as text_stop
 

@@ -1,18 +1,18 @@
 -- One part more of what is weighed.
 use Rattle.std.proofs.Common.{ℕ, zero, suc, ◌≡◌, ◌<◌, ◌≤◌, ◌+◌, List, [], ◌∷◌, length, get_or, drop, refl, sym, ap, ◌∙◌, arith}
 use Rattle.std.proofs.lemmas.List.{drop_more}
-use Rattle.mz_logic.specs.Declaration.{Form, plain_form, abstract_form, defined, Declaration, body_of, body_tree}
-use Rattle.mz_logic.specs.Tree.{Tree, Trees, var, app, none, more, operand, followed_by, variables, size, trees_size, instance, instances}
-use Rattle.mz_logic.specs.View.{tree, trees}
-use Rattle.mz_logic.specs.declared.expr.Expr.{Expr}
-use Rattle.mz_mmu_forms.specs.ConvView.{conversion, conversions}
-use Rattle.mz_mmu_forms.specs.Proof.{more_proofs}
-use Rattle.mz_mmu_forms.specs.ProofCode.{proof_steps, proofs_steps}
-use Rattle.mz_mmu_forms.specs.ProofView.{proof_view, proofs_view}
-use Rattle.mz_mmu_forms.specs.declared.conv.Conv.{Conv}
-use Rattle.mz_mmu_forms.specs.declared.proof.Proof.{Proof}
+use Rattle.mz_logic_theory.specs.Declaration.{Form, plain_form, abstract_form, defined, Declaration, body_of, body_tree}
+use Rattle.mz_logic_theory.specs.Tree.{Tree, Trees, var, app, none, more, operand, followed_by, variables, size, trees_size, instance, instances}
+use Rattle.mz_logic_theory.specs.View.{tree, trees}
+use Rattle.mz_logic_theory.specs.declared.expr.Expr.{Expr}
+use Rattle.mz_mmu_theory.specs.ConvView.{conversion, conversions}
+use Rattle.mz_mmu_theory.specs.Proof.{more_proofs}
+use Rattle.mz_mmu_theory.specs.ProofCode.{proof_steps, proofs_steps}
+use Rattle.mz_mmu_theory.specs.ProofView.{proof_view, proofs_view}
+use Rattle.mz_mmu_theory.specs.declared.conv.Conv.{Conv}
+use Rattle.mz_mmu_theory.specs.declared.proof.Proof.{Proof}
 use Rattle.mz_type_rules.proofs.Offered.{convs_cut, trees_cut}
-use Rattle.mz_type.specs.Weight.{conv_weight, convs_weight, proof_weight, proofs_weight}
+use Rattle.mz_mmu_theory.specs.Weight.{conv_weight, convs_weight, proof_weight, proofs_weight}
 
 module _ (xs : List Expr) (i : ℕ) (e : Expr) (below : i < length xs) (is : e ≡ get_or xs i e) where
   pub size_cut : trees_size (trees (drop i xs)) ≡ size (tree e) + trees_size (trees (drop (i + 1) xs))

@@ -2,14 +2,14 @@
 -- there are nodes.
 use Rattle.std.specs.Prelude.{⊤}
 use Rattle.std.proofs.Common.{ℕ, zero, suc, ◌≡◌, ◌≤◌, ◌<◌, ◌+◌, ◌*◌, ◌^◌, List, [], ◌∷◌, ◌++◌, length, Some, None, Option, refl, ap, ◌∙◌, subst, arith, add-mul, suc-mul, mul-add, mul-one, mul_comm, mul-le-mul, le_refl, add_assoc}
-use Rattle.mz_logic.specs.Tree.{Tree, Trees, var, app, none, more, operand, instance, instances, followed_by, variables, size, trees_size}
-use Rattle.mz_logic.specs.Declaration.{Form, plain_form, abstract_form, defined, Declaration, sort_decl, term_decl, assertion_decl, body_of, body_tree}
-use Rattle.mz_logic.specs.Conversions.{Conversion, Conversions, refl_conv, sym_conv, cong_conv, unfold_conv, gap_conv, no_convs, more_convs}
-use Rattle.mz_logic.proofs.Offered.{trees_size-followed}
-use Rattle.mz_mmu_forms.specs.Proof.{Proof, Proofs, by_hyp, by_name, by_citation, by_conv, by_let, by_gap, no_proofs, more_proofs}
-use Rattle.mz_mmu_statements.specs.Statements.{Statement}
-use Rattle.mz_type_rules.specs.Sides.{assertion_at, term_at}
-use Rattle.mz_type.specs.Weight.{conv_weight, convs_weight, proof_weight, proofs_weight, declaration_weight, statement_weight, weight_after, stated_weight}
+use Rattle.mz_logic_theory.specs.Tree.{Tree, Trees, var, app, none, more, operand, instance, instances, followed_by, variables, size, trees_size}
+use Rattle.mz_logic_theory.specs.Declaration.{Form, plain_form, abstract_form, defined, Declaration, sort_decl, term_decl, assertion_decl, body_of, body_tree}
+use Rattle.mz_logic_theory.specs.Conversions.{Conversion, Conversions, refl_conv, sym_conv, cong_conv, unfold_conv, gap_conv, no_convs, more_convs}
+use Rattle.mz_logic_theory.proofs.Offered.{trees_size-followed}
+use Rattle.mz_mmu_theory.specs.Proof.{Proof, Proofs, by_hyp, by_name, by_citation, by_conv, by_let, by_gap, no_proofs, more_proofs}
+use Rattle.mz_mmu_theory.specs.Statements.{Statement}
+use Rattle.mz_mmu_theory.specs.Sides.{assertion_at, term_at}
+use Rattle.mz_mmu_theory.specs.Weight.{conv_weight, convs_weight, proof_weight, proofs_weight, declaration_weight, statement_weight, weight_after, stated_weight}
 use Rattle.mz_type.specs.Sizes.{conv_size, convs_size, proof_size, proofs_size, statement_size, text_size, stated_size}
 
 operand_size : (f : Trees) (i : ℕ) → size (operand f i) ≤ trees_size f + 1

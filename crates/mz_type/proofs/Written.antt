@@ -2,22 +2,22 @@
 use Rattle.std.proofs.Common.{ℕ, ◌≡◌, ◌≤◌, ◌<◌, ◌+◌, ◌^◌, Bool, true, false, List, [], ◌∷◌, ◌++◌, length, inl, inr, refl, ap, arith, length-append}
 use Rattle.mz_sexpr.specs.Node.{Node, Nodes, atom, list, no_nodes, node}
 use Rattle.mz_sexpr.specs.Number.{tails, tails_within, node_count}
-use Rattle.mz_logic.specs.Tree.{Tree, Trees, size, trees_size}
-use Rattle.mz_logic.specs.Conversions.{Conversion, Conversions}
-use Rattle.mz_logic.specs.declared.binder.Binder.{Binder}
-use Rattle.mz_mmu_forms.specs.Cursor.{node_size, nodes_size}
-use Rattle.mz_mmu_forms.specs.Name.{Names, Scope, scope_of, no_names, names_with}
-use Rattle.mz_mmu_forms.specs.Expressions.{IsExpr, AreExprs, IsExprList, AreVariables, IsVariableList, IsParam, IsDummy, AreBinders, AreParams, AreDummies}
-use Rattle.mz_mmu_forms.specs.Proof.{Proof, Proofs}
-use Rattle.mz_mmu_statements.specs.Statements.{Statement, kind_of, is_local_word, IsHyp, AreHyps, AreNamedHyps, IsDeclared, IsLocal, IsMarked, IsStatement, AreStatements}
-use Rattle.mz_mmu_forms.specs.Proofs.{conv_keyword, proof_keyword, IsConv, IsConvBy, AreConvs, IsFact, IsProof, IsProofBy, AreProofs}
-use Rattle.mz_mmu_forms.specs.declared.keyword.Keyword.{Keyword}
-use Rattle.mz_mmu_forms.specs.declared.keyword.Keyword.TheVariants.{Conv as conv_word, Let as let_word, Refl as refl_word, Sym as sym_word, Unfold as unfold_word, Sorry as sorry_word, Other as no_word}
-use Rattle.mz_mmu_forms.proofs.Offered.{node_size_positive}
-use Rattle.mz_mmu_statements.specs.declared.kind.Kind.{Kind}
-use Rattle.mz_mmu_statements.specs.declared.kind.Kind.TheVariants.{Sort as sort_kind, Term as term_kind, Axiom as axiom_kind, Def as def_kind, Theorem as theorem_kind, Other as no_kind}
+use Rattle.mz_logic_theory.specs.Tree.{Tree, Trees, size, trees_size}
+use Rattle.mz_logic_theory.specs.Conversions.{Conversion, Conversions}
+use Rattle.mz_logic_theory.specs.declared.binder.Binder.{Binder}
+use Rattle.mz_mmu_theory.specs.Cursor.{node_size, nodes_size}
+use Rattle.mz_mmu_theory.specs.Name.{Names, Scope, scope_of, no_names, names_with}
+use Rattle.mz_mmu_theory.specs.Expressions.{IsExpr, AreExprs, IsExprList, AreVariables, IsVariableList, IsParam, IsDummy, AreBinders, AreParams, AreDummies}
+use Rattle.mz_mmu_theory.specs.Proof.{Proof, Proofs}
+use Rattle.mz_mmu_theory.specs.Statements.{Statement, kind_of, is_local_word, IsHyp, AreHyps, AreNamedHyps, IsDeclared, IsLocal, IsMarked, IsStatement, AreStatements}
+use Rattle.mz_mmu_theory.specs.Proofs.{conv_keyword, proof_keyword, IsConv, IsConvBy, AreConvs, IsFact, IsProof, IsProofBy, AreProofs}
+use Rattle.mz_mmu_theory.specs.declared.keyword.Keyword.{Keyword}
+use Rattle.mz_mmu_theory.specs.declared.keyword.Keyword.TheVariants.{Conv as conv_word, Let as let_word, Refl as refl_word, Sym as sym_word, Unfold as unfold_word, Sorry as sorry_word, Other as no_word}
+use Rattle.mz_mmu_theory.proofs.Offered.{node_size_positive}
+use Rattle.mz_mmu_theory.specs.declared.kind.Kind.{Kind}
+use Rattle.mz_mmu_theory.specs.declared.kind.Kind.TheVariants.{Sort as sort_kind, Term as term_kind, Axiom as axiom_kind, Def as def_kind, Theorem as theorem_kind, Other as no_kind}
 use Rattle.mz_type.specs.Sizes.{conv_size, convs_size, proof_size, proofs_size, stated_size, statement_size, text_size}
-use Rattle.mz_type.specs.Weight.{declaration_weight, weight_of}
+use Rattle.mz_mmu_theory.specs.Weight.{declaration_weight, weight_of}
 use Rattle.mz_type.proofs.WeightBound.{weight_bound, square_bound}
 
 -- ---- expressions and variables

@@ -1,8 +1,3 @@
-pub mod TextRules
-pub mod Meaning
-pub mod TextOf
-pub mod Laws
-pub mod Weight
 pub mod StatedView
 pub mod TypedText
 pub mod Typing

@@ -1,7 +1,7 @@
 -- How large an expression becomes where operands are put in, from what is counted of it once.
 use Rattle.std.specs.Prelude.{ℕ, zero, suc, ◌≡◌, ◌+◌, ◌*◌, ⊤, List, [], ◌∷◌, map}
-use Rattle.mz_logic.specs.Tree.{Tree, Trees, var, app, none, more, instance, size, trees_size}
-use Rattle.mz_logic.specs.Declaration.{Declaration, terms, assertions, body_tree}
+use Rattle.mz_logic_theory.specs.Tree.{Tree, Trees, var, app, none, more, instance, size, trees_size}
+use Rattle.mz_logic_theory.specs.Declaration.{Declaration, terms, assertions, body_tree}
 use Rattle.mz_type.specs.declared.shapes.Shape.{Shape}
 
 -- one more use of the variable at the place; none past the end

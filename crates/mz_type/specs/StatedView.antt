@@ -1,14 +1,14 @@
 -- What a well-typed text is seen as: whether its proofs may have gaps, and its statements.
 use Rattle.std.specs.Prelude.{ℕ, ◌≡◌, ◌<◌, ◌^◌, Bool, List, [], ◌∷◌, length, refl}
 use Rattle.std.specs.Coded.{Coded, code_by, coded×, coded_bool, coded_list}
-use Rattle.mz_logic.specs.Declaration.{Declaration}
+use Rattle.mz_logic_theory.specs.Declaration.{Declaration}
 use Rattle.mz_sexpr.specs.Node.{Nodes}
-use Rattle.mz_mmu_statements.specs.Statements.{Statement, AreStatements}
-use Rattle.mz_mmu_statements.specs.StatementView.{option_proof}
-use Rattle.mz_mmu_forms.specs.Name.{no_names}
-use Rattle.mz_mmu.specs.TextView.{statement_code}
-use Rattle.mz_type.specs.Meaning.{LegalAsStated}
-use Rattle.mz_type.specs.Weight.{weight_of}
+use Rattle.mz_mmu_theory.specs.Statements.{Statement, AreStatements}
+use Rattle.mz_mmu_theory.specs.StatementView.{option_proof}
+use Rattle.mz_mmu_theory.specs.Name.{no_names}
+use Rattle.mz_mmu_theory.specs.TextView.{statement_code}
+use Rattle.mz_mmu_theory.specs.Meaning.{LegalAsStated}
+use Rattle.mz_mmu_theory.specs.Weight.{weight_of}
 use Rattle.mz_type.specs.declared.typed.Beside.{Beside}
 
 pub record Stated : Type 0 where

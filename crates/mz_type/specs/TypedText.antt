@@ -1,7 +1,7 @@
 -- The statements of a text, one by one.
 use Rattle.std.specs.Prelude.{ℕ, false, List, [], map, get_or, None}
-use Rattle.mz_logic.specs.Declaration.{Declaration, sort_decl}
-use Rattle.mz_mmu_statements.specs.Statements.{Statement}
+use Rattle.mz_logic_theory.specs.Declaration.{Declaration, sort_decl}
+use Rattle.mz_mmu_theory.specs.Statements.{Statement}
 
 -- the i-th statement; past the end, where nothing looks, a sort
 abbrev pub statement_at : List Statement → ℕ → Statement

@@ -1,12 +1,12 @@
 -- What checking the type rules of a text answers.
 use Rattle.std.specs.Prelude.{ℕ, ◌≡◌, ⊤, List}
 use Rattle.mz_base_theory.specs.Checks.{FailsFirst}
-use Rattle.mz_mmu.specs.TextView.{Forms}
+use Rattle.mz_mmu_theory.specs.TextView.{Forms}
 use Rattle.mz_mmu.specs.declared.text.TextStop.{TextStop}
 use Rattle.mz_mmu.specs.declared.text.TextStop.TheVariants as text_stop
-use Rattle.mz_type.specs.Meaning.{LegalAsStated}
-use Rattle.mz_type.specs.TextRules.{text_rules}
-use Rattle.mz_type.specs.TextOf.{TextOf, TextFault}
+use Rattle.mz_mmu_theory.specs.Meaning.{LegalAsStated}
+use Rattle.mz_mmu_theory.specs.TextRules.{text_rules}
+use Rattle.mz_mmu_theory.specs.TextOf.{TextOf, TextFault}
 use Rattle.mz_type.specs.declared.typed.TypedRead.{TypedRead}
 use Rattle.mz_type.specs.declared.typed.TypedRead.TheVariants as read
 

@@ -1,18 +1,18 @@
 //! Environments in which it is told at once how large a body or a conclusion becomes where operands
 //! are put in.
 ghost use Rattle.std.specs.Prelude.{◌≡◌, ◌<◌, ◌^◌, ◌+◌, ◌∷◌, [], ◌++◌, IfOk, OnOk, List, sum_by, get_or, drop, length};
-ghost use Rattle.mz_logic.specs.Declaration.{body_of, context_of, term_decl, sort_decl, body_tree};
-ghost use Rattle.mz_logic.specs.DeclView.{declaration, form, term_view, term_of, assertion_of};
-ghost use Rattle.mz_logic.specs.Legality.{IsLegalDecl, InRange, AllInRange};
-ghost use Rattle.mz_logic.specs.Signature.{Signature};
-ghost use Rattle.mz_logic.specs.Tree.{var, size, trees_size, instance};
-ghost use Rattle.mz_logic.specs.View.{tree};
-ghost use Rattle.mz_type_rules.specs.Sides.{assertion_at, term_at};
+ghost use Rattle.mz_logic_theory.specs.Declaration.{body_of, context_of, term_decl, sort_decl, body_tree};
+ghost use Rattle.mz_logic_theory.specs.DeclView.{declaration, form, term_view, term_of, assertion_of};
+ghost use Rattle.mz_logic_theory.specs.Legality.{IsLegalDecl, InRange, AllInRange};
+ghost use Rattle.mz_logic_theory.specs.Signature.{Signature};
+ghost use Rattle.mz_logic_theory.specs.Tree.{var, size, trees_size, instance};
+ghost use Rattle.mz_logic_theory.specs.View.{tree};
+ghost use Rattle.mz_mmu_theory.specs.Sides.{assertion_at, term_at};
 ghost use Rattle.mz_type.specs.Shapes.{one_more, counted, all_counted, put_on, IsShapeOf};
-ghost use Rattle.mz_type.specs.Weight.{declaration_weight};
+ghost use Rattle.mz_mmu_theory.specs.Weight.{declaration_weight};
 
 use crate::sizes::{size_of, sizes_of};
-use mz_logic::{Decl, Env, Expr, Exprs, TermDecl, ThmDecl};
+use mz_logic_theory::{Decl, Env, Expr, Exprs, TermDecl, ThmDecl};
 use std::alloc::{AllocError, Global};
 use std::marker::Model;
 
@@ -122,8 +122,8 @@ pub(crate) struct Shaped {
 
 impl Model for Shaped {
     ghost use Rattle.std.specs.Prelude.{List};
-    ghost use Rattle.mz_logic.specs.Declaration.{Declaration};
-    ghost use Rattle.mz_logic.specs.Codes.{declaration_code};
+    ghost use Rattle.mz_logic_theory.specs.Declaration.{Declaration};
+    ghost use Rattle.mz_logic_theory.specs.Codes.{declaration_code};
     ghost use Rattle.std.specs.Coded.{coded_list};
 
     ghost Value = { List Declaration };

@@ -1,9 +1,9 @@
 //! How many variables and terms stand in expressions.
 ghost use Rattle.std.specs.Prelude.{◌≡◌, ◌<◌, ◌^◌, ◌+◌};
-ghost use Rattle.mz_logic.specs.Tree.{size, trees_size};
-ghost use Rattle.mz_logic.specs.View.{tree};
+ghost use Rattle.mz_logic_theory.specs.Tree.{size, trees_size};
+ghost use Rattle.mz_logic_theory.specs.View.{tree};
 
-use mz_logic::{Expr, Exprs, Hyps};
+use mz_logic_theory::{Expr, Exprs, Hyps};
 
 /// How many variables and terms stand in the expression.
 #[cycle(size_of)]

@@ -3,26 +3,26 @@ ghost use Rattle.std.specs.Prelude.{◌≡◌, ◌<◌, ◌^◌, ◌∷◌, [], 
 ghost use Rattle.mz_sexpr.specs.Node.{parts};
 ghost use Rattle.mz_sexpr.specs.Number.{first};
 ghost use Rattle.mz_base.specs.Gaps.{gaps_of};
-ghost use Rattle.mz_mmu_statements.specs.StatementView.{option_proof};
-ghost use Rattle.mz_mmu_statements.specs.Statements.{is_local_word, Reads};
+ghost use Rattle.mz_mmu_theory.specs.StatementView.{option_proof};
+ghost use Rattle.mz_mmu_theory.specs.Statements.{is_local_word, Reads};
 ghost use Rattle.mz_mmu.specs.EntryView.{entry as statement, IsRooted};
 ghost use Rattle.mz_type_rules.specs.Answers.{Judged, stated};
-ghost use Rattle.mz_type_rules.specs.Names.{StatementThere};
-ghost use Rattle.mz_type_rules.specs.Rules.{statement_rules};
-ghost use Rattle.mz_type.specs.Meaning.{LegalAsStated};
-ghost use Rattle.mz_type.specs.TextRules.{text_rules};
+ghost use Rattle.mz_mmu_theory.specs.Names.{StatementThere};
+ghost use Rattle.mz_mmu_theory.specs.Rules.{statement_rules};
+ghost use Rattle.mz_mmu_theory.specs.Meaning.{LegalAsStated};
+ghost use Rattle.mz_mmu_theory.specs.TextRules.{text_rules};
 ghost use Rattle.mz_type.specs.StatedView.{statements_of};
 ghost use Rattle.mz_mmu.specs.TextStops.{TextStops};
 ghost use Rattle.mz_type.specs.Typing.{IsTyping, IsTypingOf, IsRefusal};
-ghost use Rattle.mz_type.specs.Weight.{declaration_weight};
+ghost use Rattle.mz_mmu_theory.specs.Weight.{declaration_weight};
 
 use crate::shapes::Shaped;
 use crate::taking::take_last;
 use crate::weigh::statement_weight;
 use mz_base::Mode;
-use mz_logic::{Binders, Decl, Env};
+use mz_logic_theory::{Binders, Decl, Env};
 use mz_mmu::{Entry, Text, TextStop, in_statement};
-use mz_mmu_forms::{Proof, ProofBox, Stop};
+use mz_mmu_theory::{Proof, ProofBox, Stop};
 use mz_sexpr::{Sexprs, TextRefusal};
 use mz_type_rules::{Cursor, check_statement, proof_in};
 use std::alloc::Global;
@@ -185,9 +185,9 @@ pub fn check_text<'a>(alloc: Global, text: Text<'a>) -> TypedRead<'a>
 
 impl<'a> Typed<'a> {
     ghost use Rattle.std.specs.Prelude.{◌≡◌, ◌<◌, length, option_map, slice_get, Some};
-    ghost use Rattle.mz_logic.specs.DeclView.{declaration};
-    ghost use Rattle.mz_mmu_forms.specs.ProofView.{proof_view};
-    ghost use Rattle.mz_type.specs.Meaning.{LegalAsStated};
+    ghost use Rattle.mz_logic_theory.specs.DeclView.{declaration};
+    ghost use Rattle.mz_mmu_theory.specs.ProofView.{proof_view};
+    ghost use Rattle.mz_mmu_theory.specs.Meaning.{LegalAsStated};
     ghost use Rattle.mz_type.specs.StatedView.{AreRead};
 
     /// How many statements there are.

@@ -1,22 +1,22 @@
 //! The weight of a well-typed text.
 ghost use Rattle.std.specs.Prelude.{◌≡◌, ◌<◌, ◌^◌, ◌+◌};
-ghost use Rattle.mz_logic.specs.DeclView.{declaration, term_of, assertion_of};
-ghost use Rattle.mz_logic.specs.Tree.{var, size, trees_size, instance, instances, followed_by, variables};
-ghost use Rattle.mz_logic.specs.View.{tree};
-ghost use Rattle.mz_mmu_forms.specs.ConvView.{conversion};
-ghost use Rattle.mz_mmu_forms.specs.ProofView.{proof_view};
+ghost use Rattle.mz_logic_theory.specs.DeclView.{declaration, term_of, assertion_of};
+ghost use Rattle.mz_logic_theory.specs.Tree.{var, size, trees_size, instance, instances, followed_by, variables};
+ghost use Rattle.mz_logic_theory.specs.View.{tree};
+ghost use Rattle.mz_mmu_theory.specs.ConvView.{conversion};
+ghost use Rattle.mz_mmu_theory.specs.ProofView.{proof_view};
 ghost use Rattle.mz_mmu.specs.EntryView.{entry as statement};
 ghost use Rattle.mz_type_rules.specs.Answers.{stated};
-ghost use Rattle.mz_type_rules.specs.Sides;
-ghost use Rattle.mz_type.specs.Weight;
-ghost use Rattle.mz_type.specs.Weight.{weight_of};
+ghost use Rattle.mz_mmu_theory.specs.Sides;
+ghost use Rattle.mz_mmu_theory.specs.Weight;
+ghost use Rattle.mz_mmu_theory.specs.Weight.{weight_of};
 
 use crate::shapes::Shaped;
 use crate::sizes::{size_of, sizes_of_hyps};
 use crate::typed::Typed;
-use mz_logic::{Decl, TermDecl, ThmDecl};
+use mz_logic_theory::{Decl, TermDecl, ThmDecl};
 use mz_mmu::Entry;
-use mz_mmu_forms::{Conv, Convs, Proof, Proofs};
+use mz_mmu_theory::{Conv, Convs, Proof, Proofs};
 use mz_type_rules::proof_in;
 
 /// The weight of a conversion.

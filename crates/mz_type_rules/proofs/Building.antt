@@ -1,10 +1,10 @@
 -- One part more of what is built.
 use Rattle.std.proofs.Common.{ℕ, ◌≡◌, ◌<◌, ◌≤◌, ◌+◌, List, length, get_or, drop, sym, ap, ◌∙◌, arith}
-use Rattle.mz_logic.specs.Tree.{Tree, Trees, none, more, followed_by}
-use Rattle.mz_logic.proofs.Offered.{followed_by_none, followed_by_push}
-use Rattle.mz_mmu_forms.specs.ConvCode.{conv_steps, convs_steps}
-use Rattle.mz_mmu_forms.specs.ConvView.{conversion, conversions}
-use Rattle.mz_mmu_forms.specs.declared.conv.Conv.{Conv}
+use Rattle.mz_logic_theory.specs.Tree.{Tree, Trees, none, more, followed_by}
+use Rattle.mz_logic_theory.proofs.Offered.{followed_by_none, followed_by_push}
+use Rattle.mz_mmu_theory.specs.ConvCode.{conv_steps, convs_steps}
+use Rattle.mz_mmu_theory.specs.ConvView.{conversion, conversions}
+use Rattle.mz_mmu_theory.specs.declared.conv.Conv.{Conv}
 use Rattle.mz_type_rules.proofs.Steps.{convs_cut}
 
 -- what is built and what is left are the whole

@@ -3,14 +3,14 @@ use Rattle.std.proofs.Common.{ℕ, ◌≡◌, ◌↔◌, ◌<◌, ◌+◌, Bool,
 use Rattle.std.specs.Prelude.{IsTrue, IfOk, not}
 use Rattle.std.proofs.lemmas.Result.{IfOk-weaker}
 use Rattle.mz_base_theory.proofs.Offered.{drop-item}
-use Rattle.mz_logic.specs.Conversions.{Conversion, Conversions, refl_conv, sym_conv, cong_conv, unfold_conv, gap_conv}
-use Rattle.mz_logic.specs.Tree.{Tree, Trees, var, app, none, more}
-use Rattle.mz_logic.specs.View.{tree, trees}
-use Rattle.mz_logic.specs.declared.expr.Expr.{Expr}
-use Rattle.mz_mmu_forms.specs.ConvView.{conversion, conversions}
-use Rattle.mz_mmu_forms.specs.declared.conv.Conv.{Conv}
+use Rattle.mz_logic_theory.specs.Conversions.{Conversion, Conversions, refl_conv, sym_conv, cong_conv, unfold_conv, gap_conv}
+use Rattle.mz_logic_theory.specs.Tree.{Tree, Trees, var, app, none, more}
+use Rattle.mz_logic_theory.specs.View.{tree, trees}
+use Rattle.mz_logic_theory.specs.declared.expr.Expr.{Expr}
+use Rattle.mz_mmu_theory.specs.ConvView.{conversion, conversions}
+use Rattle.mz_mmu_theory.specs.declared.conv.Conv.{Conv}
 use Rattle.mz_type_rules.specs.Claims.{put_in, all_put_in}
-use Rattle.mz_type_rules.specs.Sides.{side, sides}
+use Rattle.mz_mmu_theory.specs.Sides.{side, sides}
 use Rattle.mz_type_rules.specs.declared.claim.Put.{Put}
 use Rattle.mz_type_rules.specs.declared.claim.Put.TheVariants.{Nothing, Operands}
 

@@ -1,18 +1,19 @@
 -- Claims: what stands in place of a variable, and lists compared from the front.
 use Rattle.std.proofs.Common.{ℕ, zero, suc, ◌≡◌, ◌↔◌, ◌<◌, ◌≤◌, ◌+◌, ◌*◌, Bool, true, false, List, [], ◌∷◌, ◌++◌, length, get_or, drop, slice_get, Some, None, refl, sym, ap, ◌∙◌, subst, arith}
 use Rattle.std.proofs.lemmas.List.{drop_more}
-use Rattle.mz_logic.specs.Tree.{Trees, var, app, none, more, listed, operand, instances, followed_by, variables}
-use Rattle.mz_logic.specs.View.{trees}
-use Rattle.mz_logic.specs.declared.expr.Expr.{Expr}
-use Rattle.mz_logic.proofs.Offered.{length-trees}
-use Rattle.mz_mmu_forms.specs.ConvView.{conversions}
-use Rattle.mz_mmu_forms.specs.declared.conv.Conv.{Conv}
+use Rattle.mz_logic_theory.specs.Tree.{Trees, var, app, none, more, listed, operand, followed_by, variables}
+use Rattle.mz_logic_theory.specs.View.{trees}
+use Rattle.mz_logic_theory.specs.declared.expr.Expr.{Expr}
+use Rattle.mz_logic_theory.proofs.Offered.{length-trees}
+use Rattle.mz_mmu_theory.specs.ConvView.{conversions}
+use Rattle.mz_mmu_theory.specs.declared.conv.Conv.{Conv}
 use Rattle.mz_type_rules.specs.Claims.{all_put_in, claim_tree, claim_trees, AreSame, AllSame, lists_size, turns}
-use Rattle.mz_type_rules.specs.Sides.{sides}
+use Rattle.mz_mmu_theory.specs.Sides.{sides}
 use Rattle.mz_type_rules.specs.declared.claim.Claim.{Claim}
 use Rattle.mz_type_rules.specs.declared.claim.Lists.{Lists}
 use Rattle.mz_type_rules.specs.declared.claim.Put.{Put}
 use Rattle.mz_type_rules.specs.declared.claim.Put.TheVariants.{Nothing, Operands}
+use Rattle.mz_mmu_theory.proofs.Offered.{instances_many}
 
 -- ---- what stands in place of a variable
 
@@ -42,10 +43,6 @@ none_past (x ∷ xs) zero h = absurd (let e : None ≡ Some x = h in cc)
 none_past (x ∷ xs) (suc i) h = let below = none_past xs i h in omega (arith, below)
 
 -- ---- lists with something put in
-
-pub instances_many : (fs es : Trees) → length (listed (instances fs es)) ≡ length (listed es)
-instances_many fs none = refl
-instances_many fs (more e es) = ap suc (instances_many fs es)
 
 put_many : (p : Put) (es : Trees) → length (listed (all_put_in p es)) ≡ length (listed es)
 put_many Nothing es = refl

@@ -5,25 +5,25 @@ use Rattle.mz_base_theory.proofs.Offered.{fails-after, all_hold-both}
 use Rattle.mz_sexpr.specs.declared.rule.U.{U}
 use Rattle.mz_sexpr.specs.Node.{Node, Nodes, place, parts}
 use Rattle.mz_sexpr.specs.Number.{first, rest}
-use Rattle.mz_logic.specs.Tree.{Tree, Trees, none, more, listed, instance, followed_by, variables}
-use Rattle.mz_logic.specs.Signature.{Signature}
-use Rattle.mz_logic.specs.Declaration.{Form, plain_form, abstract_form, defined, Term, Declaration, dummies_of, body_of, terms, signatures, is_defined, body_tree}
-use Rattle.mz_logic.specs.Legality.{signature_at}
-use Rattle.mz_logic.specs.Conversions.{Conversion, Conversions, unfold_conv}
-use Rattle.mz_logic.specs.declared.binder.Binder.{Binder}
-use Rattle.mz_mmu_forms.specs.Order.{fault}
-use Rattle.mz_mmu_forms.specs.Stops.{Stops}
-use Rattle.mz_mmu_forms.specs.declared.fault.Fault.{Fault}
-use Rattle.mz_mmu_forms.specs.declared.fault.Stop.{Stop}
-use Rattle.mz_mmu_forms.specs.ConvView.{conversion, conversions}
-use Rattle.mz_mmu_forms.specs.declared.conv.Conv.{Conv}
+use Rattle.mz_logic_theory.specs.Tree.{Tree, Trees, none, more, listed, instance, followed_by, variables}
+use Rattle.mz_logic_theory.specs.Signature.{Signature}
+use Rattle.mz_logic_theory.specs.Declaration.{Form, plain_form, abstract_form, defined, Term, Declaration, dummies_of, body_of, terms, signatures, is_defined, body_tree}
+use Rattle.mz_logic_theory.specs.Legality.{signature_at}
+use Rattle.mz_logic_theory.specs.Conversions.{Conversion, Conversions, unfold_conv}
+use Rattle.mz_logic_theory.specs.declared.binder.Binder.{Binder}
+use Rattle.mz_mmu_theory.specs.FormOrder.{fault}
+use Rattle.mz_mmu_theory.specs.Stops.{Stops}
+use Rattle.mz_mmu_theory.specs.declared.fault.Fault.{Fault}
+use Rattle.mz_mmu_theory.specs.declared.fault.Stop.{Stop}
+use Rattle.mz_mmu_theory.specs.ConvView.{conversion, conversions}
+use Rattle.mz_mmu_theory.specs.declared.conv.Conv.{Conv}
 use Rattle.mz_type_rules.specs.Answers.{Judged}
-use Rattle.mz_type_rules.specs.Names.{ConvThere, ConvsThere}
-use Rattle.mz_type_rules.specs.Parts.{part}
-use Rattle.mz_type_rules.specs.Rules.{operand_rules, exprs_rules, variable_rules, unfold_rules, conv_rules, convs_rules, side_rules, conv_count, AreNew}
-use Rattle.mz_type_rules.specs.Sides.{left, term_at}
+use Rattle.mz_mmu_theory.specs.Names.{ConvThere, ConvsThere}
+use Rattle.mz_mmu_theory.specs.Parts.{part}
+use Rattle.mz_mmu_theory.specs.Rules.{operand_rules, exprs_rules, variable_rules, unfold_rules, conv_rules, convs_rules, side_rules, conv_count, AreNew}
+use Rattle.mz_mmu_theory.specs.Sides.{left, term_at}
 use Rattle.mz_type_rules.proofs.Judging.{stopped_before, stopped_after, stopped_asked, judged_after}
-use Rattle.mz_logic.proofs.Offered.{none_read}
+use Rattle.mz_logic_theory.proofs.Offered.{none_read}
 use Rattle.mz_type_rules.proofs.Steps.{convs_cut}
 
 pub defined_by : (F : Form) (e : Tree) → body_of F ≡ more e none → IsTrue (is_defined F)

@@ -2,10 +2,10 @@
 use Rattle.std.proofs.Common.{◌≡◌, ◌⊎◌, ◌↔◌, ℕ, Bool, true, false, true≢false, IsTrue, List, [], ◌∷◌, Contains, refl, sym, subst, inl, inr}
 use Rattle.std.specs.Prelude.{⊤, not}
 use Rattle.mz_base_theory.proofs.Offered.{contains_none, contains_tail, contains_head, contains_cases}
-use Rattle.mz_logic.specs.Tree.{Trees}
-use Rattle.mz_logic.specs.Variables.{InSomeV}
-use Rattle.mz_logic.specs.declared.binder.Binder.{Binder}
-use Rattle.mz_type_rules.specs.Rules.{AreNew}
+use Rattle.mz_logic_theory.specs.Tree.{Trees}
+use Rattle.mz_logic_theory.specs.Variables.{InSomeV}
+use Rattle.mz_logic_theory.specs.declared.binder.Binder.{Binder}
+use Rattle.mz_mmu_theory.specs.Rules.{AreNew}
 
 -- none is among those seen, or stands again behind itself
 abbrev pub Differ : List ℕ → List ℕ → Type 0

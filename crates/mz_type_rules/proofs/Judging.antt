@@ -3,11 +3,11 @@ use Rattle.std.proofs.Common.{◌≡◌, Result, Ok, Err, inr, sym, subst}
 use Rattle.std.specs.Result.{IsErrAnd}
 use Rattle.mz_base_theory.specs.Checks.{Checks, ask, ◌>>◌, AllHold, FailsFirst, Judges}
 use Rattle.mz_base_theory.proofs.Offered.{fails-before, fails-after, all_hold-both, Decides, decides-after}
-use Rattle.mz_mmu_forms.specs.Stops.{Stops}
-use Rattle.mz_mmu_forms.specs.declared.fault.Fault.{Fault}
-use Rattle.mz_mmu_forms.specs.declared.fault.Stop.{Stop}
-use Rattle.mz_mmu_forms.specs.declared.fault.Stop.TheVariants.{Refused, Mem}
-use Rattle.mz_logic.specs.Tree.{Tree}
+use Rattle.mz_mmu_theory.specs.Stops.{Stops}
+use Rattle.mz_mmu_theory.specs.declared.fault.Fault.{Fault}
+use Rattle.mz_mmu_theory.specs.declared.fault.Stop.{Stop}
+use Rattle.mz_mmu_theory.specs.declared.fault.Stop.TheVariants.{Refused, Mem}
+use Rattle.mz_logic_theory.specs.Tree.{Tree}
 use Rattle.mz_type_rules.specs.Answers.{Judged, IsProved, told}
 use Rattle.mz_type_rules.specs.declared.claim.Claim.{Claim}
 

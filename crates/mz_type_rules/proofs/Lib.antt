@@ -1,5 +1,3 @@
-pub mod ExprRules
-pub mod ParamRules
 pub mod Judging
 pub mod Steps
 pub mod Building

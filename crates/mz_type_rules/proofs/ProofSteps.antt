@@ -8,35 +8,35 @@ use Rattle.mz_base_theory.proofs.Offered.{fails-after, all_hold-both}
 use Rattle.mz_sexpr.specs.declared.rule.U.{U}
 use Rattle.mz_sexpr.specs.Node.{Node, Nodes, place, parts}
 use Rattle.mz_sexpr.specs.Number.{first, rest}
-use Rattle.mz_logic.specs.Tree.{Tree, Trees, more, listed, instance, instances}
-use Rattle.mz_logic.specs.Signature.{Signature}
-use Rattle.mz_logic.specs.Declaration.{Assertion, Declaration, signatures}
-use Rattle.mz_logic.specs.Sorts.{Fits}
-use Rattle.mz_logic.specs.Variables.{Apart}
-use Rattle.mz_logic.specs.View.{tree, trees}
-use Rattle.mz_logic.specs.declared.binder.Binder.{Binder}
-use Rattle.mz_logic.specs.declared.expr.Expr.{Expr}
-use Rattle.mz_mmu_forms.specs.ConvView.{conversion}
-use Rattle.mz_mmu_forms.specs.Order.{fault}
-use Rattle.mz_mmu_forms.specs.Stops.{Stops}
-use Rattle.mz_mmu_forms.specs.declared.fault.Fault.{Fault}
-use Rattle.mz_mmu_forms.specs.declared.fault.Stop.{Stop}
-use Rattle.mz_mmu_forms.specs.declared.conv.Conv.{Conv as ConvRead}
-use Rattle.mz_mmu_forms.specs.declared.proof.Proof.{Proof as Coded}
-use Rattle.mz_mmu_forms.specs.declared.proof.Proof.TheVariants as codes
-use Rattle.mz_mmu_forms.specs.Proof.{Proof, Proofs, by_citation, by_conv, by_let, more_proofs}
-use Rattle.mz_mmu_forms.specs.ProofCode.{proof_steps, proofs_steps}
-use Rattle.mz_mmu_forms.specs.ProofView.{proof_view, proofs_view}
-use Rattle.mz_logic.specs.Conversions.{Conversion}
+use Rattle.mz_logic_theory.specs.Tree.{Tree, Trees, more, listed, instance, instances}
+use Rattle.mz_logic_theory.specs.Signature.{Signature}
+use Rattle.mz_logic_theory.specs.Declaration.{Assertion, Declaration, signatures}
+use Rattle.mz_logic_theory.specs.Sorts.{Fits}
+use Rattle.mz_logic_theory.specs.Variables.{Apart}
+use Rattle.mz_logic_theory.specs.View.{tree, trees}
+use Rattle.mz_logic_theory.specs.declared.binder.Binder.{Binder}
+use Rattle.mz_logic_theory.specs.declared.expr.Expr.{Expr}
+use Rattle.mz_mmu_theory.specs.ConvView.{conversion}
+use Rattle.mz_mmu_theory.specs.FormOrder.{fault}
+use Rattle.mz_mmu_theory.specs.Stops.{Stops}
+use Rattle.mz_mmu_theory.specs.declared.fault.Fault.{Fault}
+use Rattle.mz_mmu_theory.specs.declared.fault.Stop.{Stop}
+use Rattle.mz_mmu_theory.specs.declared.conv.Conv.{Conv as ConvRead}
+use Rattle.mz_mmu_theory.specs.declared.proof.Proof.{Proof as Coded}
+use Rattle.mz_mmu_theory.specs.declared.proof.Proof.TheVariants as codes
+use Rattle.mz_mmu_theory.specs.Proof.{Proof, Proofs, by_citation, by_conv, by_let, more_proofs}
+use Rattle.mz_mmu_theory.specs.ProofCode.{proof_steps, proofs_steps}
+use Rattle.mz_mmu_theory.specs.ProofView.{proof_view, proofs_view}
+use Rattle.mz_logic_theory.specs.Conversions.{Conversion}
 use Rattle.mz_type_rules.specs.Answers.{Judged}
 use Rattle.mz_type_rules.specs.Claims.{claim_tree, claim_trees}
 use Rattle.mz_type_rules.specs.declared.claim.Claim.{Claim}
-use Rattle.mz_type_rules.specs.Names.{ExprsThere, ProofThere, ProofsThere}
-use Rattle.mz_type_rules.specs.Parts.{part, after}
-use Rattle.mz_type_rules.specs.Rules.{operand_rules, expr_rules, exprs_rules, conv_rules, subproof_rules, citation_rules, proof_rules, proofs_rules}
-use Rattle.mz_type_rules.specs.Sides.{left, right, proved, all_proved, with_fact}
+use Rattle.mz_mmu_theory.specs.Names.{ExprsThere, ProofThere, ProofsThere}
+use Rattle.mz_mmu_theory.specs.Parts.{part, after}
+use Rattle.mz_mmu_theory.specs.Rules.{operand_rules, expr_rules, exprs_rules, conv_rules, subproof_rules, citation_rules, proof_rules, proofs_rules}
+use Rattle.mz_mmu_theory.specs.Sides.{left, right, proved, all_proved, with_fact}
 use Rattle.mz_type_rules.proofs.Claims.{claims_cut}
-use Rattle.mz_type_rules.proofs.ExprRules.{fits_by_checks}
+use Rattle.mz_mmu_theory.proofs.Offered.{fits_by_checks}
 use Rattle.mz_type_rules.proofs.Judging.{stopped_before, stopped_after, stopped_asked}
 use Rattle.mz_type_rules.proofs.Steps.{trees_cut}
 

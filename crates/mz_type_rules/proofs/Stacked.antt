@@ -3,20 +3,20 @@ use Rattle.std.proofs.Common.{ℕ, ◌≡◌, ◌+◌, List, [], ◌∷◌, leng
 use Rattle.std.specs.Result.{OnOk}
 use Rattle.mz_base_theory.specs.Checks.{Checks, nothing, ask, ◌>>◌, AllHold}
 use Rattle.mz_sexpr.specs.Node.{Node, parts}
-use Rattle.mz_logic.specs.Tree.{Tree, Trees, app, none, more, listed, operand, followed_by}
-use Rattle.mz_logic.specs.Conversions.{Conversion}
-use Rattle.mz_logic.specs.Declaration.{Declaration, signatures}
-use Rattle.mz_logic.specs.declared.binder.Binder.{Binder}
-use Rattle.mz_mmu_forms.specs.Proof.{Proof, Proofs, by_citation, by_conv}
-use Rattle.mz_mmu_forms.specs.Stops.{Stops}
-use Rattle.mz_mmu_forms.specs.declared.fault.Fault.{Fault}
-use Rattle.mz_mmu_forms.specs.declared.fault.Stop.{Stop}
-use Rattle.mz_mmu_forms.specs.declared.fault.Stop.TheVariants.{Refused, Mem}
+use Rattle.mz_logic_theory.specs.Tree.{Tree, Trees, app, none, more, listed, operand, followed_by}
+use Rattle.mz_logic_theory.specs.Conversions.{Conversion}
+use Rattle.mz_logic_theory.specs.Declaration.{Declaration, signatures}
+use Rattle.mz_logic_theory.specs.declared.binder.Binder.{Binder}
+use Rattle.mz_mmu_theory.specs.Proof.{Proof, Proofs, by_citation, by_conv}
+use Rattle.mz_mmu_theory.specs.Stops.{Stops}
+use Rattle.mz_mmu_theory.specs.declared.fault.Fault.{Fault}
+use Rattle.mz_mmu_theory.specs.declared.fault.Stop.{Stop}
+use Rattle.mz_mmu_theory.specs.declared.fault.Stop.TheVariants.{Refused, Mem}
 use Rattle.mz_type_rules.specs.Answers.{Judged}
 use Rattle.mz_type_rules.specs.Claims.{claim_tree, claim_trees}
-use Rattle.mz_type_rules.specs.Parts.{part, after}
-use Rattle.mz_type_rules.specs.Rules.{expr_rules, exprs_rules, conv_rules, citation_rules, proof_rules, proofs_rules}
-use Rattle.mz_type_rules.specs.Sides.{assertion_at, all_proved}
+use Rattle.mz_mmu_theory.specs.Parts.{part, after}
+use Rattle.mz_mmu_theory.specs.Rules.{expr_rules, exprs_rules, conv_rules, citation_rules, proof_rules, proofs_rules}
+use Rattle.mz_mmu_theory.specs.Sides.{assertion_at, all_proved}
 use Rattle.mz_type_rules.specs.declared.claim.Claim.{Claim}
 use Rattle.mz_type_rules.proofs.Claims.{length-claims, operand_behind}
 use Rattle.mz_type_rules.proofs.Judging.{stopped_before, judged_after}

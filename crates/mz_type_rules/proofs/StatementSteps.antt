@@ -5,13 +5,13 @@ use Rattle.mz_base_theory.specs.Checks.{demand, ◌>>◌}
 use Rattle.mz_sexpr.specs.declared.rule.U.{U}
 use Rattle.mz_sexpr.specs.Node.{Nodes, place}
 use Rattle.mz_sexpr.specs.Number.{first, rest}
-use Rattle.mz_logic.specs.Declaration.{Declaration, sorts}
-use Rattle.mz_logic.specs.Legality.{IsParam}
-use Rattle.mz_logic.specs.View.{tree, trees}
-use Rattle.mz_logic.specs.declared.binder.Binder.{Binder}
-use Rattle.mz_logic.specs.declared.expr.Expr.{Expr}
-use Rattle.mz_mmu_forms.specs.Order.{fault}
-use Rattle.mz_type_rules.specs.Rules.{param_rules, claim_rules, claims_rules, hyp_node}
+use Rattle.mz_logic_theory.specs.Declaration.{Declaration, sorts}
+use Rattle.mz_logic_theory.specs.Legality.{IsParam}
+use Rattle.mz_logic_theory.specs.View.{tree, trees}
+use Rattle.mz_logic_theory.specs.declared.binder.Binder.{Binder}
+use Rattle.mz_logic_theory.specs.declared.expr.Expr.{Expr}
+use Rattle.mz_mmu_theory.specs.FormOrder.{fault}
+use Rattle.mz_mmu_theory.specs.Rules.{param_rules, claim_rules, claims_rules, hyp_node}
 use Rattle.mz_type_rules.proofs.Steps.{trees_cut}
 
 pub params_cut : (env : List Declaration) (ps : List Binder) (i : ℕ) (b : Binder) → i < length ps → b ≡ get_or ps i b → (ns : Nodes)

@@ -6,18 +6,18 @@ use Rattle.mz_base_theory.proofs.Offered.{Decides, decides-after}
 use Rattle.mz_sexpr.specs.Node.{Nodes}
 use Rattle.mz_sexpr.specs.Number.{first, rest}
 use Rattle.mz_sexpr.specs.declared.rule.U.{U}
-use Rattle.mz_logic.specs.Tree.{Trees, none, more, listed, size, trees_size}
-use Rattle.mz_logic.specs.Legality.{signature_at}
-use Rattle.mz_logic.specs.Signature.{Signature}
-use Rattle.mz_logic.specs.View.{tree, trees}
-use Rattle.mz_logic.specs.declared.expr.Expr.{Expr}
-use Rattle.mz_logic.specs.declared.binder.Binder.{Binder}
-use Rattle.mz_mmu_forms.specs.declared.fault.Fault.{Fault}
-use Rattle.mz_mmu_forms.specs.Order.{fault}
-use Rattle.mz_logic.specs.Conversions.{Conversions, no_convs, more_convs}
-use Rattle.mz_mmu_forms.specs.ConvView.{conversion, conversions}
-use Rattle.mz_mmu_forms.specs.declared.conv.Conv.{Conv}
-use Rattle.mz_type_rules.specs.Rules.{expr_rules, exprs_rules, operand_rules, own_operand_rules, side_rules, own_side_rules, variable_rules}
+use Rattle.mz_logic_theory.specs.Tree.{Trees, none, more, listed, size, trees_size}
+use Rattle.mz_logic_theory.specs.Legality.{signature_at}
+use Rattle.mz_logic_theory.specs.Signature.{Signature}
+use Rattle.mz_logic_theory.specs.View.{tree, trees}
+use Rattle.mz_logic_theory.specs.declared.expr.Expr.{Expr}
+use Rattle.mz_logic_theory.specs.declared.binder.Binder.{Binder}
+use Rattle.mz_mmu_theory.specs.declared.fault.Fault.{Fault}
+use Rattle.mz_mmu_theory.specs.FormOrder.{fault}
+use Rattle.mz_logic_theory.specs.Conversions.{Conversions, no_convs, more_convs}
+use Rattle.mz_mmu_theory.specs.ConvView.{conversion, conversions}
+use Rattle.mz_mmu_theory.specs.declared.conv.Conv.{Conv}
+use Rattle.mz_mmu_theory.specs.Rules.{expr_rules, exprs_rules, operand_rules, own_operand_rules, side_rules, own_side_rules, variable_rules}
 
 -- the rules of an application of t at a place, where the nodes of its operands are ns
 abbrev pub app_rules : List Signature → List Binder → ℕ → Trees → ℕ → Nodes → Checks Fault

@@ -3,20 +3,20 @@ use Rattle.std.specs.Prelude.{◌≡◌, List, Option, Some, None, Result, Ok, E
 use Rattle.std.specs.Borrow.{Bor}
 use Rattle.mz_base_theory.specs.Checks.{Checks, ◌>>◌, AllHold}
 use Rattle.mz_sexpr.specs.Node.{Node, parts}
-use Rattle.mz_logic.specs.Conversions.{Conversion}
-use Rattle.mz_logic.specs.Declaration.{Declaration, signatures}
-use Rattle.mz_logic.specs.declared.binder.Binder.{Binder}
-use Rattle.mz_logic.specs.Tree.{Tree}
-use Rattle.mz_mmu_forms.specs.Proof.{Proof}
-use Rattle.mz_mmu_forms.specs.ProofView.{proof_view}
-use Rattle.mz_mmu_forms.specs.declared.proof.Proof.{Proof as Coded}
-use Rattle.mz_mmu_forms.specs.Stops.{Stops}
-use Rattle.mz_mmu_forms.specs.declared.fault.Fault.{Fault}
-use Rattle.mz_mmu_forms.specs.declared.fault.Stop.{Stop}
-use Rattle.mz_mmu_forms.specs.declared.fault.Stop.TheVariants.{Refused}
+use Rattle.mz_logic_theory.specs.Conversions.{Conversion}
+use Rattle.mz_logic_theory.specs.Declaration.{Declaration, signatures}
+use Rattle.mz_logic_theory.specs.declared.binder.Binder.{Binder}
+use Rattle.mz_logic_theory.specs.Tree.{Tree}
+use Rattle.mz_mmu_theory.specs.Proof.{Proof}
+use Rattle.mz_mmu_theory.specs.ProofView.{proof_view}
+use Rattle.mz_mmu_theory.specs.declared.proof.Proof.{Proof as Coded}
+use Rattle.mz_mmu_theory.specs.Stops.{Stops}
+use Rattle.mz_mmu_theory.specs.declared.fault.Fault.{Fault}
+use Rattle.mz_mmu_theory.specs.declared.fault.Stop.{Stop}
+use Rattle.mz_mmu_theory.specs.declared.fault.Stop.TheVariants.{Refused}
 use Rattle.mz_type_rules.specs.Claims.{claim_tree}
-use Rattle.mz_type_rules.specs.Parts.{part}
-use Rattle.mz_type_rules.specs.Rules.{expr_rules, conv_rules}
+use Rattle.mz_mmu_theory.specs.Parts.{part}
+use Rattle.mz_mmu_theory.specs.Rules.{expr_rules, conv_rules}
 use Rattle.mz_type_rules.specs.declared.claim.Claim.{Claim}
 
 -- all hold, or the first that doesn't is told, or there was no memory

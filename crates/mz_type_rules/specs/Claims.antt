@@ -1,9 +1,9 @@
 -- What the code's claims stand for, and its sides of conversions: what they are is not written out.
 use Rattle.std.specs.Prelude.{◌≡◌, ⊤, ℕ, zero, suc, ◌+◌, ◌*◌, List, [], ◌∷◌}
-use Rattle.mz_logic.specs.Tree.{Tree, Trees, var, app, none, more, instance, instances, followed_by, variables, trees_size}
-use Rattle.mz_logic.specs.View.{tree, trees}
-use Rattle.mz_mmu_forms.specs.ConvCode.{convs_steps}
-use Rattle.mz_type_rules.specs.Sides.{sides}
+use Rattle.mz_logic_theory.specs.Tree.{Tree, Trees, var, app, none, more, instance, instances, followed_by, variables, trees_size}
+use Rattle.mz_logic_theory.specs.View.{tree, trees}
+use Rattle.mz_mmu_theory.specs.ConvCode.{convs_steps}
+use Rattle.mz_mmu_theory.specs.Sides.{sides}
 use Rattle.mz_type_rules.specs.declared.claim.Put.{Put}
 use Rattle.mz_type_rules.specs.declared.claim.Put.TheVariants.{Nothing, Operands}
 use Rattle.mz_type_rules.specs.declared.claim.Claim.{Claim}

@@ -1,14 +1,15 @@
 //! What is asked of parameters, dummies and results.
 ghost use Rattle.std.specs.Prelude.{◌≡◌, ◌↔◌, ◌<◌, IsTrue, All, drop, length};
 ghost use Rattle.mz_base_theory.specs.Checks.{Judges};
-ghost use Rattle.mz_logic.specs.Declaration.{sorts};
-ghost use Rattle.mz_logic.specs.Legality.{IsParam};
-ghost use Rattle.mz_logic.specs.Variables.{IsBoundAt};
-ghost use Rattle.mz_type_rules.specs.Rules.{param_rules, dummy_rules};
+ghost use Rattle.mz_logic_theory.specs.Declaration.{sorts};
+ghost use Rattle.mz_logic_theory.specs.Legality.{IsParam};
+ghost use Rattle.mz_logic_theory.specs.Variables.{IsBoundAt};
+ghost use Rattle.mz_mmu_theory.specs.Rules.{param_rules, dummy_rules};
 
 use crate::cursor::Cursor;
-use mz_logic::{Binder, Deps, Env, are_bound_before, may_be_bound_sort, may_be_dummy_sort};
-use mz_mmu_forms::Fault;
+use mz_logic::{are_bound_before, may_be_bound_sort, may_be_dummy_sort};
+use mz_logic_theory::{Binder, Deps, Env};
+use mz_mmu_theory::Fault;
 use mz_sexpr::U;
 
 /// Whether all places are those of bound parameters.

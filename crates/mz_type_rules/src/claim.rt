@@ -1,14 +1,14 @@
 //! What proofs prove, and the sides of conversions, compared without being written out.
 ghost use Rattle.std.specs.Prelude.{◌≡◌, ◌↔◌, ◌<◌, ◌≤◌, ◌+◌, ◌*◌, Bool, true, false, suc, IfOk, IsTrue, OnOk};
-ghost use Rattle.mz_logic.specs.Tree.{var, operand, instance, followed_by, size, variables};
-ghost use Rattle.mz_logic.specs.View.{tree, trees};
-ghost use Rattle.mz_mmu_forms.specs.ConvCode.{conv_steps};
-ghost use Rattle.mz_mmu_forms.specs.ConvView.{conversion, conversions};
+ghost use Rattle.mz_logic_theory.specs.Tree.{var, operand, instance, followed_by, size, variables};
+ghost use Rattle.mz_logic_theory.specs.View.{tree, trees};
+ghost use Rattle.mz_mmu_theory.specs.ConvCode.{conv_steps};
+ghost use Rattle.mz_mmu_theory.specs.ConvView.{conversion, conversions};
 ghost use Rattle.mz_type_rules.specs.Claims.{put_in, all_put_in, claim_tree, side_tree, side_steps, AreSame, AllSame, lists_size, turns};
-ghost use Rattle.mz_type_rules.specs.Sides.{side, sides};
+ghost use Rattle.mz_mmu_theory.specs.Sides.{side, sides};
 
-use mz_logic::{Expr, Exprs};
-use mz_mmu_forms::{Conv, Convs};
+use mz_logic_theory::{Expr, Exprs};
+use mz_mmu_theory::{Conv, Convs};
 use std::alloc::{AllocError, Global};
 
 /// What stands in place of variables.

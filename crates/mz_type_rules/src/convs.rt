@@ -3,29 +3,29 @@ ghost use Rattle.std.specs.Prelude.{◌≡◌, ◌↔◌, ⊤, Bool, true, false
 ghost use Rattle.mz_base_theory.specs.Checks.{Judges, AllHold};
 ghost use Rattle.mz_sexpr.specs.Number.{first, rest};
 ghost use Rattle.mz_sexpr.specs.Node.{parts};
-ghost use Rattle.mz_logic.specs.Conversions.{refl_conv, sym_conv, cong_conv, unfold_conv, gap_conv, IsBoundOf};
-ghost use Rattle.mz_logic.specs.Declaration.{signatures};
-ghost use Rattle.mz_logic.specs.DeclView.{term_view};
-ghost use Rattle.mz_logic.specs.Legality;
-ghost use Rattle.mz_logic.specs.Sorts.{IsBoundVar};
-ghost use Rattle.mz_logic.specs.Tree.{instance, followed_by, variables};
-ghost use Rattle.mz_logic.specs.View.{tree};
-ghost use Rattle.mz_mmu_forms.specs.ConvView.{conversion};
+ghost use Rattle.mz_logic_theory.specs.Conversions.{refl_conv, sym_conv, cong_conv, unfold_conv, gap_conv, IsBoundOf};
+ghost use Rattle.mz_logic_theory.specs.Declaration.{signatures};
+ghost use Rattle.mz_logic_theory.specs.DeclView.{term_view};
+ghost use Rattle.mz_logic_theory.specs.Legality;
+ghost use Rattle.mz_logic_theory.specs.Sorts.{IsBoundVar};
+ghost use Rattle.mz_logic_theory.specs.Tree.{instance, followed_by, variables};
+ghost use Rattle.mz_logic_theory.specs.View.{tree};
+ghost use Rattle.mz_mmu_theory.specs.ConvView.{conversion};
 ghost use Rattle.mz_type_rules.specs.Answers.{Judged, told};
-ghost use Rattle.mz_type_rules.specs.Names.{ConvThere, ConvsThere};
-ghost use Rattle.mz_type_rules.specs.Parts.{part, is_list};
-ghost use Rattle.mz_type_rules.specs.Rules;
-ghost use Rattle.mz_type_rules.specs.Rules.{conv_rules, convs_rules, side_rules, own_side_rules, variable_rules, unfold_rules, exprs_rules, sorted_rules, AreNew};
-ghost use Rattle.mz_type_rules.specs.Sides.{side, left};
+ghost use Rattle.mz_mmu_theory.specs.Names.{ConvThere, ConvsThere};
+ghost use Rattle.mz_mmu_theory.specs.Parts.{part, is_list};
+ghost use Rattle.mz_mmu_theory.specs.Rules;
+ghost use Rattle.mz_mmu_theory.specs.Rules.{conv_rules, convs_rules, side_rules, own_side_rules, variable_rules, unfold_rules, exprs_rules, sorted_rules, AreNew};
+ghost use Rattle.mz_mmu_theory.specs.Sides.{side, left};
 
 use crate::claim::{Claim, is_side};
 use crate::cursor::Cursor;
 use crate::exprs::{check_expr, check_exprs, check_operands, params_of};
-use mz_logic::{
+use mz_logic_free::{VariableSet, some_name_any};
+use mz_logic_theory::{
     Binder, Context, Env, Expr, Exprs, Hyps, TermDecl, is_bound_var, sort_of, sort_of_term,
 };
-use mz_logic_free::{VariableSet, some_name_any};
-use mz_mmu_forms::{Conv, Convs, Fault, Stop, Vars};
+use mz_mmu_theory::{Conv, Convs, Fault, Stop, Vars};
 use mz_sexpr::U;
 use std::alloc::{AllocError, Global};
 

@@ -2,10 +2,10 @@
 ghost use Rattle.std.specs.Prelude.{◌≡◌, ℕ};
 ghost use Rattle.mz_sexpr.specs.Node;
 ghost use Rattle.mz_sexpr.specs.Number;
-ghost use Rattle.mz_mmu_forms.specs.Order;
-ghost use Rattle.mz_type_rules.specs.Parts;
+ghost use Rattle.mz_mmu_theory.specs.FormOrder;
+ghost use Rattle.mz_mmu_theory.specs.Parts;
 
-use mz_mmu_forms::Fault;
+use mz_mmu_theory::Fault;
 use mz_sexpr::{Sexprs, U};
 use std::marker::Model;
 
@@ -18,7 +18,7 @@ pub struct Cursor<'n, 'a> {
 
 impl<'n, 'a> Model for Cursor<'n, 'a> {
     ghost use Rattle.mz_sexpr.specs.Node.{Nodes};
-    ghost use Rattle.mz_mmu_forms.specs.Cursor.{nodes_from, IsThere};
+    ghost use Rattle.mz_mmu_theory.specs.Cursor.{nodes_from, IsThere};
     ghost use Rattle.mz_sexpr.specs.NodesCode.{nodes_code};
 
     ghost Value = { Nodes };
@@ -125,7 +125,7 @@ impl<'n, 'a> Cursor<'n, 'a> {
 
     /// A rule that is broken at the first node.
     pub(crate) fn fault(&self, rule: U) -> Fault
-        ensures { result ≡ Order.fault (Node.place (Number.first self.now)) rule }
+        ensures { result ≡ FormOrder.fault (Node.place (Number.first self.now)) rule }
     {
         Fault {
             at: self.place(),

@@ -3,15 +3,15 @@ ghost use Rattle.std.specs.Prelude.{◌≡◌, drop};
 ghost use Rattle.mz_base_theory.specs.Checks.{Judges, AllHold};
 ghost use Rattle.mz_sexpr.specs.Node.{parts};
 ghost use Rattle.mz_sexpr.specs.Number.{first, rest};
-ghost use Rattle.mz_logic.specs.Declaration.{signatures};
-ghost use Rattle.mz_logic.specs.Legality.{signature_at};
-ghost use Rattle.mz_logic.specs.Tree.{app};
-ghost use Rattle.mz_logic.specs.View.{tree};
-ghost use Rattle.mz_type_rules.specs.Rules.{expr_rules, exprs_rules, operand_rules, own_operand_rules, claim_rules};
+ghost use Rattle.mz_logic_theory.specs.Declaration.{signatures};
+ghost use Rattle.mz_logic_theory.specs.Legality.{signature_at};
+ghost use Rattle.mz_logic_theory.specs.Tree.{app};
+ghost use Rattle.mz_logic_theory.specs.View.{tree};
+ghost use Rattle.mz_mmu_theory.specs.Rules.{expr_rules, exprs_rules, operand_rules, own_operand_rules, claim_rules};
 
 use crate::cursor::Cursor;
-use mz_logic::{Binder, Context, Env, Expr, Exprs, is_bound_var, is_claim, sort_of};
-use mz_mmu_forms::Fault;
+use mz_logic_theory::{Binder, Context, Env, Expr, Exprs, is_bound_var, is_claim, sort_of};
+use mz_mmu_theory::Fault;
 use mz_sexpr::U;
 
 /// The parameters of a term, none where it isn't there.

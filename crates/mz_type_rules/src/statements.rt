@@ -3,19 +3,19 @@ ghost use Rattle.std.specs.Prelude.{◌≡◌, ◌↔◌, ◌++◌, ◌<◌, [],
 ghost use Rattle.mz_base_theory.specs.Checks.{Judges};
 ghost use Rattle.mz_sexpr.specs.Node.{parts};
 ghost use Rattle.mz_sexpr.specs.Number.{first};
-ghost use Rattle.mz_logic.specs.Declaration.{signatures, sorts, defined};
-ghost use Rattle.mz_logic.specs.DeclView.{declaration, form, signature, term_view, term_of, assertion_view};
-ghost use Rattle.mz_logic.specs.Modifiers.{MayBeResultSort};
-ghost use Rattle.mz_logic.specs.Variables.{IsBoundAt};
-ghost use Rattle.mz_logic.specs.View.{tree};
-ghost use Rattle.mz_mmu_forms.specs.ProofView.{proof_view};
-ghost use Rattle.mz_mmu_statements.specs.StatementView.{option_proof, stated as statement};
-ghost use Rattle.mz_mmu_statements.specs.Statements.{is_local_word};
+ghost use Rattle.mz_logic_theory.specs.Declaration.{signatures, sorts, defined};
+ghost use Rattle.mz_logic_theory.specs.DeclView.{declaration, form, signature, term_view, term_of, assertion_view};
+ghost use Rattle.mz_logic_theory.specs.Modifiers.{MayBeResultSort};
+ghost use Rattle.mz_logic_theory.specs.Variables.{IsBoundAt};
+ghost use Rattle.mz_logic_theory.specs.View.{tree};
+ghost use Rattle.mz_mmu_theory.specs.ProofView.{proof_view};
+ghost use Rattle.mz_mmu_theory.specs.StatementView.{option_proof, stated as statement};
+ghost use Rattle.mz_mmu_theory.specs.Statements.{is_local_word};
 ghost use Rattle.mz_type_rules.specs.Answers.{Judged, stated};
-ghost use Rattle.mz_type_rules.specs.Names.{ExprThere, DeclThere, StatementThere, StatedProofThere, TermThere};
-ghost use Rattle.mz_type_rules.specs.Parts;
-ghost use Rattle.mz_type_rules.specs.Rules;
-ghost use Rattle.mz_type_rules.specs.Rules.{claim_rules, claims_rules, body_rules, assertion_rules, theorem_rules, decl_rules, statement_rules};
+ghost use Rattle.mz_mmu_theory.specs.Names.{ExprThere, DeclThere, StatementThere, StatedProofThere, TermThere};
+ghost use Rattle.mz_mmu_theory.specs.Parts;
+ghost use Rattle.mz_mmu_theory.specs.Rules;
+ghost use Rattle.mz_mmu_theory.specs.Rules.{claim_rules, claims_rules, body_rules, assertion_rules, theorem_rules, decl_rules, statement_rules};
 
 use crate::binders::{are_bound, check_dummies, check_params};
 use crate::claim::{Claim, same_claim};
@@ -23,13 +23,13 @@ use crate::convs::{Checker, refuse};
 use crate::cursor::Cursor;
 use crate::exprs::{check_claim, check_expr};
 use crate::proofs::claim_at;
-use mz_logic::{
-    Binder, Context, Decl, Env, Expr, Hyps, TermDecl, TermForm, ThmDecl, ThmForm,
-    may_be_result_sort, sort_of as sort_of_expr,
-};
+use mz_logic::may_be_result_sort;
 use mz_logic_free::free_vars_are_among;
-use mz_mmu_forms::{Fault, Proof, ProofBox, Stop};
-use mz_mmu_statements::Declared;
+use mz_logic_theory::{
+    Binder, Context, Decl, Env, Expr, Hyps, TermDecl, TermForm, ThmDecl, ThmForm,
+    sort_of as sort_of_expr,
+};
+use mz_mmu_theory::{Declared, Fault, Proof, ProofBox, Stop};
 use mz_sexpr::U;
 use std::alloc::Global;
 

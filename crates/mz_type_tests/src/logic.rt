@@ -1,12 +1,13 @@
 ghost use Rattle.std.specs.Prelude.{ℕ, suc, ◌≡◌, ◌<◌, ◌∷◌, [], Some, length, slice_get, false};
-ghost use Rattle.mz_logic.specs.Words.{term_at};
+ghost use Rattle.mz_logic_theory.specs.Words.{term_at};
 
 use crate::expect::expect;
-use mz_logic::{
-    Binder, Binders, Decl, DeclFault, Deps, Env, Expr, Exprs, Hyps, ResultType, SortMods, TermDecl,
-    TermForm, Terms, ThmDecl, ThmForm, Word, check_decl, same_expr,
-};
+use mz_logic::check_decl;
 use mz_logic_copy::copy_of;
+use mz_logic_theory::{
+    Binder, Binders, Decl, DeclFault, Deps, Env, Expr, Exprs, Hyps, ResultType, SortMods, TermDecl,
+    TermForm, Terms, ThmDecl, ThmForm, Word, same_expr,
+};
 use std::alloc::{AllocError, Global};
 use std::process::Abort;
 

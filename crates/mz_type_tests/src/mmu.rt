@@ -1,10 +1,10 @@
 ghost use Rattle.std.specs.Prelude.{◌<◌, length};
 
 use crate::expect::{expect, expect_bytes, refusal};
-use mz_base::Mode;
-use mz_logic::{Binder, Decl, Expr, Exprs, Hyps, TermForm};
+use mz_base::{Hashing, Mode};
+use mz_logic_theory::{Binder, Decl, Expr, Exprs, Hyps, TermForm};
 use mz_mmu::{Text, TextRead, read_text};
-use mz_mmu_forms::{Conv, Convs, Hashing, Proof, Proofs};
+use mz_mmu_theory::{Conv, Convs, Proof, Proofs};
 use std::alloc::{AllocError, Global};
 use std::process::Abort;
 

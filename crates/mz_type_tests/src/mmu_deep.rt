@@ -1,7 +1,6 @@
 use crate::expect::refusal;
-use mz_base::Mode;
+use mz_base::{Hashing, Mode};
 use mz_mmu::{TextRead, read_text};
-use mz_mmu_forms::Hashing;
 use std::alloc::{AllocError, Global};
 use std::process::Abort;
 

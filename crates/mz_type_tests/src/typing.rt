@@ -1,7 +1,6 @@
 use crate::expect::{expect_bytes, refusal};
-use mz_base::Mode;
+use mz_base::{Hashing, Mode};
 use mz_mmu::{Text, TextRead, read_text};
-use mz_mmu_forms::Hashing;
 use mz_type::{TypedRead, check_text, weight};
 use std::alloc::{AllocError, Global};
 use std::process::Abort;

@@ -10,9 +10,9 @@ use Rattle.mz_cmd.specs.declared.code.UnifyCode.{UnifyCode}
 use Rattle.mz_cmd.specs.declared.code.UnifyCode.TheVariants as codes
 use Rattle.mz_cmd.specs.Codes.{unify_code}
 use Rattle.mz_cmd.specs.Reading.{first_command}
-use Rattle.mz_logic.specs.Tree.{Tree}
-use Rattle.mz_logic.specs.Signature.{Signature}
-use Rattle.mz_logic.specs.declared.binder.Binder.{Binder}
+use Rattle.mz_logic_theory.specs.Tree.{Tree}
+use Rattle.mz_logic_theory.specs.Signature.{Signature}
+use Rattle.mz_logic_theory.specs.declared.binder.Binder.{Binder}
 use Rattle.mz_unify_theory.specs.Steps.{◌>>=◌, ◌>>◌, need, want, at_place, Turn, over, goes_on, follow}
 use Rattle.mz_unify_theory.specs.Streams.{of_definition, UnifyCommand, u_term, u_term_save, u_ref, u_dummy, u_hyp, u_end, command_in, unify_command}
 use Rattle.mz_unify_theory.specs.Profile.{strict, Item, tree_parts}

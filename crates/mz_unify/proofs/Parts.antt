@@ -1,6 +1,6 @@
 -- What is asked of a machine's expressions: what an application's parts are, and that the same ones are equal.
 use Rattle.std.proofs.Common.{◌≡◌, ℕ, Bool, true, false, List, Option, Some, None, refl}
-use Rattle.mz_logic.specs.Tree.{Tree, var, app, listed}
+use Rattle.mz_logic_theory.specs.Tree.{Tree, var, app, listed}
 use Rattle.mz_store.specs.Sharing.{head_of, operands_of}
 use Rattle.mz_unify_theory.specs.Profile.{Profile, strict, tree_parts}
 use Rattle.mz_unify_theory.proofs.Offered.{same_tree-true, same_tree-refl}

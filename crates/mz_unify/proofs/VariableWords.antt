@@ -6,11 +6,11 @@ use Rattle.std.proofs.lemmas.Nat.Bits.{bit_at_and, bit_at_or, bit_at-zero, bit_a
 use Rattle.std.proofs.lemmas.Bool.{eqb-true, or_right, or_left}
 use Rattle.std.proofs.lemmas.Option.{get_or_from_slice_get}
 use Rattle.mz_base_theory.proofs.Offered.{or-cases}
-use Rattle.mz_logic.specs.Tree.{Tree, var, app}
-use Rattle.mz_logic.specs.Variables.{InV}
-use Rattle.mz_logic.specs.declared.binder.Binder.{Binder}
+use Rattle.mz_logic_theory.specs.Tree.{Tree, var, app}
+use Rattle.mz_logic_theory.specs.Variables.{InV}
+use Rattle.mz_logic_theory.specs.declared.binder.Binder.{Binder}
 use Rattle.mz_store.specs.Bits.{HasAt, Tells, bound_vars}
-use Rattle.mz_logic.specs.Signature.{Signature}
+use Rattle.mz_logic_theory.specs.Signature.{Signature}
 use Rattle.mz_store.specs.Sharing.{Sharing, tree_of, IsTold}
 use Rattle.mz_store.specs.declared.item.Id.{Id}
 use Rattle.mz_store.specs.declared.item.DepsMode.{DepsMode}
@@ -18,8 +18,8 @@ use Rattle.mz_store.specs.declared.item.DepsMode.TheVariants as of
 use Rattle.mz_unify.specs.Stored.{trees_at, IsVariable, AreVariables, TellsAllOf}
 use Rattle.mz_unify.specs.Rows.{InAnyV, TellsAny}
 use Rattle.mz_unify_theory.specs.Profile.{strict}
-use Rattle.mz_logic.specs.Sorts.{HasSort, IsBoundVar}
-use Rattle.mz_logic.specs.Legality.{sort_of}
+use Rattle.mz_logic_theory.specs.Sorts.{HasSort, IsBoundVar}
+use Rattle.mz_logic_theory.specs.Legality.{sort_of}
 use Rattle.mz_store.proofs.Offered.{bound-has}
 use Rattle.mz_unify_theory.specs.Tests.{in_v, is_bound_var}
 use Rattle.mz_unify_theory.specs.UnifyMachine.{within_any, is_fresh}

@@ -1,9 +1,9 @@
 -- What a run over a store stands for: the stream spells a pattern, of which the target and the
 -- hypotheses are the instance.
 use Rattle.std.specs.Prelude.{◌≡◌, ℕ, List, [], length, map, reverse}
-use Rattle.mz_logic.specs.Tree.{Tree, Trees, none, listed}
-use Rattle.mz_logic.specs.Signature.{Signature}
-use Rattle.mz_logic.specs.declared.binder.Binder.{Binder}
+use Rattle.mz_logic_theory.specs.Tree.{Tree, Trees, none, listed}
+use Rattle.mz_logic_theory.specs.Signature.{Signature}
+use Rattle.mz_logic_theory.specs.declared.binder.Binder.{Binder}
 use Rattle.mz_unify_theory.specs.Streams.{of_assertion, of_definition}
 use Rattle.mz_unify_theory.specs.Spells.{trees_of, variables_from, Marks, SpellsText}
 use Rattle.mz_unify_theory.specs.Profile.{Item, proof}

@@ -1,7 +1,7 @@
 -- The unify machine over a store: expressions are ids, and a run is that of their trees.
 use Rattle.std.specs.Prelude.{◌≡◌, ℕ, ⊤, ◌⊎◌, List, [], ◌∷◌, ◌++◌, length, map, reverse, Result, Ok, Err}
 use Rattle.mz_cmd.specs.declared.rule.K.{K}
-use Rattle.mz_logic.specs.Tree.{Tree, var, app}
+use Rattle.mz_logic_theory.specs.Tree.{Tree, var, app}
 use Rattle.mz_store.specs.Sharing.{Sharing, tree_of, IsIn}
 use Rattle.mz_store.specs.declared.item.Id.{Id}
 use Rattle.mz_store.specs.declared.item.Item.{Item as Kept}

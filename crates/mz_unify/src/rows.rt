@@ -1,8 +1,8 @@
 //! What each command does: its premises in order, and what it leaves.
 ghost use Rattle.std.specs.Prelude.{ℕ, ◌≡◌, ◌≤◌, ◌+◌, ◌++◌, ◌∷◌, ◌⊎◌, [], List, Ok, Err, OnOk, IfOk, IfSome, IfNone, MatchResult, length};
 ghost use Rattle.mz_cmd.specs.declared.rule.K.{K};
-ghost use Rattle.mz_logic.specs.Tree.{Tree};
-ghost use Rattle.mz_logic.specs.Signature.{Signature};
+ghost use Rattle.mz_logic_theory.specs.Tree.{Tree};
+ghost use Rattle.mz_logic_theory.specs.Signature.{Signature};
 ghost use Rattle.mz_store.specs.Sharing.{IsIn, AreIn, tree_of, IsOver};
 ghost use Rattle.mz_unify_theory.specs.Profile.{strict};
 ghost use Rattle.mz_unify_theory.specs.Streams.{UnifyCommand, u_term, u_term_save, u_ref, u_dummy, u_hyp, u_end};

@@ -1,8 +1,8 @@
 //! A stream run against operands, on a target.
 ghost use Rattle.std.specs.Prelude.{ℕ, ◌≡◌, ◌≤◌, ◌<◌, ◌^◌, ◌+◌, List, length};
-ghost use Rattle.mz_logic.specs.Words.{signatures_of};
-ghost use Rattle.mz_logic.specs.Signature.{Signature};
-ghost use Rattle.mz_logic.specs.declared.binder.Binder.{Binder};
+ghost use Rattle.mz_logic_theory.specs.Words.{signatures_of};
+ghost use Rattle.mz_logic_theory.specs.Signature.{Signature};
+ghost use Rattle.mz_logic_theory.specs.declared.binder.Binder.{Binder};
 ghost use Rattle.mz_store.specs.Sharing.{IsIn, AreIn, IsOver};
 ghost use Rattle.mz_unify_theory.specs.Profile.{strict};
 ghost use Rattle.mz_unify_theory.specs.UnifyMachine.{unify, unify_from, unify_steps, unify_steps_from};
@@ -15,7 +15,7 @@ use crate::rows::{kept_apart, step};
 use crate::stop::Stop;
 use crate::unified::{Unified, UnifyMode};
 use mz_cmd::{K, Steps, cmd_at};
-use mz_logic::Terms;
+use mz_logic_theory::Terms;
 use mz_store::{Id, Item, Store};
 use std::sync::ledger::Ledger;
 

@@ -1,10 +1,10 @@
 -- What is spelled over n parameters has only these and the dummies that were met.
 use Rattle.std.proofs.Common.{◌≡◌, ℕ, zero, suc, ◌+◌, ◌≤◌, ◌<◌, List, [], ◌∷◌, ◌++◌, length, Some, sym, ap, subst, inl, inr, arith, length-append}
 use Rattle.std.specs.Prelude.{slice_get, reverse}
-use Rattle.mz_logic.specs.Tree.{Tree, Trees, var, app, none, more, listed, size, trees_size}
-use Rattle.mz_logic.specs.Signature.{Signature}
-use Rattle.mz_logic.specs.Variables.{Occurs, OccursIn}
-use Rattle.mz_logic.specs.declared.binder.Binder.{Binder}
+use Rattle.mz_logic_theory.specs.Tree.{Tree, Trees, var, app, none, more, listed, size, trees_size}
+use Rattle.mz_logic_theory.specs.Signature.{Signature}
+use Rattle.mz_logic_theory.specs.Variables.{Occurs, OccursIn}
+use Rattle.mz_logic_theory.specs.declared.binder.Binder.{Binder}
 use Rattle.mz_unify_theory.specs.Streams.{StreamKind, UnifyCommand}
 use Rattle.mz_unify_theory.specs.Spells.{dummy_of, Marks, marked, Spells, SpellsAll, SpellsHyps, variables_from, at_first, SpellsText, Text}
 

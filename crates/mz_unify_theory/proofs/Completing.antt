@@ -3,9 +3,9 @@ use Rattle.std.proofs.Common.{◌≡◌, ℕ, zero, suc, ◌+◌, ◌≤◌, tru
 use Rattle.std.specs.Prelude.{slice_get, take}
 use Rattle.std.proofs.lemmas.List.{map-append}
 use Rattle.mz_cmd.specs.declared.rule.K.{K}
-use Rattle.mz_logic.specs.Tree.{Tree, Trees, var, app, none, more, listed, operand, size, trees_size, instance, instances}
-use Rattle.mz_logic.specs.Signature.{Signature}
-use Rattle.mz_logic.specs.declared.binder.Binder.{Binder}
+use Rattle.mz_logic_theory.specs.Tree.{Tree, Trees, var, app, none, more, listed, operand, size, trees_size, instance, instances}
+use Rattle.mz_logic_theory.specs.Signature.{Signature}
+use Rattle.mz_logic_theory.specs.declared.binder.Binder.{Binder}
 use Rattle.mz_unify_theory.specs.Steps.{◌>>=◌}
 use Rattle.mz_unify_theory.specs.Streams.{UnifyCommand, u_term, u_term_save, u_ref, u_dummy, u_hyp, u_end, StreamIs}
 use Rattle.mz_unify_theory.specs.Spells.{dummy_of, Marks, marked, with_dummy, Spells, SpellsAll, SpellsHyps}

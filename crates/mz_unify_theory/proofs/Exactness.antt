@@ -2,10 +2,10 @@
 use Rattle.std.proofs.Common.{◌≡◌, ℕ, zero, suc, ◌+◌, List, [], ◌∷◌, ◌++◌, length, map, Some, refl, sym, ap, subst, ◌∙◌, arith, append-nil, true}
 use Rattle.std.specs.Prelude.{slice_get, take, reverse}
 use Rattle.mz_base_theory.proofs.Offered.{slice_get-append_add}
-use Rattle.mz_logic.specs.Tree.{Tree, Trees, var, none, listed, operand, followed_by, variables, instance, instances, size}
-use Rattle.mz_logic.specs.Signature.{Signature}
-use Rattle.mz_logic.specs.Conversions.{AreFresh}
-use Rattle.mz_logic.specs.declared.binder.Binder.{Binder}
+use Rattle.mz_logic_theory.specs.Tree.{Tree, Trees, var, none, listed, operand, followed_by, variables, instance, instances, size}
+use Rattle.mz_logic_theory.specs.Signature.{Signature}
+use Rattle.mz_logic_theory.specs.Conversions.{AreFresh}
+use Rattle.mz_logic_theory.specs.declared.binder.Binder.{Binder}
 use Rattle.mz_unify_theory.specs.Streams.{StreamKind, of_assertion, of_definition, StreamIs}
 use Rattle.mz_unify_theory.specs.Spells.{trees_of, Marks, variables_from, at_first, SpellsText}
 use Rattle.mz_unify_theory.specs.Profile.{strict, Item, proof}

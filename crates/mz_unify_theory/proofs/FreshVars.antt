@@ -3,13 +3,13 @@ use Rattle.std.proofs.Common.{◌≡◌, ℕ, zero, suc, ◌+◌, ◌<◌, Bool,
 use Rattle.std.specs.Prelude.{slice_get, take, Contains, ◌&&◌, ◌||◌, not, ◌==◌}
 use Rattle.std.proofs.lemmas.Option.{get_or_from_slice_get}
 use Rattle.mz_base_theory.proofs.Offered.{contains_at}
-use Rattle.mz_logic.specs.Tree.{Tree, Trees, var}
-use Rattle.mz_logic.specs.Signature.{Signature}
-use Rattle.mz_logic.specs.Legality.{sort_of}
-use Rattle.mz_logic.specs.Variables.{InV, InSomeV}
-use Rattle.mz_logic.specs.Conversions.{IsBoundOf, AreFresh}
-use Rattle.mz_logic.specs.declared.binder.Binder.{Binder}
-use Rattle.mz_logic.proofs.Offered.{split_at}
+use Rattle.mz_logic_theory.specs.Tree.{Tree, Trees, var}
+use Rattle.mz_logic_theory.specs.Signature.{Signature}
+use Rattle.mz_logic_theory.specs.Legality.{sort_of}
+use Rattle.mz_logic_theory.specs.Variables.{InV, InSomeV}
+use Rattle.mz_logic_theory.specs.Conversions.{IsBoundOf, AreFresh}
+use Rattle.mz_logic_theory.specs.declared.binder.Binder.{Binder}
+use Rattle.mz_logic_theory.proofs.Offered.{split_at}
 use Rattle.mz_unify_theory.specs.Spells.{trees_of}
 use Rattle.mz_unify_theory.specs.Profile.{strict}
 use Rattle.mz_unify_theory.specs.Tests.{is_bound_var, in_v}

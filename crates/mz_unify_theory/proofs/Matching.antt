@@ -7,11 +7,11 @@ use Rattle.std.proofs.lemmas.List.{length-append, length-map, map-append, append
 use Rattle.mz_base_theory.proofs.Offered.{both-true, not-true}
 use Rattle.mz_cmd.specs.declared.rule.K.{K}
 use Rattle.mz_cmd.specs.declared.rule.K.TheVariants as k
-use Rattle.mz_logic.specs.Tree.{Tree, Trees, var, app, none, more, listed, operand, size, trees_size, instance, instances}
-use Rattle.mz_logic.specs.Signature.{Signature}
-use Rattle.mz_logic.specs.Legality.{sort_of}
-use Rattle.mz_logic.specs.Conversions.{IsBoundOf}
-use Rattle.mz_logic.specs.declared.binder.Binder.{Binder}
+use Rattle.mz_logic_theory.specs.Tree.{Tree, Trees, var, app, none, more, listed, operand, size, trees_size, instance, instances}
+use Rattle.mz_logic_theory.specs.Signature.{Signature}
+use Rattle.mz_logic_theory.specs.Legality.{sort_of}
+use Rattle.mz_logic_theory.specs.Conversions.{IsBoundOf}
+use Rattle.mz_logic_theory.specs.declared.binder.Binder.{Binder}
 use Rattle.mz_unify_theory.specs.Steps.{◌>>=◌, need, at_place, over, goes_on, follow}
 use Rattle.mz_unify_theory.specs.Streams.{UnifyCommand, u_term, u_term_save, u_ref, u_dummy, u_hyp, u_end, IsEnd, StreamIs}
 use Rattle.mz_unify_theory.specs.Spells.{trees_of, dummy_of, Marks, marked, with_dummy, HasOperands, Spells, SpellsAll}

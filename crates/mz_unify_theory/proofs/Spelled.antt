@@ -8,11 +8,11 @@ use Rattle.mz_cmd.specs.declared.rule.K.TheVariants as k
 use Rattle.mz_cmd.specs.declared.command.Cmd.{Cmd}
 use Rattle.mz_cmd.specs.declared.command.CmdFault.{CmdFault}
 use Rattle.mz_cmd.specs.Reading.{first_command}
-use Rattle.mz_logic.specs.Tree.{Tree, Trees, var, app, none, more, listed}
-use Rattle.mz_logic.specs.Signature.{Signature}
-use Rattle.mz_logic.specs.Sorts.{Fits}
-use Rattle.mz_logic.specs.declared.binder.Binder.{Binder}
-use Rattle.mz_logic.proofs.Offered.{same-variable, same-term, same-operands}
+use Rattle.mz_logic_theory.specs.Tree.{Tree, Trees, var, app, none, more, listed}
+use Rattle.mz_logic_theory.specs.Signature.{Signature}
+use Rattle.mz_logic_theory.specs.Sorts.{Fits}
+use Rattle.mz_logic_theory.specs.declared.binder.Binder.{Binder}
+use Rattle.mz_logic_theory.proofs.Offered.{same-variable, same-term, same-operands}
 use Rattle.mz_unify_theory.specs.Steps.{◌>>=◌, at_place, over, goes_on, follow}
 use Rattle.mz_unify_theory.specs.Streams.{UnifyCommand, u_term, u_term_save, u_ref, u_dummy, u_hyp, u_end, unify_command, IsEnd, StreamIs}
 use Rattle.mz_unify_theory.specs.Spells.{trees_of, dummy_of, Marks, marked, with_dummy, HasOperands, Spells, SpellsAll}

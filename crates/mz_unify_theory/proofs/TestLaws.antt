@@ -3,11 +3,11 @@ use Rattle.std.proofs.Common.{◌≡◌, ℕ, suc, Bool, true, false, cond, eqb,
 use Rattle.std.specs.Prelude.{slice_get, Contains, ◌==◌, IsBitSet, bit_and, ◌^◌}
 use Rattle.std.proofs.lemmas.Bool.{eqb-true, or_right, or_left}
 use Rattle.mz_base_theory.proofs.Offered.{or-cases}
-use Rattle.mz_logic.specs.Tree.{Tree, Trees, var, app, none, more}
-use Rattle.mz_logic.specs.Sorts.{IsBoundVar}
-use Rattle.mz_logic.specs.Variables.{InV, InSomeV, is_member}
-use Rattle.mz_logic.specs.declared.binder.Binder.{Binder}
-use Rattle.mz_logic.proofs.Offered.{among-true}
+use Rattle.mz_logic_theory.specs.Tree.{Tree, Trees, var, app, none, more}
+use Rattle.mz_logic_theory.specs.Sorts.{IsBoundVar}
+use Rattle.mz_logic_theory.specs.Variables.{InV, InSomeV, is_member}
+use Rattle.mz_logic_theory.specs.declared.binder.Binder.{Binder}
+use Rattle.mz_logic_theory.proofs.Offered.{among-true}
 use Rattle.mz_unify_theory.specs.Tests.{has_bit, is_bound_at, is_bound_var, in_var, in_v, in_some_v}
 
 pub not-both : (b : Bool) → b ≡ true → b ≡ false → ⊥

@@ -1,12 +1,12 @@
 -- Two operands that fit a term's two parameters.
 use Rattle.std.proofs.Common.{◌≡◌, true, List, [], ◌∷◌, length, Some, subst, arith}
 use Rattle.std.specs.Prelude.{slice_get}
-use Rattle.mz_logic.specs.Tree.{Tree, more, none}
-use Rattle.mz_logic.specs.Signature.{Signature}
-use Rattle.mz_logic.specs.Sorts.{HasSort, Fits, IsBoundVar}
-use Rattle.mz_logic.specs.Words.{word_sort, word_bound, binders_of}
-use Rattle.mz_logic.specs.declared.word.Word.{Word}
-use Rattle.mz_logic.specs.declared.binder.Binder.{Binder}
+use Rattle.mz_logic_theory.specs.Tree.{Tree, more, none}
+use Rattle.mz_logic_theory.specs.Signature.{Signature}
+use Rattle.mz_logic_theory.specs.Sorts.{HasSort, Fits, IsBoundVar}
+use Rattle.mz_logic_theory.specs.Words.{word_sort, word_bound, binders_of}
+use Rattle.mz_logic_theory.specs.declared.word.Word.{Word}
+use Rattle.mz_logic_theory.specs.declared.binder.Binder.{Binder}
 
 abbrev CanStand : List Signature → List Binder → Tree → Word → Type 0
 CanStand sigs ctx e w = HasSort sigs ctx e (word_sort w) × (word_bound w ≡ true → IsBoundVar ctx e)

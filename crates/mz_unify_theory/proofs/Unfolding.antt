@@ -3,11 +3,11 @@ use Rattle.std.proofs.Common.{◌≡◌, ℕ, zero, suc, true, false, List, [], 
 use Rattle.std.specs.Prelude.{◌&&◌, Contains}
 use Rattle.std.proofs.lemmas.Bool.{or_parts}
 use Rattle.mz_cmd.specs.declared.rule.K.TheVariants as k
-use Rattle.mz_logic.specs.Tree.{Tree, Trees, var, none, followed_by, variables, instance}
-use Rattle.mz_logic.specs.Signature.{Signature}
-use Rattle.mz_logic.specs.Variables.{InSomeV}
-use Rattle.mz_logic.specs.Conversions.{IsBoundOf, AreFresh}
-use Rattle.mz_logic.specs.declared.binder.Binder.{Binder}
+use Rattle.mz_logic_theory.specs.Tree.{Tree, Trees, var, none, followed_by, variables, instance}
+use Rattle.mz_logic_theory.specs.Signature.{Signature}
+use Rattle.mz_logic_theory.specs.Variables.{InSomeV}
+use Rattle.mz_logic_theory.specs.Conversions.{IsBoundOf, AreFresh}
+use Rattle.mz_logic_theory.specs.declared.binder.Binder.{Binder}
 use Rattle.mz_unify_theory.specs.Streams.{of_definition, UnifyCommand, u_end}
 use Rattle.mz_unify_theory.specs.Spells.{trees_of, Marks, variables_from, at_first, Text}
 use Rattle.mz_unify_theory.specs.Profile.{strict}

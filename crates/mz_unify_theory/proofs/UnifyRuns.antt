@@ -5,8 +5,8 @@ use Rattle.mz_cmd.specs.declared.rule.K.{K}
 use Rattle.mz_cmd.specs.declared.command.Cmd.{Cmd}
 use Rattle.mz_cmd.specs.declared.command.CmdFault.{CmdFault}
 use Rattle.mz_cmd.specs.Reading.{first_command}
-use Rattle.mz_logic.specs.Signature.{Signature}
-use Rattle.mz_logic.specs.declared.binder.Binder.{Binder}
+use Rattle.mz_logic_theory.specs.Signature.{Signature}
+use Rattle.mz_logic_theory.specs.declared.binder.Binder.{Binder}
 use Rattle.mz_unify_theory.specs.Steps.{◌>>=◌, Turn, over, goes_on, goes_to}
 use Rattle.mz_unify_theory.specs.Streams.{UnifyCommand, u_end, unify_command}
 use Rattle.mz_unify_theory.specs.Profile.{Profile}

@@ -2,12 +2,12 @@
 -- format, on unify streams; Carneiro, the rule of theorem application, whose instance a stream that
 -- runs has matched).
 use Rattle.std.specs.Prelude.{◌≡◌, ℕ, Bool, ◌+◌, ◌≤◌, ◌<◌, ◌↔◌, List, [], ◌++◌, length, map, reverse, Ok}
-use Rattle.mz_logic.specs.Tree.{Tree, Trees, none, followed_by, variables, instance, instances}
-use Rattle.mz_logic.specs.Signature.{Signature}
-use Rattle.mz_logic.specs.Declaration.{Term, Assertion}
-use Rattle.mz_logic.specs.Variables.{Occurs}
-use Rattle.mz_logic.specs.Conversions.{AreFresh}
-use Rattle.mz_logic.specs.declared.binder.Binder.{Binder}
+use Rattle.mz_logic_theory.specs.Tree.{Tree, Trees, none, followed_by, variables, instance, instances}
+use Rattle.mz_logic_theory.specs.Signature.{Signature}
+use Rattle.mz_logic_theory.specs.Declaration.{Term, Assertion}
+use Rattle.mz_logic_theory.specs.Variables.{Occurs}
+use Rattle.mz_logic_theory.specs.Conversions.{AreFresh}
+use Rattle.mz_logic_theory.specs.declared.binder.Binder.{Binder}
 use Rattle.mz_unify_theory.specs.Streams.{StreamKind, of_assertion, of_definition}
 use Rattle.mz_unify_theory.specs.Spells.{trees_of, variables_from, Marks, SpellsText, Text, SpelledTerm, SpelledThm, SpellsThm, SpellsTerm}
 use Rattle.mz_unify_theory.specs.Profile.{Profile, plain, strict, Item, proof}

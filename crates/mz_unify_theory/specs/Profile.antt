@@ -1,7 +1,7 @@
 -- The ways in which a machine may keep and compare expressions, and what stands on its stack (the .mmb format, its two
 -- machines; the profiles are this project's own).
 use Rattle.std.specs.Prelude.{ℕ, Bool, true, false, List, Option, Some, None}
-use Rattle.mz_logic.specs.Tree.{Tree, var, app, listed}
+use Rattle.mz_logic_theory.specs.Tree.{Tree, var, app, listed}
 use Rattle.mz_unify_theory.specs.Spells.{trees_of}
 use Rattle.mz_unify_theory.specs.Tests.{same_tree}
 

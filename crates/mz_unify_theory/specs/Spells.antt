@@ -1,10 +1,10 @@
 -- What a unify stream spells: expressions in preorder, with references back to what was marked (the .mmb format, its
 -- unify streams). Nothing here speaks of a machine.
 use Rattle.std.specs.Prelude.{◌≡◌, ℕ, suc, ◌+◌, ⊤, ◌⊎◌, true, List, [], ◌∷◌, ◌++◌, length, reverse, Option, Some, None, slice_get}
-use Rattle.mz_logic.specs.Tree.{Tree, Trees, var, app, none, more, listed}
-use Rattle.mz_logic.specs.Signature.{Signature}
-use Rattle.mz_logic.specs.Declaration.{Form, plain_form, abstract_form, defined, Term, Assertion}
-use Rattle.mz_logic.specs.declared.binder.Binder.{Binder}
+use Rattle.mz_logic_theory.specs.Tree.{Tree, Trees, var, app, none, more, listed}
+use Rattle.mz_logic_theory.specs.Signature.{Signature}
+use Rattle.mz_logic_theory.specs.Declaration.{Form, plain_form, abstract_form, defined, Term, Assertion}
+use Rattle.mz_logic_theory.specs.declared.binder.Binder.{Binder}
 use Rattle.mz_unify_theory.specs.Streams.{StreamKind, of_assertion, of_definition, UnifyCommand, u_term, u_term_save, u_ref, u_dummy, u_hyp, StreamIs}
 
 -- a list of expressions as operands

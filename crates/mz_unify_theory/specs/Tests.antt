@@ -1,9 +1,9 @@
 -- Tests that the machines compute, each of a notion of the logic (Carneiro, the section on variables and dependencies;
 -- mm0.md, section on sorts).
 use Rattle.std.specs.Prelude.{ℕ, ◌^◌, Bool, true, false, not, ◌==◌, ◌||◌, ◌&&◌, if◌then◌else◌, List, Option, Some, None, slice_get, bit_and}
-use Rattle.mz_logic.specs.Tree.{Tree, Trees, var, app, none, more}
-use Rattle.mz_logic.specs.declared.binder.Binder.{Binder}
-use Rattle.mz_logic.specs.Variables.{is_member}
+use Rattle.mz_logic_theory.specs.Tree.{Tree, Trees, var, app, none, more}
+use Rattle.mz_logic_theory.specs.declared.binder.Binder.{Binder}
+use Rattle.mz_logic_theory.specs.Variables.{is_member}
 
 -- two expressions are one tree
 abbrev mutual

@@ -1,7 +1,7 @@
 //! Conversions: obligations that two expressions are convertible, and how they are paid.
 ghost use Rattle.std.specs.Prelude.{ℕ, ◌≡◌, ◌≤◌, ◌++◌, ◌∷◌, ◌+◌, ⊤, [], IfOk, OnOk, MatchResult, length};
 ghost use Rattle.mz_cmd.specs.declared.code.ProofCode.TheVariants as code;
-ghost use Rattle.mz_logic.specs.Tree.{Tree};
+ghost use Rattle.mz_logic_theory.specs.Tree.{Tree};
 ghost use Rattle.mz_store.specs.Sharing.{AreIn, IsIn, IsOver, tree_of};
 ghost use Rattle.mz_store.specs.declared.item.DepsMode.TheVariants.{All};
 ghost use Rattle.mz_unify_theory.specs.Profile.{strict};
@@ -16,7 +16,7 @@ ghost use Rattle.mz_unify.specs.Rows.{StopsBy};
 
 use crate::stack::{pop, pop_conversion, pop_expr, pop_obligation, pop_proof};
 use mz_cmd::{K, Steps};
-use mz_logic::Terms;
+use mz_logic_theory::Terms;
 use mz_machine_env::{Earlier, Spare, put_back};
 use mz_store::{Id, Item, Store};
 use mz_unify::{Stop, UnifyMode, push, unify_in};

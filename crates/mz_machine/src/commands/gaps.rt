@@ -1,7 +1,7 @@
 //! Gaps in proofs, where they are let through.
 ghost use Rattle.std.specs.Prelude.{ℕ, ◌≡◌, OnOk};
 ghost use Rattle.mz_cmd.specs.declared.code.ProofCode.TheVariants as code;
-ghost use Rattle.mz_logic.specs.Tree.{Tree};
+ghost use Rattle.mz_logic_theory.specs.Tree.{Tree};
 ghost use Rattle.mz_store.specs.Sharing.{IsOver};
 ghost use Rattle.mz_unify_theory.specs.Profile.{draft};
 ghost use Rattle.mz_unify.specs.Stored.{items_at, AreItemsIn};
@@ -13,7 +13,7 @@ ghost use Rattle.mz_machine.specs.OverStore.{with_stack, GivesRule};
 use crate::commands::heap::is_provable;
 use crate::stack::pop;
 use mz_cmd::K;
-use mz_logic::Terms;
+use mz_logic_theory::Terms;
 use mz_machine_env::{Earlier, put_back};
 use mz_store::{Item, Store};
 

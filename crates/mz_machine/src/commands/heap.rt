@@ -1,7 +1,7 @@
 //! The heap: references to it, and what is kept there.
 ghost use Rattle.std.specs.Prelude.{ℕ, ◌≡◌, ◌<◌, ◌++◌, ◌∷◌, [], IfOk, OnOk, slice_get, Some};
 ghost use Rattle.mz_cmd.specs.declared.code.ProofCode.TheVariants as code;
-ghost use Rattle.mz_logic.specs.Tree.{Tree};
+ghost use Rattle.mz_logic_theory.specs.Tree.{Tree};
 ghost use Rattle.mz_store.specs.Sharing.{IsIn, IsOver, tree_of};
 ghost use Rattle.mz_store.specs.declared.item.Item.TheVariants.{Conversion};
 ghost use Rattle.mz_store.specs.declared.item.Id.{Id};
@@ -16,7 +16,7 @@ ghost use Rattle.mz_machine.specs.OverStore.{heap_at, with_stack, Gives, GivesRu
 use crate::commands::by_rule;
 use crate::stack::{conversion_of, pop_expr, pop_obligation};
 use mz_cmd::K;
-use mz_logic::Terms;
+use mz_logic_theory::Terms;
 use mz_machine_env::{Earlier, is_obligation, kept_at, top};
 use mz_store::{Id, Item, Store};
 use mz_unify::{Stop, push};

@@ -1,8 +1,8 @@
 //! Applications of terms, and citations of axioms and theorems.
 ghost use Rattle.std.specs.Prelude.{ℕ, ◌≡◌, ◌≤◌, ◌<◌, ◌+◌, ◌++◌, ◌∷◌, [], IfOk, OnOk, length, drop};
 ghost use Rattle.mz_cmd.specs.declared.code.ProofCode.TheVariants as code;
-ghost use Rattle.mz_logic.specs.Tree.{Tree};
-ghost use Rattle.mz_layout.specs.Tables.{thm_row};
+ghost use Rattle.mz_logic_theory.specs.Tree.{Tree};
+ghost use Rattle.mz_layout_tables.specs.Tables.{thm_row};
 ghost use Rattle.mz_store.specs.Sharing.{AreIn, IsIn, IsOver, tree_of};
 ghost use Rattle.mz_store.specs.declared.item.DepsMode.TheVariants.{All};
 ghost use Rattle.mz_unify_theory.specs.Profile.{strict, expr, proof};
@@ -18,8 +18,8 @@ use crate::apart::are_apart;
 use crate::fitting::{check_cited, check_operands, pop_operands};
 use crate::stack::pop_expr;
 use mz_cmd::{K, Steps};
-use mz_layout::Row;
-use mz_logic::Terms;
+use mz_layout_tables::Row;
+use mz_logic_theory::Terms;
 use mz_machine_env::{Earlier, Spare};
 use mz_store::{Id, Item, Store};
 use mz_unify::{Stop, UnifyMode, push, unify_in};

@@ -15,7 +15,7 @@ ghost use Rattle.mz_pmachine_theory.specs.Numbered.{Numbered, portable};
 
 use crate::stack::{pop_conversion, pop_expr, pop_obligation, pop_proof};
 use mz_cmd::{K, Steps};
-use mz_logic::Terms;
+use mz_logic_theory::Terms;
 use mz_machine_env::{Earlier, Spare, put_back};
 use mz_pmachine_unify::{Nodes, unify_in};
 use mz_store::{Id, Item};

@@ -16,7 +16,7 @@ ghost use Rattle.mz_pmachine_theory.specs.Numbered.{Numbered, portable};
 
 use crate::stack::{conversion_of, pop_expr, pop_obligation};
 use mz_cmd::K;
-use mz_logic::Terms;
+use mz_logic_theory::Terms;
 use mz_machine::by_rule;
 use mz_machine_env::{Earlier, is_obligation, kept_at, top};
 use mz_pmachine_unify::Nodes;

@@ -1,7 +1,7 @@
 //! Applications of terms, and citations of axioms and theorems.
 ghost use Rattle.std.specs.Prelude.{ℕ, ◌≡◌, ◌≤◌, ◌<◌, ◌+◌, ◌++◌, ◌∷◌, [], IfOk, OnOk, length, drop};
 ghost use Rattle.mz_cmd.specs.declared.code.ProofCode.TheVariants as code;
-ghost use Rattle.mz_layout.specs.Tables.{thm_row};
+ghost use Rattle.mz_layout_tables.specs.Tables.{thm_row};
 ghost use Rattle.mz_pmachine_unify.specs.Numbering.{AreIn, IsIn, IsOver, expr_of};
 ghost use Rattle.mz_unify_theory.specs.Profile.{expr, proof};
 ghost use Rattle.mz_pmachine_unify.specs.Stored.{items_at, matching_at, AreItemsIn};
@@ -18,8 +18,8 @@ use crate::apart::are_apart;
 use crate::fitting::{check_cited, check_operands, pop_operands};
 use crate::stack::pop_expr;
 use mz_cmd::{K, Steps};
-use mz_layout::Row;
-use mz_logic::Terms;
+use mz_layout_tables::Row;
+use mz_logic_theory::Terms;
 use mz_machine_env::{Earlier, Spare};
 use mz_pmachine_unify::{Nodes, unify_in};
 use mz_store::{Id, Item};

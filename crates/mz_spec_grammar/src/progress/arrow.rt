@@ -1,13 +1,11 @@
 // Types and formulas.
 ghost use Rattle.std.specs.Prelude.{◌++◌, ◌≡◌, ◌∷◌, IfOk, Some, [], map, option_map};
-ghost use Rattle.mz_spec_grammar.specs.Code.{head as head_lem, lexeme, source as source_lem, type_text};
+ghost use Rattle.mz_spec_theory.specs.StatementCode.{head as head_lem, lexeme, source as source_lem, type_text};
 ghost use Rattle.mz_spec_grammar.specs.CodeProgress.{at as at_lem, slot as slot_lem};
-ghost use Rattle.mz_spec_grammar.specs.Progress.{argument_slot, choose, claimed as claimed_lem, definition_slot, formula_rows, next as next_lem, notation_slot, premise_slot, type_rows, typed as typed_lem, wanted};
+ghost use Rattle.mz_spec_theory.specs.Progress.{argument_slot, choose, claimed as claimed_lem, definition_slot, formula_rows, next as next_lem, notation_slot, premise_slot, type_rows, typed as typed_lem, wanted};
 
 use super::{At, Next, Notation, Parts, Slot, Whole};
-use crate::kind::AssertKind;
-use crate::lexeme::Lexeme;
-use crate::statement::{Source, TypeText};
+use mz_spec_theory::{AssertKind, Lexeme, Source, TypeText};
 use std::alloc::Global;
 
 impl<'a> Parts<'a> {

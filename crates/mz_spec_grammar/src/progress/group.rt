@@ -1,36 +1,15 @@
 // Groups of names.
 ghost use Rattle.std.specs.Prelude.{◌≡◌, IfOk, Some, option_map};
-ghost use Rattle.mz_spec_grammar.specs.Code.{head as head_lem, lexeme, source as source_lem, type_text};
+ghost use Rattle.mz_spec_theory.specs.StatementCode.{head as head_lem, lexeme, source as source_lem, type_text};
 ghost use Rattle.mz_spec_grammar.specs.CodeProgress.{at as at_lem, open_group, slot as slot_lem};
-ghost use Rattle.mz_spec_grammar.specs.Progress.{choose, closed as closed_lem, group_dotted, group_opened, group_slot, headed, hypothesis as hypothesis_lem, next as next_lem, slot_of as slot_of_lem, type_rows, with_name};
-ghost use Rattle.mz_spec_grammar.specs.Statement.{closing_of, takes_dummies as takes_dummies_lem, takes_formulas as takes_formulas_lem};
-ghost use Rattle.mz_spec_grammar.specs.Tests.{fits, the_symbol};
+ghost use Rattle.mz_spec_theory.specs.Progress.{choose, closed as closed_lem, group_dotted, group_opened, group_slot, headed, hypothesis as hypothesis_lem, next as next_lem, slot_of as slot_of_lem, type_rows, with_name};
+ghost use Rattle.mz_spec_theory.specs.Statement.{closing_of};
+ghost use Rattle.mz_spec_theory.specs.Tests.{fits, the_symbol};
 
 use super::{At, Next, OpenGroup, Parts, Slot};
-use crate::kind::Kind;
-use crate::lexeme::Lexeme;
-use crate::statement::{Group, NameText, Source};
+use mz_spec_theory::{Group, Kind, Lexeme, NameText, Source};
 use std::alloc::{AllocError, Global};
 use std::mem;
-
-impl Kind {
-    /// Only definitions have dummies.
-    fn takes_dummies(self) -> bool
-        ensures { result ≡ takes_dummies_lem self }
-    {
-        matches!(self, Kind::Definition)
-    }
-
-    /// Hypotheses stand in axioms and theorems, in round brackets.
-    pub fn takes_formulas(self, is_bound: bool) -> bool
-        ensures { result ≡ takes_formulas_lem self is_bound }
-    {
-        match self {
-            Kind::Assert(_) => !is_bound,
-            _ => false,
-        }
-    }
-}
 
 impl OpenGroup {
     /// Whether the lexeme is its closing bracket.

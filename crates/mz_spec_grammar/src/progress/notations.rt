@@ -1,12 +1,11 @@
 // General notations.
 ghost use Rattle.std.specs.Prelude.{◌≡◌, IfOk, [], option_map};
-ghost use Rattle.mz_spec_grammar.specs.Code.{lexeme, literal as literal_lem};
+ghost use Rattle.mz_spec_theory.specs.StatementCode.{lexeme, literal as literal_lem};
 ghost use Rattle.mz_spec_grammar.specs.CodeProgress.{at as at_lem, constant as constant_lem, in_tail, notation as notation_lem, open_notation};
-ghost use Rattle.mz_spec_grammar.specs.Progress.{choose, literal_colon, literal_read, literal_rows, next as next_lem, tail_opened};
+ghost use Rattle.mz_spec_theory.specs.Progress.{choose, literal_colon, literal_read, literal_rows, next as next_lem, tail_opened};
 
 use super::{At, Constant, Next, Notation, Parts, Tail, Whole};
-use crate::lexeme::Lexeme;
-use crate::statement::{Level, LiteralText};
+use mz_spec_theory::{Level, Lexeme, LiteralText};
 
 impl<'a> Parts<'a> {
     /// Within a notation.

@@ -1,63 +1,52 @@
 // The first lexemes of a statement.
 ghost use Rattle.std.specs.Prelude.{◌≡◌, option_map};
-ghost use Rattle.mz_spec_grammar.specs.Code.{lexeme, modifiers};
+ghost use Rattle.mz_spec_theory.specs.StatementCode.{lexeme, modifiers};
 ghost use Rattle.mz_spec_grammar.specs.CodeProgress.{LeadsTo, at as at_lem};
-ghost use Rattle.mz_spec_grammar.specs.Progress.{beginnings, choose, head_opened, is_bare as is_bare_lem, next as next_lem, opening};
+ghost use Rattle.mz_spec_theory.specs.Progress.{beginnings, choose, head_opened, is_bare as is_bare_lem, next as next_lem, opening};
 
 use super::{At, Coercion, Delimiter, Operator, Parts};
-use crate::kind::{AssertKind, Fixity, Kind};
-use crate::lexeme::Lexeme;
-use crate::statement::{Head, Modifiers};
+use mz_spec_theory::{AssertKind, Fixity, Head, Kind, Lexeme, Modifiers};
 use std::alloc::Global;
 
-impl Modifiers {
-    /// No such word.
-    pub const NONE: Modifiers = Modifiers {
-        is_pure: false,
-        is_strict: false,
-        is_provable: false,
-        is_free: false,
-    };
+/// Whether there is no such word.
+fn is_bare(read: Modifiers) -> bool
+    ensures { result ≡ is_bare_lem (modifiers read) }
+{
+    !(read.is_pure || read.is_strict || read.is_provable || read.is_free)
+}
 
-    fn is_bare(self) -> bool
-        ensures { result ≡ is_bare_lem (modifiers self) }
-    {
-        !(self.is_pure || self.is_strict || self.is_provable || self.is_free)
+/// Behind these modifiers.
+pub fn after_modifiers(read: Modifiers, found: Lexeme<'_>) -> Option<At>
+    ensures { LeadsTo result (next_lem (opening (modifiers read)) (lexeme found.entry)) }
+{
+    if found.is_keyword(b"pure") && is_bare(read) {
+        return Some(At::Opening(Modifiers {
+            is_pure: true,
+            ..read
+        }));
     }
-
-    /// Behind these modifiers.
-    pub fn next(self, found: Lexeme<'_>) -> Option<At>
-        ensures { LeadsTo result (next_lem (opening (modifiers self)) (lexeme found.entry)) }
-    {
-        if found.is_keyword(b"pure") && self.is_bare() {
-            return Some(At::Opening(Modifiers {
-                is_pure: true,
-                ..self
-            }));
-        }
-        if found.is_keyword(b"strict") && !(self.is_strict || self.is_provable || self.is_free) {
-            return Some(At::Opening(Modifiers {
-                is_strict: true,
-                ..self
-            }));
-        }
-        if found.is_keyword(b"provable") && !(self.is_provable || self.is_free) {
-            return Some(At::Opening(Modifiers {
-                is_provable: true,
-                ..self
-            }));
-        }
-        if found.is_keyword(b"free") && !self.is_free {
-            return Some(At::Opening(Modifiers {
-                is_free: true,
-                ..self
-            }));
-        }
-        if found.is_keyword(b"sort") {
-            return Some(At::SortOpened(self));
-        }
-        if self.is_bare() { begun(found) } else { None }
+    if found.is_keyword(b"strict") && !(read.is_strict || read.is_provable || read.is_free) {
+        return Some(At::Opening(Modifiers {
+            is_strict: true,
+            ..read
+        }));
     }
+    if found.is_keyword(b"provable") && !(read.is_provable || read.is_free) {
+        return Some(At::Opening(Modifiers {
+            is_provable: true,
+            ..read
+        }));
+    }
+    if found.is_keyword(b"free") && !read.is_free {
+        return Some(At::Opening(Modifiers {
+            is_free: true,
+            ..read
+        }));
+    }
+    if found.is_keyword(b"sort") {
+        return Some(At::SortOpened(read));
+    }
+    if is_bare(read) { begun(found) } else { None }
 }
 
 /// The first lexeme of a statement without modifiers.

@@ -1,13 +1,11 @@
 // Notations of one constant, coercions and delimiters.
 ghost use Rattle.std.specs.Prelude.{◌≡◌, option_map};
-ghost use Rattle.mz_spec_grammar.specs.Code.{lexeme};
+ghost use Rattle.mz_spec_theory.specs.StatementCode.{lexeme};
 ghost use Rattle.mz_spec_grammar.specs.CodeProgress.{at as at_lem, coercion as coercion_lem, delimiter as delimiter_lem, operator as operator_lem};
-ghost use Rattle.mz_spec_grammar.specs.Progress.{level_wanted, next as next_lem};
+ghost use Rattle.mz_spec_theory.specs.Progress.{level_wanted, next as next_lem};
 
 use super::{At, Coercion, Delimiter, Operator, Parts, Whole};
-use crate::kind::Fixity;
-use crate::lexeme::Lexeme;
-use crate::statement::Level;
+use mz_spec_theory::{Fixity, Level, Lexeme};
 
 impl<'a> Parts<'a> {
     /// Within an infix or prefix notation.

@@ -1,5 +1,5 @@
 use crate::math::world::{A, Case, N, NAT, Step, Var, WFF, compare};
-use mz_logic::SortMods;
+use mz_logic_theory::SortMods;
 
 const X: Var<'static> = ("x", NAT, true, &[]);
 

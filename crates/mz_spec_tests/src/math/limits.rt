@@ -1,6 +1,6 @@
 use crate::math::world::{A, B, N, NAT, Step, WFF, World, code, world_of};
-use mz_logic::{Expr, Exprs, SortMods};
-use mz_math::{Parsed, Wanted};
+use mz_logic_theory::{Expr, Exprs, SortMods};
+use mz_math_theory::{Parsed, Wanted};
 use std::alloc::{AllocError, Global};
 use std::process::Abort;
 

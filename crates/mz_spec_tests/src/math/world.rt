@@ -4,11 +4,12 @@ ghost use Rattle.std.specs.Prelude.{◌<◌, ◌^◌, length};
 use crate::expect::expect_bytes;
 use mz_base::is_identifier;
 use mz_lex::S;
-use mz_logic::{
+use mz_logic::check_decl;
+use mz_logic_theory::{
     Binder, Binders, Decl, Deps, Env, Expr, Exprs, ResultType, SortMods, TermDecl, TermForm,
-    check_decl,
 };
-use mz_math::{Bytes, Literal, Notations, NoteFault, Parsed, Scope, Tail, Wanted, parse_formula};
+use mz_math::{Bytes, Notations, Scope, parse_formula};
+use mz_math_theory::{Literal, NoteFault, Parsed, Tail, Wanted};
 use std::alloc::{AllocError, Global};
 use std::process::Abort;
 

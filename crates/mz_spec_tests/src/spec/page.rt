@@ -3,8 +3,9 @@ ghost use Rattle.std.specs.Prelude.{◌<◌, length};
 
 use crate::expect::{expect, expect_bytes};
 use mz_lex::S;
-use mz_logic::{Binder, Decl, Deps, Expr, Exprs, TermDecl, TermForm, ThmDecl, ThmForm};
-use mz_spec::{Hashing, Spec, SpecRead, SpecRefusal, read_spec};
+use mz_logic_theory::{Binder, Decl, Deps, Expr, Exprs, TermDecl, TermForm, ThmDecl, ThmForm};
+use mz_spec::{Hashing, SpecRead, read_spec};
+use mz_spec_theory::{Spec, SpecRefusal};
 use std::alloc::{AllocError, Global};
 use std::process::Abort;
 

@@ -3,7 +3,8 @@ use crate::expect::{expect_of, expect_that};
 use crate::program::files::{DUMMY, ONE, ONE_SPEC};
 use crate::program::{ended, expect, folder_of, words_of};
 use mz_io::{Folder, MemSink};
-use mz_tool::{Seed, Status, run};
+use mz_store::Seed;
+use mz_tool::{Status, run};
 use std::alloc::{AllocError, Global};
 use std::process::Abort;
 

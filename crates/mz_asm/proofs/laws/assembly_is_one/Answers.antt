@@ -1,5 +1,5 @@
 use Rattle.std.proofs.Common.{◌∙◌, ap, sym, arith}
-use Rattle.mz_layout.specs.Normal.{file_length, file_of}
+use Rattle.mz_layout_tables.specs.Normal.{file_length, file_of}
 use Rattle.mz_asm.proofs.OneAnswer.{listing-breaks-none, one-fault, one-listing}
 use Rattle.mz_asm.proofs.laws.assembly_is_one.Goals as goal
 

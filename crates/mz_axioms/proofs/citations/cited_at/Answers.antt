@@ -1,5 +1,5 @@
 use Rattle.std.proofs.Common.{subst}
-use Rattle.mz_layout.specs.Heads.{body_bytes}
+use Rattle.mz_layout_tables.specs.Heads.{body_bytes}
 use Rattle.mz_axioms.specs.Citations.{IsFirstIn, rest_of_body}
 use Rattle.mz_axioms.proofs.Citing.{first-some, first-none}
 use Rattle.mz_axioms.proofs.citations.cited_at.Goals as goal

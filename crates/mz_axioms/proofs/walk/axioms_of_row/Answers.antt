@@ -1,7 +1,7 @@
 use Rattle.std.proofs.Common.{rules, ◌≡◌, ℕ, [], ◌∷◌, length}
 use Rattle.std.specs.Prelude.{◌↔◌, Contains, MatchBool}
 use Rattle.std.specs.List.Sorted.{IsStrictlyIncreasing}
-use Rattle.mz_layout.specs.Heads.{body_bytes}
+use Rattle.mz_layout_tables.specs.Heads.{body_bytes}
 use Rattle.mz_axioms.specs.Rows.{Reaches}
 use Rattle.mz_axioms.proofs.Telling.{if-more, alone, alone-ascends, not-alone}
 use Rattle.mz_axioms.proofs.walk.axioms_of_row.Goals as goal

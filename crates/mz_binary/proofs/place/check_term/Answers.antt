@@ -1,6 +1,6 @@
 use Rattle.std.proofs.Common.{sym, arith}
 use Rattle.std.proofs.lemmas.Result.{err_from_is_err_and}
-use Rattle.mz_layout.proofs.Offered.{length-term_words}
+use Rattle.mz_layout_tables.proofs.Offered.{length-term_words}
 use Rattle.mz_machine_env.specs.Before.{taken_before}
 use Rattle.mz_binary.proofs.Finding.{sees-definition, sees-empty, is-of, term-plain, term-stops}
 use Rattle.mz_binary.proofs.place.check_term.Goals as goal

@@ -1,6 +1,6 @@
 use Rattle.std.proofs.Common.{sym, subst}
 use Rattle.std.proofs.lemmas.Result.{err_from_is_err_and}
-use Rattle.mz_layout.specs.Heads.{IsNextHead, StandsAt}
+use Rattle.mz_layout_tables.specs.Heads.{IsNextHead, StandsAt}
 use Rattle.mz_binary.specs.Progress.{Finds}
 use Rattle.mz_binary.proofs.Finding.{found-fault, found-end, found-parts, of-stands, row-here}
 use Rattle.mz_binary.proofs.place.found_at.Goals as goal

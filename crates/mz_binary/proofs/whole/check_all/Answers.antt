@@ -13,5 +13,5 @@ returns-in-Ok-clause-bound g c =
 
 pub returns-in-Err-clause-steps : goal.returns-in-Err-clause-steps
 returns-in-Err-clause-steps g c =
-    let none : file_steps c.args.standard c.args.file.now ≡ 0 = no-steps c.args.standard c.args.file.now (c.in-Err.refusal.at, c.in-Err.refusal.rule) c.in-Err.ensures.1 in
+    let none : file_steps g.B.Bodies.STANDARD c.args.file.now ≡ 0 = no-steps g.B.Bodies.STANDARD c.args.file.now (c.in-Err.refusal.at, c.in-Err.refusal.rule) c.in-Err.ensures.1 in
     omega (arith, none)

@@ -1,5 +1,5 @@
 use Rattle.std.proofs.Common.{[], subst}
-use Rattle.mz_layout.specs.Tables.{list_at}
+use Rattle.mz_layout_tables.specs.Tables.{list_at}
 use Rattle.mz_binary_theory.specs.Chains.{IsGoodStatement}
 use Rattle.mz_binary_theory.specs.Good.{Good}
 use Rattle.mz_binary.specs.Judging.{IsChecked}

@@ -1,7 +1,7 @@
 use Rattle.std.proofs.Common.{◌≡◌, ◌≤◌, ◌+◌, ◌-◌, List, length}
-use Rattle.mz_logic.specs.Declaration.{Declaration}
-use Rattle.mz_logic.specs.LegalLists.{Statement as Declared}
-use Rattle.mz_layout.specs.Layout.{Layout}
+use Rattle.mz_logic_theory.specs.Declaration.{Declaration}
+use Rattle.mz_logic_theory.specs.LegalLists.{Statement as Declared}
+use Rattle.mz_layout_tables.specs.Layout.{Layout}
 use Rattle.mz_binary.specs.Progress.{HasPassed, most_left, steps_left}
 use Rattle.mz_binary.proofs.whole.check_list.Given as goal
 

@@ -1,6 +1,6 @@
 use Rattle.std.proofs.Common.{arith, refl, subst}
-use Rattle.mz_logic.specs.Sorts.{HasSort}
-use Rattle.mz_logic.specs.Words.{signatures_of, term_at}
+use Rattle.mz_logic_theory.specs.Sorts.{HasSort}
+use Rattle.mz_logic_theory.specs.Words.{signatures_of, term_at}
 use Rattle.mz_store.proofs.Offered.{in-next, fit-next, in-all, fit-all}
 use Rattle.mz_binary_tests.proofs.store.can_take.Goals as goal
 

@@ -1,6 +1,6 @@
 use Rattle.std.proofs.Common.{drop}
-use Rattle.mz_logic.specs.Sorts.{Fits}
-use Rattle.mz_logic.specs.Words.{term_at, binders_of, signatures_of}
+use Rattle.mz_logic_theory.specs.Sorts.{Fits}
+use Rattle.mz_logic_theory.specs.Words.{term_at, binders_of, signatures_of}
 use Rattle.mz_store.specs.Sharing.{AreIn, trees_of}
 use Rattle.mz_binary_tests.proofs.store.can_take.Given as goal
 

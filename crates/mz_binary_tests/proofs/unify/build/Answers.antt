@@ -1,5 +1,5 @@
 use Rattle.std.proofs.Common.{◌≡◌, length, arith}
-use Rattle.mz_logic.specs.Words.{signatures_of}
+use Rattle.mz_logic_theory.specs.Words.{signatures_of}
 use Rattle.mz_binary_tests.proofs.unify.build.Goals as goal
 
 pub loop-built-init : goal.loop-built-init

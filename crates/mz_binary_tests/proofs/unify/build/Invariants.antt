@@ -1,5 +1,5 @@
 use Rattle.std.proofs.Common.{◌≡◌}
-use Rattle.mz_logic.specs.Words.{signatures_of}
+use Rattle.mz_logic_theory.specs.Words.{signatures_of}
 use Rattle.mz_store.specs.Sharing.{AreIn, IsOver}
 use Rattle.mz_store.specs.declared.item.DepsMode.TheVariants as of
 use Rattle.mz_binary_tests.proofs.unify.build.Given as goal

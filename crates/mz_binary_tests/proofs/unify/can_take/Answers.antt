@@ -1,5 +1,5 @@
 use Rattle.std.proofs.Common.{◌∙◌, sym, arith}
-use Rattle.mz_logic.specs.Words.{signatures_of, term_at}
+use Rattle.mz_logic_theory.specs.Words.{signatures_of, term_at}
 use Rattle.mz_store.specs.Sharing.{tree_of}
 use Rattle.mz_unify_theory.proofs.Offered.{two-fit}
 use Rattle.mz_binary_tests.proofs.unify.can_take.Goals as goal

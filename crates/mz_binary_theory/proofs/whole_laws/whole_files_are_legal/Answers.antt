@@ -1,4 +1,4 @@
-use Rattle.mz_logic.proofs.Offered.{legal_list_is_closed}
+use Rattle.mz_logic_theory.proofs.Offered.{legal_list_is_closed}
 use Rattle.mz_binary_theory.specs.Standards.{strict_standard}
 use Rattle.mz_binary_theory.proofs.ByTable.{good-by-table}
 use Rattle.mz_binary_theory.proofs.LegalChains.{good-legal, cite-as-bodies}

@@ -1,7 +1,7 @@
 use Rattle.std.proofs.Common.{subst, length}
 use Rattle.mz_decompile_text_theory.specs.Naming.{vocabulary_by}
 use Rattle.mz_decompile_text_theory.specs.Phrasing.{text_of}
-use Rattle.mz_type.specs.Weight.{weight_of}
+use Rattle.mz_mmu_theory.specs.Weight.{weight_of}
 use Rattle.mz_decompile.specs.Passes.{IsMeasured}
 use Rattle.mz_decompile.specs.declared.measuring.Measured.{Measured}
 use Rattle.mz_decompile.proofs.Sizing.{too-deep, too-long, short-enough}

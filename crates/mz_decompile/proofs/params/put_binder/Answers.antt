@@ -1,7 +1,7 @@
 use Rattle.std.proofs.Common.{◌∙◌, ◌++◌, [], ◌∷◌, ap, subst}
 use Rattle.std.specs.Prelude.{if◌then◌else◌}
 use Rattle.std.proofs.lemmas.Result.{on_ok_weaker}
-use Rattle.mz_logic.specs.Words.{places_set, word_bound, word_deps, word_sort}
+use Rattle.mz_logic_theory.specs.Words.{places_set, word_bound, word_deps, word_sort}
 use Rattle.mz_decompile_text_theory.specs.Phrases.{Phrase, a_word}
 use Rattle.mz_decompile_text_theory.specs.Phrasing.{variable_names}
 use Rattle.mz_decompile_text_theory.specs.Naming.{vocabulary_by}

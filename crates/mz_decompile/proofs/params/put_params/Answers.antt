@@ -1,8 +1,8 @@
 use Rattle.std.proofs.Common.{◌≡◌, ◌∙◌, ◌≤◌, ◌+◌, ◌++◌, ℕ, List, [], ◌∷◌, length, drop, sym, ap, subst, arith}
 use Rattle.std.proofs.lemmas.Option.{get_or_from_slice_get, slice_get_within}
-use Rattle.mz_logic.specs.Words.{binder_of, binders_of, bound_places}
+use Rattle.mz_logic_theory.specs.Words.{binder_of, binders_of, bound_places}
 use Rattle.mz_match_theory.proofs.Offered.{places-step, places-end}
-use Rattle.mz_layout.specs.Rows.{params_of}
+use Rattle.mz_layout_tables.specs.Rows.{params_of}
 use Rattle.mz_decompile_text_theory.specs.Phrasing.{binder, binders}
 use Rattle.mz_decompile_text_theory.specs.Naming.{vocabulary_by}
 use Rattle.mz_decompile.specs.Adding.{Adds}

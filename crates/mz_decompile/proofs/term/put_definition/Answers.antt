@@ -1,5 +1,5 @@
 use Rattle.std.proofs.Common.{◌∷◌, [], ℕ, List, subst, arith, map}
-use Rattle.mz_layout.proofs.Offered.{length-term_words}
+use Rattle.mz_layout_tables.proofs.Offered.{length-term_words}
 use Rattle.mz_unify_theory.specs.Spells.{dummy_of}
 use Rattle.mz_decompile_text_theory.specs.Phrases.{a_list}
 use Rattle.mz_decompile_text_theory.specs.Phrasing.{binders}

@@ -1,9 +1,9 @@
 use Rattle.std.proofs.Common.{◌∙◌, [], ◌∷◌, ℕ, List, subst, arith}
 use Rattle.std.proofs.lemmas.Result.{on_ok_weaker}
-use Rattle.mz_layout.specs.Tables.{term_row}
-use Rattle.mz_layout.proofs.Offered.{length-term_words}
-use Rattle.mz_logic.specs.Words.{binders_of, places_set, result_of, word_deps, word_sort}
-use Rattle.mz_logic.specs.declared.word.Word.{Word}
+use Rattle.mz_layout_tables.specs.Tables.{term_row}
+use Rattle.mz_layout_tables.proofs.Offered.{length-term_words}
+use Rattle.mz_logic_theory.specs.Words.{binders_of, places_set, result_of, word_deps, word_sort}
+use Rattle.mz_logic_theory.specs.declared.word.Word.{Word}
 use Rattle.mz_decompile_text_theory.specs.Phrases.{a_word, a_list}
 use Rattle.mz_decompile_text_theory.specs.Phrasing.{binders, result}
 use Rattle.mz_decompile_text_theory.specs.Naming.{vocabulary_by}

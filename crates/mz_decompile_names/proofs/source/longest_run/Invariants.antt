@@ -1,6 +1,6 @@
 use Rattle.std.proofs.Common.{◌≡◌, max}
-use Rattle.mz_mmu_statements.specs.DeclaredNames.{longest_run}
-use Rattle.mz_decompile_names.specs.Names.{declared_names}
+use Rattle.mz_mmu_theory.specs.DeclaredNames.{longest_run}
+use Rattle.mz_decompile_text_theory.specs.Names.{declared_names}
 use Rattle.mz_decompile_names.proofs.Runs.{rest}
 use Rattle.mz_decompile_names.proofs.source.longest_run.Given as goal
 

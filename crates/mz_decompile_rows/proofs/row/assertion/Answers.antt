@@ -1,8 +1,8 @@
 use Rattle.std.proofs.Common.{◌≡◌, ◌∙◌, [], ap, drop, length, map, reverse, subst, sym}
 use Rattle.std.proofs.lemmas.List.{reverse-reverse}
-use Rattle.mz_logic.specs.Tree.{listed}
-use Rattle.mz_logic.proofs.Offered.{length-binders}
-use Rattle.mz_layout.specs.Tables.{thm_row}
+use Rattle.mz_logic_theory.specs.Tree.{listed}
+use Rattle.mz_logic_theory.proofs.Offered.{length-binders}
+use Rattle.mz_layout_tables.specs.Tables.{thm_row}
 use Rattle.mz_unify_theory.specs.Spells.{at_first}
 use Rattle.mz_unify_theory.specs.Streams.{StreamIs, of_assertion}
 use Rattle.mz_unify_theory.proofs.Offered.{trees_of-listed}

@@ -1,7 +1,7 @@
 use Rattle.std.proofs.Common.{◌≡◌, ◌∙◌, [], ap, arith, drop, length, subst, sym}
-use Rattle.mz_logic.proofs.Offered.{length-binders}
-use Rattle.mz_layout.specs.Tables.{term_row}
-use Rattle.mz_layout.proofs.Offered.{length-term_words}
+use Rattle.mz_logic_theory.proofs.Offered.{length-binders}
+use Rattle.mz_layout_tables.specs.Tables.{term_row}
+use Rattle.mz_layout_tables.proofs.Offered.{length-term_words}
 use Rattle.mz_unify_theory.specs.Spells.{Marks, at_first}
 use Rattle.mz_unify_theory.specs.Streams.{StreamIs, of_definition}
 use Rattle.mz_decompile_text_theory.specs.Naming.{vocabulary_by}

@@ -1,4 +1,4 @@
-use Rattle.mz_spec.proofs.Offered.{one-reading}
+use Rattle.mz_spec_theory.proofs.Offered.{one-reading}
 use Rattle.mz_binary_theory.proofs.Offered.{one-list, good-spelled}
 use Rattle.mz_decompile_theory.proofs.Restating.{accepted-restated}
 use Rattle.mz_decompile_theory.proofs.Alike.{restated-alike}

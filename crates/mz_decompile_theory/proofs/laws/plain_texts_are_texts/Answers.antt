@@ -1,4 +1,4 @@
-use Rattle.mz_spec.proofs.Offered.{one-reading}
+use Rattle.mz_spec_theory.proofs.Offered.{one-reading}
 use Rattle.mz_binary_theory.proofs.Offered.{good-spelled}
 use Rattle.mz_decompile_theory.proofs.Texts.{plain-texts}
 use Rattle.mz_decompile_theory.proofs.laws.plain_texts_are_texts.Goals as goal

@@ -1,7 +1,7 @@
 use Rattle.std.proofs.Common.{Bool, false, List, inl, sym, subst}
 use Rattle.mz_base.specs.Gaps.{gaps_of}
-use Rattle.mz_mmu_statements.specs.Statements.{Statement, Reads}
-use Rattle.mz_type.specs.TextOf.{TextOf, TextFault}
+use Rattle.mz_mmu_theory.specs.Statements.{Statement, Reads}
+use Rattle.mz_mmu_theory.specs.TextOf.{TextOf, TextFault}
 use Rattle.mz_emit.proofs.Alike.{finished_same, never_faulty}
 use Rattle.mz_emit.proofs.compile.compile_bytes.Goals as goal
 

@@ -1,10 +1,10 @@
 use Rattle.std.proofs.Common.{List, length, sym, ap, subst, arith}
-use Rattle.mz_mmu_statements.specs.Statements.{Statement}
-use Rattle.mz_type.specs.Meaning.{LegalAsStated}
+use Rattle.mz_mmu_theory.specs.Statements.{Statement}
+use Rattle.mz_mmu_theory.specs.Meaning.{LegalAsStated}
 use Rattle.mz_type.specs.StatedView.{AreRead, statements_of}
-use Rattle.mz_type.specs.Weight.{IsWithinLimits}
+use Rattle.mz_mmu_theory.specs.Weight.{IsWithinLimits}
 use Rattle.mz_type.proofs.Offered.{statements_many}
-use Rattle.mz_emit.specs.Compiling.{IsBinaryOf}
+use Rattle.mz_emit_accepted_theory.specs.Compiling.{IsBinaryOf}
 use Rattle.mz_emit.specs.Emitting.{IsLegalWith}
 use Rattle.mz_emit.proofs.Looping.{own_mode}
 use Rattle.mz_emit.proofs.compile.emit.Goals as goal

@@ -1,6 +1,6 @@
 use Rattle.std.proofs.Common.{List, length, reverse, take, sym, ap, subst, arith}
-use Rattle.mz_logic.specs.DeclView.{declaration}
-use Rattle.mz_mmu_statements.specs.Statements.{Statement}
+use Rattle.mz_logic_theory.specs.DeclView.{declaration}
+use Rattle.mz_mmu_theory.specs.Statements.{Statement}
 use Rattle.mz_type.specs.StatedView.{statements_of}
 use Rattle.mz_type.specs.declared.typed.Beside.{Beside}
 use Rattle.mz_type.proofs.Offered.{taken, fewer, turned}

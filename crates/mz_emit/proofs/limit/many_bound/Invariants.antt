@@ -1,4 +1,4 @@
-use Rattle.mz_type.specs.Weight.{bound_limit, bound_count}
+use Rattle.mz_mmu_theory.specs.Weight.{bound_limit, bound_count}
 use Rattle.mz_emit.proofs.Limiting.{Left}
 use Rattle.mz_emit.proofs.limit.many_bound.Given as goal
 

@@ -1,4 +1,4 @@
-use Rattle.mz_type.specs.Weight.{parameter_limit, parameter_count}
+use Rattle.mz_mmu_theory.specs.Weight.{parameter_limit, parameter_count}
 use Rattle.mz_emit.proofs.Limiting.{Left}
 use Rattle.mz_emit.proofs.limit.many_parameters.Given as goal
 

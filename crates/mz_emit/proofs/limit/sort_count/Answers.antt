@@ -1,6 +1,6 @@
 use Rattle.std.proofs.Common.{◌≡◌, ◌∷◌, [], length, ap, arith}
-use Rattle.mz_logic.specs.DeclView.{declaration}
-use Rattle.mz_logic.specs.Declaration.{sorts}
+use Rattle.mz_logic_theory.specs.DeclView.{declaration}
+use Rattle.mz_logic_theory.specs.Declaration.{sorts}
 use Rattle.mz_type.specs.TypedText.{statement_at}
 use Rattle.mz_emit.proofs.Limiting.{told_of, sorts_cut}
 use Rattle.mz_emit.proofs.limit.sort_count.Goals as goal

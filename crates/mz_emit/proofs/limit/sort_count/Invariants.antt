@@ -1,5 +1,5 @@
 use Rattle.std.proofs.Common.{◌≡◌, ◌≤◌, ◌+◌, drop}
-use Rattle.mz_type.specs.Weight.{sort_count}
+use Rattle.mz_mmu_theory.specs.Weight.{sort_count}
 use Rattle.mz_emit.proofs.limit.sort_count.Given as goal
 
 abbrev pub invariant-loop-i : goal.invariant-loop-i

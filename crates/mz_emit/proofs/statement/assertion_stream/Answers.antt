@@ -1,8 +1,8 @@
 use Rattle.std.proofs.Common.{ℕ, ◌++◌, [], List, length, ap, sym, subst, ◌∙◌, append-nil}
-use Rattle.mz_logic.specs.declared.binder.Binder.{Binder}
+use Rattle.mz_logic_theory.specs.declared.binder.Binder.{Binder}
 use Rattle.mz_emit_theory.specs.Works.{from_to}
 use Rattle.mz_store.specs.Sharing.{tree_of, trees_of}
-use Rattle.mz_emit_bodies.specs.Instances.{AllInReach, InReach}
+use Rattle.mz_emit_theory.specs.InReach.{AllInReach, InReach}
 use Rattle.mz_emit_theory.specs.StreamWriting.{assertion_written, stream_of, write, writing_start}
 use Rattle.mz_emit.proofs.Starting.{assertion_end, one_cut, statement_of}
 use Rattle.mz_emit.proofs.statement.assertion_stream.Goals as goal

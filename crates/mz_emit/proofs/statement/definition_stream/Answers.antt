@@ -1,8 +1,8 @@
 use Rattle.std.proofs.Common.{ℕ, ◌++◌, ◌∷◌, [], List, length, ap, sym, subst, ◌∙◌, append-nil}
-use Rattle.mz_logic.specs.declared.binder.Binder.{Binder}
+use Rattle.mz_logic_theory.specs.declared.binder.Binder.{Binder}
 use Rattle.mz_store.specs.Sharing.{sort_of, tree_of}
-use Rattle.mz_emit_bodies.specs.Instances.{InReach}
-use Rattle.mz_emit_bodies.proofs.Offered.{reach_of_sort}
+use Rattle.mz_emit_theory.specs.InReach.{InReach}
+use Rattle.mz_emit_theory.proofs.Offered.{reach_of_sort}
 use Rattle.mz_emit_theory.specs.StreamWriting.{definition_written, stream_of, writing_start}
 use Rattle.mz_emit.specs.Going.{spelled}
 use Rattle.mz_emit.proofs.Starting.{ended, one_cut, statement_of}

@@ -1,7 +1,7 @@
 use Rattle.std.proofs.Common.{◌≡◌, ◌<◌, ℕ, List, length}
-use Rattle.mz_logic.specs.Tree.{var}
-use Rattle.mz_logic.specs.Variables.{InV}
-use Rattle.mz_logic.specs.declared.binder.Binder.{Binder}
+use Rattle.mz_logic_theory.specs.Tree.{var}
+use Rattle.mz_logic_theory.specs.Variables.{InV}
+use Rattle.mz_logic_theory.specs.declared.binder.Binder.{Binder}
 use Rattle.mz_store.specs.Bits.{Tells, bound_vars}
 use Rattle.mz_emit.specs.Going.{IsStatement}
 use Rattle.mz_emit.proofs.stream.param_bits.Given as goal

@@ -1,12 +1,12 @@
 use Rattle.std.proofs.Common.{ℕ, ◌+◌, length, rules, drop, ap, ◌∙◌, sym, subst}
 use Rattle.std.proofs.lemmas.List.{drop_all}
-use Rattle.mz_logic.specs.Sorts.{HasSort}
-use Rattle.mz_logic.specs.Tree.{followed_by, instance, instances}
-use Rattle.mz_logic.specs.View.{tree, trees}
-use Rattle.mz_logic.specs.Words.{signatures_of}
-use Rattle.mz_logic.proofs.Offered.{followed_by_none}
+use Rattle.mz_logic_theory.specs.Sorts.{HasSort}
+use Rattle.mz_logic_theory.specs.Tree.{followed_by, instance, instances}
+use Rattle.mz_logic_theory.specs.View.{tree, trees}
+use Rattle.mz_logic_theory.specs.Words.{signatures_of}
+use Rattle.mz_logic_theory.proofs.Offered.{followed_by_none}
 use Rattle.mz_store.specs.Sharing.{trees_of}
-use Rattle.mz_emit_bodies.specs.Instances.{InReach}
+use Rattle.mz_emit_theory.specs.InReach.{InReach}
 use Rattle.mz_emit_bodies.proofs.Making.{Making, can_make, made, trees_cut, size_step, operand_held, can_take, all_sorted}
 use Rattle.mz_emit_bodies.proofs.shared.+instance_id.Goals as goal
 

@@ -1,7 +1,7 @@
 use Rattle.std.proofs.Common.{◌≤◌, ◌+◌, ◌*◌, drop}
-use Rattle.mz_logic.specs.Tree.{size, trees_size}
-use Rattle.mz_logic.specs.View.{tree, trees}
-use Rattle.mz_logic.specs.Words.{signatures_of}
+use Rattle.mz_logic_theory.specs.Tree.{size, trees_size}
+use Rattle.mz_logic_theory.specs.View.{tree, trees}
+use Rattle.mz_logic_theory.specs.Words.{signatures_of}
 use Rattle.mz_emit_bodies.proofs.Making.{Making}
 use Rattle.mz_emit_bodies.proofs.shared.+instance_id.Given as goal
 

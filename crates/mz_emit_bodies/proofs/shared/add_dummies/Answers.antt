@@ -1,7 +1,7 @@
 use Rattle.std.proofs.Common.{ℕ, ◌+◌, ◌++◌, ◌∷◌, [], List, length, take, ap, sym, subst, ◌∙◌, arith}
 use Rattle.std.proofs.lemmas.List.{length-append, take_more, drop_more, take_all, append_assoc, append-nil}
-use Rattle.mz_logic.specs.Legality.{IsDummy}
-use Rattle.mz_logic.specs.declared.binder.Binder.{Binder}
+use Rattle.mz_logic_theory.specs.Legality.{IsDummy}
+use Rattle.mz_logic_theory.specs.declared.binder.Binder.{Binder}
 use Rattle.mz_store.specs.Bits.{bound_vars}
 use Rattle.mz_emit_bodies.specs.Variables.{IsShared}
 use Rattle.mz_emit_bodies.proofs.Entering.{dummy_shared, dummy_is, one_bound_more}

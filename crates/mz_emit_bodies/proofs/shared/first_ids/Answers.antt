@@ -1,7 +1,7 @@
 use Rattle.std.proofs.Common.{◌≡◌, length, ap, arith, sym, ◌∙◌, subst}
 use Rattle.std.proofs.lemmas.List.{length-append}
 use Rattle.std.proofs.lemmas.Option.{none-some}
-use Rattle.mz_logic.specs.Legality.{Each}
+use Rattle.mz_logic_theory.specs.Legality.{Each}
 use Rattle.mz_emit_bodies.proofs.Entering.{number_push}
 use Rattle.mz_emit_bodies.proofs.shared.first_ids.Goals as goal
 

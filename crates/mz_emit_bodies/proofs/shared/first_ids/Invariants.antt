@@ -1,5 +1,5 @@
 use Rattle.std.proofs.Common.{◌≡◌, length}
-use Rattle.mz_logic.specs.Legality.{Each}
+use Rattle.mz_logic_theory.specs.Legality.{Each}
 use Rattle.mz_emit_bodies.proofs.shared.first_ids.Given as goal
 
 abbrev pub invariant-loop-i : goal.invariant-loop-i

@@ -1,9 +1,9 @@
 use Rattle.std.proofs.Common.{◌≤◌, ◌+◌, length, rules, drop, ap, ◌∙◌, sym, subst, arith}
 use Rattle.std.proofs.lemmas.List.{drop_all}
-use Rattle.mz_logic.specs.Tree.{followed_by, instances}
-use Rattle.mz_logic.specs.View.{trees}
-use Rattle.mz_logic.specs.Words.{signatures_of}
-use Rattle.mz_logic.proofs.Offered.{expr-read, exprs-within, exprs_of, followed_by_none, length-exprs, trees-exprs}
+use Rattle.mz_logic_theory.specs.Tree.{followed_by, instances}
+use Rattle.mz_logic_theory.specs.View.{trees}
+use Rattle.mz_logic_theory.specs.Words.{signatures_of}
+use Rattle.mz_logic_theory.proofs.Offered.{expr-read, exprs-within, exprs_of, followed_by_none, length-exprs, trees-exprs}
 use Rattle.mz_store.specs.Sharing.{trees_of}
 use Rattle.mz_emit_bodies.proofs.Making.{Making, can_make, made, trees_cut}
 use Rattle.mz_emit_bodies.proofs.shared.instance_hyps.Goals as goal

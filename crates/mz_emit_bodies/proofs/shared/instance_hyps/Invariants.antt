@@ -1,7 +1,7 @@
 use Rattle.std.proofs.Common.{drop}
-use Rattle.mz_logic.specs.View.{trees}
-use Rattle.mz_logic.specs.Words.{signatures_of}
-use Rattle.mz_logic.proofs.Offered.{exprs_of}
+use Rattle.mz_logic_theory.specs.View.{trees}
+use Rattle.mz_logic_theory.specs.Words.{signatures_of}
+use Rattle.mz_logic_theory.proofs.Offered.{exprs_of}
 use Rattle.mz_emit_bodies.proofs.Making.{Making}
 use Rattle.mz_emit_bodies.proofs.shared.instance_hyps.Given as goal
 

@@ -1,5 +1,5 @@
 use Rattle.std.proofs.Common.{false, ◌*◌, arith, ap, length, take, refl, sym, ◌∙◌, subst}
-use Rattle.mz_logic.specs.Tree.{listed, size}
+use Rattle.mz_logic_theory.specs.Tree.{listed, size}
 use Rattle.mz_unify_theory.specs.Profile.{expr}
 use Rattle.mz_machine_theory.specs.MachineState.{is_axiom}
 use Rattle.mz_store.specs.Sharing.{tree_of, trees_of}
@@ -7,7 +7,7 @@ use Rattle.mz_emit_bodies.proofs.Growing.{many_ids}
 use Rattle.mz_emit_bodies.specs.Going.{IsAfter}
 use Rattle.mz_emit_bodies.specs.Owes.{to_do}
 use Rattle.mz_emit_bodies.specs.Stages.{job, leaving, writing_too, with_hyps}
-use Rattle.mz_emit_bodies.specs.Writing.{◌>>◌, at_first, write_expr, write_hyps}
+use Rattle.mz_emit_theory.specs.BodyWriting.{◌>>◌, at_first, write_expr, write_hyps}
 use Rattle.mz_emit_theory.specs.Endings.{spelled_body}
 use Rattle.mz_emit_bodies.proofs.Ends.{ended, ended_short, ended_written, first_begins, body_as, assumes_all}
 use Rattle.mz_emit_bodies.proofs.statement.axiom_body.Goals as goal

@@ -1,12 +1,12 @@
 use Rattle.std.proofs.Common.{false, ◌*◌, arith, ap, take, refl, sym, ◌∙◌, subst, []}
-use Rattle.mz_logic.specs.Tree.{size}
+use Rattle.mz_logic_theory.specs.Tree.{size}
 use Rattle.mz_machine_theory.specs.MachineState.{is_definition}
 use Rattle.mz_unify_theory.specs.Profile.{expr}
 use Rattle.mz_store.specs.Sharing.{tree_of}
 use Rattle.mz_emit_bodies.specs.Going.{IsAfter}
 use Rattle.mz_emit_bodies.specs.Owes.{to_do}
 use Rattle.mz_emit_bodies.specs.Stages.{job, leaving, writing_too}
-use Rattle.mz_emit_bodies.specs.Writing.{at_first, write_expr}
+use Rattle.mz_emit_theory.specs.BodyWriting.{at_first, write_expr}
 use Rattle.mz_emit_theory.specs.Endings.{spelled_body}
 use Rattle.mz_emit_bodies.proofs.Ends.{ended, ended_short, ended_written, first_begins, body_as}
 use Rattle.mz_emit_bodies.proofs.statement.definition_body.Goals as goal

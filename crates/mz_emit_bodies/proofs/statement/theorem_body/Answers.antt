@@ -1,19 +1,19 @@
 use Rattle.std.proofs.Common.{false, ◌||◌, ◌*◌, arith, ap, length, take, refl, sym, ◌∙◌, subst, []}
 use Rattle.mz_base_theory.proofs.Offered.{or-false}
-use Rattle.mz_logic.specs.Tree.{listed}
+use Rattle.mz_logic_theory.specs.Tree.{listed}
 use Rattle.mz_unify_theory.specs.Profile.{proof}
 use Rattle.mz_machine_theory.specs.MachineState.{is_theorem}
-use Rattle.mz_mmu_forms.specs.ProofView.{proof_view}
+use Rattle.mz_mmu_theory.specs.ProofView.{proof_view}
 use Rattle.mz_store.specs.Sharing.{trees_of}
 use Rattle.mz_emit_bodies.proofs.Growing.{many_ids}
-use Rattle.mz_emit_bodies.specs.Claims.{proved}
+use Rattle.mz_emit_theory.specs.Claims.{proved}
 use Rattle.mz_emit_bodies.specs.Going.{IsAfter}
 use Rattle.mz_emit_bodies.specs.Owes.{to_do}
 use Rattle.mz_emit_bodies.specs.Stages.{job, leaving, spending, writing_too, with_hyps}
-use Rattle.mz_emit_bodies.specs.Writing.{◌>>◌, at_first, write_proof, write_hyps}
+use Rattle.mz_emit_theory.specs.BodyWriting.{◌>>◌, at_first, write_proof, write_hyps}
 use Rattle.mz_emit_theory.specs.Endings.{spelled_body}
-use Rattle.mz_emit_bodies.specs.Uses.{uses, IsBodyUsing}
-use Rattle.mz_emit_bodies.specs.Weights.{proof_weight}
+use Rattle.mz_emit_theory.specs.Uses.{uses, IsBodyUsing}
+use Rattle.mz_emit_theory.specs.Weights.{proof_weight}
 use Rattle.mz_emit_bodies.specs.declared.body.Before.{Before}
 use Rattle.mz_emit_bodies.proofs.Ends.{ended, ended_short, ended_written, first_begins, body_as, uses_as, assumes_all, sound_as}
 use Rattle.mz_emit_bodies.proofs.statement.theorem_body.Goals as goal

@@ -1,6 +1,6 @@
 use Rattle.std.proofs.Common.{ℕ, List, get_or, slice_index_or, take, ap, sym, ◌∙◌, bit_or}
 use Rattle.std.proofs.lemmas.List.{take_more}
-use Rattle.mz_logic.specs.WordsWritten.{bits_of, bound_from}
+use Rattle.mz_logic_theory.specs.WordsWritten.{bits_of, bound_from}
 use Rattle.mz_emit_bodies.proofs.Bits.{bits_none, bits_push, bit_at_place}
 use Rattle.mz_emit_bodies.proofs.words.deps_bits.Goals as goal
 

@@ -1,6 +1,6 @@
 use Rattle.std.proofs.Common.{◌≡◌, List, take}
-use Rattle.mz_logic.specs.WordsWritten.{bits_of, bound_from}
-use Rattle.mz_logic.specs.declared.binder.Binder.{Binder}
+use Rattle.mz_logic_theory.specs.WordsWritten.{bits_of, bound_from}
+use Rattle.mz_logic_theory.specs.declared.binder.Binder.{Binder}
 use Rattle.mz_emit_bodies.specs.Bits.{place_bits}
 use Rattle.mz_emit_bodies.proofs.words.deps_bits.Given as goal
 

@@ -1,6 +1,6 @@
 use Rattle.std.proofs.Common.{refl, sym, ◌∙◌, append-nil}
-use Rattle.mz_layout.specs.Normal.{words_bytes}
-use Rattle.mz_layout.proofs.Rest.{appended, all-written, words-more}
+use Rattle.mz_layout_tables.specs.Normal.{words_bytes}
+use Rattle.mz_layout_tables.proofs.Offered.{appended, all-written, words-more}
 use Rattle.mz_layout.proofs.pieces.put_words.Goals as goal
 
 pub loop-word-init : goal.loop-word-init

@@ -1,6 +1,6 @@
 use Rattle.std.proofs.Common.{refl, sym, ◌∙◌, append-nil}
-use Rattle.mz_layout.specs.Normal.{row_block, blocks}
-use Rattle.mz_layout.proofs.Rest.{appended, all-written, blocks-more}
+use Rattle.mz_layout_tables.specs.Normal.{row_block, blocks}
+use Rattle.mz_layout_tables.proofs.Offered.{appended, all-written, blocks-more}
 use Rattle.mz_layout.proofs.runs.put_blocks.Goals as goal
 
 pub loop-row-init : goal.loop-row-init

@@ -1,6 +1,6 @@
 use Rattle.std.proofs.Common.{refl}
-use Rattle.mz_layout.specs.Normal.{statement_bytes, list_bytes}
-use Rattle.mz_layout.proofs.Rest.{appended, all-written, ended, list-more, statement-within}
+use Rattle.mz_layout_tables.specs.Normal.{statement_bytes, list_bytes}
+use Rattle.mz_layout_tables.proofs.Offered.{appended, all-written, ended, list-more, statement-within}
 use Rattle.mz_layout.proofs.runs.put_list.Goals as goal
 
 pub loop-statement-init : goal.loop-statement-init

@@ -1,6 +1,6 @@
 use Rattle.std.proofs.Common.{refl, sym, ◌∙◌, append-nil, arith}
-use Rattle.mz_layout.specs.Normal.{record_bytes, table}
-use Rattle.mz_layout.proofs.Rest.{appended, all-written, table-next, block-within}
+use Rattle.mz_layout_tables.specs.Normal.{record_bytes, table}
+use Rattle.mz_layout_tables.proofs.Offered.{appended, all-written, table-next, block-within}
 use Rattle.mz_layout.proofs.runs.put_table.Goals as goal
 
 pub loop-row-init : goal.loop-row-init

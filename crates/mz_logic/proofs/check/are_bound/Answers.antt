@@ -1,7 +1,7 @@
 use Rattle.std.proofs.Common.{ℕ, ◌<◌, length, List, All, subst, sym, IsTrue, ◌↔◌, Bool, get_or, ◌≡◌}
 use Rattle.std.proofs.lemmas.Option.{slice_get_within}
-use Rattle.mz_logic.specs.Variables.{IsBoundAt}
-use Rattle.mz_logic.specs.declared.binder.Binder.{Binder}
+use Rattle.mz_logic_theory.specs.Variables.{IsBoundAt}
+use Rattle.mz_logic_theory.specs.declared.binder.Binder.{Binder}
 use Rattle.mz_logic.proofs.check.are_bound.Goals as goal
 
 without_end : (r : Bool) (ps qs : List Binder) (n : ℕ) (places : List ℕ) → qs ≡ ps → n ≡ length ps → IsTrue r ↔ All (λ j. (j < n) × IsBoundAt qs j) places → IsTrue r ↔ All (IsBoundAt ps) places

@@ -1,7 +1,7 @@
 use Rattle.std.proofs.Common.{ℕ, ◌<◌, refl}
 use Rattle.mz_base_theory.proofs.Offered.{all_so_far_more}
-use Rattle.mz_logic.specs.Variables.{IsBoundAt}
-use Rattle.mz_logic.proofs.Lists.{all_at_end}
+use Rattle.mz_logic_theory.specs.Variables.{IsBoundAt}
+use Rattle.mz_logic_theory.proofs.Offered.{all_at_end}
 use Rattle.mz_logic.proofs.check.are_bound_before.Goals as goal
 
 pub loop-j-preserved : goal.loop-j-preserved

@@ -1,5 +1,5 @@
 use Rattle.mz_base_theory.proofs.Offered.{AllSoFar}
-use Rattle.mz_logic.specs.Legality.{IsDummy}
+use Rattle.mz_logic_theory.specs.Legality.{IsDummy}
 use Rattle.mz_logic.proofs.check.are_dummies.Given as goal
 
 abbrev pub invariant-loop-b : goal.invariant-loop-b

@@ -1,6 +1,6 @@
 use Rattle.std.proofs.Common.{subst, IsTrue, ◌↔◌}
-use Rattle.mz_logic.specs.Declaration.{sorts}
-use Rattle.mz_logic.specs.Legality.{AreParams}
+use Rattle.mz_logic_theory.specs.Declaration.{sorts}
+use Rattle.mz_logic_theory.specs.Legality.{AreParams}
 use Rattle.mz_logic.proofs.check.are_params.Goals as goal
 
 pub returns : goal.returns

@@ -1,8 +1,8 @@
 use Rattle.std.proofs.Common.{ℕ, refl, sym, ◌∙◌, true≢false}
-use Rattle.mz_logic.specs.Declaration.{sorts}
-use Rattle.mz_logic.specs.Legality.{IsBinderThere}
-use Rattle.mz_logic.specs.declared.binder.Binder.{Binder}
-use Rattle.mz_logic.proofs.Lists.{each_so_far_more, not_all}
+use Rattle.mz_logic_theory.specs.Declaration.{sorts}
+use Rattle.mz_logic_theory.specs.Legality.{IsBinderThere}
+use Rattle.mz_logic_theory.specs.declared.binder.Binder.{Binder}
+use Rattle.mz_logic_theory.proofs.Offered.{each_so_far_more, not_all}
 use Rattle.mz_logic.proofs.check.binders_are_there.Goals as goal
 
 pub returns-then-not-is_binder_there : goal.returns-then-not-is_binder_there

@@ -1,6 +1,6 @@
 use Rattle.std.proofs.Common.{true≢false, refl, sym, ◌∙◌, inl, inr, subst, All}
-use Rattle.mz_logic.specs.Declaration.{sorts}
-use Rattle.mz_logic.specs.Modifiers.{MayBeDummySort}
+use Rattle.mz_logic_theory.specs.Declaration.{sorts}
+use Rattle.mz_logic_theory.specs.Modifiers.{MayBeDummySort}
 use Rattle.mz_logic.proofs.check.check_term.Goals as goal
 
 pub returns-then-not-dummy_sorts_are_right : goal.returns-then-not-dummy_sorts_are_right

@@ -1,6 +1,6 @@
 use Rattle.mz_base_theory.proofs.Offered.{AllSoFar}
-use Rattle.mz_logic.specs.Declaration.{sorts}
-use Rattle.mz_logic.specs.Modifiers.{MayBeDummySort}
+use Rattle.mz_logic_theory.specs.Declaration.{sorts}
+use Rattle.mz_logic_theory.specs.Modifiers.{MayBeDummySort}
 use Rattle.mz_logic.proofs.check.dummy_sorts_are_right.Given as goal
 
 abbrev pub invariant-loop-b : goal.invariant-loop-b

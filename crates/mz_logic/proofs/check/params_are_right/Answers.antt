@@ -1,7 +1,7 @@
 use Rattle.std.proofs.Common.{refl}
-use Rattle.mz_logic.specs.Declaration.{sorts}
-use Rattle.mz_logic.specs.Legality.{IsParam}
-use Rattle.mz_logic.proofs.Lists.{each_so_far_more, each_at_end}
+use Rattle.mz_logic_theory.specs.Declaration.{sorts}
+use Rattle.mz_logic_theory.specs.Legality.{IsParam}
+use Rattle.mz_logic_theory.proofs.Offered.{each_so_far_more, each_at_end}
 use Rattle.mz_logic.proofs.check.params_are_right.Goals as goal
 
 pub loop-i-preserved : goal.loop-i-preserved

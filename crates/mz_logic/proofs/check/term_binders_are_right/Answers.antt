@@ -1,5 +1,5 @@
 use Rattle.std.proofs.Common.{subst, All}
-use Rattle.mz_logic.specs.Legality.{IsDummy}
+use Rattle.mz_logic_theory.specs.Legality.{IsDummy}
 use Rattle.mz_logic.proofs.check.term_binders_are_right.Goals as goal
 
 pub returns-then-are_dummies : goal.returns-then-are_dummies

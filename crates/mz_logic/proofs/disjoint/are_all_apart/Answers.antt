@@ -1,8 +1,8 @@
 use Rattle.std.proofs.Common.{ℕ, ◌<◌, ◌∙◌, ap, sym, refl, length, arith, true≢false}
 use Rattle.std.proofs.lemmas.Option.{slice_get_within, get_or_from_slice_get}
 use Rattle.mz_base_theory.proofs.Offered.{each_before_more}
-use Rattle.mz_logic.specs.Variables.{ApartAt}
-use Rattle.mz_logic.specs.declared.binder.Binder.{Binder}
+use Rattle.mz_logic_theory.specs.Variables.{ApartAt}
+use Rattle.mz_logic_theory.specs.declared.binder.Binder.{Binder}
 use Rattle.mz_logic.proofs.disjoint.are_all_apart.Goals.{else-params-j-via-then-params-j+else-not-are_apart_from, else-params-j-via-else-params-j}
 use Rattle.mz_logic.proofs.disjoint.are_all_apart.Goals as goal
 

@@ -1,5 +1,5 @@
-use Rattle.mz_logic.specs.Declaration.{signatures}
-use Rattle.mz_logic.proofs.Rules.{ranges_of_fits, many_of_fits}
+use Rattle.mz_logic_theory.specs.Declaration.{signatures}
+use Rattle.mz_logic_theory.proofs.Offered.{ranges_of_fits, many_of_fits}
 use Rattle.mz_logic.proofs.disjoint.are_apart_by_pairs.Goals as goal
 
 pub are_all_apart-requires-clause-there : goal.are_all_apart-requires-clause-there

@@ -1,7 +1,7 @@
 use Rattle.std.proofs.Common.{◌<◌, ◌∙◌, sym, refl, length, arith, true≢false}
 use Rattle.std.proofs.lemmas.Option.{slice_get_within}
 use Rattle.mz_base_theory.proofs.Offered.{each_before_more}
-use Rattle.mz_logic.specs.Variables.{ApartAt}
+use Rattle.mz_logic_theory.specs.Variables.{ApartAt}
 use Rattle.mz_logic.proofs.disjoint.are_apart_from.Goals as goal
 
 pub returns-then-not-is_apart_from : goal.returns-then-not-is_apart_from

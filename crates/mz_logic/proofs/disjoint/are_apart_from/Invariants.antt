@@ -1,5 +1,5 @@
 use Rattle.std.proofs.Common.{ℕ, ◌<◌}
-use Rattle.mz_logic.specs.Variables.{ApartAt}
+use Rattle.mz_logic_theory.specs.Variables.{ApartAt}
 use Rattle.mz_logic.proofs.disjoint.are_apart_from.Given as goal
 
 abbrev pub invariant-loop-i : goal.invariant-loop-i

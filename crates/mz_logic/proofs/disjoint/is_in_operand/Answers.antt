@@ -1,7 +1,7 @@
 use Rattle.std.proofs.Common.{subst, length}
-use Rattle.mz_logic.specs.Declaration.{signatures}
-use Rattle.mz_logic.specs.Legality.{InRange}
-use Rattle.mz_logic.proofs.Rules.{operand_in_range}
+use Rattle.mz_logic_theory.specs.Declaration.{signatures}
+use Rattle.mz_logic_theory.specs.Legality.{InRange}
+use Rattle.mz_logic_theory.proofs.Offered.{operand_in_range}
 use Rattle.mz_logic.proofs.disjoint.is_in_operand.Goals as goal
 
 pub in_tree-requires : goal.in_tree-requires

@@ -1,12 +1,12 @@
 use Rattle.std.proofs.Common.{◌∙◌, ◌+◌, List, ap, arith, drop, inl, inr, length, refl, sym, subst, true≢false}
 use Rattle.mz_base_theory.proofs.Offered.{drop-item}
-use Rattle.mz_logic.specs.Declaration.{signatures}
-use Rattle.mz_logic.specs.Legality.{AllInRange}
-use Rattle.mz_logic.specs.Tree.{Trees, more, trees_size}
-use Rattle.mz_logic.specs.Variables.{InSomeFV}
-use Rattle.mz_logic.specs.View.{tree, trees}
-use Rattle.mz_logic.specs.declared.binder.Binder.{Binder}
-use Rattle.mz_logic.proofs.Left.{some_passed}
+use Rattle.mz_logic_theory.specs.Declaration.{signatures}
+use Rattle.mz_logic_theory.specs.Legality.{AllInRange}
+use Rattle.mz_logic_theory.specs.Tree.{Trees, more, trees_size}
+use Rattle.mz_logic_theory.specs.Variables.{InSomeFV}
+use Rattle.mz_logic_theory.specs.View.{tree, trees}
+use Rattle.mz_logic_theory.specs.declared.binder.Binder.{Binder}
+use Rattle.mz_logic_theory.proofs.Offered.{some_passed}
 use Rattle.mz_logic.proofs.vars.+in_free_tree.Goals as goal
 
 pub in_some_free_tree-returns-then-is_free_operand : goal.in_some_free_tree-returns-then-is_free_operand

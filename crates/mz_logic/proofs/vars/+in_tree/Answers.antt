@@ -1,11 +1,11 @@
 use Rattle.std.proofs.Common.{◌∙◌, ap, arith, inl, inr, length, refl, sym, subst, true≢false}
 use Rattle.mz_base_theory.proofs.Offered.{drop-item}
-use Rattle.mz_logic.specs.Declaration.{signatures}
-use Rattle.mz_logic.specs.Legality.{AllInRange}
-use Rattle.mz_logic.specs.Tree.{Trees, trees_size}
-use Rattle.mz_logic.specs.Variables.{InSomeV}
-use Rattle.mz_logic.specs.View.{trees}
-use Rattle.mz_logic.proofs.Left.{some_passed}
+use Rattle.mz_logic_theory.specs.Declaration.{signatures}
+use Rattle.mz_logic_theory.specs.Legality.{AllInRange}
+use Rattle.mz_logic_theory.specs.Tree.{Trees, trees_size}
+use Rattle.mz_logic_theory.specs.Variables.{InSomeV}
+use Rattle.mz_logic_theory.specs.View.{trees}
+use Rattle.mz_logic_theory.proofs.Offered.{some_passed}
 use Rattle.mz_logic.proofs.vars.+in_tree.Goals as goal
 
 pub in_some_tree-returns-then-in_tree : goal.in_some_tree-returns-then-in_tree

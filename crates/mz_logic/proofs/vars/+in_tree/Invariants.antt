@@ -1,9 +1,9 @@
 use Rattle.std.proofs.Common.{◌↔◌, ◌≤◌, ◌+◌, ◌*◌, drop, length}
-use Rattle.mz_logic.specs.Tree.{size, trees_size}
-use Rattle.mz_logic.specs.Declaration.{signatures}
-use Rattle.mz_logic.specs.Variables.{InSomeV}
-use Rattle.mz_logic.specs.Legality.{AllInRange}
-use Rattle.mz_logic.specs.View.{tree, trees}
+use Rattle.mz_logic_theory.specs.Tree.{size, trees_size}
+use Rattle.mz_logic_theory.specs.Declaration.{signatures}
+use Rattle.mz_logic_theory.specs.Variables.{InSomeV}
+use Rattle.mz_logic_theory.specs.Legality.{AllInRange}
+use Rattle.mz_logic_theory.specs.View.{tree, trees}
 use Rattle.mz_logic.proofs.vars.+in_tree.Given as goal
 
 abbrev pub decreases-in_some_tree : goal.decreases-in_some_tree

@@ -1,10 +1,10 @@
 use Rattle.std.proofs.Common.{ℕ, subst, sym}
-use Rattle.mz_logic.specs.Declaration.{dummies_of, signatures, sorts}
-use Rattle.mz_logic.specs.Sorts.{HasSort}
-use Rattle.mz_logic.specs.View.{tree}
-use Rattle.mz_logic.specs.DeclView.{term_view}
-use Rattle.mz_logic.specs.Legality.{DependOnBound}
-use Rattle.mz_logic.proofs.Bound.{depends_on_bound, body_has_sort}
+use Rattle.mz_logic_theory.specs.Declaration.{dummies_of, signatures, sorts}
+use Rattle.mz_logic_theory.specs.Sorts.{HasSort}
+use Rattle.mz_logic_theory.specs.View.{tree}
+use Rattle.mz_logic_theory.specs.DeclView.{term_view}
+use Rattle.mz_logic_theory.specs.Legality.{DependOnBound}
+use Rattle.mz_logic_theory.proofs.Offered.{depends_on_bound, body_has_sort}
 use Rattle.mz_logic.proofs.vars.body_deps_are_right.Goals as goal
 
 pub free_vars_are_in-requires-clause-deps : goal.free_vars_are_in-requires-clause-deps

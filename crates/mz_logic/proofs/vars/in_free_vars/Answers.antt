@@ -1,8 +1,8 @@
 use Rattle.std.proofs.Common.{subst, sym, length}
-use Rattle.mz_logic.specs.Declaration.{signatures}
-use Rattle.mz_logic.specs.Legality.{InRange}
-use Rattle.mz_logic.specs.View.{tree}
-use Rattle.mz_logic.proofs.Rules.{range_of_sort}
+use Rattle.mz_logic_theory.specs.Declaration.{signatures}
+use Rattle.mz_logic_theory.specs.Legality.{InRange}
+use Rattle.mz_logic_theory.specs.View.{tree}
+use Rattle.mz_logic_theory.proofs.Offered.{range_of_sort}
 use Rattle.mz_logic.proofs.vars.in_free_vars.Goals as goal
 
 pub in_free_tree-requires : goal.in_free_tree-requires

@@ -1,8 +1,7 @@
 use Rattle.std.proofs.Common.{sym, ◌∙◌, true≢false}
-use Rattle.mz_logic.specs.Declaration.{signatures}
-use Rattle.mz_logic.specs.View.{tree}
-use Rattle.mz_logic.proofs.Rules.{range_of_sort}
-use Rattle.mz_logic.proofs.Bound.{free_is_bound}
+use Rattle.mz_logic_theory.specs.Declaration.{signatures}
+use Rattle.mz_logic_theory.specs.View.{tree}
+use Rattle.mz_logic_theory.proofs.Offered.{range_of_sort, free_is_bound}
 use Rattle.mz_logic.proofs.vars.is_free.Goals as goal
 
 pub in_free_tree-requires : goal.in_free_tree-requires

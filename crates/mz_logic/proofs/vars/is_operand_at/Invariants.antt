@@ -1,6 +1,6 @@
 use Rattle.std.proofs.Common.{ℕ, ◌<◌, ◌≡◌, get_or}
-use Rattle.mz_logic.specs.Tree.{operand, var}
-use Rattle.mz_logic.specs.Variables.{IsBoundAt}
+use Rattle.mz_logic_theory.specs.Tree.{operand, var}
+use Rattle.mz_logic_theory.specs.Variables.{IsBoundAt}
 use Rattle.mz_logic.proofs.vars.is_operand_at.Given as goal
 
 abbrev pub invariant-loop-place : goal.invariant-loop-place

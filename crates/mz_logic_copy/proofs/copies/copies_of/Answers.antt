@@ -1,8 +1,8 @@
 use Rattle.std.proofs.Common.{◌≡◌, ◌∷◌, ap, sym, subst, ◌∙◌, arith}
 use Rattle.std.proofs.lemmas.List.{append-nil, nil_from_length}
-use Rattle.mz_logic.specs.Tree.{followed_by, more}
-use Rattle.mz_logic.specs.View.{tree, trees}
-use Rattle.mz_logic.proofs.Offered.{followed_by_none}
+use Rattle.mz_logic_theory.specs.Tree.{followed_by, more}
+use Rattle.mz_logic_theory.specs.View.{tree, trees}
+use Rattle.mz_logic_theory.proofs.Offered.{followed_by_none}
 use Rattle.mz_logic_copy.proofs.Copying.{filled, with_one, begun, begun_smaller, done, done_smaller}
 use Rattle.mz_logic_copy.proofs.copies.copies_of.Goals as goal
 

@@ -1,6 +1,6 @@
 use Rattle.std.proofs.Common.{◌≡◌, ◌+◌, ◌*◌}
-use Rattle.mz_logic.specs.Tree.{followed_by, trees_size}
-use Rattle.mz_logic.specs.View.{trees}
+use Rattle.mz_logic_theory.specs.Tree.{followed_by, trees_size}
+use Rattle.mz_logic_theory.specs.View.{trees}
 use Rattle.mz_logic_copy.proofs.Copying.{filled, turns}
 use Rattle.mz_logic_copy.proofs.copies.copies_of.Given as goal
 

@@ -2,16 +2,16 @@ use Rattle.std.proofs.Common.{ℕ, List, Contains, All, IsTrue, sym, ap, refl, s
 use Rattle.std.proofs.lemmas.List.{drop_all}
 use Rattle.std.proofs.lemmas.Result.{IfOk-weaker}
 use Rattle.mz_base_theory.proofs.Offered.{drop-item}
-use Rattle.mz_logic.specs.Declaration.{signatures}
-use Rattle.mz_logic.specs.DeclView.{signature}
-use Rattle.mz_logic.specs.Legality.{InRange, AllInRange}
-use Rattle.mz_logic.specs.Signature.{Signature}
-use Rattle.mz_logic.specs.Tree.{Tree, size, trees_size, app}
-use Rattle.mz_logic.specs.Variables.{InFV, InSomeFV, IsFreeOperand}
-use Rattle.mz_logic.specs.View.{tree, trees}
-use Rattle.mz_logic.specs.declared.binder.Binder.{Binder}
-use Rattle.mz_logic.specs.declared.expr.Expr.{Expr}
-use Rattle.mz_logic.proofs.Offered.{signature_is}
+use Rattle.mz_logic_theory.specs.Declaration.{signatures}
+use Rattle.mz_logic_theory.specs.DeclView.{signature}
+use Rattle.mz_logic_theory.specs.Legality.{InRange, AllInRange}
+use Rattle.mz_logic_theory.specs.Signature.{Signature}
+use Rattle.mz_logic_theory.specs.Tree.{Tree, size, trees_size, app}
+use Rattle.mz_logic_theory.specs.Variables.{InFV, InSomeFV, IsFreeOperand}
+use Rattle.mz_logic_theory.specs.View.{tree, trees}
+use Rattle.mz_logic_theory.specs.declared.binder.Binder.{Binder}
+use Rattle.mz_logic_theory.specs.declared.expr.Expr.{Expr}
+use Rattle.mz_logic_theory.proofs.Offered.{signature_is}
 use Rattle.mz_logic_free.proofs.Walking.{IsCoveredAt, app-out, app-in, operand-in, operands-out, operands-step}
 use Rattle.mz_logic_free.proofs.free.+covers.Goals as goal
 

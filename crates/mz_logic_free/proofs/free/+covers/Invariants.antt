@@ -1,9 +1,9 @@
 use Rattle.std.proofs.Common.{ℕ, ◌≡◌, ◌↔◌, ◌≤◌, ◌+◌, ◌*◌, Contains, drop, length}
-use Rattle.mz_logic.specs.Tree.{size, trees_size}
-use Rattle.mz_logic.specs.Declaration.{signatures}
-use Rattle.mz_logic.specs.Variables.{InSomeFV}
-use Rattle.mz_logic.specs.Legality.{AllInRange}
-use Rattle.mz_logic.specs.View.{tree, trees}
+use Rattle.mz_logic_theory.specs.Tree.{size, trees_size}
+use Rattle.mz_logic_theory.specs.Declaration.{signatures}
+use Rattle.mz_logic_theory.specs.Variables.{InSomeFV}
+use Rattle.mz_logic_theory.specs.Legality.{AllInRange}
+use Rattle.mz_logic_theory.specs.View.{tree, trees}
 use Rattle.mz_logic_free.proofs.free.+covers.Given as goal
 
 abbrev pub decreases-covers_operands : goal.decreases-covers_operands

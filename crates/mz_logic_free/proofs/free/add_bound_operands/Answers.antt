@@ -1,8 +1,8 @@
 use Rattle.std.proofs.Common.{◌≡◌, ◌⊎◌, ◌↔◌, ◌∙◌, ◌++◌, ℕ, List, Contains, get_or, ap, subst, sym, append_assoc}
 use Rattle.std.proofs.lemmas.List.{drop_all}
-use Rattle.mz_logic.specs.Tree.{operand, var}
-use Rattle.mz_logic.specs.Variables.{IsBoundAt, IsOperandAt}
-use Rattle.mz_logic.proofs.Offered.{same-variable}
+use Rattle.mz_logic_theory.specs.Tree.{operand, var}
+use Rattle.mz_logic_theory.specs.Variables.{IsBoundAt, IsOperandAt}
+use Rattle.mz_logic_theory.proofs.Offered.{same-variable}
 use Rattle.mz_logic_free.proofs.Walking.{reaches-step, reaches-end, one-place, no-place}
 use Rattle.mz_logic_free.proofs.free.add_bound_operands.Goals as goal
 use Rattle.mz_logic_free.proofs.free.add_bound_operands.Goals.{in-Some+in_ok-add, in_default}

@@ -1,6 +1,6 @@
 use Rattle.std.proofs.Common.{ℕ, ◌≡◌, ◌⊎◌, ◌↔◌, ◌++◌, List, Contains, drop}
-use Rattle.mz_logic.specs.Tree.{operand, var}
-use Rattle.mz_logic.specs.Variables.{IsBoundAt, IsOperandAt}
+use Rattle.mz_logic_theory.specs.Tree.{operand, var}
+use Rattle.mz_logic_theory.specs.Variables.{IsBoundAt, IsOperandAt}
 use Rattle.mz_logic_free.proofs.Walking.{Reaches}
 use Rattle.mz_logic_free.proofs.free.add_bound_operands.Given as goal
 

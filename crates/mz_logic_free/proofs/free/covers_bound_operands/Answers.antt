@@ -1,8 +1,8 @@
 use Rattle.std.proofs.Common.{◌≡◌, ◌∙◌, ℕ, All, Contains, refl, subst, sym, true≢false}
 use Rattle.mz_base_theory.proofs.Offered.{all_so_far_more}
-use Rattle.mz_logic.specs.Tree.{operand, var}
-use Rattle.mz_logic.specs.Variables.{IsBoundAt}
-use Rattle.mz_logic.proofs.Offered.{all_at_end}
+use Rattle.mz_logic_theory.specs.Tree.{operand, var}
+use Rattle.mz_logic_theory.specs.Variables.{IsBoundAt}
+use Rattle.mz_logic_theory.proofs.Offered.{all_at_end}
 use Rattle.mz_logic_free.proofs.free.covers_bound_operands.Goals as goal
 
 pub returns-then-not-covers_bound_operand : goal.returns-then-not-covers_bound_operand

@@ -1,7 +1,7 @@
 use Rattle.std.proofs.Common.{ℕ, ◌≡◌, Contains}
 use Rattle.mz_base_theory.proofs.Offered.{AllSoFar}
-use Rattle.mz_logic.specs.Tree.{operand, var}
-use Rattle.mz_logic.specs.Variables.{IsBoundAt}
+use Rattle.mz_logic_theory.specs.Tree.{operand, var}
+use Rattle.mz_logic_theory.specs.Variables.{IsBoundAt}
 use Rattle.mz_logic_free.proofs.free.covers_bound_operands.Given as goal
 
 abbrev pub invariant-loop-place : goal.invariant-loop-place

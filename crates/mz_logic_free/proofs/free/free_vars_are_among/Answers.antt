@@ -1,7 +1,7 @@
 use Rattle.std.proofs.lemmas.Result.{IfOk-weaker}
-use Rattle.mz_logic.specs.Declaration.{signatures}
-use Rattle.mz_logic.specs.View.{tree}
-use Rattle.mz_logic.proofs.Offered.{range_of_sort}
+use Rattle.mz_logic_theory.specs.Declaration.{signatures}
+use Rattle.mz_logic_theory.specs.View.{tree}
+use Rattle.mz_logic_theory.proofs.Offered.{range_of_sort}
 use Rattle.mz_logic_free.proofs.free.free_vars_are_among.Goals as goal
 
 pub covers-requires : goal.covers-requires

@@ -1,8 +1,8 @@
 use Rattle.std.proofs.Common.{◌↔◌, ◌∙◌, ◌+◌, IsTrue, drop, ap, refl, sym, subst, true≢false, arith}
 use Rattle.std.proofs.lemmas.List.{drop_all}
-use Rattle.mz_logic.specs.Tree.{trees_size}
-use Rattle.mz_logic.specs.View.{tree, trees}
-use Rattle.mz_logic.specs.declared.expr.Expr.{Expr}
+use Rattle.mz_logic_theory.specs.Tree.{trees_size}
+use Rattle.mz_logic_theory.specs.View.{tree, trees}
+use Rattle.mz_logic_theory.specs.declared.expr.Expr.{Expr}
 use Rattle.mz_logic_free.proofs.Sharing.{IsOther, SomeName, Names, names-here, names-behind, names-none, cut-trees}
 use Rattle.mz_logic_free.proofs.named.+names_other.Goals as goal
 

@@ -1,6 +1,6 @@
 use Rattle.std.proofs.Common.{◌↔◌, ◌≤◌, ◌+◌, ◌*◌, drop}
-use Rattle.mz_logic.specs.Tree.{size, trees_size}
-use Rattle.mz_logic.specs.View.{tree, trees}
+use Rattle.mz_logic_theory.specs.Tree.{size, trees_size}
+use Rattle.mz_logic_theory.specs.View.{tree, trees}
 use Rattle.mz_logic_free.proofs.Sharing.{IsOther, SomeName}
 use Rattle.mz_logic_free.proofs.named.+names_other.Given as goal
 

@@ -4,10 +4,10 @@ use Rattle.std.proofs.Common.{◌≡◌, ◌<◌, ◌≤◌, ◌+◌, ℕ, zero,
 use Rattle.std.proofs.lemmas.List.{length-map}
 use Rattle.std.proofs.lemmas.Option.{slice_get_within}
 use Rattle.mz_base_theory.proofs.Offered.{drop-past, slice_get-some}
-use Rattle.mz_logic.specs.Tree.{Tree}
-use Rattle.mz_logic.specs.Words.{binders_of}
-use Rattle.mz_logic.specs.declared.word.Word.{Word}
-use Rattle.mz_logic.specs.declared.binder.Binder.{Binder}
+use Rattle.mz_logic_theory.specs.Tree.{Tree}
+use Rattle.mz_logic_theory.specs.Words.{binders_of}
+use Rattle.mz_logic_theory.specs.declared.word.Word.{Word}
+use Rattle.mz_logic_theory.specs.declared.binder.Binder.{Binder}
 use Rattle.mz_machine_theory.specs.Premises.{apart_at, apart_from, are_apart}
 use Rattle.mz_store.specs.Sharing.{deps_of, tree_of}
 use Rattle.mz_unify.proofs.Offered.{is-in-at, tree-at}
@@ -15,7 +15,7 @@ use Rattle.mz_machine_env.specs.Before.{signatures_of}
 use Rattle.mz_machine.proofs.Apartness.{tells-v}
 use Rattle.mz_store.specs.declared.item.Id.{Id}
 use Rattle.mz_unify.specs.Stored.{trees_at}
-use Rattle.mz_layout.specs.Rows.{params_of}
+use Rattle.mz_layout_tables.specs.Rows.{params_of}
 use Rattle.mz_machine_env.proofs.Offered.{apart-at-once, place-below, row-asked, rows_from, rows-at}
 use Rattle.mz_machine.proofs.apart.are_apart.Goals as goal
 

@@ -1,8 +1,8 @@
 use Rattle.std.proofs.Common.{◌≡◌, drop}
-use Rattle.mz_logic.specs.Words.{binders_of}
+use Rattle.mz_logic_theory.specs.Words.{binders_of}
 use Rattle.mz_unify.specs.Stored.{trees_at}
 use Rattle.mz_machine_theory.specs.Premises.{apart_at, are_apart}
-use Rattle.mz_layout.specs.Rows.{params_of}
+use Rattle.mz_layout_tables.specs.Rows.{params_of}
 use Rattle.mz_machine.proofs.apart.are_apart.Given as goal
 
 -- the operands that are left decide

@@ -1,8 +1,8 @@
 use Rattle.std.proofs.Common.{◌≡◌, Some, drop, slice_get}
-use Rattle.mz_logic.specs.declared.word.Word.{Word}
+use Rattle.mz_logic_theory.specs.declared.word.Word.{Word}
 use Rattle.mz_store.specs.Sharing.{tree_of}
 use Rattle.mz_unify.specs.Stored.{trees_at}
-use Rattle.mz_layout.specs.Rows.{params_of}
+use Rattle.mz_layout_tables.specs.Rows.{params_of}
 use Rattle.mz_machine_env.proofs.Offered.{Decides}
 use Rattle.mz_machine.proofs.apart.is_apart.Given as goal
 

@@ -1,12 +1,12 @@
 use Rattle.std.proofs.Common.{◌∙◌, true, false, length, sym, ap, subst}
-use Rattle.mz_logic.specs.Sorts.{HasSort}
-use Rattle.mz_logic.specs.Words.{word_sort}
+use Rattle.mz_logic_theory.specs.Sorts.{HasSort}
+use Rattle.mz_logic_theory.specs.Words.{word_sort}
 use Rattle.mz_store.specs.Sharing.{tree_of}
 use Rattle.mz_unify_theory.specs.Profile.{strict}
 use Rattle.mz_machine_theory.specs.FreeVars.{free_within}
 use Rattle.mz_machine_theory.specs.MachineState.{is_definition}
 use Rattle.mz_machine_env.specs.Before.{signatures_of, tables_of}
-use Rattle.mz_machine_env.specs.OwnRow.{heading_by}
+use Rattle.mz_machine_theory.specs.Headings.{heading_by}
 use Rattle.mz_machine.proofs.EndRows.{body-free, body-sort}
 use Rattle.mz_machine.proofs.end.check_body.Goals as goal
 

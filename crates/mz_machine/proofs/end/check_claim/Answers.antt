@@ -4,7 +4,7 @@ use Rattle.mz_unify_theory.specs.Profile.{strict}
 use Rattle.mz_machine_theory.specs.MachineState.{is_axiom}
 use Rattle.mz_machine_theory.specs.ProofMachine.{has_provable_sort}
 use Rattle.mz_machine_env.specs.Before.{tables_of}
-use Rattle.mz_machine_env.specs.OwnRow.{heading_by}
+use Rattle.mz_machine_theory.specs.Headings.{heading_by}
 use Rattle.mz_machine.proofs.EndRows.{claim-ends, claim-other}
 use Rattle.mz_machine.proofs.RowResults.{provable}
 use Rattle.mz_machine.proofs.end.check_claim.Goals as goal

@@ -2,14 +2,14 @@ use Rattle.std.proofs.Common.{◌<◌, ◌≤◌, ◌+◌, ◌++◌, List, ℕ, 
 use Rattle.std.proofs.lemmas.List.{length-map}
 use Rattle.std.proofs.lemmas.Option.{slice_get-get_or}
 use Rattle.std.proofs.lemmas.Result.{err_from_is_err_and}
-use Rattle.mz_logic.specs.Words.{bound_places}
+use Rattle.mz_logic_theory.specs.Words.{bound_places}
 use Rattle.mz_store.specs.Sharing.{tree_of}
 use Rattle.mz_store.specs.declared.item.Id.{Id}
 use Rattle.mz_unify.specs.Stored.{trees_at}
 use Rattle.mz_unify.proofs.Offered.{is-in-at, tree-at}
 use Rattle.mz_machine_env.specs.Before.{signatures_of}
 use Rattle.mz_machine_env.proofs.Offered.{places-take, places-skip, places-all}
-use Rattle.mz_layout.specs.Rows.{params_of}
+use Rattle.mz_layout_tables.specs.Rows.{params_of}
 use Rattle.mz_machine.proofs.FittingOperands.{fit-step, fit-end}
 use Rattle.mz_machine.proofs.HandedOn.{memory-stops}
 use Rattle.mz_machine.proofs.fitting.check_cited.Goals as goal

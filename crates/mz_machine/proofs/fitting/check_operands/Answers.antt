@@ -7,7 +7,7 @@ use Rattle.mz_store.specs.declared.item.Id.{Id}
 use Rattle.mz_unify.specs.Stored.{trees_at}
 use Rattle.mz_unify.proofs.Offered.{is-in-at, tree-at}
 use Rattle.mz_machine_env.specs.Before.{signatures_of}
-use Rattle.mz_layout.specs.Rows.{params_of}
+use Rattle.mz_layout_tables.specs.Rows.{params_of}
 use Rattle.mz_machine.proofs.FittingOperands.{fit-step, fit-end}
 use Rattle.mz_machine.proofs.fitting.check_operands.Goals as goal
 

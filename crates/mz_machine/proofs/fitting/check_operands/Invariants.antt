@@ -1,9 +1,9 @@
 use Rattle.std.proofs.Common.{◌≡◌, drop}
-use Rattle.mz_logic.specs.Words.{binders_of}
+use Rattle.mz_logic_theory.specs.Words.{binders_of}
 use Rattle.mz_unify.specs.Stored.{trees_at}
 use Rattle.mz_machine_theory.specs.Premises.{operands_fit}
 use Rattle.mz_machine_env.specs.Before.{signatures_of}
-use Rattle.mz_layout.specs.Rows.{params_of}
+use Rattle.mz_layout_tables.specs.Rows.{params_of}
 use Rattle.mz_machine.proofs.fitting.check_operands.Given as goal
 
 -- the operands that are left decide

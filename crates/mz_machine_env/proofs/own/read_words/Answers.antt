@@ -1,5 +1,5 @@
 use Rattle.std.proofs.Common.{◌∙◌, ◌++◌, ◌∷◌, [], List, ap, arith}
-use Rattle.mz_logic.specs.declared.word.Word.{Word}
+use Rattle.mz_logic_theory.specs.declared.word.Word.{Word}
 use Rattle.mz_store.proofs.Offered.{taken-all}
 use Rattle.mz_machine_env.specs.OwnRow.{kind_of, own_words}
 use Rattle.mz_machine_env.proofs.OwnWords.{take-next}

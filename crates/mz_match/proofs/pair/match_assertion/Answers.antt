@@ -1,12 +1,11 @@
 use Rattle.std.proofs.Common.{◌∙◌, sym, ap, subst}
 use Rattle.mz_base_theory.specs.Checks.{Judges}
 use Rattle.mz_cmd.specs.Codes.{statement_byte}
-use Rattle.mz_logic.specs.Declaration.{Declaration}
-use Rattle.mz_logic.specs.DeclView.{assertion_of, assertion_view, is_axiom}
-use Rattle.mz_match_theory.specs.Match.{match_checks}
-use Rattle.mz_match.specs.TellsRow.{IsRowOf}
-use Rattle.mz_match.proofs.BesideRows.{exact-no}
-use Rattle.mz_match.proofs.RowPairs.{assertion-kind-differs, assertion-judged, thm-row}
+use Rattle.mz_logic_theory.specs.Declaration.{Declaration}
+use Rattle.mz_logic_theory.specs.DeclView.{assertion_of, assertion_view, is_axiom}
+use Rattle.mz_spec_proved_theory.specs.Match.{match_checks}
+use Rattle.mz_match_rows.specs.TellsRow.{IsRowOf}
+use Rattle.mz_match_rows.proofs.Offered.{exact-no, assertion-kind-differs, assertion-judged, thm-row}
 use Rattle.mz_match.proofs.pair.match_assertion.Goals as goal
 
 pub match_claims-requires : goal.match_claims-requires

@@ -2,17 +2,17 @@ use Rattle.std.proofs.Common.{◌∙◌, List, length, Bool, refl, sym, ap, subs
 use Rattle.std.specs.Prelude.{IsTrue, ◌↔◌, MatchBool}
 use Rattle.std.proofs.lemmas.Bool.{true≢false}
 use Rattle.mz_base_theory.specs.Checks.{AllHold, FailsFirst}
-use Rattle.mz_logic.specs.declared.binder.Binder.{Binder}
-use Rattle.mz_match_theory.specs.declared.rule.M.TheVariants as rules
-use Rattle.mz_match_theory.specs.Match.{form_checks}
-use Rattle.mz_match_theory.specs.Trees.{SameBody}
-use Rattle.mz_logic.specs.View.{tree}
-use Rattle.mz_logic.specs.DeclView.{form}
-use Rattle.mz_logic.specs.declared.decl.TermForm.{TermForm}
-use Rattle.mz_logic.specs.Declaration.{is_defined}
-use Rattle.mz_layout.specs.Tables.{term_row}
-use Rattle.mz_layout.proofs.Offered.{length-term_words}
-use Rattle.mz_match.proofs.BesideRows.{not-body, body-there, first-stream, body-judged, exact-for}
+use Rattle.mz_logic_theory.specs.declared.binder.Binder.{Binder}
+use Rattle.mz_spec_proved_theory.specs.declared.rule.M.TheVariants as rules
+use Rattle.mz_spec_proved_theory.specs.Match.{form_checks}
+use Rattle.mz_spec_proved_theory.specs.Trees.{SameBody}
+use Rattle.mz_logic_theory.specs.View.{tree}
+use Rattle.mz_logic_theory.specs.DeclView.{form}
+use Rattle.mz_logic_theory.specs.declared.decl.TermForm.{TermForm}
+use Rattle.mz_logic_theory.specs.Declaration.{is_defined}
+use Rattle.mz_layout_tables.specs.Tables.{term_row}
+use Rattle.mz_layout_tables.proofs.Offered.{length-term_words}
+use Rattle.mz_match_rows.proofs.Offered.{not-body, body-there, first-stream, body-judged, exact-for}
 use Rattle.mz_match.proofs.pair.match_body.Goals as goal
 
 pub arity-requires : goal.arity-requires

@@ -1,8 +1,8 @@
 use Rattle.std.proofs.Common.{◌≤◌, ◌∙◌, ℕ, reverse, length, refl, sym, subst, inl, inr}
-use Rattle.mz_logic.specs.Tree.{listed}
-use Rattle.mz_layout.specs.Tables.{thm_row}
-use Rattle.mz_match.specs.TellsRow.{SaysClaims}
-use Rattle.mz_match.proofs.BesideRows.{claims-plain, turned-twice, exact-no, exact-yes}
+use Rattle.mz_logic_theory.specs.Tree.{listed}
+use Rattle.mz_layout_tables.specs.Tables.{thm_row}
+use Rattle.mz_match_rows.specs.TellsRow.{SaysClaims}
+use Rattle.mz_match_rows.proofs.Offered.{claims-plain, turned-twice, exact-no, exact-yes}
 use Rattle.mz_match.proofs.pair.match_claims.Goals as goal
 
 pub match_params-requires-clause-row : goal.match_params-requires-clause-row

@@ -1,9 +1,8 @@
 use Rattle.std.proofs.Common.{◌≡◌, ◌∙◌, Bool, true, false, nat_eq, not, sym, ap, arith}
 use Rattle.std.proofs.lemmas.Bool.{eqb-true, eqb-false}
-use Rattle.mz_logic.specs.declared.binder.SortMods.{SortMods}
-use Rattle.mz_layout.proofs.Offered.{length-sorts}
-use Rattle.mz_match.proofs.BesideRows.{exact-no}
-use Rattle.mz_match.proofs.RowPairs.{sort-kind-differs, sort-mods-differ, sort-same, sort-row}
+use Rattle.mz_logic_theory.specs.declared.binder.SortMods.{SortMods}
+use Rattle.mz_layout_tables.proofs.Offered.{length-sorts}
+use Rattle.mz_match_rows.proofs.Offered.{exact-no, sort-kind-differs, sort-mods-differ, sort-same, sort-row}
 use Rattle.mz_match.proofs.pair.match_sort.Goals as goal
 
 negated : (b c : Bool) → not b ≡ c → b ≡ not c

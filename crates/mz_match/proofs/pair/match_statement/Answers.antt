@@ -1,11 +1,11 @@
 use Rattle.std.proofs.Common.{suc, drop, subst, List, ℕ}
 use Rattle.mz_base_theory.specs.Checks.{Judges}
-use Rattle.mz_logic.specs.DeclView.{declaration}
-use Rattle.mz_spec.specs.State.{env_of}
-use Rattle.mz_match_theory.specs.Match.{match_checks, partner_of}
-use Rattle.mz_match_theory.proofs.Offered.{drop-entry}
+use Rattle.mz_logic_theory.specs.DeclView.{declaration}
+use Rattle.mz_spec_theory.specs.State.{env_of}
+use Rattle.mz_spec_proved_theory.specs.Match.{match_checks, partner_of}
+use Rattle.mz_spec_proved_theory.proofs.Offered.{drop-entry}
 use Rattle.mz_match.proofs.ToldRows.{told-row}
-use Rattle.mz_match.proofs.RowPairs.{judges-partner}
+use Rattle.mz_match_rows.proofs.Offered.{judges-partner}
 use Rattle.mz_match.proofs.pair.match_statement.Goals as goal
 
 pub match_declaration-requires : goal.match_declaration-requires

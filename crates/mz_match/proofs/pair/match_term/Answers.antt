@@ -1,12 +1,11 @@
 use Rattle.std.proofs.Common.{◌∙◌, sym, subst, arith}
 use Rattle.std.proofs.lemmas.Bool.{false≢true}
-use Rattle.mz_layout.proofs.Offered.{length-term_words}
-use Rattle.mz_logic.specs.Declaration.{Declaration}
-use Rattle.mz_logic.specs.DeclView.{term_view, term_of}
+use Rattle.mz_layout_tables.proofs.Offered.{length-term_words}
+use Rattle.mz_logic_theory.specs.Declaration.{Declaration}
+use Rattle.mz_logic_theory.specs.DeclView.{term_view, term_of}
 use Rattle.mz_base_theory.specs.Checks.{Judges}
-use Rattle.mz_match_theory.specs.Match.{match_checks}
-use Rattle.mz_match.proofs.BesideRows.{exact-no}
-use Rattle.mz_match.proofs.RowPairs.{term-kind-differs, term-form-differs, term-row, term-whole}
+use Rattle.mz_spec_proved_theory.specs.Match.{match_checks}
+use Rattle.mz_match_rows.proofs.Offered.{exact-no, term-kind-differs, term-form-differs, term-row, term-whole}
 use Rattle.mz_match.proofs.pair.match_term.Goals as goal
 
 pub has_body-has_body-requires : goal.has_body-has_body-requires

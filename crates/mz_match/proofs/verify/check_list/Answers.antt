@@ -1,19 +1,19 @@
 use Rattle.std.proofs.Common.{◌≡◌, ◌≤◌, ◌<◌, ◌^◌, ℕ, List, [], ◌∷◌, ◌++◌, ◌+◌, ◌*◌, ◌∙◌, length, true, sym, ap, subst, inl, inr, arith}
 use Rattle.std.proofs.lemmas.Bool.{cases_lt}
-use Rattle.mz_layout.specs.Layout.{Layout}
-use Rattle.mz_spec.specs.State.{env_of}
+use Rattle.mz_layout_tables.specs.Layout.{Layout}
+use Rattle.mz_spec_theory.specs.State.{env_of}
 use Rattle.mz_binary_theory.specs.Good.{Good}
 use Rattle.mz_binary.specs.Judging.{Passes}
 use Rattle.mz_binary.specs.Progress.{most_left}
-use Rattle.mz_logic.specs.Declaration.{Declaration}
-use Rattle.mz_logic.specs.LegalLists.{Statement}
+use Rattle.mz_logic_theory.specs.Declaration.{Declaration}
+use Rattle.mz_logic_theory.specs.LegalLists.{Statement}
 use Rattle.mz_match.specs.Told.{IsMatched}
 use Rattle.mz_binary.proofs.Offered.{most-of-file}
 use Rattle.mz_match_theory.specs.declared.verdict.Verdict.{Verdict}
 use Rattle.mz_match_theory.specs.declared.verdict.Verdict.TheVariants as verdicts
 use Rattle.mz_match.specs.Drafts.{IsJudged, ListsGapsOf, places_past}
 use Rattle.mz_match_theory.specs.Verdict.{TicksBy}
-use Rattle.mz_match_theory.proofs.Offered.{length-env}
+use Rattle.mz_spec_proved_theory.proofs.Offered.{length-env}
 use Rattle.mz_match.proofs.GapPlaces.{noted, stop-judged}
 use Rattle.mz_match.proofs.Pairing.{stop-ticks, fails-here, missing-here, accepted-here, few-statements}
 use Rattle.mz_match.proofs.verify.check_list.Goals as goal
@@ -92,7 +92,7 @@ returns-in-Err-clause-steps g c =
     let counted = c.statements.invariant.counted in
     let steps = c.in-Statement.ensures.steps in
     let left = c.in-Statement.ensures.left in
-    stop-ticks c.args.standard c.args.mmb.now c.args.steps.now c.check_next.new.steps c.in-Err.verdict c.in-Err.ensures.kind (omega (arith, counted, steps, left))
+    stop-ticks g.B.Bodies.STANDARD c.args.mmb.now c.args.steps.now c.check_next.new.steps c.in-Err.verdict c.in-Err.ensures.kind (omega (arith, counted, steps, left))
 
 pub returns-in-End-clause-steps : goal.returns-in-End-clause-steps
 returns-in-End-clause-steps g c =
@@ -102,10 +102,10 @@ returns-in-End-clause-steps g c =
     let m = c.statements.matching in
     let within = c.statements.invariant.so_far.2.within in
     elim (cases_lt m.done (length c.args.spec.now)) [
-      | inl short ↦ subst (TicksBy c.args.standard c.args.mmb.now c.args.steps.now c.check_next.new.steps) (sym (c.end.ensures.missing short)) (omega (arith, counted, steps, left))
+      | inl short ↦ subst (TicksBy g.B.Bodies.STANDARD c.args.mmb.now c.args.steps.now c.check_next.new.steps) (sym (c.end.ensures.missing short)) (omega (arith, counted, steps, left))
       | inr long ↦ (
           let all : m.done ≡ length c.args.spec.now = omega (arith, long, within, length-env c.args.spec.now) in
-          subst (TicksBy c.args.standard c.args.mmb.now c.args.steps.now c.check_next.new.steps) (sym (c.end.ensures.accepted all)) (omega (arith, counted, steps, left)))
+          subst (TicksBy g.B.Bodies.STANDARD c.args.mmb.now c.args.steps.now c.check_next.new.steps) (sym (c.end.ensures.accepted all)) (omega (arith, counted, steps, left)))
     ]
 
 pub statements-preserved : goal.statements-preserved

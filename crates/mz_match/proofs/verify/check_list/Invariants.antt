@@ -1,9 +1,9 @@
 use Rattle.std.proofs.Common.{◌≡◌, ◌≤◌, ◌+◌, ◌-◌, ◌*◌, length, true, List}
-use Rattle.mz_logic.specs.Declaration.{Declaration}
-use Rattle.mz_logic.specs.LegalLists.{Statement}
+use Rattle.mz_logic_theory.specs.Declaration.{Declaration}
+use Rattle.mz_logic_theory.specs.LegalLists.{Statement}
 use Rattle.mz_binary_theory.specs.FileRun.{file_steps}
 use Rattle.mz_binary.specs.Progress.{steps_left, most_left}
-use Rattle.mz_spec.specs.State.{env_of}
+use Rattle.mz_spec_theory.specs.State.{env_of}
 use Rattle.mz_match.specs.Drafts.{ListsGapsOf}
 use Rattle.mz_match.specs.Told.{IsMatched}
 use Rattle.mz_match.proofs.verify.check_list.Given as goal
@@ -13,8 +13,8 @@ abbrev pub invariant-statements : goal.invariant-statements
 invariant-statements g l = record {
   so_far : (ss : List Statement) × (env : List Declaration) × IsMatched l.checker (env_of l.fn.spec) l.matching ss env × (lets_gaps l.checker.standard ≡ true → ListsGapsOf l.checker.file ss l.places.items);
   same_file : l.checker.file ≡ l.fn.mmb;
-  same_standard : l.checker.standard ≡ l.fn.standard;
-  counted : l.steps + steps_left l.checker ≡ l.fn.steps + file_steps l.fn.standard l.fn.mmb;
+  same_standard : l.checker.standard ≡ g.B.Bodies.STANDARD;
+  counted : l.steps + steps_left l.checker ≡ l.fn.steps + file_steps g.B.Bodies.STANDARD l.fn.mmb;
   most : l.steps + most_left l.checker ≤ l.fn.steps + (length l.fn.mmb * length l.fn.mmb + length l.fn.mmb);
 }
 

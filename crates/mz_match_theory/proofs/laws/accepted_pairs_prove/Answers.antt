@@ -1,5 +1,5 @@
 use Rattle.mz_match_theory.proofs.AcceptedSound.{accepted-proves, list-proves}
-use Rattle.mz_match_theory.proofs.Grounded.{needs-axiom}
+use Rattle.mz_spec_proved_theory.proofs.Offered.{needs-axiom}
 use Rattle.mz_match_theory.proofs.laws.accepted_pairs_prove.Goals as goal
 
 pub returns-clause-accepted : goal.returns-clause-accepted

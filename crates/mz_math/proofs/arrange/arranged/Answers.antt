@@ -1,9 +1,9 @@
 use Rattle.std.proofs.Common.{◌≡◌, ◌∙◌, ap, sym, subst}
 use Rattle.std.proofs.lemmas.Result.{IfOk-weaker}
-use Rattle.mz_logic.specs.View.{trees}
-use Rattle.mz_math_notation.specs.Notation.{places}
+use Rattle.mz_logic_theory.specs.View.{trees}
+use Rattle.mz_math_theory.specs.Notation.{places}
 use Rattle.mz_math.specs.Arrange.{AreDistinct, picked}
-use Rattle.mz_math.specs.Grammar.{arranged as in_order}
+use Rattle.mz_math_theory.specs.Grammar.{arranged as in_order}
 use Rattle.mz_math.proofs.Picking.{distinct-is, picked-is}
 use Rattle.mz_math.proofs.arrange.arranged.Goals as goal
 

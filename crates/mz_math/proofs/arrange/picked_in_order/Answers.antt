@@ -1,6 +1,6 @@
 use Rattle.std.proofs.Common.{None, get_or, ap, refl}
-use Rattle.mz_logic.specs.Tree.{followed_by}
-use Rattle.mz_logic.specs.View.{tree, trees}
+use Rattle.mz_logic_theory.specs.Tree.{followed_by}
+use Rattle.mz_logic_theory.specs.View.{tree, trees}
 use Rattle.mz_math.specs.Arrange.{picked}
 use Rattle.mz_math.proofs.Picking.{picks-all, picks-on}
 use Rattle.mz_math.proofs.arrange.picked_in_order.Goals as goal

@@ -1,4 +1,4 @@
-use Rattle.mz_logic.specs.View.{trees}
+use Rattle.mz_logic_theory.specs.View.{trees}
 use Rattle.mz_math.proofs.Picking.{PicksTo}
 use Rattle.mz_math.proofs.arrange.picked_in_order.Given as goal
 

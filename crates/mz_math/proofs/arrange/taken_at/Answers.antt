@@ -1,6 +1,6 @@
 use Rattle.std.proofs.Common.{◌∙◌, ap, sym}
-use Rattle.mz_logic.specs.View.{tree}
-use Rattle.mz_logic.proofs.Offered.{operand_in, operand_past}
+use Rattle.mz_logic_theory.specs.View.{tree}
+use Rattle.mz_logic_theory.proofs.Offered.{operand_in, operand_past}
 use Rattle.mz_math.proofs.Picking.{operand-other}
 use Rattle.mz_math.proofs.arrange.taken_at.Goals as goal
 

@@ -2,7 +2,7 @@ use Rattle.std.proofs.Common.{◌≡◌, ◌∙◌, ◌+◌, ◌∷◌, List, ap
 use Rattle.std.proofs.lemmas.Bool.{true≢false}
 use Rattle.mz_base_theory.proofs.Offered.{Decides, decides-after}
 use Rattle.mz_math_tokens.specs.declared.pieces.Piece.{Piece}
-use Rattle.mz_math.specs.Formula.{known_checks, is_known}
+use Rattle.mz_math_theory.specs.Formula.{known_checks, is_known}
 use Rattle.mz_lex.specs.declared.rule.S.TheVariants as rules
 use Rattle.mz_math.proofs.formula.first_unknown.Goals as goal
 

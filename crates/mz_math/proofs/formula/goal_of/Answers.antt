@@ -1,11 +1,11 @@
 use Rattle.std.proofs.Common.{◌≡◌, ◌∙◌, List, Some, ap, sym, subst, arith, slice_get}
 use Rattle.std.proofs.lemmas.Bool.{true≢false}
 use Rattle.std.proofs.lemmas.Option.{slice_get_within, get_or_from_slice_get}
-use Rattle.mz_logic.specs.Modifiers.{MayBeClaimSort}
-use Rattle.mz_logic.specs.Declaration.{sorts}
-use Rattle.mz_math_coercions.specs.declared.coercion.Coercion.{Coercion}
-use Rattle.mz_math_coercions.specs.Coercions.{IsPath}
-use Rattle.mz_math.proofs.Judging.{goal-found}
+use Rattle.mz_logic_theory.specs.Modifiers.{MayBeClaimSort}
+use Rattle.mz_logic_theory.specs.Declaration.{sorts}
+use Rattle.mz_math_theory.specs.declared.coercion.Coercion.{Coercion}
+use Rattle.mz_math_theory.specs.Coercions.{IsPath}
+use Rattle.mz_math_theory.proofs.Offered.{goal-found}
 use Rattle.mz_math.proofs.formula.goal_of.Goals as goal
 
 pub returns : goal.returns

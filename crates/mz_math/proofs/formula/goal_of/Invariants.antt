@@ -1,9 +1,9 @@
 use Rattle.std.proofs.Common.{◌≡◌, ◌<◌, ℕ, List, get_or, Some}
-use Rattle.mz_math_coercions.specs.declared.coercion.Coercion.{Coercion}
-use Rattle.mz_math_coercions.specs.Coercions.{IsPath}
+use Rattle.mz_math_theory.specs.declared.coercion.Coercion.{Coercion}
+use Rattle.mz_math_theory.specs.Coercions.{IsPath}
 use Rattle.std.specs.Prelude.{IfSome}
-use Rattle.mz_logic.specs.Modifiers.{MayBeClaimSort}
-use Rattle.mz_logic.specs.Declaration.{sorts}
+use Rattle.mz_logic_theory.specs.Modifiers.{MayBeClaimSort}
+use Rattle.mz_logic_theory.specs.Declaration.{sorts}
 use Rattle.mz_math.proofs.formula.goal_of.Given as goal
 
 abbrev pub invariant-coercions : goal.invariant-coercions

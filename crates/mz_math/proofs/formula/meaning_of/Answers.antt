@@ -1,9 +1,9 @@
 use Rattle.std.proofs.Common.{sym, subst, length, arith}
-use Rattle.mz_logic.specs.View.{tree}
-use Rattle.mz_math.specs.Formula.{Reader}
-use Rattle.mz_math_coercions.specs.Coercions.{Reaches, IsPath}
-use Rattle.mz_math_coercions.specs.Answers.{HasLength}
-use Rattle.mz_math.proofs.Judging.{judged-no-sort, judged-no-path, judged-high, judged-claim, same-sort}
+use Rattle.mz_logic_theory.specs.View.{tree}
+use Rattle.mz_math_theory.specs.Formula.{Reader}
+use Rattle.mz_math_theory.specs.Coercions.{Reaches, IsPath}
+use Rattle.mz_math_theory.specs.CoercionAnswers.{HasLength}
+use Rattle.mz_math_theory.proofs.Offered.{judged-no-sort, judged-no-path, judged-high, judged-claim, same-sort}
 use Rattle.mz_math.proofs.formula.meaning_of.Goals as goal
 
 pub returns-in_default : goal.returns-in_default

@@ -1,9 +1,9 @@
 use Rattle.std.proofs.Common.{◌≤◌, ℕ, List, length, arith}
-use Rattle.mz_math.specs.Answers.{IfParsed, IfNotParsed, IsTreeOfFew}
-use Rattle.mz_math.specs.Formula.{most}
-use Rattle.mz_math.specs.Grammar.{Words}
-use Rattle.mz_math.specs.declared.parser.Syntax.{Syntax}
-use Rattle.mz_math.specs.declared.parser.Syntax.TheVariants as syntax
+use Rattle.mz_math_theory.specs.FormulaAnswers.{IfParsed, IfNotParsed, IsTreeOfFew}
+use Rattle.mz_math_theory.specs.Formula.{most}
+use Rattle.mz_math_theory.specs.Grammar.{Words}
+use Rattle.mz_math_theory.specs.declared.syntax.Syntax.{Syntax}
+use Rattle.mz_math_theory.specs.declared.syntax.Syntax.TheVariants as syntax
 use Rattle.mz_math.proofs.formula.parse_few.Goals as goal
 
 few-parsed : (ws : Words) (tokens : List (List ℕ)) (answer : Syntax) → length tokens ≤ most → IfParsed ws tokens answer → IfNotParsed ws tokens answer → IsTreeOfFew ws tokens answer

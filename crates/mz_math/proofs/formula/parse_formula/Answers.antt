@@ -1,18 +1,16 @@
 use Rattle.std.proofs.Common.{◌≡◌, ◌∙◌, ◌≤◌, ℕ, List, ap, sym, subst, length, All}
-use Rattle.mz_logic.specs.View.{tree}
-use Rattle.mz_logic.specs.Declaration.{signatures}
+use Rattle.mz_logic_theory.specs.View.{tree}
+use Rattle.mz_logic_theory.specs.Declaration.{signatures}
 use Rattle.mz_math_tokens.specs.Pieces.{Pieces, piece_texts}
 use Rattle.mz_math_tokens.specs.declared.pieces.Delimiters.{Delimiters}
 use Rattle.mz_math_tokens.specs.declared.pieces.Piece.{Piece}
-use Rattle.mz_math.specs.Answers.{IsTreeOfFew}
-use Rattle.mz_math.specs.Grammar.{Words, Exp}
-use Rattle.mz_math.specs.Readable.{IsReadable}
-use Rattle.mz_math.specs.Formula.{Reader, words, most}
-use Rattle.mz_math.specs.declared.parser.Syntax.TheVariants as syntax
+use Rattle.mz_math_theory.specs.FormulaAnswers.{IsTreeOfFew}
+use Rattle.mz_math_theory.specs.Grammar.{Words, Exp}
+use Rattle.mz_math_theory.specs.Readable.{IsReadable}
+use Rattle.mz_math_theory.specs.Formula.{Reader, words, most}
+use Rattle.mz_math_theory.specs.declared.syntax.Syntax.TheVariants as syntax
 use Rattle.mz_math_tokens.proofs.Offered.{pieces-within}
-use Rattle.mz_math.proofs.Readable.{table-readable}
-use Rattle.mz_math.proofs.Judging.{known-all}
-use Rattle.mz_math.proofs.KnownTokens.{read-known}
+use Rattle.mz_math_theory.proofs.Offered.{table-readable, known-all, read-known}
 use Rattle.mz_math.proofs.formula.parse_formula.Goals as goal
 
 pub new-tokens-requires : goal.new-tokens-requires

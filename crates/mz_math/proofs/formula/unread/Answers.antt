@@ -3,10 +3,10 @@ use Rattle.std.proofs.lemmas.List.{length-map}
 use Rattle.mz_base_theory.specs.Checks.{AllHold}
 use Rattle.mz_lex.specs.declared.rule.S.TheVariants as rules
 use Rattle.mz_math_tokens.specs.Pieces.{piece_text, piece_texts}
-use Rattle.mz_math.specs.Answers.{IsFirstUnknown}
-use Rattle.mz_math.specs.Grammar.{Exp}
-use Rattle.mz_math.specs.Formula.{words, most, known_checks, IsParsed, breaks}
-use Rattle.mz_math.proofs.Judging.{unknown-first, known-then}
+use Rattle.mz_math_theory.specs.FormulaAnswers.{IsFirstUnknown}
+use Rattle.mz_math_theory.specs.Grammar.{Exp}
+use Rattle.mz_math_theory.specs.Formula.{words, most, known_checks, IsParsed, breaks}
+use Rattle.mz_math_theory.proofs.Offered.{unknown-first, known-then}
 use Rattle.mz_math.proofs.formula.unread.Goals as goal
 
 pub returns-in-Some : goal.returns-in-Some

@@ -1,7 +1,7 @@
 use Rattle.std.proofs.Common.{◌≤◌, ◌+◌, ◌*◌, ◌↔◌, drop}
-use Rattle.mz_logic.specs.Tree.{size, trees_size}
-use Rattle.mz_logic.specs.View.{tree, trees}
-use Rattle.mz_math.specs.Meaning.{trees_height}
+use Rattle.mz_logic_theory.specs.Tree.{size, trees_size}
+use Rattle.mz_logic_theory.specs.View.{tree, trees}
+use Rattle.mz_math_theory.specs.Meaning.{trees_height}
 use Rattle.mz_math.proofs.height.+is_low.Given as goal
 
 abbrev pub decreases-is_low : goal.decreases-is_low

@@ -1,4 +1,4 @@
-use Rattle.mz_math.proofs.Existing.{some-reading}
+use Rattle.mz_math_theory.proofs.Offered.{some-reading}
 use Rattle.mz_math.proofs.laws.each_string_is_read_or_refused.Goals as goal
 
 pub returns : goal.returns

@@ -1,4 +1,4 @@
-use Rattle.mz_math.proofs.Lawful.{one-tree}
+use Rattle.mz_math_theory.proofs.Offered.{one-tree}
 use Rattle.mz_math.proofs.laws.each_token_list_has_one_tree.Goals as goal
 
 pub returns : goal.returns

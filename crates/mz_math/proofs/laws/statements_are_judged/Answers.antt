@@ -1,5 +1,4 @@
-use Rattle.mz_math.proofs.Statements.{delimiters-judged, coercions-judged}
-use Rattle.mz_math.proofs.MadeNotations.{infix-judged, prefix-judged, general-judged}
+use Rattle.mz_math_theory.proofs.Offered.{delimiters-judged, coercions-judged, infix-judged, prefix-judged, general-judged}
 use Rattle.mz_math.proofs.laws.statements_are_judged.Goals as goal
 
 pub returns : goal.returns

@@ -1,5 +1,4 @@
-use Rattle.mz_math_notation.proofs.Offered.{empty-is, coercion-is, delimiters-is, name-is, variables-more}
-use Rattle.mz_math.proofs.Lawful.{notations-keep}
+use Rattle.mz_math_theory.proofs.Offered.{empty-is, coercion-is, delimiters-is, name-is, variables-more, notations-keep}
 use Rattle.mz_math.proofs.laws.statements_keep_tables.Goals as goal
 
 pub returns : goal.returns

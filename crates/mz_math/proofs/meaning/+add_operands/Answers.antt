@@ -1,12 +1,11 @@
 use Rattle.std.proofs.Common.{◌≤◌, ◌∙◌, ap, sym, subst, arith}
-use Rattle.mz_logic.specs.Tree.{none, more, followed_by, size, trees_size}
-use Rattle.mz_logic.specs.View.{tree}
-use Rattle.mz_logic.specs.DeclView.{signature}
-use Rattle.mz_logic.specs.Declaration.{signatures}
-use Rattle.mz_logic.proofs.Offered.{followed_by_none}
-use Rattle.mz_math.specs.Meaning.{CoercedAll, trees_height}
-use Rattle.mz_math.proofs.Meanings.{all-length, take-one, put-one, size-one, none-left, trees_height-push, fits-path, too-high, operand-low, pushed-all, add-variable, operands-there, high-operands, add-application}
-use Rattle.mz_math_coercions.proofs.Offered.{path-reaches}
+use Rattle.mz_logic_theory.specs.Tree.{none, more, followed_by, size, trees_size}
+use Rattle.mz_logic_theory.specs.View.{tree}
+use Rattle.mz_logic_theory.specs.DeclView.{signature}
+use Rattle.mz_logic_theory.specs.Declaration.{signatures}
+use Rattle.mz_logic_theory.proofs.Offered.{followed_by_none}
+use Rattle.mz_math_theory.specs.Meaning.{CoercedAll, trees_height}
+use Rattle.mz_math_theory.proofs.Offered.{all-length, take-one, put-one, size-one, none-left, trees_height-push, fits-path, too-high, operand-low, pushed-all, add-variable, operands-there, high-operands, add-application, path-reaches}
 use Rattle.mz_math.proofs.meaning.+add_operands.Goals as goal
 
 pub add_operands-loop-i-init : goal.add_operands-loop-i-init

@@ -1,12 +1,12 @@
 use Rattle.std.proofs.Common.{◌∙◌, List, ap, sym, subst, refl, arith}
 use Rattle.std.proofs.lemmas.Bool.{true≢false, false≢true}
-use Rattle.mz_logic.specs.Tree.{Tree, none, more, var, app}
-use Rattle.mz_logic.specs.View.{tree}
-use Rattle.mz_logic.specs.DeclView.{signature}
-use Rattle.mz_logic.specs.Declaration.{signatures}
-use Rattle.mz_logic.specs.declared.binder.Binder.{Binder}
-use Rattle.mz_math.specs.Meaning.{Coerced, CoercedAll}
-use Rattle.mz_math.proofs.Meanings.{fits-regular, fits-never, fits-other, fits-bound, all-length, take-one, put-one, size-one, none-left, app-coerced}
+use Rattle.mz_logic_theory.specs.Tree.{Tree, none, more, var, app}
+use Rattle.mz_logic_theory.specs.View.{tree}
+use Rattle.mz_logic_theory.specs.DeclView.{signature}
+use Rattle.mz_logic_theory.specs.Declaration.{signatures}
+use Rattle.mz_logic_theory.specs.declared.binder.Binder.{Binder}
+use Rattle.mz_math_theory.specs.Meaning.{Coerced, CoercedAll}
+use Rattle.mz_math_theory.proofs.Offered.{fits-regular, fits-never, fits-other, fits-bound, all-length, take-one, put-one, size-one, none-left, app-coerced}
 use Rattle.mz_math.proofs.meaning.+sort_of.Goals as goal
 
 pub all_fit-returns-then-items-params : goal.all_fit-returns-then-items-params

@@ -1,8 +1,8 @@
 use Rattle.std.proofs.Common.{◌≡◌, ◌↔◌, ◌≤◌, ◌+◌, ◌*◌, length, drop}
-use Rattle.mz_math.specs.Meaning.{CoercedAll}
-use Rattle.mz_logic.specs.Tree.{Trees, size, trees_size}
-use Rattle.mz_logic.specs.View.{tree, trees}
-use Rattle.mz_logic.specs.Declaration.{signatures}
+use Rattle.mz_math_theory.specs.Meaning.{CoercedAll}
+use Rattle.mz_logic_theory.specs.Tree.{Trees, size, trees_size}
+use Rattle.mz_logic_theory.specs.View.{tree, trees}
+use Rattle.mz_logic_theory.specs.Declaration.{signatures}
 use Rattle.mz_math.proofs.meaning.+sort_of.Given as goal
 
 abbrev pub decreases-sort_of : goal.decreases-sort_of

@@ -1,7 +1,7 @@
 use Rattle.std.proofs.Common.{◌∙◌, sym}
 use Rattle.std.proofs.lemmas.Bool.{true≢false}
-use Rattle.mz_logic.specs.View.{tree}
-use Rattle.mz_logic.specs.Declaration.{signatures}
+use Rattle.mz_logic_theory.specs.View.{tree}
+use Rattle.mz_logic_theory.specs.Declaration.{signatures}
 use Rattle.mz_math.proofs.Uncoerced.{low-itself, high-itself}
 use Rattle.mz_math.proofs.meaning.coerced.Goals as goal
 

@@ -1,7 +1,7 @@
 use Rattle.std.proofs.Common.{◌∙◌, sym, drop}
 use Rattle.mz_base_theory.proofs.Offered.{nil-cons}
-use Rattle.mz_logic.specs.View.{tree}
-use Rattle.mz_math.proofs.Readings.{some-left}
+use Rattle.mz_logic_theory.specs.View.{tree}
+use Rattle.mz_math_theory.proofs.Offered.{some-left}
 use Rattle.mz_math.proofs.parser.all_read.Goals as goal
 
 pub returns-in-Some-clause-no : goal.returns-in-Some-clause-no

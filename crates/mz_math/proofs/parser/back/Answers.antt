@@ -1,6 +1,6 @@
 use Rattle.std.proofs.Common.{ap, sym, subst, drop}
-use Rattle.mz_logic.specs.View.{tree}
-use Rattle.mz_math.specs.Reading.{IsRead}
+use Rattle.mz_logic_theory.specs.View.{tree}
+use Rattle.mz_math_theory.specs.Reading.{IsRead}
 use Rattle.mz_math.specs.Steps.{IsUnderWay, Says, Waits, asked, outer_level, tree_made, level_made, is_left_made}
 use Rattle.mz_math.proofs.Waiting.{operand-next}
 use Rattle.mz_math.proofs.parser.back.Goals as goal

@@ -1,11 +1,11 @@
 use Rattle.std.proofs.Common.{◌≡◌, ◌∙◌, ◌+◌, ◌-◌, [], false, refl, sym, subst, drop, arith}
 use Rattle.std.proofs.lemmas.Bool.{true≢false}
-use Rattle.mz_math.specs.Grammar.{operands_at_max, head_level, applied}
-use Rattle.mz_logic.specs.Tree.{app, none}
-use Rattle.mz_math.specs.Reading.{NoReading}
+use Rattle.mz_math_theory.specs.Grammar.{operands_at_max, head_level, applied}
+use Rattle.mz_logic_theory.specs.Tree.{app, none}
+use Rattle.mz_math_theory.specs.Reading.{NoReading}
 use Rattle.mz_math.specs.Steps.{IsPending, IsUnderWay}
 use Rattle.mz_math.proofs.Waiting.{leading-under-way, applied-under-way}
-use Rattle.mz_math.proofs.Readings.{no-tokens, variable-begun, none-begins}
+use Rattle.mz_math_theory.proofs.Offered.{no-tokens, variable-begun, none-begins}
 use Rattle.mz_math.proofs.parser.begin.Goals as goal
 
 pub returns-in-None-clause-says : goal.returns-in-None-clause-says

@@ -1,5 +1,5 @@
 use Rattle.std.proofs.Common.{refl, drop}
-use Rattle.mz_logic.specs.View.{tree}
+use Rattle.mz_logic_theory.specs.View.{tree}
 use Rattle.mz_math.specs.Steps.{asked, tree_made, level_made, is_left_made}
 use Rattle.mz_math.proofs.Waiting.{all-parts, too-low}
 use Rattle.mz_math.proofs.parser.finished.Goals as goal

@@ -1,12 +1,12 @@
 use Rattle.std.proofs.Common.{◌∙◌, ◌+◌, not, ap, refl, sym, subst, drop}
 use Rattle.std.proofs.lemmas.Bool.{true≢false}
-use Rattle.mz_logic.specs.Tree.{more, none, followed_by}
-use Rattle.mz_logic.specs.View.{tree}
-use Rattle.mz_math.specs.Grammar.{items, last_level, notated_tree}
-use Rattle.mz_math.specs.Reading.{NotJoined}
+use Rattle.mz_logic_theory.specs.Tree.{more, none, followed_by}
+use Rattle.mz_logic_theory.specs.View.{tree}
+use Rattle.mz_math_theory.specs.Grammar.{items, last_level, notated_tree}
+use Rattle.mz_math_theory.specs.Reading.{NotJoined}
 use Rattle.mz_math.specs.Steps.{IsUnderWay}
 use Rattle.mz_math.proofs.Waiting.{infix-under-way}
-use Rattle.mz_math.proofs.Readings.{not-infix, low-infix, begun-read, joined-stuck}
+use Rattle.mz_math_theory.proofs.Offered.{not-infix, low-infix, begun-read, joined-stuck}
 use Rattle.mz_math.proofs.parser.joined.Goals as goal
 
 pub returns-in-None-clause-says : goal.returns-in-None-clause-says

@@ -1,7 +1,7 @@
 use Rattle.std.proofs.Common.{◌∙◌, ap, sym, refl, subst, length, arith}
 use Rattle.std.proofs.lemmas.List.{append-nil, nil_from_length}
 use Rattle.mz_math.specs.Steps.{Says, turns}
-use Rattle.mz_math.proofs.Readings.{never-read}
+use Rattle.mz_math_theory.proofs.Offered.{never-read}
 use Rattle.mz_math.proofs.Waiting.{Nested, inner-read, inner-fewer, goes-on, goes-back, back-fewer, none-read, whole-read}
 use Rattle.mz_math.proofs.parser.parse.Goals as goal
 

@@ -1,8 +1,8 @@
 use Rattle.std.proofs.Common.{◌∙◌, List, length, sym, subst}
 use Rattle.std.specs.Prelude.{MatchOption}
-use Rattle.mz_math_coercions.specs.declared.coercion.Coercion.{Coercion}
-use Rattle.mz_math_coercions.specs.Coercions.{Reaches}
-use Rattle.mz_math_coercions.specs.Answers.{HasLength}
+use Rattle.mz_math_theory.specs.declared.coercion.Coercion.{Coercion}
+use Rattle.mz_math_theory.specs.Coercions.{Reaches}
+use Rattle.mz_math_theory.specs.CoercionAnswers.{HasLength}
 use Rattle.mz_math_coercions.specs.Firsts.{AreLed}
 use Rattle.mz_math_coercions.proofs.coercions.distance.Goals as goal
 

@@ -1,5 +1,5 @@
 use Rattle.std.proofs.Common.{List, sym, subst}
-use Rattle.mz_math_coercions.specs.declared.coercion.Coercion.{Coercion}
+use Rattle.mz_math_theory.specs.declared.coercion.Coercion.{Coercion}
 use Rattle.mz_math_coercions.specs.Firsts.{AreLed}
 use Rattle.mz_math_coercions.proofs.Leading.{none-yet, led-more, led-same}
 use Rattle.mz_math_coercions.proofs.coercions.push.Goals as goal

@@ -1,8 +1,8 @@
 use Rattle.std.proofs.Common.{◌∙◌, List, sym, subst}
-use Rattle.mz_logic.specs.View.{tree}
-use Rattle.mz_math_coercions.specs.declared.coercion.Coercion.{Coercion}
-use Rattle.mz_math_coercions.specs.Coercions.{Reaches}
-use Rattle.mz_math_coercions.specs.Answers.{IsNext}
+use Rattle.mz_logic_theory.specs.View.{tree}
+use Rattle.mz_math_theory.specs.declared.coercion.Coercion.{Coercion}
+use Rattle.mz_math_theory.specs.Coercions.{Reaches}
+use Rattle.mz_math_theory.specs.CoercionAnswers.{IsNext}
 use Rattle.mz_math_coercions.specs.Firsts.{AreLed}
 use Rattle.mz_math_coercions.proofs.Leading.{next-reach, stuck, wrapped-more}
 use Rattle.mz_math_coercions.proofs.coercions.wrap.Goals as goal

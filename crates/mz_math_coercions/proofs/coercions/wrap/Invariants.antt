@@ -1,5 +1,5 @@
-use Rattle.mz_logic.specs.View.{tree}
-use Rattle.mz_math_coercions.specs.Coercions.{Reaches}
+use Rattle.mz_logic_theory.specs.View.{tree}
+use Rattle.mz_math_theory.specs.Coercions.{Reaches}
 use Rattle.mz_math_coercions.proofs.Leading.{IsWrapped}
 use Rattle.mz_math_coercions.proofs.coercions.wrap.Given as goal
 

@@ -2,8 +2,8 @@ use Rattle.std.proofs.Common.{◌∙◌, ℕ, get_or, Contains, sym, refl}
 use Rattle.std.proofs.lemmas.Bool.{true≢false, false≢true}
 use Rattle.std.proofs.lemmas.List.Elements.{Contains-get_or}
 use Rattle.mz_base_theory.proofs.Offered.{all_so_far_more, all-members}
-use Rattle.mz_math_coercions.specs.declared.firsts.Start.{Start}
-use Rattle.mz_math_coercions.specs.Answers.{HasPath}
+use Rattle.mz_math_theory.specs.declared.start.Start.{Start}
+use Rattle.mz_math_theory.specs.CoercionAnswers.{HasPath}
 use Rattle.mz_math_coercions.proofs.firsts.are_joined.Goals as goal
 
 pub returns-then-reaches_any : goal.returns-then-reaches_any

@@ -1,7 +1,7 @@
 use Rattle.std.proofs.Common.{ℕ, Contains}
 use Rattle.mz_base_theory.proofs.Offered.{AllSoFar}
-use Rattle.mz_math_coercions.specs.declared.firsts.Start.{Start}
-use Rattle.mz_math_coercions.specs.Answers.{HasPath}
+use Rattle.mz_math_theory.specs.declared.start.Start.{Start}
+use Rattle.mz_math_theory.specs.CoercionAnswers.{HasPath}
 use Rattle.mz_math_coercions.proofs.firsts.are_joined.Given as goal
 
 abbrev pub invariant-loop-start : goal.invariant-loop-start

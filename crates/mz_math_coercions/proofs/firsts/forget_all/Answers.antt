@@ -1,7 +1,7 @@
 use Rattle.std.proofs.Common.{◌≡◌, ℕ, None, get_or, Contains}
 use Rattle.std.proofs.lemmas.List.Elements.{Contains-get_or}
 use Rattle.mz_base_theory.proofs.Offered.{all_so_far_more, all-members}
-use Rattle.mz_math_coercions.specs.declared.firsts.Start.{Start}
+use Rattle.mz_math_theory.specs.declared.start.Start.{Start}
 use Rattle.mz_math_coercions.specs.Firsts.{first_of}
 use Rattle.mz_math_coercions.proofs.Leading.{all-changed, all-kept}
 use Rattle.mz_math_coercions.proofs.firsts.forget_all.Goals as goal

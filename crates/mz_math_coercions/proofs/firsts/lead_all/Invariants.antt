@@ -1,6 +1,6 @@
 use Rattle.std.proofs.Common.{ℕ, Contains}
 use Rattle.mz_base_theory.proofs.Offered.{AllSoFar}
-use Rattle.mz_math_coercions.specs.declared.firsts.Start.{Start}
+use Rattle.mz_math_theory.specs.declared.start.Start.{Start}
 use Rattle.mz_math_coercions.specs.Firsts.{IsChanged, IsOfStarts, first_of}
 use Rattle.mz_math_coercions.proofs.firsts.lead_all.Given as goal
 

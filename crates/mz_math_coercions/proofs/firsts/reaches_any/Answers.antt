@@ -2,7 +2,7 @@ use Rattle.std.proofs.Common.{◌∙◌, get_or, sym, refl}
 use Rattle.std.proofs.lemmas.Bool.{true≢false, false≢true}
 use Rattle.std.proofs.lemmas.List.Elements.{Contains-get_or}
 use Rattle.mz_base_theory.proofs.Offered.{all_so_far_more, all-members}
-use Rattle.mz_math_coercions.specs.Answers.{HasPath}
+use Rattle.mz_math_theory.specs.CoercionAnswers.{HasPath}
 use Rattle.mz_math_coercions.proofs.firsts.reaches_any.Goals as goal
 
 pub returns-then-is_reached : goal.returns-then-is_reached

@@ -1,5 +1,5 @@
 use Rattle.mz_base_theory.proofs.Offered.{AllSoFar}
-use Rattle.mz_math_coercions.specs.Answers.{HasPath}
+use Rattle.mz_math_theory.specs.CoercionAnswers.{HasPath}
 use Rattle.mz_math_coercions.proofs.firsts.reaches_any.Given as goal
 
 abbrev pub invariant-loop-end : goal.invariant-loop-end

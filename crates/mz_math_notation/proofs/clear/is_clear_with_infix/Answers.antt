@@ -1,7 +1,7 @@
 use Rattle.std.proofs.Common.{◌<◌, ◌∙◌, sym, arith}
 use Rattle.std.proofs.lemmas.Bool.{true≢false, false≢true}
-use Rattle.mz_math_notation.proofs.Clearing.{with-infix-clear, infix-kept, infix-other, infix-groups, infix-level}
-use Rattle.mz_math_notation.specs.Notation.{max_level}
+use Rattle.mz_math_theory.proofs.Offered.{with-infix-clear, infix-kept, infix-other, infix-groups, infix-level}
+use Rattle.mz_math_theory.specs.Notation.{max_level}
 use Rattle.mz_math_notation.proofs.clear.is_clear_with_infix.Goals as goal
 
 pub returns-then-notation : goal.returns-then-notation

@@ -1,6 +1,6 @@
 use Rattle.std.proofs.Common.{◌∙◌, sym}
 use Rattle.std.proofs.lemmas.Bool.{true≢false, false≢true}
-use Rattle.mz_math_notation.proofs.Clearing.{with-leading-clear, leading-kept, leading-other}
+use Rattle.mz_math_theory.proofs.Offered.{with-leading-clear, leading-kept, leading-other}
 use Rattle.mz_math_notation.proofs.clear.is_clear_with_leading.Goals as goal
 
 pub returns-then-not-are_kept : goal.returns-then-not-are_kept

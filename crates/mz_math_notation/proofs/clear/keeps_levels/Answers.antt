@@ -1,8 +1,9 @@
 use Rattle.std.proofs.Common.{◌≡◌, ◌∙◌, ℕ, List, Contains, sym, subst, refl}
 use Rattle.std.proofs.lemmas.Bool.{true≢false, false≢true}
 use Rattle.mz_base_theory.proofs.Offered.{all_so_far_more, all-members}
-use Rattle.mz_math_notation.specs.Notation.{Element, fixed}
-use Rattle.mz_math_notation.specs.Clear.{HasConstant}
+use Rattle.mz_math_theory.specs.declared.notation.Element.{Element}
+use Rattle.mz_math_theory.specs.declared.notation.Element.TheVariants.{Fixed as fixed}
+use Rattle.mz_math_theory.specs.Clear.{HasConstant}
 use Rattle.mz_math_notation.proofs.clear.keeps_levels.Goals as goal
 
 pub returns-then-not-keeps_level : goal.returns-then-not-keeps_level

@@ -1,7 +1,8 @@
 use Rattle.std.proofs.Common.{◌≡◌, ℕ, List}
 use Rattle.mz_base_theory.proofs.Offered.{AllSoFar}
-use Rattle.mz_math_notation.specs.Notation.{Element, fixed}
-use Rattle.mz_math_notation.specs.Clear.{HasConstant}
+use Rattle.mz_math_theory.specs.declared.notation.Element.{Element}
+use Rattle.mz_math_theory.specs.declared.notation.Element.TheVariants.{Fixed as fixed}
+use Rattle.mz_math_theory.specs.Clear.{HasConstant}
 use Rattle.mz_math_notation.proofs.clear.keeps_levels.Given as goal
 
 abbrev pub invariant-loop-element : goal.invariant-loop-element

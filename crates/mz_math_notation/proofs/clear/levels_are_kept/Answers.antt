@@ -1,25 +1,29 @@
-use Rattle.std.proofs.Common.{◌∙◌, sym, subst, inl, inr}
+use Rattle.std.proofs.Common.{◌∙◌, sym, inl, inr}
 use Rattle.std.proofs.lemmas.Bool.{true≢false, false≢true}
-use Rattle.mz_math_notation.specs.Answers.{KeepsLevels, KeepsOwnLevels}
+use Rattle.mz_math_theory.proofs.Offered.{keeps, keeps-own, listed-keeps, listed-own}
 use Rattle.mz_math_notation.proofs.clear.levels_are_kept.Goals as goal
 
 pub returns-then-not-keeps_own : goal.returns-then-not-keeps_own
 returns-then-not-keeps_own c =
-    (λ f. absurd (false≢true f), λ all. absurd (true≢false (sym (c.in_ok-keeps_own.ensures.1 (subst KeepsOwnLevels (sym c.as_slice-elements.ensures) all.0)) ∙ c.if-not-keeps_own.true)))
+    let own = listed-own c.args.notation.now.elements c.listed-elements.result.now c.listed-elements.ensures in
+    (λ f. absurd (false≢true f), λ all. absurd (true≢false (sym (c.in_ok-keeps_own.ensures.1 (own all.0)) ∙ c.if-not-keeps_own.true)))
 
 pub returns-then-not-keeps_levels : goal.returns-then-not-keeps_levels
 returns-then-not-keeps_levels c =
-    (λ f. absurd (false≢true f), λ all. absurd (true≢false (sym (c.keeps_levels.ensures.1 (subst (λ es. KeepsLevels es c.args.leading.now) (sym c.as_slice-elements.ensures) all.1)) ∙ c.if-not-keeps_levels.true)))
+    let kept = listed-keeps c.args.notation.now.elements c.listed-elements.result.now c.listed-elements.ensures c.args.leading.now in
+    (λ f. absurd (false≢true f), λ all. absurd (true≢false (sym (c.keeps_levels.ensures.1 (kept all.1)) ∙ c.if-not-keeps_levels.true)))
 
 pub returns : goal.returns
 returns c =
-    let es = c.as_slice-elements.ensures in (
+    let es = c.args.notation.now.elements in
+    let xs = c.listed-elements.result.now in
+    let are = c.listed-elements.ensures in (
       λ t. (
-        subst KeepsOwnLevels es (c.in_ok-keeps_own.ensures.0 c.if-not-keeps_own.false),
-        subst (λ xs. KeepsLevels xs c.args.leading.now) es (c.keeps_levels.ensures.0 c.if-not-keeps_levels.false),
-        subst (λ xs. KeepsLevels xs c.args.infixes.now) es (c.keeps_levels-2.ensures.0 t),
+        keeps-own es xs are (c.in_ok-keeps_own.ensures.0 c.if-not-keeps_own.false),
+        keeps es xs are c.args.leading.now (c.keeps_levels.ensures.0 c.if-not-keeps_levels.false),
+        keeps es xs are c.args.infixes.now (c.keeps_levels-2.ensures.0 t),
       ),
-      λ all. c.keeps_levels-2.ensures.1 (subst (λ xs. KeepsLevels xs c.args.infixes.now) (sym es) all.2),
+      λ all. c.keeps_levels-2.ensures.1 (listed-keeps es xs are c.args.infixes.now all.2),
     )
 
 pub keeps_levels-requires : goal.keeps_levels-requires

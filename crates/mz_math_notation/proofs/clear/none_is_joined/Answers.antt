@@ -1,7 +1,7 @@
 use Rattle.std.proofs.Common.{refl, subst}
 use Rattle.std.proofs.lemmas.Bool.{false≢true}
-use Rattle.mz_math_notation.specs.Clear.{JoinedBy}
-use Rattle.mz_math_notation.proofs.Constants.{joined-one}
+use Rattle.mz_math_theory.specs.Clear.{JoinedBy}
+use Rattle.mz_math_theory.proofs.Offered.{joined-one}
 use Rattle.mz_math_notation.proofs.clear.none_is_joined.Goals as goal
 
 pub returns-in-None : goal.returns-in-None

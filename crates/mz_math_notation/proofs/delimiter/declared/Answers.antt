@@ -1,7 +1,7 @@
 use Rattle.std.proofs.Common.{sym, subst}
 use Rattle.std.specs.Prelude.{option_map}
 use Rattle.mz_math_tokens.specs.Pieces.{AreDelimiters}
-use Rattle.mz_math_notation.specs.Answers.{IsMade}
+use Rattle.mz_math_theory.specs.NotationAnswers.{IsMade}
 use Rattle.mz_math_notation.proofs.delimiter.declared.Goals as goal
 
 pub returns-in-None : goal.returns-in-None

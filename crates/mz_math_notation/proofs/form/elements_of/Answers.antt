@@ -1,6 +1,7 @@
-use Rattle.std.proofs.Common.{[], ◌∙◌, List, sym, subst}
+use Rattle.std.proofs.Common.{[], List, sym, subst}
 use Rattle.std.proofs.lemmas.List.{append-nil}
-use Rattle.mz_math_notation.specs.Forms.{AreElements, IsElement, Literal}
+use Rattle.mz_math_theory.specs.Forms.{AreElements, IsElement}
+use Rattle.mz_math_theory.specs.declared.literal.Literal.{Literal}
 use Rattle.mz_math_notation.proofs.Literals.{made-err, here-element, later-elements, more-elements}
 use Rattle.mz_math_notation.proofs.form.elements_of.Goals as goal
 
@@ -19,5 +20,5 @@ literals-preserved c =
 
 pub returns : goal.returns
 returns c =
-    subst (AreElements c.args.delimiters.now c.args.params.now.names c.args.text.now c.args.literals.now) (append-nil c.literals.elements.items ∙ sym c.from_vec.ensures)
+    subst (AreElements c.args.delimiters.now c.args.params.now.names c.args.text.now c.args.literals.now) (append-nil c.literals.elements.items)
     (c.literals.invariant.0 [] (subst (λ (ls : List Literal). AreElements c.args.delimiters.now c.args.params.now.names c.args.text.now ls []) (sym c.in_default.ensures.literal) tt))

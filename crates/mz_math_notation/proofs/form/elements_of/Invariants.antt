@@ -1,6 +1,6 @@
 use Rattle.std.proofs.Common.{◌-◌, ◌++◌, List, length, drop}
-use Rattle.mz_math_notation.specs.Notation.{Element}
-use Rattle.mz_math_notation.specs.Forms.{AreElements}
+use Rattle.mz_math_theory.specs.declared.notation.Element.{Element}
+use Rattle.mz_math_theory.specs.Forms.{AreElements}
 use Rattle.mz_math_notation.proofs.form.elements_of.Given as goal
 
 abbrev pub decreases-literals : goal.decreases-literals

@@ -1,10 +1,12 @@
 use Rattle.std.proofs.Common.{◌≡◌, ◌∙◌, List, Some, ap₂, sym, subst, length, slice_get}
-use Rattle.mz_logic.specs.Declaration.{signatures}
-use Rattle.mz_math_notation.specs.Notation.{Element, Notation}
-use Rattle.mz_math_notation.specs.Forms.{AreElements, IsGeneral, EachOnce, Begins}
-use Rattle.mz_math_notation.specs.Answers.{IsNotationOf, general}
+use Rattle.mz_logic_theory.specs.Declaration.{signatures}
+use Rattle.mz_math_theory.specs.declared.notation.Element.{Element}
+use Rattle.mz_math_theory.specs.declared.notation.Notation.{Notation}
+use Rattle.mz_math_theory.specs.Forms.{AreElements, IsGeneral, EachOnce, Begins}
+use Rattle.mz_math_theory.specs.NotationAnswers.{IsNotationOf}
+use Rattle.mz_math_notation.specs.Given.{general}
 use Rattle.mz_math_notation.proofs.Literals.{general-made, made-err, made-map}
-use Rattle.mz_math_notation.proofs.Tables.{elements-one}
+use Rattle.mz_math_theory.proofs.Offered.{elements-one}
 use Rattle.mz_math_notation.proofs.form.general_of.Goals as goal
 
 pub returns-in-Err-clause-made : goal.returns-in-Err-clause-made
@@ -20,9 +22,9 @@ returns-in-Ok-clause-made c =
     let same : c.in-Some.decl.now.result ≡ c.args.statement.result.now = c.same_result.ensures.0 c.if-not-same_result.false in
     let signature : slice_get (signatures c.args.env.now) c.args.statement.term ≡ Some (record { params = c.args.statement.params.now.binders; result = c.args.statement.result.now }) =
     sym c.in-Some.ensures.signature ∙ ap₂ (λ ps r. Some (record { params = ps; result = r })) binders same in
-    made-map (IsNotationOf g c.in-Ok.elements) (IsGeneral (signatures c.args.env.now) c.args.delimiters.now g) c.notation_of.result
-    (λ (k : Notation) is. general-made (signatures c.args.env.now) c.args.delimiters.now g c.in-Ok.elements k signature c.in-Ok.ensures is)
+    made-map (IsNotationOf g c.in-Ok.elements.items) (IsGeneral (signatures c.args.env.now) c.args.delimiters.now g) c.notation_of.result
+    (λ (k : Notation) is. general-made (signatures c.args.env.now) c.args.delimiters.now g c.in-Ok.elements.items k signature c.in-Ok.ensures is)
     (λ (k : Notation) is.
-    let same_elements : k.elements ≡ c.in-Ok.elements = elements-one c.args.delimiters.now g.names c.binders-binders.ensures.names.distinct g.text g.literals k.elements c.in-Ok.elements is.elements c.in-Ok.ensures in
+    let same_elements : k.elements ≡ c.in-Ok.elements.items = elements-one c.args.delimiters.now g.names c.binders-binders.ensures.names.distinct g.text g.literals k.elements c.in-Ok.elements.items is.elements c.in-Ok.ensures in
     (is.term, same_elements, subst (λ (es : List Element). EachOnce (length g.binders) es) same_elements is.once, subst (λ (es : List Element). Begins es g.tail k.level k.is_right) same_elements is.begins))
     c.notation_of.ensures

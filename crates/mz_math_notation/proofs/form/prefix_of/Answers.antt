@@ -1,5 +1,5 @@
-use Rattle.mz_math_notation.proofs.Tables.{prefix-constant}
-use Rattle.mz_logic.specs.Declaration.{signatures}
+use Rattle.mz_math_theory.proofs.Offered.{prefix-constant}
+use Rattle.mz_logic_theory.specs.Declaration.{signatures}
 use Rattle.mz_math_notation.proofs.form.prefix_of.Goals as goal
 
 pub returns-in_default-constant : goal.returns-in_default-constant

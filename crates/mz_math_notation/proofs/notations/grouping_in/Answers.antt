@@ -1,6 +1,6 @@
 use Rattle.std.proofs.Common.{◌≡◌, ◌∙◌, Bool, Option, Some, MatchOption, Contains, ap, sym, subst}
 use Rattle.std.proofs.lemmas.Option.{slice_get-get_or}
-use Rattle.mz_math_notation.specs.Notation.{Notation}
+use Rattle.mz_math_theory.specs.declared.notation.Notation.{Notation}
 use Rattle.mz_math_notation.proofs.Levelling.{none-kept, past-stands, other-stands}
 use Rattle.mz_math_notation.proofs.notations.grouping_in.Goals as goal
 

@@ -1,7 +1,9 @@
-use Rattle.std.proofs.Common.{◌≡◌, ◌≤◌, ◌∙◌, ℕ, List, length, Option, Some, MatchOption, slice_get, ap, sym, subst}
+use Rattle.std.proofs.Common.{◌∙◌, ℕ, List, Option, Some, MatchOption, ap, sym, subst}
 use Rattle.std.proofs.lemmas.Option.{slice_get-get_or}
-use Rattle.mz_math_notation.specs.Notation.{Notation, Element}
-use Rattle.mz_math_notation.specs.Clear.{HasConstant}
+use Rattle.mz_math_theory.specs.declared.notation.Notation.{Notation}
+use Rattle.mz_math_theory.specs.declared.notation.Element.{Element}
+use Rattle.mz_math_theory.specs.Clear.{HasConstant}
+use Rattle.mz_math_theory.proofs.Offered.{listed-element}
 use Rattle.mz_math_notation.proofs.Spotting.{none-found, past-notations, past-elements, level-here}
 use Rattle.mz_math_notation.proofs.notations.level_in.Goals as goal
 
@@ -30,8 +32,7 @@ returns-in_err-element c =
     let read = c.in_ok-notation.ensures.lookup in
     let here = slice_get-get_or ks s.notation n read.3.0 ∙ ap Some (sym read.1) in
     subst (IsLevelOf ks w) (sym c.from_residual-in_err-element.ensures)
-    (past-elements c.args.constants.now ks w s c.requires (sym c.in_ok-spot.ensures) n here
-    (subst (λ (xs : List Element). length xs ≤ s.element) c.as_slice.ensures c.in_err-element.ensures.lookup.3))
+    (past-elements c.args.constants.now ks w s c.requires (sym c.in_ok-spot.ensures) n here c.listed.result.now c.listed.ensures c.in_err-element.ensures.lookup.3)
 
 pub returns : goal.returns
 returns c =
@@ -43,5 +44,5 @@ returns c =
     let read = c.in_ok-notation.ensures.lookup in
     let item = c.in_ok-element.ensures.lookup in
     let here = slice_get-get_or ks s.notation n read.3.0 ∙ ap Some (sym read.1) in
-    let element = subst (λ (xs : List Element). slice_get xs s.element ≡ Some e) c.as_slice.ensures (slice_get-get_or c.as_slice.result.now s.element e item.3.0 ∙ ap Some (sym item.1)) in
+    let element = listed-element n.elements c.listed.result.now s.element e c.listed.ensures (slice_get-get_or c.listed.result.now s.element e item.3.0 ∙ ap Some (sym item.1)) in
     level-here c.args.constants.now ks w s c.requires (sym c.in_ok-spot.ensures) n here e element c.level_of.result c.level_of.ensures

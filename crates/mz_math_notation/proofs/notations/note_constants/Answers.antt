@@ -1,4 +1,4 @@
-use Rattle.std.proofs.Common.{ap, arith, length}
+use Rattle.std.proofs.Common.{arith}
 use Rattle.mz_base_theory.proofs.Offered.{each_before_more}
 use Rattle.mz_math_notation.specs.Headed.{IsNoted}
 use Rattle.mz_math_notation.proofs.Spotting.{found-more}
@@ -12,5 +12,5 @@ loop-place-preserved c = (
 
 pub returns-clause-ok : goal.returns-clause-ok
 returns-clause-ok c =
-    let many = ap length c.as_slice-place-end.ensures in
-    found-more c.loop-place.constants c.args.items.now c.args.notation.now c.loop-place.invariant.0 (λ i below. c.loop-place.invariant.1 i (omega (arith, below, many, c.loop-place-test.false)))
+    found-more c.loop-place.constants c.args.items.now c.args.notation.now c.listed-place-end.result.now c.listed-place-end.ensures c.loop-place.invariant.0
+    (λ i below. c.loop-place.invariant.1 i (omega (arith, below, c.loop-place-test.false)))

@@ -2,7 +2,7 @@ use Rattle.std.proofs.Common.{◌≡◌, ◌∙◌, ◌↔◌, length, false, ge
 use Rattle.std.specs.Prelude.{IsTrue}
 use Rattle.std.proofs.lemmas.List.{length-replicate}
 use Rattle.mz_math_tokens.proofs.Offered.{unmarked}
-use Rattle.mz_math_notation.specs.Forms.{EachOnce}
+use Rattle.mz_math_theory.specs.Forms.{EachOnce}
 use Rattle.mz_math_notation.proofs.once.each_once.Goals as goal
 
 pub mark_each_once-requires : goal.mark_each_once-requires

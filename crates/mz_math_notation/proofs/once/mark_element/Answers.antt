@@ -1,5 +1,5 @@
-use Rattle.std.proofs.Common.{◌≡◌, ◌∙◌, ◌+◌, ◌∷◌, [], ℕ, false, get_or, ap, sym, arith}
-use Rattle.mz_math_notation.specs.Notation.{Element}
+use Rattle.std.proofs.Common.{◌≡◌, ◌∙◌, ◌+◌, ◌∷◌, [], false, get_or, ap, sym, arith}
+use Rattle.mz_math_theory.specs.declared.notation.Element.{Element}
 use Rattle.mz_math_notation.specs.Once.{one_if, times}
 use Rattle.mz_math_notation.proofs.Marking.{slot-here, times-slot}
 use Rattle.std.proofs.lemmas.Bool.{true≢false}

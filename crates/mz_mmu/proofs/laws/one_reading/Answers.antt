@@ -1,5 +1,4 @@
-use Rattle.mz_mmu.proofs.OneAnswer.{one_reading}
-use Rattle.mz_mmu.proofs.OneStatement.{statements_once}
+use Rattle.mz_mmu_theory.proofs.Offered.{one_reading, statements_once}
 use Rattle.mz_mmu.proofs.laws.one_reading.Goals as goal
 
 pub returns : goal.returns

@@ -1,4 +1,4 @@
-use Rattle.mz_mmu.proofs.OneAnswer.{one_answer}
+use Rattle.mz_mmu_theory.proofs.Offered.{one_answer}
 use Rattle.mz_mmu.proofs.laws.read_or_refused_once.Goals as goal
 
 pub returns : goal.returns

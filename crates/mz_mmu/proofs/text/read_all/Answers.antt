@@ -2,18 +2,17 @@ use Rattle.std.proofs.Common.{◌≡◌, ◌+◌, ◌∙◌, suc, [], ◌∷◌,
 use Rattle.mz_base_theory.proofs.Offered.{Decides, decides-whole, length-push}
 use Rattle.mz_sexpr.specs.Number.{node_at, nodes_after}
 use Rattle.mz_base.specs.Gaps.{gaps_of}
-use Rattle.mz_mmu_forms.specs.Cursor.{nodes_from, IsThere, nodes_size}
+use Rattle.mz_mmu_theory.specs.Cursor.{nodes_from, IsThere, nodes_size}
 use Rattle.mz_mmu.specs.EntryView.{entry, root, AreNumbers}
-use Rattle.mz_mmu_forms.specs.Name.{no_names}
-use Rattle.mz_mmu_statements.specs.Statements.{AreStatements}
-use Rattle.mz_mmu_statements.specs.Order.{statements_asked}
+use Rattle.mz_mmu_theory.specs.Name.{no_names}
+use Rattle.mz_mmu_theory.specs.Statements.{AreStatements}
+use Rattle.mz_mmu_theory.specs.StatementOrder.{statements_asked}
 use Rattle.mz_mmu_forms.specs.ScopeView.{names}
-use Rattle.mz_mmu_statements.specs.StatementView.{stated}
-use Rattle.mz_mmu_forms.proofs.Offered.{node_size_positive, stands_from, stands_there, stepped}
-use Rattle.mz_mmu.proofs.Declared.{Agrees, statement_says}
+use Rattle.mz_mmu_theory.specs.StatementView.{stated}
+use Rattle.mz_mmu_theory.proofs.Offered.{node_size_positive, stands_from, stands_there, stepped, Agrees, statement_says, agrees_more, agrees_first}
 use Rattle.std.proofs.lemmas.List.{map-append}
-use Rattle.mz_mmu_forms.specs.NamesMore.{AreFew}
-use Rattle.mz_mmu.proofs.TextSteps.{statements_read_more, statements_asked_more, numbers_more, few_more, agrees_more, agrees_first, few_first, text_stops}
+use Rattle.mz_mmu_theory.specs.NamesMore.{AreFew}
+use Rattle.mz_mmu.proofs.TextSteps.{statements_read_more, statements_asked_more, numbers_more, few_more, few_first, text_stops}
 use Rattle.mz_mmu.proofs.text.read_all.Goals as goal
 
 pub loop-left-init : goal.loop-left-init

@@ -1,14 +1,14 @@
 use Rattle.std.proofs.Common.{ℕ, suc, ◌+◌, ◌<◌, ◌^◌, List, ◌++◌, length, map}
 use Rattle.mz_base_theory.proofs.Offered.{Decides}
 use Rattle.mz_base.specs.Gaps.{gaps_of}
-use Rattle.mz_mmu_forms.specs.Cursor.{nodes_from, IsThere, nodes_size}
+use Rattle.mz_mmu_theory.specs.Cursor.{nodes_from, IsThere, nodes_size}
 use Rattle.mz_mmu.specs.EntryView.{entry, root, AreNumbers}
-use Rattle.mz_mmu_forms.specs.NamesMore.{AreFew}
-use Rattle.mz_mmu_statements.specs.Statements.{Statement, AreStatements}
-use Rattle.mz_mmu_forms.specs.Name.{no_names}
-use Rattle.mz_mmu_statements.specs.Order.{statements_asked}
+use Rattle.mz_mmu_theory.specs.NamesMore.{AreFew}
+use Rattle.mz_mmu_theory.specs.Statements.{Statement, AreStatements}
+use Rattle.mz_mmu_theory.specs.Name.{no_names}
+use Rattle.mz_mmu_theory.specs.StatementOrder.{statements_asked}
 use Rattle.mz_mmu_forms.specs.ScopeView.{names}
-use Rattle.mz_mmu.proofs.Declared.{Agrees}
+use Rattle.mz_mmu_theory.proofs.Offered.{Agrees}
 use Rattle.mz_mmu.proofs.text.read_all.Given as goal
 
 abbrev pub decreases-loop-left : goal.decreases-loop-left

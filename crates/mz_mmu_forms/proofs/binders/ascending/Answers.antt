@@ -6,7 +6,7 @@ use Rattle.std.proofs.lemmas.List.Kept.{Contains-dedup_nat, Contains-from_dedup}
 use Rattle.std.proofs.lemmas.List.Sorted.{IsPermutation-sym, Contains-permutation}
 use Rattle.std.proofs.lemmas.Map.Keys.{IsStrictlyIncreasing-dedup}
 use Rattle.std.proofs.lemmas.Result.{IfOk-weaker}
-use Rattle.mz_mmu_forms.specs.Expressions.{IsAscending}
+use Rattle.mz_mmu_theory.specs.Expressions.{IsAscending}
 use Rattle.mz_mmu_forms.proofs.binders.ascending.Goals as goal
 
 pub returns : goal.returns

@@ -1,12 +1,12 @@
 use Rattle.mz_base_theory.specs.Checks.{◌>>◌}
 use Rattle.mz_sexpr.specs.Number.{node_at}
-use Rattle.mz_mmu_forms.specs.Name.{scope_of}
-use Rattle.mz_mmu_forms.specs.Order.{expr_asked}
-use Rattle.mz_mmu_statements.specs.Order.{hyps_asked}
+use Rattle.mz_mmu_theory.specs.Name.{scope_of}
+use Rattle.mz_mmu_theory.specs.FormOrder.{expr_asked}
+use Rattle.mz_mmu_theory.specs.StatementOrder.{hyps_asked}
 use Rattle.mz_mmu_forms.specs.ScopeView.{names}
-use Rattle.mz_mmu_forms.specs.Stops.{Stops}
+use Rattle.mz_mmu_theory.specs.Stops.{Stops}
 use Rattle.mz_mmu_forms.proofs.Offered.{failed, stops_before, stops_after}
-use Rattle.mz_mmu_statements.proofs.HoldStatements.{hyps_hold}
+use Rattle.mz_mmu_theory.proofs.Offered.{hyps_hold}
 use Rattle.mz_mmu_statements.proofs.statements.claims.Goals as goal
 
 pub returns-in_err-hyps-clause-stops : goal.returns-in_err-hyps-clause-stops

@@ -2,15 +2,16 @@ use Rattle.std.proofs.Common.{◌++◌, ap, sym, subst, arith, length}
 use Rattle.mz_base_theory.specs.Checks.{◌>>◌}
 use Rattle.mz_sexpr.specs.Node.{place, parts}
 use Rattle.mz_sexpr.specs.Number.{node_at}
-use Rattle.mz_mmu_forms.specs.Cursor.{nodes_from, nodes_size}
-use Rattle.mz_mmu_forms.specs.Expressions.{IsResult}
-use Rattle.mz_mmu_statements.specs.Statements.{def_kind}
-use Rattle.mz_mmu_forms.specs.Name.{scope_of}
-use Rattle.mz_mmu_forms.specs.Order.{new_asked, params_asked, result_asked, dummies_asked, expr_asked, names_of}
-use Rattle.mz_mmu_statements.specs.Order.{declared_asked}
+use Rattle.mz_mmu_theory.specs.Cursor.{nodes_from, nodes_size}
+use Rattle.mz_mmu_theory.specs.Expressions.{IsResult}
+use Rattle.mz_mmu_theory.specs.declared.kind.Kind.TheVariants.{Def as def_kind}
+use Rattle.mz_mmu_theory.specs.Name.{scope_of}
+use Rattle.mz_mmu_theory.specs.FormOrder.{new_asked, params_asked, result_asked, dummies_asked, expr_asked, names_of}
+use Rattle.mz_mmu_theory.specs.StatementOrder.{declared_asked}
 use Rattle.mz_mmu_forms.specs.ScopeView.{names}
-use Rattle.mz_mmu_forms.specs.Stops.{Stops}
-use Rattle.mz_mmu_forms.proofs.Offered.{names_few, new_holds, params_hold, result_holds, failed, stops_before, stops_after}
+use Rattle.mz_mmu_theory.specs.Stops.{Stops}
+use Rattle.mz_mmu_theory.proofs.Offered.{names_few, new_holds, params_hold, result_holds}
+use Rattle.mz_mmu_forms.proofs.Offered.{failed, stops_before, stops_after}
 use Rattle.mz_mmu_statements.proofs.statements.def.Goals as goal
 
 pub returns-in_err-params-clause-stops : goal.returns-in_err-params-clause-stops

@@ -2,11 +2,12 @@ use Rattle.std.proofs.Common.{◌++◌, subst}
 use Rattle.mz_base_theory.specs.Checks.{◌>>◌}
 use Rattle.mz_sexpr.specs.Node.{parts}
 use Rattle.mz_sexpr.specs.Number.{node_at}
-use Rattle.mz_mmu_forms.specs.Name.{scope_of}
-use Rattle.mz_mmu_forms.specs.Order.{dummies_asked, expr_asked, names_of}
+use Rattle.mz_mmu_theory.specs.Name.{scope_of}
+use Rattle.mz_mmu_theory.specs.FormOrder.{dummies_asked, expr_asked, names_of}
 use Rattle.mz_mmu_forms.specs.ScopeView.{names}
-use Rattle.mz_mmu_forms.specs.Stops.{Stops}
-use Rattle.mz_mmu_forms.proofs.Offered.{dummies_hold, failed, stops_before, stops_after}
+use Rattle.mz_mmu_theory.specs.Stops.{Stops}
+use Rattle.mz_mmu_theory.proofs.Offered.{dummies_hold}
+use Rattle.mz_mmu_forms.proofs.Offered.{failed, stops_before, stops_after}
 use Rattle.mz_mmu_statements.proofs.statements.defined.Goals as goal
 
 pub returns-in_err-dummies-clause-stops : goal.returns-in_err-dummies-clause-stops

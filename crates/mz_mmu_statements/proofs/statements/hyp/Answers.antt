@@ -1,11 +1,12 @@
 use Rattle.std.proofs.Common.{◌∙◌, sym, subst}
 use Rattle.mz_sexpr.specs.Node.{node, no_nodes, parts}
 use Rattle.mz_sexpr.specs.Number.{node_at}
-use Rattle.mz_mmu_statements.specs.Order.{hyp_asked}
-use Rattle.mz_mmu_forms.specs.Order.{new_asked, expr_asked}
+use Rattle.mz_mmu_theory.specs.StatementOrder.{hyp_asked}
+use Rattle.mz_mmu_theory.specs.FormOrder.{new_asked, expr_asked}
 use Rattle.mz_mmu_forms.specs.ScopeView.{scope}
-use Rattle.mz_mmu_forms.specs.Stops.{Stops}
-use Rattle.mz_mmu_forms.proofs.Offered.{stands_from, list_of, new_holds, failed, stops_after}
+use Rattle.mz_mmu_theory.specs.Stops.{Stops}
+use Rattle.mz_mmu_theory.proofs.Offered.{stands_from, list_of, new_holds}
+use Rattle.mz_mmu_forms.proofs.Offered.{failed, stops_after}
 use Rattle.mz_mmu_statements.proofs.statements.hyp.Goals as goal
 
 pub returns-in_err-expr-clause-stops : goal.returns-in_err-expr-clause-stops

@@ -2,12 +2,12 @@ use Rattle.std.proofs.Common.{Bool, sym, subst, IfOk}
 use Rattle.std.specs.Prelude.{IfErr}
 use Rattle.mz_sexpr.specs.Node.{place}
 use Rattle.mz_sexpr.specs.Number.{node_at}
-use Rattle.mz_mmu_forms.specs.Cursor.{nodes_from}
+use Rattle.mz_mmu_theory.specs.Cursor.{nodes_from}
 use Rattle.mz_mmu_forms.specs.ScopeView.{names}
-use Rattle.mz_mmu_statements.specs.StatementView.{stated}
-use Rattle.mz_mmu_statements.specs.Statements.{IsLocal}
-use Rattle.mz_mmu_statements.specs.Order.{local_asked}
-use Rattle.mz_mmu_forms.specs.Stops.{Stops}
+use Rattle.mz_mmu_theory.specs.StatementView.{stated}
+use Rattle.mz_mmu_theory.specs.Statements.{IsLocal}
+use Rattle.mz_mmu_theory.specs.StatementOrder.{local_asked}
+use Rattle.mz_mmu_theory.specs.Stops.{Stops}
 use Rattle.mz_mmu_statements.proofs.statements.local.Goals as goal
 
 pub returns-in-Def-clause-read : goal.returns-in-Def-clause-read

@@ -1,11 +1,10 @@
 use Rattle.std.proofs.Common.{◌∙◌, ap, sym}
 use Rattle.mz_sexpr.specs.Number.{node_at, nodes_after}
-use Rattle.mz_mmu_forms.specs.Cursor.{nodes_from}
-use Rattle.mz_mmu_statements.specs.Statements.{no_modifiers, with_modifier, AreModifiers}
-use Rattle.mz_mmu_statements.specs.StatementView.{modifiers, option_modifiers}
-use Rattle.mz_mmu_statements.specs.Order.{modifiers_asked}
-use Rattle.mz_mmu_forms.proofs.Offered.{stepped, stands_there}
-use Rattle.mz_mmu_statements.proofs.HoldStatements.{modifiers_read_more, modifiers_asked_more}
+use Rattle.mz_mmu_theory.specs.Cursor.{nodes_from}
+use Rattle.mz_mmu_theory.specs.Statements.{no_modifiers, with_modifier, AreModifiers}
+use Rattle.mz_mmu_theory.specs.StatementView.{modifiers, option_modifiers}
+use Rattle.mz_mmu_theory.specs.StatementOrder.{modifiers_asked}
+use Rattle.mz_mmu_theory.proofs.Offered.{stepped, stands_there, modifiers_read_more, modifiers_asked_more}
 use Rattle.mz_mmu_statements.proofs.statements.modifiers.Goals as goal
 
 pub loop-left-preserved : goal.loop-left-preserved

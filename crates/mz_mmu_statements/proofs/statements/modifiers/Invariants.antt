@@ -1,8 +1,8 @@
 use Rattle.mz_base_theory.proofs.Offered.{Decides}
-use Rattle.mz_mmu_forms.specs.Cursor.{nodes_from, IsThere, nodes_size}
-use Rattle.mz_mmu_statements.specs.Statements.{Modifiers, no_modifiers, AreModifiers}
-use Rattle.mz_mmu_statements.specs.StatementView.{modifiers}
-use Rattle.mz_mmu_statements.specs.Order.{modifiers_asked}
+use Rattle.mz_mmu_theory.specs.Cursor.{nodes_from, IsThere, nodes_size}
+use Rattle.mz_mmu_theory.specs.Statements.{Modifiers, no_modifiers, AreModifiers}
+use Rattle.mz_mmu_theory.specs.StatementView.{modifiers}
+use Rattle.mz_mmu_theory.specs.StatementOrder.{modifiers_asked}
 use Rattle.mz_mmu_statements.proofs.statements.modifiers.Given as goal
 
 abbrev pub decreases-loop-left : goal.decreases-loop-left

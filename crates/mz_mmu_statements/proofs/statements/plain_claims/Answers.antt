@@ -1,10 +1,11 @@
 use Rattle.mz_base_theory.specs.Checks.{◌>>◌}
 use Rattle.mz_sexpr.specs.Number.{node_at}
-use Rattle.mz_mmu_forms.specs.Name.{scope_of}
-use Rattle.mz_mmu_forms.specs.Order.{expr_asked, expr_list_asked}
+use Rattle.mz_mmu_theory.specs.Name.{scope_of}
+use Rattle.mz_mmu_theory.specs.FormOrder.{expr_asked, expr_list_asked}
 use Rattle.mz_mmu_forms.specs.ScopeView.{names}
-use Rattle.mz_mmu_forms.specs.Stops.{Stops}
-use Rattle.mz_mmu_forms.proofs.Offered.{expr_list_holds, failed, stops_before, stops_after}
+use Rattle.mz_mmu_theory.specs.Stops.{Stops}
+use Rattle.mz_mmu_theory.proofs.Offered.{expr_list_holds}
+use Rattle.mz_mmu_forms.proofs.Offered.{failed, stops_before, stops_after}
 use Rattle.mz_mmu_statements.proofs.statements.plain_claims.Goals as goal
 
 pub returns-in_err-formulas-clause-stops : goal.returns-in_err-formulas-clause-stops

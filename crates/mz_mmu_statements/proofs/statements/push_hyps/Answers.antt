@@ -1,18 +1,18 @@
 use Rattle.std.proofs.Common.{ap, sym, subst, refl, arith, [], ◌∷◌, ◌++◌, length}
 use Rattle.mz_base_theory.proofs.Offered.{length-push}
-use Rattle.mz_logic.specs.Tree.{none}
-use Rattle.mz_logic.specs.View.{tree}
-use Rattle.mz_logic.proofs.Offered.{followed_by_none}
+use Rattle.mz_logic_theory.specs.Tree.{none}
+use Rattle.mz_logic_theory.specs.View.{tree}
+use Rattle.mz_logic_theory.proofs.Offered.{followed_by_none}
 use Rattle.mz_sexpr.specs.Node.{parts}
 use Rattle.mz_sexpr.specs.Number.{node_at, nodes_after}
-use Rattle.mz_mmu_forms.specs.Cursor.{nodes_from, nodes_size}
-use Rattle.mz_mmu_statements.specs.Statements.{AreHyps, AreNamedHyps}
-use Rattle.mz_mmu_statements.specs.Order.{hyp_asked, hyps_asked}
-use Rattle.mz_mmu_forms.specs.Order.{binders_asked, first_word}
+use Rattle.mz_mmu_theory.specs.Cursor.{nodes_from, nodes_size}
+use Rattle.mz_mmu_theory.specs.Statements.{AreHyps, AreNamedHyps}
+use Rattle.mz_mmu_theory.specs.StatementOrder.{hyp_asked, hyps_asked}
+use Rattle.mz_mmu_theory.specs.FormOrder.{binders_asked, first_word}
 use Rattle.mz_mmu_forms.specs.ScopeView.{scope}
-use Rattle.mz_mmu_forms.specs.Stops.{Stops}
-use Rattle.mz_mmu_forms.proofs.Offered.{stepped, stands_there, node_size_positive, failed, stops_before, stops_whole}
-use Rattle.mz_mmu_statements.proofs.HoldStatements.{hyp_new}
+use Rattle.mz_mmu_theory.specs.Stops.{Stops}
+use Rattle.mz_mmu_theory.proofs.Offered.{stepped, stands_there, node_size_positive, hyp_new}
+use Rattle.mz_mmu_forms.proofs.Offered.{failed, stops_before, stops_whole}
 use Rattle.mz_mmu_statements.proofs.HypLists.{hyps_read_more, hyps_asked_more}
 use Rattle.mz_mmu_statements.proofs.statements.push_hyps.Goals as goal
 

@@ -1,11 +1,11 @@
 use Rattle.std.proofs.Common.{◌+◌, ◌<◌, ◌^◌, ℕ, List, length}
 use Rattle.mz_base_theory.proofs.Offered.{Decides}
-use Rattle.mz_logic.specs.Tree.{Trees, followed_by}
+use Rattle.mz_logic_theory.specs.Tree.{Trees, followed_by}
 use Rattle.mz_sexpr.specs.Number.{node_at}
-use Rattle.mz_mmu_forms.specs.Cursor.{nodes_from, IsThere, nodes_size}
-use Rattle.mz_mmu_statements.specs.Statements.{AreHyps, AreNamedHyps}
-use Rattle.mz_mmu_statements.specs.Order.{hyp_asked, hyps_asked}
-use Rattle.mz_mmu_forms.specs.Order.{binders_asked}
+use Rattle.mz_mmu_theory.specs.Cursor.{nodes_from, IsThere, nodes_size}
+use Rattle.mz_mmu_theory.specs.Statements.{AreHyps, AreNamedHyps}
+use Rattle.mz_mmu_theory.specs.StatementOrder.{hyp_asked, hyps_asked}
+use Rattle.mz_mmu_theory.specs.FormOrder.{binders_asked}
 use Rattle.mz_mmu_forms.specs.ScopeView.{scope}
 use Rattle.mz_mmu_statements.proofs.statements.push_hyps.Given as goal
 

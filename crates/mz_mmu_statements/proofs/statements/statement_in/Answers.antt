@@ -3,16 +3,17 @@ use Rattle.std.specs.Prelude.{bytes_eq, codes}
 use Rattle.mz_sexpr.specs.Node.{node, place}
 use Rattle.mz_sexpr.specs.declared.rule.U.{U}
 use Rattle.mz_sexpr.specs.Number.{node_at, nodes_after}
-use Rattle.mz_mmu_forms.specs.Cursor.{nodes_from}
+use Rattle.mz_mmu_theory.specs.Cursor.{nodes_from}
 use Rattle.mz_mmu_forms.specs.ScopeView.{names}
-use Rattle.mz_mmu_statements.specs.StatementView.{stated}
-use Rattle.mz_mmu_statements.specs.Statements.{kind_of_word}
-use Rattle.mz_mmu_statements.specs.Order.{statement_asked}
-use Rattle.mz_mmu_forms.specs.Order.{fault, never}
-use Rattle.mz_mmu_forms.specs.Stops.{Stops}
-use Rattle.mz_mmu_forms.specs.declared.fault.Stop.{Stop}
-use Rattle.mz_mmu_forms.specs.declared.fault.Stop.TheVariants.{Refused}
-use Rattle.mz_mmu_forms.proofs.Offered.{stands_from, failed}
+use Rattle.mz_mmu_theory.specs.StatementView.{stated}
+use Rattle.mz_mmu_theory.specs.Statements.{kind_of_word}
+use Rattle.mz_mmu_theory.specs.StatementOrder.{statement_asked}
+use Rattle.mz_mmu_theory.specs.FormOrder.{fault, never}
+use Rattle.mz_mmu_theory.specs.Stops.{Stops}
+use Rattle.mz_mmu_theory.specs.declared.fault.Stop.{Stop}
+use Rattle.mz_mmu_theory.specs.declared.fault.Stop.TheVariants.{Refused}
+use Rattle.mz_mmu_theory.proofs.Offered.{stands_from}
+use Rattle.mz_mmu_forms.proofs.Offered.{failed}
 use Rattle.mz_mmu_statements.proofs.StatementDispatch.{statement_empty, statement_public, statement_public_stops, statement_local_empty, statement_local, statement_local_stops}
 use Rattle.mz_mmu_statements.proofs.statements.statement_in.Goals as goal
 

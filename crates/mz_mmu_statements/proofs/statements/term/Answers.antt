@@ -2,13 +2,14 @@ use Rattle.std.proofs.Common.{sym, subst}
 use Rattle.mz_base_theory.specs.Checks.{◌>>◌}
 use Rattle.mz_sexpr.specs.Node.{place, parts}
 use Rattle.mz_sexpr.specs.Number.{node_at}
-use Rattle.mz_mmu_forms.specs.Cursor.{nodes_from}
-use Rattle.mz_mmu_statements.specs.Statements.{term_kind}
-use Rattle.mz_mmu_forms.specs.Order.{new_asked, params_asked, result_asked, names_of}
-use Rattle.mz_mmu_statements.specs.Order.{declared_asked}
+use Rattle.mz_mmu_theory.specs.Cursor.{nodes_from}
+use Rattle.mz_mmu_theory.specs.declared.kind.Kind.TheVariants.{Term as term_kind}
+use Rattle.mz_mmu_theory.specs.FormOrder.{new_asked, params_asked, result_asked, names_of}
+use Rattle.mz_mmu_theory.specs.StatementOrder.{declared_asked}
 use Rattle.mz_mmu_forms.specs.ScopeView.{names}
-use Rattle.mz_mmu_forms.specs.Stops.{Stops}
-use Rattle.mz_mmu_forms.proofs.Offered.{new_holds, params_hold, failed, stops_before, stops_after}
+use Rattle.mz_mmu_theory.specs.Stops.{Stops}
+use Rattle.mz_mmu_theory.proofs.Offered.{new_holds, params_hold}
+use Rattle.mz_mmu_forms.proofs.Offered.{failed, stops_before, stops_after}
 use Rattle.mz_mmu_statements.proofs.statements.term.Goals as goal
 
 pub returns-in_err-params-clause-stops : goal.returns-in_err-params-clause-stops

@@ -1,18 +1,19 @@
 use Rattle.std.proofs.Common.{◌++◌, [], ap, sym, subst, arith, length}
 use Rattle.mz_base_theory.specs.Checks.{◌>>◌}
-use Rattle.mz_logic.specs.View.{tree}
+use Rattle.mz_logic_theory.specs.View.{tree}
 use Rattle.mz_sexpr.specs.Node.{place, parts}
 use Rattle.mz_sexpr.specs.Number.{node_at}
-use Rattle.mz_mmu_forms.specs.Cursor.{nodes_from, nodes_size}
-use Rattle.mz_mmu_forms.specs.Expressions.{IsExpr}
-use Rattle.mz_mmu_statements.specs.Statements.{theorem_kind, AreNamedHyps}
-use Rattle.mz_mmu_forms.specs.Name.{scope_of}
-use Rattle.mz_mmu_forms.specs.Order.{new_asked, params_asked, dummies_asked, expr_asked, proof_asked, names_of}
-use Rattle.mz_mmu_statements.specs.Order.{hyps_asked, declared_asked}
+use Rattle.mz_mmu_theory.specs.Cursor.{nodes_from, nodes_size}
+use Rattle.mz_mmu_theory.specs.Expressions.{IsExpr}
+use Rattle.mz_mmu_theory.specs.Statements.{AreNamedHyps}
+use Rattle.mz_mmu_theory.specs.declared.kind.Kind.TheVariants.{Theorem as theorem_kind}
+use Rattle.mz_mmu_theory.specs.Name.{scope_of}
+use Rattle.mz_mmu_theory.specs.FormOrder.{new_asked, params_asked, dummies_asked, expr_asked, proof_asked, names_of}
+use Rattle.mz_mmu_theory.specs.StatementOrder.{hyps_asked, declared_asked}
 use Rattle.mz_mmu_forms.specs.ScopeView.{names}
-use Rattle.mz_mmu_forms.specs.Stops.{Stops}
-use Rattle.mz_mmu_forms.proofs.Offered.{names_few, new_holds, params_hold, expr_holds, failed, stops_before, stops_after}
-use Rattle.mz_mmu_statements.proofs.HoldStatements.{hyps_hold, stops_front}
+use Rattle.mz_mmu_theory.specs.Stops.{Stops}
+use Rattle.mz_mmu_theory.proofs.Offered.{names_few, new_holds, params_hold, expr_holds, hyps_hold, stops_front}
+use Rattle.mz_mmu_forms.proofs.Offered.{failed, stops_before, stops_after}
 use Rattle.mz_mmu_statements.proofs.statements.theorem.Goals as goal
 
 pub returns-in_err-params-clause-stops : goal.returns-in_err-params-clause-stops

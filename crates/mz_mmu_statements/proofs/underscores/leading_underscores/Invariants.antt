@@ -1,5 +1,5 @@
 use Rattle.std.proofs.Common.{◌≡◌, ◌+◌, drop}
-use Rattle.mz_mmu_statements.specs.DeclaredNames.{underscores}
+use Rattle.mz_mmu_theory.specs.DeclaredNames.{underscores}
 use Rattle.mz_mmu_statements.proofs.underscores.leading_underscores.Given as goal
 
 abbrev pub invariant-loop-byte : goal.invariant-loop-byte

@@ -2,7 +2,7 @@ use Rattle.std.specs.Prelude.{◌&&◌}
 use Rattle.std.proofs.Common.{◌≡◌, ◌<◌, suc, length, sym, ap, ◌∙◌, arith, add-one}
 use Rattle.mz_pmachine_unify.specs.Stored.{trees_at}
 use Rattle.mz_pmachine_unify.proofs.Offered.{length-trees}
-use Rattle.mz_layout.specs.Rows.{params_of}
+use Rattle.mz_layout_tables.specs.Rows.{params_of}
 use Rattle.mz_machine_env.proofs.Offered.{place-below, rows_from, rows-at}
 use Rattle.mz_pmachine.proofs.apart.are_apart.Goals as goal
 

@@ -2,14 +2,14 @@ use Rattle.std.proofs.Common.{ℕ, ◌≡◌, ◌<◌, length, get_or, sym, ap, 
 use Rattle.std.specs.Prelude.{bit_and, if◌then◌else◌}
 use Rattle.std.proofs.lemmas.Option.{slice_get-get_or}
 use Rattle.mz_base_theory.proofs.Offered.{slice_get-some}
-use Rattle.mz_logic.specs.Words.{word_bound, word_deps}
-use Rattle.mz_logic.specs.declared.word.Word.{Word}
+use Rattle.mz_logic_theory.specs.Words.{word_bound, word_deps}
+use Rattle.mz_logic_theory.specs.declared.word.Word.{Word}
 use Rattle.mz_pmachine_unify.specs.Numbering.{tree_of, vars_of}
 use Rattle.mz_pmachine_unify.specs.Stored.{trees_at}
 use Rattle.mz_pmachine_unify.proofs.Offered.{is-in-at, length-trees, tree-at}
 use Rattle.mz_unify_theory.proofs.Offered.{some_is}
 use Rattle.mz_machine_env.specs.Before.{signatures_of}
-use Rattle.mz_layout.specs.Rows.{params_of}
+use Rattle.mz_layout_tables.specs.Rows.{params_of}
 use Rattle.mz_machine_env.proofs.Offered.{apart-at-once, place-below, place-fits, decides-first, decides-end, decides-not, decides-next, row-asked}
 use Rattle.mz_pmachine.proofs.apart.is_apart.Goals as goal
 

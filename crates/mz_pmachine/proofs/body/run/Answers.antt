@@ -5,7 +5,8 @@ use Rattle.mz_pmachine_theory.specs.Numbered.{portable}
 use Rattle.mz_unify_theory.proofs.Offered.{further}
 use Rattle.mz_machine_env.proofs.Offered.{at-first, cut-whole, long-whole, end-whole, end-refused, end-many, refused-whole, refused-many, goes-on, ends-there, goes-further}
 use Rattle.mz_pmachine.proofs.BodyRunning.{itself, goes, row-over, steps-over, most-over, end-answer, end-counts, stop-answer, stop-counts}
-use Rattle.mz_machine.proofs.Offered.{more-steps, place-fits, within-steps}
+use Rattle.mz_machine_theory.proofs.Offered.{more-steps, within-steps}
+use Rattle.mz_machine.proofs.Offered.{place-fits}
 use Rattle.mz_pmachine.proofs.body.run.Goals as goal
 
 pub commands-init : goal.commands-init

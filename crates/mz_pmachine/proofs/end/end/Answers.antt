@@ -2,7 +2,8 @@ use Rattle.std.proofs.Common.{◌∙◌, ap, sym, subst, refl}
 use Rattle.mz_pmachine_unify.specs.Numbering.{expr_of, AreIn}
 use Rattle.mz_pmachine_unify.specs.Stored.{items_at, exprs_at, AreItemsIn}
 use Rattle.mz_unify_theory.specs.UnifyMachine.{unify, unify_steps}
-use Rattle.mz_machine_env.specs.OwnRow.{first_ids, heading_by, kind_of}
+use Rattle.mz_machine_env.specs.OwnRow.{first_ids, kind_of}
+use Rattle.mz_machine_theory.specs.Headings.{heading_by}
 use Rattle.mz_machine_env.specs.Before.{tables_of, signatures_of}
 use Rattle.mz_machine_theory.specs.ProofMachine.{last_item, ending}
 use Rattle.mz_machine_theory.specs.MachineState.{Kind}

@@ -1,12 +1,12 @@
 use Rattle.std.proofs.Common.{◌<◌, ◌≤◌, ◌+◌, ◌++◌, List, ℕ, drop, length, refl, sym, ap, ◌∙◌, arith, add-one}
 use Rattle.std.proofs.lemmas.Option.{slice_get-get_or}
 use Rattle.std.proofs.lemmas.Result.{err_from_is_err_and}
-use Rattle.mz_logic.specs.Words.{bound_places}
+use Rattle.mz_logic_theory.specs.Words.{bound_places}
 use Rattle.mz_pmachine_unify.specs.Stored.{trees_at}
 use Rattle.mz_pmachine_unify.proofs.Offered.{is-in-at, length-trees, tree-at}
 use Rattle.mz_machine_env.specs.Before.{signatures_of}
 use Rattle.mz_machine_env.proofs.Offered.{places-take, places-skip, places-all}
-use Rattle.mz_layout.specs.Rows.{params_of}
+use Rattle.mz_layout_tables.specs.Rows.{params_of}
 use Rattle.mz_machine.proofs.Offered.{fit-end, fit-step, memory-stops}
 use Rattle.mz_pmachine.proofs.fitting.check_cited.Goals as goal
 use Rattle.mz_pmachine.proofs.fitting.check_cited.Goals.{then-bound+in_ok-push, else-bound}

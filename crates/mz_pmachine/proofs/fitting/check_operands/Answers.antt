@@ -4,7 +4,7 @@ use Rattle.std.proofs.lemmas.Result.{err_from_is_err_and}
 use Rattle.mz_pmachine_unify.specs.Stored.{trees_at}
 use Rattle.mz_pmachine_unify.proofs.Offered.{is-in-at, length-trees, tree-at}
 use Rattle.mz_machine_env.specs.Before.{signatures_of}
-use Rattle.mz_layout.specs.Rows.{params_of}
+use Rattle.mz_layout_tables.specs.Rows.{params_of}
 use Rattle.mz_machine.proofs.Offered.{fit-end, fit-step}
 use Rattle.mz_pmachine.proofs.fitting.check_operands.Goals as goal
 

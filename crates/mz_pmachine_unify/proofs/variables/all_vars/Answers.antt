@@ -1,5 +1,5 @@
 use Rattle.std.proofs.Common.{◌<◌, length, arith, sym, subst}
-use Rattle.mz_logic.specs.Variables.{InV, InSomeV}
+use Rattle.mz_logic_theory.specs.Variables.{InV, InSomeV}
 use Rattle.mz_store.specs.Bits.{Tells, bound_vars}
 use Rattle.mz_pmachine_unify.specs.Numbering.{trees_of}
 use Rattle.mz_store.proofs.Offered.{many, all-step, all-end}

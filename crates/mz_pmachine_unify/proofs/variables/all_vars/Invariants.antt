@@ -1,6 +1,6 @@
 use Rattle.std.proofs.Common.{List}
-use Rattle.mz_logic.specs.Signature.{Signature}
-use Rattle.mz_logic.specs.Variables.{InSomeV}
+use Rattle.mz_logic_theory.specs.Signature.{Signature}
+use Rattle.mz_logic_theory.specs.Variables.{InSomeV}
 use Rattle.mz_store.specs.Bits.{bound_vars}
 use Rattle.mz_pmachine_unify.specs.Numbering.{IsOver, trees_of}
 use Rattle.mz_store.proofs.Offered.{Gathers, rest_of}

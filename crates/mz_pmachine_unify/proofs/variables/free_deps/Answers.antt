@@ -1,6 +1,6 @@
 use Rattle.std.proofs.Common.{◌≡◌, ◌<◌, ◌≤◌, ◌+◌, ◌++◌, ◌∷◌, [], true, false, take, Contains, arith, refl, sym, ◌∙◌, ap, subst, length, add-one}
-use Rattle.mz_logic.specs.Words.{signatures_of, term_at, word_deps, bound_places, binders_of}
-use Rattle.mz_logic.specs.Tree.{operand}
+use Rattle.mz_logic_theory.specs.Words.{signatures_of, term_at, word_deps, bound_places, binders_of}
+use Rattle.mz_logic_theory.specs.Tree.{operand}
 use Rattle.mz_store.specs.Bits.{Tells, bound_vars}
 use Rattle.mz_store.specs.Sharing.{IsTold}
 use Rattle.mz_store.proofs.Offered.{many, args-many, places-next, places-are-bound, places-within, names-told, free-skip, free-take, free-end}

@@ -1,5 +1,5 @@
 use Rattle.std.proofs.Common.{◌≡◌, ◌∙◌, true, false, sym, subst}
-use Rattle.mz_logic.specs.DeclView.{declaration}
+use Rattle.mz_logic_theory.specs.DeclView.{declaration}
 use Rattle.mz_prefix_theory.specs.Wording.{IsBrief}
 use Rattle.mz_prefix.proofs.Gathering.{told-of}
 use Rattle.mz_prefix.proofs.first.is_brief_at.Goals as goal

@@ -1,5 +1,5 @@
 use Rattle.std.proofs.Common.{◌≡◌, max, drop}
-use Rattle.mz_mmu_statements.specs.DeclaredNames.{longest_run, text_names}
+use Rattle.mz_mmu_theory.specs.DeclaredNames.{longest_run, text_names}
 use Rattle.mz_prefix.proofs.gather.longest_run.Given as goal
 
 abbrev pub invariant-loop-i : goal.invariant-loop-i

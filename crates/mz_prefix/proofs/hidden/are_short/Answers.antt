@@ -1,6 +1,6 @@
 use Rattle.std.proofs.Common.{◌≡◌, ◌↔◌, ◌∙◌, true, false, refl, sym, subst}
 use Rattle.std.proofs.lemmas.List.{drop_all}
-use Rattle.mz_logic.specs.View.{tree, trees}
+use Rattle.mz_logic_theory.specs.View.{tree, trees}
 use Rattle.mz_prefix_theory.specs.Declared.{AreShort}
 use Rattle.mz_type_rules.proofs.Offered.{trees_cut}
 use Rattle.mz_prefix.proofs.Measuring.{short-is, is-short}

@@ -1,5 +1,5 @@
 use Rattle.std.proofs.Common.{◌↔◌, drop}
-use Rattle.mz_logic.specs.View.{trees}
+use Rattle.mz_logic_theory.specs.View.{trees}
 use Rattle.mz_prefix_theory.specs.Declared.{Vocabulary, AreShort}
 use Rattle.mz_prefix.proofs.hidden.are_short.Given as goal
 

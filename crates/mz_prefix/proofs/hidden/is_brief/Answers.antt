@@ -1,5 +1,5 @@
 use Rattle.std.proofs.Common.{◌≡◌, ◌∙◌, true, false, sym}
-use Rattle.mz_logic.specs.View.{tree}
+use Rattle.mz_logic_theory.specs.View.{tree}
 use Rattle.mz_prefix.proofs.Measuring.{short-is, is-short}
 use Rattle.mz_prefix.proofs.hidden.is_brief.Goals as goal
 

@@ -1,5 +1,5 @@
 use Rattle.std.proofs.Common.{◌∙◌}
-use Rattle.mz_logic.specs.View.{tree}
+use Rattle.mz_logic_theory.specs.View.{tree}
 use Rattle.mz_prefix.proofs.Measuring.{measured}
 use Rattle.mz_prefix.proofs.measure.is_short.Goals as goal
 

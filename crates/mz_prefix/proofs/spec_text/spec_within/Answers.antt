@@ -1,6 +1,6 @@
 use Rattle.std.proofs.Common.{List, false, sym, subst}
-use Rattle.mz_mmu_statements.specs.Statements.{Statement, Reads}
-use Rattle.mz_type.specs.TextOf.{TextOf}
+use Rattle.mz_mmu_theory.specs.Statements.{Statement, Reads}
+use Rattle.mz_mmu_theory.specs.TextOf.{TextOf}
 use Rattle.mz_prefix.proofs.spec_text.spec_within.Goals as goal
 
 pub returns-in-Typed : goal.returns-in-Typed

@@ -1,5 +1,5 @@
 use Rattle.std.proofs.Common.{◌≡◌, ◌≤◌, ◌∙◌, ap, length, arith}
-use Rattle.mz_layout.specs.Tables.{term_row}
+use Rattle.mz_layout_tables.specs.Tables.{term_row}
 use Rattle.mz_show.specs.Words.{param_line, result_line}
 use Rattle.mz_show.proofs.Texts.{texts-more, texts-whole, on-ok}
 use Rattle.mz_show.proofs.row.list_term.Goals as goal

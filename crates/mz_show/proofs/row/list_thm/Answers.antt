@@ -1,5 +1,5 @@
 use Rattle.std.proofs.Common.{◌∙◌}
-use Rattle.mz_layout.specs.Tables.{thm_row}
+use Rattle.mz_layout_tables.specs.Tables.{thm_row}
 use Rattle.mz_show.specs.Words.{param_line}
 use Rattle.mz_show.proofs.Texts.{texts-more}
 use Rattle.mz_show.proofs.row.list_thm.Goals as goal

@@ -2,7 +2,7 @@ use Rattle.std.proofs.Common.{sym, subst, inl}
 use Rattle.mz_base_theory.proofs.Offered.{retold-fails}
 use Rattle.mz_base_theory.specs.Checks.{FailsFirst}
 use Rattle.mz_cmd.specs.declared.rule.Refusal.{Refusal}
-use Rattle.mz_layout.specs.Heads.{head_checks}
+use Rattle.mz_layout_tables.specs.Heads.{head_checks}
 use Rattle.mz_show.specs.Statements.{place_checks, refusal_at}
 use Rattle.mz_show.proofs.statement.list_next.Goals as goal
 

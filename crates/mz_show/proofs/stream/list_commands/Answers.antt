@@ -1,5 +1,5 @@
 use Rattle.std.proofs.Common.{◌+◌, ◌∙◌, ℕ, sym, subst, arith}
-use Rattle.mz_layout.proofs.Offered.{command-takes}
+use Rattle.mz_layout_tables.proofs.Offered.{command-takes}
 use Rattle.mz_show.proofs.Appending.{Listed, listed-more}
 use Rattle.mz_show.proofs.stream.list_commands.Goals as goal
 

@@ -1,7 +1,7 @@
 use Rattle.std.proofs.Common.{rules, [], add-zero, append-nil, ◌≡◌, ◌≤◌, ◌++◌, ◌∙◌, ℕ, List, length, codes, refl, sym, ap, subst, inr, arith, append_assoc}
 use Rattle.mz_cmd.specs.declared.rule.Refusal.{Refusal}
 use Rattle.mz_io.specs.Calls.{Grows, IsWritten, IsCut}
-use Rattle.mz_io.proofs.Logs.{grows-none, grows-both, written-none, written-both}
+use Rattle.mz_io.proofs.Offered.{grows-none, grows-both, written-none, written-both}
 use Rattle.mz_io.specs.Outside.{AppendsPrefix}
 use Rattle.mz_show.specs.Statements.{first_place, statement_text}
 use Rattle.mz_show.specs.Listing.{chain_text, StopsAt}

@@ -1,9 +1,9 @@
 use Rattle.std.proofs.Common.{◌≡◌, ◌+◌, ℕ, List, [], refl, sym, subst, inl, append-nil, arith}
 use Rattle.mz_base_theory.proofs.Offered.{all_hold-excludes}
 use Rattle.mz_cmd.specs.declared.rule.Refusal.{Refusal}
-use Rattle.mz_layout.specs.Layout.{layout_checks}
+use Rattle.mz_layout_tables.specs.Layout.{layout_checks}
 use Rattle.mz_show.specs.Listing.{IsListing, IsListedUpTo, IsListed, IsNoBinary}
-use Rattle.mz_io.proofs.Logs.{written-none}
+use Rattle.mz_io.proofs.Offered.{written-none}
 use Rattle.mz_show.proofs.OneListing.{listing-excludes}
 use Rattle.mz_show.proofs.writing.listing.Goals as goal
 

@@ -1,7 +1,7 @@
 use Rattle.std.proofs.Common.{◌∙◌, ◌++◌, map, ap}
-use Rattle.mz_spec_grammar.specs.Code.{group, source}
-use Rattle.mz_spec.specs.Code.{stated}
-use Rattle.mz_spec_variables.specs.View.{group_stated, premise_stated}
+use Rattle.mz_spec_theory.specs.StatementCode.{group, source}
+use Rattle.mz_spec_theory.specs.SpecCode.{stated}
+use Rattle.mz_spec_theory.specs.View.{group_stated, premise_stated}
 use Rattle.mz_spec.proofs.declare.stated_of.Goals as goal
 
 pub returns : goal.returns

@@ -1,7 +1,7 @@
 use Rattle.std.proofs.Common.{◌≡◌, ◌++◌, map, drop}
-use Rattle.mz_spec_grammar.specs.Code.{group}
-use Rattle.mz_spec.specs.Code.{stated}
-use Rattle.mz_spec_variables.specs.View.{group_stated}
+use Rattle.mz_spec_theory.specs.StatementCode.{group}
+use Rattle.mz_spec_theory.specs.SpecCode.{stated}
+use Rattle.mz_spec_theory.specs.View.{group_stated}
 use Rattle.mz_spec.proofs.formulas.push_group_stated.Given as goal
 
 abbrev pub invariant-loop-group : goal.invariant-loop-group

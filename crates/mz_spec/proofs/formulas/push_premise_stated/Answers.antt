@@ -1,7 +1,7 @@
 use Rattle.std.proofs.Common.{◌≡◌, ◌++◌, ◌+◌, drop, map, refl, subst, sym}
-use Rattle.mz_spec_grammar.specs.Code.{source}
-use Rattle.mz_spec.specs.Code.{stated}
-use Rattle.mz_spec_variables.specs.View.{premise_stated, source_stated}
+use Rattle.mz_spec_theory.specs.StatementCode.{source}
+use Rattle.mz_spec_theory.specs.SpecCode.{stated}
+use Rattle.mz_spec_theory.specs.View.{premise_stated, source_stated}
 use Rattle.mz_spec_variables.proofs.Offered.{made-end, made-step}
 use Rattle.mz_spec.proofs.formulas.push_premise_stated.Goals as goal
 

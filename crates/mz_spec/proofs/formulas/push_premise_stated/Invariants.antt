@@ -1,7 +1,7 @@
 use Rattle.std.proofs.Common.{◌≡◌, ◌++◌, map, drop}
-use Rattle.mz_spec_grammar.specs.Code.{source}
-use Rattle.mz_spec.specs.Code.{stated}
-use Rattle.mz_spec_variables.specs.View.{premise_stated}
+use Rattle.mz_spec_theory.specs.StatementCode.{source}
+use Rattle.mz_spec_theory.specs.SpecCode.{stated}
+use Rattle.mz_spec_theory.specs.View.{premise_stated}
 use Rattle.mz_spec.proofs.formulas.push_premise_stated.Given as goal
 
 abbrev pub invariant-loop-premise : goal.invariant-loop-premise

@@ -1,5 +1,4 @@
-use Rattle.mz_spec.proofs.OneSpec.{one-reading, one-fault, not-both}
-use Rattle.mz_spec.proofs.SomeSpec.{one-of-both}
+use Rattle.mz_spec_theory.proofs.Offered.{one-reading, one-fault, not-both, one-of-both}
 use Rattle.mz_spec.proofs.laws.readings_are_one.Goals as goal
 
 pub returns : goal.returns

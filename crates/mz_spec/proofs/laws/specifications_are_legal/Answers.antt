@@ -1,4 +1,4 @@
-use Rattle.mz_spec.proofs.OneSpec.{declares-legally}
+use Rattle.mz_spec_theory.proofs.Offered.{declares-legally}
 use Rattle.mz_spec.proofs.laws.specifications_are_legal.Goals as goal
 
 pub returns : goal.returns

@@ -1,6 +1,6 @@
 use Rattle.std.proofs.Common.{◌≡◌, ◌≤◌, take}
 use Rattle.std.specs.Str.Parse.{digits_value}
-use Rattle.mz_spec.specs.Forms.{highest_level}
+use Rattle.mz_spec_theory.specs.Forms.{highest_level}
 use Rattle.mz_spec.proofs.levels.digits_level.Given as goal
 
 abbrev pub invariant-loop-digit : goal.invariant-loop-digit

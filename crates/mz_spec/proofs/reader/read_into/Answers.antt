@@ -1,10 +1,10 @@
 use Rattle.std.proofs.Common.{◌≡◌, ◌+◌, ◌-◌, length, ap, sym, subst, arith}
-use Rattle.mz_spec_grammar.specs.Code.{statement}
+use Rattle.mz_spec_theory.specs.StatementCode.{statement}
 use Rattle.mz_spec.specs.Answers.{IsAnswer, halted}
 use Rattle.mz_spec.specs.Entries.{state}
-use Rattle.mz_spec.specs.Kept.{IsKept}
+use Rattle.mz_spec_theory.specs.Kept.{IsKept}
 use Rattle.mz_spec.specs.Reading.{StandTo}
-use Rattle.mz_spec.proofs.Keeping.{kept-nothing, kept-after}
+use Rattle.mz_spec_theory.proofs.Offered.{kept-nothing, kept-after}
 use Rattle.mz_spec.proofs.Texts.{stand-begins, stand-next, spec-made, halt-stops, halt-breaks, read-spelled, read-two, after-marks, judged-good}
 use Rattle.mz_spec.proofs.reader.read_into.Goals as goal
 

@@ -1,7 +1,7 @@
 use Rattle.std.proofs.Common.{◌∙◌, length, ap, subst, sym}
 use Rattle.mz_spec.specs.Answers.{IsAnswer}
-use Rattle.mz_spec.specs.Spec.{SpecMakes}
-use Rattle.mz_spec.specs.State.{entries_of}
+use Rattle.mz_spec_theory.specs.Spec.{SpecMakes}
+use Rattle.mz_spec_theory.specs.State.{entries_of}
 use Rattle.mz_spec.proofs.reader.read_spec.Goals as goal
 
 pub new-requires-clause-each : goal.new-requires-clause-each

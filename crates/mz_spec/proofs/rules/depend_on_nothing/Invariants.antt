@@ -1,8 +1,8 @@
 use Rattle.std.proofs.Common.{map, drop}
 use Rattle.std.specs.Prelude.{◌↔◌}
 use Rattle.mz_spec_variables.specs.Code.{variable}
-use Rattle.mz_spec_variables.specs.Dependencies.{Every}
-use Rattle.mz_spec.specs.Rules.{DependsOnNothing}
+use Rattle.mz_spec_theory.specs.Dependencies.{Every}
+use Rattle.mz_spec_theory.specs.Rules.{DependsOnNothing}
 use Rattle.mz_spec.proofs.rules.depend_on_nothing.Given as goal
 
 abbrev pub invariant-loop-variable : goal.invariant-loop-variable

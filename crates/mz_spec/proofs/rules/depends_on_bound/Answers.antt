@@ -1,10 +1,10 @@
 use Rattle.std.proofs.Common.{◌↔◌, List, map, sym, subst}
 use Rattle.std.specs.Prelude.{IsTrue, option_map}
 use Rattle.std.proofs.Math.Seq.{take-length}
-use Rattle.mz_spec_grammar.specs.Code.{lexeme, type_text}
+use Rattle.mz_spec_theory.specs.StatementCode.{lexeme, type_text}
 use Rattle.mz_spec_variables.specs.Code.{all_of, variable}
-use Rattle.mz_spec_variables.specs.Dependencies.{Every, IsBoundAmong}
-use Rattle.mz_spec.specs.Rules.{IsResult}
+use Rattle.mz_spec_theory.specs.Dependencies.{Every, IsBoundAmong}
+use Rattle.mz_spec_theory.specs.Rules.{IsResult}
 use Rattle.mz_spec_variables.specs.declared.variables.Variable.{Variable as VariableRead}
 use Rattle.mz_spec.proofs.rules.depends_on_bound.Goals as goal
 

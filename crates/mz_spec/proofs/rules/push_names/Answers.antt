@@ -3,11 +3,11 @@ use Rattle.std.proofs.lemmas.Result.{err_from_is_err_and}
 use Rattle.mz_base_theory.specs.Checks.{AllHold}
 use Rattle.mz_base_theory.proofs.Offered.{Decides, decides-after, decides-whole, drop-item, drop-past}
 use Rattle.mz_spec.specs.Answers.{JudgesOrMem}
-use Rattle.mz_spec.specs.Rules.{are_others, is_other}
+use Rattle.mz_spec_theory.specs.Rules.{are_others, is_other}
 use Rattle.mz_spec_variables.proofs.Offered.{made-end, made-step}
 use Rattle.mz_spec_variables.specs.Code.{variable}
-use Rattle.mz_spec_variables.specs.View.{name_texts, names_of}
-use Rattle.mz_spec.proofs.Loops.{mem-before, mem-decided}
+use Rattle.mz_spec_theory.specs.View.{name_texts, names_of}
+use Rattle.mz_spec_theory.proofs.Offered.{mem-before, mem-decided}
 use Rattle.mz_spec.proofs.rules.push_names.Goals as goal
 
 pub loop-variable-init : goal.loop-variable-init

@@ -1,8 +1,8 @@
 use Rattle.std.proofs.Common.{◌≡◌, ◌++◌, [], map, drop}
 use Rattle.mz_base_theory.proofs.Offered.{Decides}
 use Rattle.mz_spec_variables.specs.Code.{variable}
-use Rattle.mz_spec.specs.Rules.{are_others}
-use Rattle.mz_spec_variables.specs.View.{names_of}
+use Rattle.mz_spec_theory.specs.Rules.{are_others}
+use Rattle.mz_spec_theory.specs.View.{names_of}
 use Rattle.mz_spec.proofs.rules.push_names.Given as goal
 
 abbrev pub invariant-loop-variable : goal.invariant-loop-variable

@@ -1,11 +1,11 @@
 use Rattle.std.proofs.Common.{◌≡◌, ◌∙◌, ℕ, Option, Some, map, ap, subst}
 use Rattle.std.proofs.lemmas.Result.{IfOk-weaker}
-use Rattle.mz_spec_grammar.specs.Code.{lexeme, type_text}
-use Rattle.mz_spec_grammar.specs.Statement.{TypeText}
-use Rattle.mz_logic.proofs.Offered.{one_at}
+use Rattle.mz_spec_theory.specs.StatementCode.{lexeme, type_text}
+use Rattle.mz_spec_theory.specs.Statement.{TypeText}
+use Rattle.mz_logic_theory.proofs.Offered.{one_at}
 use Rattle.mz_spec_variables.specs.Code.{IsOfTypes, IsTypedBy, typed, variable}
 use Rattle.mz_spec_variables.specs.declared.variables.Variable.{Variable as VariableRead}
-use Rattle.mz_spec_variables.specs.Dependencies.{dep_places}
+use Rattle.mz_spec_theory.specs.Dependencies.{dep_places}
 use Rattle.mz_spec.proofs.scope.deps_of.Goals as goal
 
 -- a variable has the type of its group

@@ -1,4 +1,4 @@
-use Rattle.mz_spec_grammar.proofs.OneAnswer.{one-read, one-fault, read-or-fault, read-or-blank, fault-or-blank}
+use Rattle.mz_spec_theory.proofs.Offered.{one-read, one-fault-OneAnswer as one-fault, read-or-fault, read-or-blank, fault-or-blank}
 use Rattle.mz_spec_grammar.proofs.laws.answers_are_one.Goals as goal
 
 pub returns : goal.returns

@@ -1,5 +1,4 @@
-use Rattle.mz_spec_grammar.proofs.Grammar.{statements-one, no-empty}
-use Rattle.mz_spec_grammar.proofs.Stopping.{one-statement}
+use Rattle.mz_spec_theory.proofs.Offered.{statements-one, no-empty, one-statement}
 use Rattle.mz_spec_grammar.proofs.laws.statements_are_one.Goals as goal
 
 pub returns : goal.returns

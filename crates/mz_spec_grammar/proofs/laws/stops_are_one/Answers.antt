@@ -1,4 +1,4 @@
-use Rattle.mz_spec_grammar.proofs.Stopping.{stops-one, not-both, one-of-all}
+use Rattle.mz_spec_theory.proofs.Offered.{stops-one, not-both-Stopping as not-both, one-of-all}
 use Rattle.mz_spec_grammar.proofs.laws.stops_are_one.Goals as goal
 
 pub returns : goal.returns

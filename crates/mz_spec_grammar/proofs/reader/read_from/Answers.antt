@@ -1,9 +1,9 @@
 use Rattle.std.proofs.Common.{◌∙◌, ap, sym, subst}
 use Rattle.std.specs.Prelude.{option_map}
-use Rattle.mz_spec_grammar.specs.Code.{lexeme}
+use Rattle.mz_spec_theory.specs.StatementCode.{lexeme}
 use Rattle.mz_spec_grammar.specs.CodeProgress.{at}
-use Rattle.mz_spec_grammar.specs.Reading.{StopsFrom}
-use Rattle.mz_spec_grammar.specs.declared.refusal.Fault.{Fault}
+use Rattle.mz_spec_theory.specs.Reading.{StopsFrom}
+use Rattle.mz_spec_theory.specs.declared.refusal.Fault.{Fault}
 use Rattle.mz_lex.specs.declared.rule.S.{S}
 use Rattle.mz_spec_grammar.proofs.Reading.{read-first, stop-first}
 use Rattle.mz_spec_grammar.proofs.reader.read_from.Goals as goal

@@ -1,8 +1,8 @@
 use Rattle.std.proofs.Common.{◌∙◌, ap, sym, refl}
 use Rattle.std.specs.Prelude.{option_map}
-use Rattle.mz_spec_grammar.specs.Code.{lexeme}
+use Rattle.mz_spec_theory.specs.StatementCode.{lexeme}
 use Rattle.mz_spec_grammar.specs.CodeProgress.{at}
-use Rattle.mz_spec_grammar.specs.Progress.{whole}
+use Rattle.mz_spec_theory.specs.Progress.{whole}
 use Rattle.mz_spec_grammar.proofs.Reading.{read-whole, read-more, stop-ending, stop-misfit, is-open}
 use Rattle.mz_spec_grammar.proofs.reader.read_rest.Goals as goal
 

@@ -1,6 +1,6 @@
 use Rattle.std.proofs.Common.{◌≤◌, ◌-◌, length}
 use Rattle.mz_spec_grammar.specs.CodeProgress.{at}
-use Rattle.mz_spec_grammar.specs.Reading.{IsReadTo}
+use Rattle.mz_spec_theory.specs.Reading.{IsReadTo}
 use Rattle.mz_spec_grammar.proofs.reader.read_rest.Given as goal
 
 abbrev pub invariant-lexemes : goal.invariant-lexemes

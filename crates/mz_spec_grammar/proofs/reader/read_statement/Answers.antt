@@ -1,5 +1,5 @@
 use Rattle.std.proofs.Common.{sym, subst}
-use Rattle.mz_spec_grammar.specs.Reading.{StopsFrom}
+use Rattle.mz_spec_theory.specs.Reading.{StopsFrom}
 use Rattle.mz_spec_grammar.proofs.Reading.{stop-fault, is-next}
 use Rattle.mz_spec_grammar.proofs.reader.read_statement.Goals as goal
 

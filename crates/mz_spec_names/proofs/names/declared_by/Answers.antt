@@ -1,4 +1,4 @@
-use Rattle.mz_spec.proofs.Offered.{not-both}
+use Rattle.mz_spec_theory.proofs.Offered.{not-both}
 use Rattle.mz_spec_names.proofs.names.declared_by.Goals as goal
 
 pub unreachable-requires : goal.unreachable-requires

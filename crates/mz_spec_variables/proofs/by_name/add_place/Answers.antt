@@ -1,7 +1,7 @@
 use Rattle.std.proofs.Common.{ap}
 use Rattle.std.specs.Prelude.{option_map}
 use Rattle.std.proofs.lemmas.Result.{IfOk-weaker}
-use Rattle.mz_spec_grammar.specs.Code.{lexeme}
+use Rattle.mz_spec_theory.specs.StatementCode.{lexeme}
 use Rattle.mz_spec_variables.specs.Code.{variable}
 use Rattle.mz_spec_variables.proofs.Indexed.{unnamed-step}
 use Rattle.mz_spec_variables.proofs.by_name.add_place.Goals as goal

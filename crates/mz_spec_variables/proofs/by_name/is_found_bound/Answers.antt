@@ -1,10 +1,10 @@
 use Rattle.std.proofs.Common.{◌∙◌, ◌↔◌, List, map, sym, subst, refl, false}
 use Rattle.std.specs.Prelude.{IsTrue}
 use Rattle.std.proofs.lemmas.List.{take-map}
-use Rattle.mz_spec_grammar.specs.Code.{lexeme}
+use Rattle.mz_spec_theory.specs.StatementCode.{lexeme}
 use Rattle.mz_spec_variables.specs.Code.{variable}
-use Rattle.mz_spec_variables.specs.Dependencies.{IsBoundAmong}
-use Rattle.mz_spec_variables.specs.View.{Variable}
+use Rattle.mz_spec_theory.specs.Dependencies.{IsBoundAmong}
+use Rattle.mz_spec_theory.specs.View.{Variable}
 use Rattle.mz_spec_variables.proofs.Indexed.{none-bound, some-bound, read-bound}
 use Rattle.mz_spec_variables.proofs.by_name.is_found_bound.Goals as goal
 

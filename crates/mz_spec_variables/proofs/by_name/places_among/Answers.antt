@@ -1,7 +1,7 @@
 use Rattle.std.proofs.Common.{◌∙◌, map}
-use Rattle.mz_spec_grammar.specs.Code.{lexeme}
+use Rattle.mz_spec_theory.specs.StatementCode.{lexeme}
 use Rattle.mz_spec_variables.specs.Code.{variable}
-use Rattle.mz_spec_variables.proofs.Places.{nothing-among}
+use Rattle.mz_spec_theory.proofs.Offered.{nothing-among}
 use Rattle.mz_spec_variables.proofs.by_name.places_among.Goals as goal
 
 pub returns-then-is_empty : goal.returns-then-is_empty

@@ -2,7 +2,7 @@ use Rattle.std.proofs.Common.{◌∙◌, map, subst}
 use Rattle.std.specs.List.Sorted.{IsPermutation}
 use Rattle.std.proofs.lemmas.List.Filters.{dedup_is}
 use Rattle.std.proofs.lemmas.Result.{IfOk-weaker}
-use Rattle.mz_spec_grammar.specs.Code.{lexeme}
+use Rattle.mz_spec_theory.specs.StatementCode.{lexeme}
 use Rattle.mz_spec_variables.proofs.Indexed.{sorted-places}
 use Rattle.mz_spec_variables.proofs.by_name.sorted_places.Goals as goal
 

@@ -1,7 +1,7 @@
 use Rattle.std.proofs.Common.{◌≡◌, ◌++◌, map, drop}
-use Rattle.mz_spec_grammar.specs.Code.{type_text}
+use Rattle.mz_spec_theory.specs.StatementCode.{type_text}
 use Rattle.mz_spec_variables.specs.Code.{typed, typed_alone, variable}
-use Rattle.mz_spec_variables.specs.View.{unnamed}
+use Rattle.mz_spec_theory.specs.View.{unnamed}
 use Rattle.mz_spec_variables.proofs.parts.push_arguments.Given as goal
 
 abbrev pub invariant-loop-ty : goal.invariant-loop-ty

@@ -1,6 +1,6 @@
 use Rattle.std.proofs.Common.{◌≡◌, ◌++◌, ◌+◌, drop, map, refl, subst, sym}
-use Rattle.mz_spec_grammar.specs.Code.{group, source, type_text}
-use Rattle.mz_spec_variables.specs.View.{group_types, source_types}
+use Rattle.mz_spec_theory.specs.StatementCode.{group, source, type_text}
+use Rattle.mz_spec_theory.specs.View.{group_types, source_types}
 use Rattle.mz_spec_variables.proofs.Joins.{made-end, made-step}
 use Rattle.mz_spec_variables.proofs.parts.push_group_types.Goals as goal
 

@@ -1,6 +1,6 @@
 use Rattle.std.proofs.Common.{◌≡◌, ◌++◌, map, drop}
-use Rattle.mz_spec_grammar.specs.Code.{group, type_text}
-use Rattle.mz_spec_variables.specs.View.{group_types}
+use Rattle.mz_spec_theory.specs.StatementCode.{group, type_text}
+use Rattle.mz_spec_theory.specs.View.{group_types}
 use Rattle.mz_spec_variables.proofs.parts.push_group_types.Given as goal
 
 abbrev pub invariant-loop-group : goal.invariant-loop-group

@@ -1,6 +1,6 @@
 use Rattle.std.proofs.Common.{◌≡◌, ◌++◌, ◌+◌, drop, map, refl, subst, sym}
-use Rattle.mz_spec_grammar.specs.Code.{source, type_text}
-use Rattle.mz_spec_variables.specs.View.{source_types, types_of}
+use Rattle.mz_spec_theory.specs.StatementCode.{source, type_text}
+use Rattle.mz_spec_theory.specs.View.{source_types, types_of}
 use Rattle.mz_spec_variables.proofs.Joins.{made-end, made-step}
 use Rattle.mz_spec_variables.proofs.parts.push_premise_types.Goals as goal
 

@@ -1,6 +1,6 @@
 use Rattle.std.proofs.Common.{◌≡◌, ◌++◌, map, drop}
-use Rattle.mz_spec_grammar.specs.Code.{source, type_text}
-use Rattle.mz_spec_variables.specs.View.{types_of}
+use Rattle.mz_spec_theory.specs.StatementCode.{source, type_text}
+use Rattle.mz_spec_theory.specs.View.{types_of}
 use Rattle.mz_spec_variables.proofs.parts.push_premise_types.Given as goal
 
 abbrev pub invariant-loop-premise : goal.invariant-loop-premise

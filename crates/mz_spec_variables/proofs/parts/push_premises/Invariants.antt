@@ -1,7 +1,7 @@
 use Rattle.std.proofs.Common.{◌≡◌, ◌++◌, map, drop}
-use Rattle.mz_spec_grammar.specs.Code.{source}
+use Rattle.mz_spec_theory.specs.StatementCode.{source}
 use Rattle.mz_spec_variables.specs.Code.{typed, typed_alone, variable}
-use Rattle.mz_spec_variables.specs.View.{types_of, unnamed}
+use Rattle.mz_spec_theory.specs.View.{types_of, unnamed}
 use Rattle.mz_spec_variables.proofs.parts.push_premises.Given as goal
 
 abbrev pub invariant-loop-premise : goal.invariant-loop-premise

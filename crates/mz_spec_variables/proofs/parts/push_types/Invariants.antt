@@ -1,5 +1,5 @@
 use Rattle.std.proofs.Common.{◌≡◌, ◌++◌, map, drop}
-use Rattle.mz_spec_grammar.specs.Code.{type_text}
+use Rattle.mz_spec_theory.specs.StatementCode.{type_text}
 use Rattle.mz_spec_variables.proofs.parts.push_types.Given as goal
 
 abbrev pub invariant-loop-ty : goal.invariant-loop-ty

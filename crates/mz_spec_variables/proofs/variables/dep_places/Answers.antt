@@ -1,9 +1,9 @@
 use Rattle.std.proofs.Common.{◌∙◌, ◌+◌, ◌++◌, ap, drop, map, sym}
 use Rattle.std.proofs.lemmas.Result.{IfOk-weaker}
-use Rattle.mz_spec_grammar.specs.Code.{lexeme}
+use Rattle.mz_spec_theory.specs.StatementCode.{lexeme}
 use Rattle.mz_spec_variables.specs.Code.{variable}
-use Rattle.mz_spec_variables.specs.Dependencies.{dep_places}
-use Rattle.mz_spec_variables.proofs.Places.{all-seen, nothing-among}
+use Rattle.mz_spec_theory.specs.Dependencies.{dep_places}
+use Rattle.mz_spec_theory.proofs.Offered.{all-seen, nothing-among}
 use Rattle.mz_spec_variables.proofs.Chosen.{one-taken, place-first, place-passed}
 use Rattle.mz_spec_variables.proofs.variables.dep_places.Goals.{then-is_among+in_ok-push, else-is_among}
 use Rattle.mz_spec_variables.proofs.variables.dep_places.Goals as goal

@@ -1,7 +1,7 @@
 use Rattle.std.proofs.Common.{◌≡◌, ◌++◌, map, drop}
-use Rattle.mz_spec_grammar.specs.Code.{lexeme}
+use Rattle.mz_spec_theory.specs.StatementCode.{lexeme}
 use Rattle.mz_spec_variables.specs.Code.{variable}
-use Rattle.mz_spec_variables.specs.Dependencies.{dep_places}
+use Rattle.mz_spec_theory.specs.Dependencies.{dep_places}
 use Rattle.mz_spec_variables.proofs.variables.dep_places.Given as goal
 
 abbrev pub invariant-loop-i : goal.invariant-loop-i

@@ -2,7 +2,7 @@ use Rattle.std.proofs.Common.{◌∙◌, ◌++◌, ◌+◌, List, ap, drop, map,
 use Rattle.std.proofs.lemmas.List.{append-nil, drop_all}
 use Rattle.mz_spec_variables.specs.declared.variables.Variable.{Variable}
 use Rattle.mz_spec_variables.specs.Code.{dummies_read, variable}
-use Rattle.mz_spec_variables.specs.View.{dummies_of}
+use Rattle.mz_spec_theory.specs.View.{dummies_of}
 use Rattle.mz_spec_variables.proofs.Chosen.{one-taken, one-mapped, dummy-first, dummy-passed, dummy-read, dummy-unread}
 use Rattle.mz_spec_variables.proofs.variables.dummies_of.Goals.{then-variable+in_ok-push, else-variable}
 use Rattle.mz_spec_variables.proofs.variables.dummies_of.Goals as goal

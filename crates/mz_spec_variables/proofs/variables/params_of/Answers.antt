@@ -2,7 +2,7 @@ use Rattle.std.proofs.Common.{◌∙◌, ◌++◌, ◌+◌, List, ap, drop, map,
 use Rattle.std.proofs.lemmas.List.{append-nil, drop_all}
 use Rattle.mz_spec_variables.specs.declared.variables.Variable.{Variable}
 use Rattle.mz_spec_variables.specs.Code.{params_read, variable}
-use Rattle.mz_spec_variables.specs.View.{params_of}
+use Rattle.mz_spec_theory.specs.View.{params_of}
 use Rattle.mz_spec_variables.proofs.Chosen.{one-taken, one-mapped, param-first, param-passed, param-read, param-unread}
 use Rattle.mz_spec_variables.proofs.variables.params_of.Goals.{then-not-variable+in_ok-push, else-not-variable}
 use Rattle.mz_spec_variables.proofs.variables.params_of.Goals as goal

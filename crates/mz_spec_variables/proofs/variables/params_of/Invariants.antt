@@ -1,6 +1,6 @@
 use Rattle.std.proofs.Common.{◌≡◌, ◌++◌, map, drop}
 use Rattle.mz_spec_variables.specs.Code.{params_read, variable}
-use Rattle.mz_spec_variables.specs.View.{params_of}
+use Rattle.mz_spec_theory.specs.View.{params_of}
 use Rattle.mz_spec_variables.proofs.variables.params_of.Given as goal
 
 abbrev pub invariant-loop-variable : goal.invariant-loop-variable

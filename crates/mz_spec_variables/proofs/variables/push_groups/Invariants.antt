@@ -1,7 +1,7 @@
 use Rattle.std.proofs.Common.{◌≡◌, ◌++◌, map, drop}
-use Rattle.mz_spec_grammar.specs.Code.{group}
+use Rattle.mz_spec_theory.specs.StatementCode.{group}
 use Rattle.mz_spec_variables.specs.Code.{typed, typed_groups, variable}
-use Rattle.mz_spec_variables.specs.View.{variables_of}
+use Rattle.mz_spec_theory.specs.View.{variables_of}
 use Rattle.mz_spec_variables.proofs.variables.push_groups.Given as goal
 
 abbrev pub invariant-loop-i : goal.invariant-loop-i

@@ -1,7 +1,7 @@
 use Rattle.std.proofs.Common.{◌≡◌, ◌++◌, map, drop}
-use Rattle.mz_spec_grammar.specs.Code.{name_text, type_text}
+use Rattle.mz_spec_theory.specs.StatementCode.{name_text, type_text}
 use Rattle.mz_spec_variables.specs.Code.{typed, typed_in, variable}
-use Rattle.mz_spec_variables.specs.View.{variable_of}
+use Rattle.mz_spec_theory.specs.View.{variable_of}
 use Rattle.mz_spec_variables.proofs.variables.push_names.Given as goal
 
 abbrev pub invariant-loop-name : goal.invariant-loop-name

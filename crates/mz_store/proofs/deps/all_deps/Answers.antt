@@ -1,6 +1,6 @@
 use Rattle.std.proofs.Common.{◌<◌, ◌∙◌, length, arith, sym, subst}
-use Rattle.mz_logic.specs.Tree.{operand}
-use Rattle.mz_logic.specs.Variables.{InSomeV}
+use Rattle.mz_logic_theory.specs.Tree.{operand}
+use Rattle.mz_logic_theory.specs.Variables.{InSomeV}
 use Rattle.mz_store.specs.Bits.{Tells, bound_vars}
 use Rattle.mz_store.specs.Sharing.{trees_of, IsTold}
 use Rattle.mz_store.specs.Kept.{shared_by}

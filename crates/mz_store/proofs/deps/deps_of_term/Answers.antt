@@ -1,6 +1,6 @@
 use Rattle.std.proofs.Common.{IfOk, sym, ◌∙◌, subst}
-use Rattle.mz_logic.specs.Tree.{app}
-use Rattle.mz_logic.specs.Words.{signatures_of}
+use Rattle.mz_logic_theory.specs.Tree.{app}
+use Rattle.mz_logic_theory.specs.Words.{signatures_of}
 use Rattle.mz_store.specs.Bits.{Tells, bound_vars}
 use Rattle.mz_store.specs.Sharing.{trees_of, IsTold}
 use Rattle.mz_store.specs.Kept.{shared_by}

@@ -1,5 +1,5 @@
 use Rattle.std.proofs.Common.{◌≡◌, take}
-use Rattle.mz_logic.specs.Words.{term_at, signatures_of, bound_places}
+use Rattle.mz_logic_theory.specs.Words.{term_at, signatures_of, bound_places}
 use Rattle.mz_store.specs.Bits.{bound_vars}
 use Rattle.mz_store.specs.Sharing.{trees_of}
 use Rattle.mz_store.specs.Kept.{shared_by}

@@ -9,7 +9,7 @@ use Rattle.mz_tool.proofs.assemble.assemble.Goals as goal
 
 pub returns-in-Bytes : goal.returns-in-Bytes
 returns-in-Bytes c =
-    let binary = subst (IsAssembly c.args.listing.now) c.in-Bytes.is c.assemble_bytes-assembled.ensures in
+    let binary = subst (IsAssembly c.args.listing.now) c.in-Bytes.is c.assemble_bytes-assembled.ensures.answer in
     record {
       yes = (c.in-Bytes.bytes.items, refl, binary, c.in-Ok.ensures ∙ ap line_of c.in-Bytes.is);
       short = λ bytes put. subst (λ b. length b ≤ longest) (put-bytes c.in-Bytes.bytes.items bytes put) (short-assembled c.args.listing.now c.in-Bytes.bytes.items binary);
@@ -22,7 +22,7 @@ pub returns-in_default-assembled : goal.returns-in_default-assembled
 returns-in_default-assembled c = record {
   yes = tt;
   short = tt;
-  no = is-not-assembled c.args.listing.now (c.assembly_is_one.ensures c.args.listing.now) c.assemble_bytes-assembled.result c.in-Ok.line.items c.assemble_bytes-assembled.ensures c.in_default-assembled.not-Bytes c.in_default.not-Mem c.in-Ok.ensures;
-  only_yes = assembled-alone c.args.listing.now (c.assembly_is_one.ensures c.args.listing.now) c.assemble_bytes-assembled.result c.assemble_bytes-assembled.ensures c.in_default-assembled.not-Bytes c.in_default.not-Mem;
+  no = is-not-assembled c.args.listing.now (c.assembly_is_one.ensures c.args.listing.now) c.assemble_bytes-assembled.result c.in-Ok.line.items c.assemble_bytes-assembled.ensures.answer c.in_default-assembled.not-Bytes c.in_default.not-Mem c.in-Ok.ensures;
+  only_yes = assembled-alone c.args.listing.now (c.assembly_is_one.ensures c.args.listing.now) c.assemble_bytes-assembled.result c.assemble_bytes-assembled.ensures.answer c.in_default-assembled.not-Bytes c.in_default.not-Mem;
   only_no = λ line is. tt;
 }

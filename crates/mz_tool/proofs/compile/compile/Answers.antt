@@ -1,8 +1,8 @@
 use Rattle.std.proofs.Common.{◌∙◌, refl, ap, subst, length}
 use Rattle.std.specs.Prelude.{◌≤◌}
 use Rattle.mz_base.specs.Gaps.{gaps_of}
-use Rattle.mz_emit.specs.Compiling.{IsCompilation}
-use Rattle.mz_emit.specs.Lines.{line_of}
+use Rattle.mz_emit_accepted_theory.specs.Compiling.{IsCompilation}
+use Rattle.mz_emit_accepted_theory.specs.Lines.{line_of}
 use Rattle.mz_prefix_theory.specs.Wording.{longest}
 use Rattle.mz_tool.proofs.Answered.{is-not-compiled, compiled-alone, not-compiled-alone, as-finished, short-binary, put-bytes}
 use Rattle.mz_tool.proofs.compile.compile.Goals as goal

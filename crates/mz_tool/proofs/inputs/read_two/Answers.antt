@@ -2,7 +2,7 @@ use Rattle.std.proofs.Common.{◌∷◌, [], refl, sym, subst, inl, inr, lit<}
 use Rattle.std.proofs.lemmas.List.{append-nil}
 use Rattle.mz_io.specs.Calls.{IsRead, IsUnread, IsPartly, IsOver, AreRead, StopAt}
 use Rattle.mz_io.specs.Read.{IsLonger}
-use Rattle.mz_io.proofs.Logs.{grows-both}
+use Rattle.mz_io.proofs.Offered.{grows-both}
 use Rattle.mz_tool.proofs.inputs.read_two.Goals as goal
 
 pub returns-in-TooLong-read_bounded-clause-too_long : goal.returns-in-TooLong-read_bounded-clause-too_long

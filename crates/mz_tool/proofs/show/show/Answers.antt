@@ -2,7 +2,7 @@ use Rattle.std.proofs.Common.{subst, sym, inl, inr, ◌≡◌, ◌∙◌, ◌≤
 use Rattle.std.proofs.lemmas.List.{length-append}
 use Rattle.mz_binary_theory.specs.RefusalLine.{refusal_line as refusal_text}
 use Rattle.mz_io.specs.Calls.{IsWritten}
-use Rattle.mz_io.proofs.Logs.{grows-both}
+use Rattle.mz_io.proofs.Offered.{grows-both}
 use Rattle.mz_show.specs.Listing.{IsListing, IsListedUpTo, IsListed}
 use Rattle.mz_tool.specs.Request.{show as show_file}
 use Rattle.mz_tool.specs.Called.{IsRunOf, IsReporting}

@@ -1,5 +1,5 @@
 use Rattle.std.proofs.Common.{List, ℕ, Ok, sym, ap, subst, ◌∙◌}
-use Rattle.mz_machine_env.specs.OwnRow.{heading_of}
+use Rattle.mz_machine_theory.specs.Headings.{heading_of}
 use Rattle.mz_machine_env.specs.Before.{tables_before}
 use Rattle.mz_trace.specs.Runs.{IsTraced}
 use Rattle.mz_trace.proofs.StatementAt.{stands-in, in-order, within, runs-there, bytes-are}

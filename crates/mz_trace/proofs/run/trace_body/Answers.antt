@@ -1,6 +1,6 @@
 use Rattle.std.proofs.Common.{ℕ, List, [], sym, subst}
-use Rattle.mz_layout.specs.Heads.{body_bytes}
-use Rattle.mz_machine_env.specs.OwnRow.{heading_of}
+use Rattle.mz_layout_tables.specs.Heads.{body_bytes}
+use Rattle.mz_machine_theory.specs.Headings.{heading_of}
 use Rattle.mz_machine_env.specs.Before.{tables_before}
 use Rattle.mz_trace.specs.Runs.{RunsOver, IsRunOf}
 use Rattle.mz_trace.proofs.Claimed.{have-claims}

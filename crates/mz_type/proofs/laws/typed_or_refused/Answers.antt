@@ -1,4 +1,4 @@
-use Rattle.mz_type.proofs.Texts.{each_typed_or_refused}
+use Rattle.mz_mmu_theory.proofs.Offered.{each_typed_or_refused}
 use Rattle.mz_type.proofs.laws.typed_or_refused.Goals as goal
 
 pub returns : goal.returns

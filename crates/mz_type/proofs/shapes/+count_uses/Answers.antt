@@ -1,5 +1,5 @@
 use Rattle.std.proofs.Common.{◌+◌, drop, sym, ap, ◌∙◌, arith}
-use Rattle.mz_logic.specs.View.{tree, trees}
+use Rattle.mz_logic_theory.specs.View.{tree, trees}
 use Rattle.mz_type_rules.proofs.Offered.{size_step, trees_cut}
 use Rattle.mz_type.specs.Shapes.{all_counted}
 use Rattle.mz_type.proofs.Shaping.{total, total_counted}

@@ -1,6 +1,6 @@
 use Rattle.std.proofs.Common.{◌≡◌, ◌<◌, ◌≤◌, ◌^◌, ◌+◌, ◌*◌, drop, sum_by}
-use Rattle.mz_logic.specs.Tree.{size, trees_size}
-use Rattle.mz_logic.specs.View.{tree, trees}
+use Rattle.mz_logic_theory.specs.Tree.{size, trees_size}
+use Rattle.mz_logic_theory.specs.View.{tree, trees}
 use Rattle.mz_type.specs.Shapes.{all_counted}
 use Rattle.mz_type.proofs.shapes.+count_uses.Given as goal
 

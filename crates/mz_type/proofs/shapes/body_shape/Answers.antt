@@ -1,5 +1,5 @@
-use Rattle.mz_logic.specs.Declaration.{body_tree}
-use Rattle.mz_logic.specs.DeclView.{form}
+use Rattle.mz_logic_theory.specs.Declaration.{body_tree}
+use Rattle.mz_logic_theory.specs.DeclView.{form}
 use Rattle.mz_type.proofs.Shaping.{empty_shape}
 use Rattle.mz_type.proofs.Weighing.{body_none}
 use Rattle.mz_type.proofs.shapes.body_shape.Goals as goal

@@ -1,6 +1,6 @@
 use Rattle.std.proofs.Common.{◌≡◌, ◌++◌, length, drop, take, replicate, ap, ◌∙◌}
 use Rattle.std.proofs.lemmas.List.{with_items_is, length-replicate}
-use Rattle.mz_logic.specs.View.{tree}
+use Rattle.mz_logic_theory.specs.View.{tree}
 use Rattle.mz_type.proofs.Shaping.{length_counted, shape_is}
 use Rattle.mz_type.proofs.shapes.shape_of.Goals as goal
 

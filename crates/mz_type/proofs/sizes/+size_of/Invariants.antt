@@ -1,6 +1,6 @@
 use Rattle.std.proofs.Common.{◌≡◌, ◌+◌, ◌*◌, drop}
-use Rattle.mz_logic.specs.Tree.{size, trees_size}
-use Rattle.mz_logic.specs.View.{tree, trees}
+use Rattle.mz_logic_theory.specs.Tree.{size, trees_size}
+use Rattle.mz_logic_theory.specs.View.{tree, trees}
 use Rattle.mz_type.proofs.sizes.+size_of.Given as goal
 
 abbrev pub decreases-size_of : goal.decreases-size_of

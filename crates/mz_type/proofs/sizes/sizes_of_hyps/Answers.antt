@@ -1,9 +1,9 @@
 use Rattle.std.proofs.Common.{ℕ, ◌≡◌, ◌<◌, ◌+◌, Some, ap, arith, drop, length, slice_get}
 use Rattle.std.proofs.lemmas.List.{drop_all}
-use Rattle.mz_logic.specs.Tree.{Trees, listed, size, trees_size}
-use Rattle.mz_logic.specs.View.{tree, trees}
-use Rattle.mz_logic.specs.declared.expr.Expr.{Expr}
-use Rattle.mz_logic.proofs.Offered.{expr-read, exprs-within, exprs_of, length-exprs, trees-exprs}
+use Rattle.mz_logic_theory.specs.Tree.{Trees, listed, size, trees_size}
+use Rattle.mz_logic_theory.specs.View.{tree, trees}
+use Rattle.mz_logic_theory.specs.declared.expr.Expr.{Expr}
+use Rattle.mz_logic_theory.proofs.Offered.{expr-read, exprs-within, exprs_of, length-exprs, trees-exprs}
 use Rattle.mz_type.proofs.Weighing.{size_cut}
 use Rattle.mz_type.proofs.sizes.sizes_of_hyps.Goals as goal
 

@@ -1,7 +1,7 @@
 use Rattle.std.proofs.Common.{◌≡◌, ◌+◌, drop}
-use Rattle.mz_logic.specs.Tree.{trees_size}
-use Rattle.mz_logic.specs.View.{trees}
-use Rattle.mz_logic.proofs.Offered.{exprs_of}
+use Rattle.mz_logic_theory.specs.Tree.{trees_size}
+use Rattle.mz_logic_theory.specs.View.{trees}
+use Rattle.mz_logic_theory.proofs.Offered.{exprs_of}
 use Rattle.mz_type.proofs.sizes.sizes_of_hyps.Given as goal
 
 abbrev pub invariant-loop-i : goal.invariant-loop-i

@@ -3,7 +3,7 @@ use Rattle.std.proofs.lemmas.List.{length-reverse}
 use Rattle.mz_base.specs.Gaps.{gaps_of}
 use Rattle.mz_sexpr.specs.Number.{node_count}
 use Rattle.mz_mmu.specs.EntryView.{entry}
-use Rattle.mz_type.specs.TextRules.{text_rules}
+use Rattle.mz_mmu_theory.specs.TextRules.{text_rules}
 use Rattle.mz_type.specs.StatedView.{IsTyped, statements_of}
 use Rattle.mz_type.proofs.StatedSteps.{IsAsFar, begins, lighter, goes_on, typed_at_end}
 use Rattle.mz_type.proofs.Turned.{taken, fewer, turned}

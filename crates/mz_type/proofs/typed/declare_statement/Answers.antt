@@ -1,12 +1,12 @@
 use Rattle.std.proofs.Common.{[], ◌∷◌, ◌++◌, length, ◌+◌, length-append, sym, ap, ◌∙◌, subst}
 use Rattle.mz_base_theory.specs.Checks.{AllHold}
 use Rattle.mz_sexpr.specs.Number.{first}
-use Rattle.mz_logic.specs.DeclView.{declaration}
+use Rattle.mz_logic_theory.specs.DeclView.{declaration}
 use Rattle.mz_mmu.specs.EntryView.{entry}
-use Rattle.mz_type_rules.specs.Rules.{statement_rules}
+use Rattle.mz_mmu_theory.specs.Rules.{statement_rules}
 use Rattle.mz_type.specs.StatedView.{statements_of}
 use Rattle.mz_type.proofs.StatedSteps.{statements_more}
-use Rattle.mz_type.proofs.StatementRules.{legal_decl}
+use Rattle.mz_mmu_theory.proofs.Offered.{legal_decl}
 use Rattle.mz_type.proofs.typed.declare_statement.Goals as goal
 
 pub push-requires-clause-legal : goal.push-requires-clause-legal

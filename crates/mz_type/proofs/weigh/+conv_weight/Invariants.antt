@@ -1,7 +1,7 @@
 use Rattle.std.proofs.Common.{◌≡◌, ◌≤◌, ◌+◌, ◌*◌, drop}
-use Rattle.mz_mmu_forms.specs.ConvCode.{conv_steps, convs_steps}
-use Rattle.mz_mmu_forms.specs.ConvView.{conversion, conversions}
-use Rattle.mz_type.specs.Weight as weight
+use Rattle.mz_mmu_theory.specs.ConvCode.{conv_steps, convs_steps}
+use Rattle.mz_mmu_theory.specs.ConvView.{conversion, conversions}
+use Rattle.mz_mmu_theory.specs.Weight as weight
 use Rattle.mz_type.proofs.weigh.+conv_weight.Given as goal
 
 abbrev pub decreases-conv_weight : goal.decreases-conv_weight

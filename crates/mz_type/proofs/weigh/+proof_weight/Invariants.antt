@@ -1,7 +1,7 @@
 use Rattle.std.proofs.Common.{◌≡◌, ◌≤◌, ◌+◌, ◌*◌, drop}
-use Rattle.mz_mmu_forms.specs.ProofCode.{proof_steps, proofs_steps}
-use Rattle.mz_mmu_forms.specs.ProofView.{proof_view, proofs_view}
-use Rattle.mz_type.specs.Weight as weight
+use Rattle.mz_mmu_theory.specs.ProofCode.{proof_steps, proofs_steps}
+use Rattle.mz_mmu_theory.specs.ProofView.{proof_view, proofs_view}
+use Rattle.mz_mmu_theory.specs.Weight as weight
 use Rattle.mz_type.proofs.weigh.+proof_weight.Given as goal
 
 abbrev pub decreases-proof_weight : goal.decreases-proof_weight

@@ -1,7 +1,7 @@
 use Rattle.std.proofs.Common.{ℕ, ◌<◌, length, List, All, IsTrue, ◌↔◌, Bool}
 use Rattle.std.proofs.lemmas.Option.{slice_get_within}
-use Rattle.mz_logic.specs.Variables.{IsBoundAt}
-use Rattle.mz_logic.specs.declared.binder.Binder.{Binder}
+use Rattle.mz_logic_theory.specs.Variables.{IsBoundAt}
+use Rattle.mz_logic_theory.specs.declared.binder.Binder.{Binder}
 use Rattle.mz_type_rules.proofs.binders.are_bound.Goals as goal
 
 without_end : (r : Bool) (ps : List Binder) (places : List ℕ) → IsTrue r ↔ All (λ j. (j < length ps) × IsBoundAt ps j) places → IsTrue r ↔ All (IsBoundAt ps) places

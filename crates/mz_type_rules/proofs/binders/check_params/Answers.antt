@@ -4,10 +4,10 @@ use Rattle.mz_base_theory.proofs.Offered.{Decides}
 use Rattle.mz_sexpr.specs.Node.{place}
 use Rattle.mz_sexpr.specs.Number.{first, rest}
 use Rattle.mz_sexpr.specs.declared.rule.U.{U}
-use Rattle.mz_logic.specs.Declaration.{sorts}
-use Rattle.mz_logic.specs.Legality.{IsParam}
-use Rattle.mz_mmu_forms.specs.Order.{fault}
-use Rattle.mz_type_rules.specs.Rules.{param_rules}
+use Rattle.mz_logic_theory.specs.Declaration.{sorts}
+use Rattle.mz_logic_theory.specs.Legality.{IsParam}
+use Rattle.mz_mmu_theory.specs.FormOrder.{fault}
+use Rattle.mz_mmu_theory.specs.Rules.{param_rules}
 use Rattle.mz_type_rules.proofs.Judging.{left_fails, left_step}
 use Rattle.mz_type_rules.proofs.StatementSteps.{params_cut}
 use Rattle.mz_type_rules.proofs.binders.check_params.Goals as goal

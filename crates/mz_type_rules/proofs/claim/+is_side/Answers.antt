@@ -1,11 +1,11 @@
 use Rattle.std.proofs.Common.{◌∙◌, ap, arith, refl, sym, true≢false}
 use Rattle.mz_base_theory.proofs.Offered.{drop-item}
-use Rattle.mz_logic.specs.Tree.{app}
-use Rattle.mz_logic.specs.View.{tree}
-use Rattle.mz_mmu_forms.specs.ConvCode.{convs_steps}
-use Rattle.mz_mmu_forms.specs.ConvView.{conversions}
+use Rattle.mz_logic_theory.specs.Tree.{app}
+use Rattle.mz_logic_theory.specs.View.{tree}
+use Rattle.mz_mmu_theory.specs.ConvCode.{convs_steps}
+use Rattle.mz_mmu_theory.specs.ConvView.{conversions}
 use Rattle.mz_type_rules.specs.Claims.{claim_tree, put_in, all_put_in}
-use Rattle.mz_type_rules.specs.Sides.{sides}
+use Rattle.mz_mmu_theory.specs.Sides.{sides}
 use Rattle.mz_type_rules.proofs.Claims.{put_length, sides_length, lengths_differ}
 use Rattle.mz_type_rules.proofs.ClaimSides.{never, no_variable, other_term, same_as, terms_as, put_app, sides_cut}
 use Rattle.mz_type_rules.proofs.claim.+is_side.Goals as goal

@@ -1,9 +1,9 @@
 use Rattle.std.proofs.Common.{◌≡◌, ◌↔◌, ◌≤◌, ◌+◌, ◌*◌, drop, length}
-use Rattle.mz_logic.specs.View.{trees}
-use Rattle.mz_mmu_forms.specs.ConvCode.{conv_steps, convs_steps}
-use Rattle.mz_mmu_forms.specs.ConvView.{conversion, conversions}
+use Rattle.mz_logic_theory.specs.View.{trees}
+use Rattle.mz_mmu_theory.specs.ConvCode.{conv_steps, convs_steps}
+use Rattle.mz_mmu_theory.specs.ConvView.{conversion, conversions}
 use Rattle.mz_type_rules.specs.Claims.{all_put_in}
-use Rattle.mz_type_rules.specs.Sides.{sides}
+use Rattle.mz_mmu_theory.specs.Sides.{sides}
 use Rattle.mz_type_rules.proofs.claim.+is_side.Given as goal
 
 abbrev pub decreases-are_sides : goal.decreases-are_sides

@@ -1,7 +1,7 @@
 use Rattle.std.proofs.Common.{◌∙◌, ap, arith, refl, sym, true≢false}
 use Rattle.std.proofs.lemmas.Result.{on_ok_weaker}
-use Rattle.mz_logic.specs.Tree.{more, trees_size}
-use Rattle.mz_logic.specs.View.{trees}
+use Rattle.mz_logic_theory.specs.Tree.{more, trees_size}
+use Rattle.mz_logic_theory.specs.View.{trees}
 use Rattle.mz_type_rules.specs.Claims.{all_put_in, claim_tree, AllSame}
 use Rattle.mz_type_rules.proofs.Claims.{put_length, lengths_differ}
 use Rattle.mz_type_rules.proofs.ClaimSides.{first_compared, put_cut, put_end}

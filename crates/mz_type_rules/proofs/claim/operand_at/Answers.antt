@@ -1,6 +1,6 @@
 use Rattle.std.proofs.Common.{sym, ◌∙◌, arith}
 use Rattle.std.proofs.lemmas.Option.{slice_get_within}
-use Rattle.mz_logic.specs.Tree.{variables, listed}
+use Rattle.mz_logic_theory.specs.Tree.{variables, listed}
 use Rattle.mz_type_rules.proofs.Claims.{none_past, operand_before, operand_behind}
 use Rattle.mz_type_rules.proofs.claim.operand_at.Goals as goal
 

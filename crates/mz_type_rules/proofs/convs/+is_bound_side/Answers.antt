@@ -1,9 +1,9 @@
 use Rattle.std.proofs.Common.{◌↔◌, ◌∙◌, ap, sym, subst}
 use Rattle.std.specs.Prelude.{IsTrue, not}
-use Rattle.mz_logic.specs.Sorts.{IsBoundVar}
-use Rattle.mz_logic.specs.View.{tree}
-use Rattle.mz_mmu_forms.specs.ConvView.{conversion}
-use Rattle.mz_type_rules.specs.Sides.{side}
+use Rattle.mz_logic_theory.specs.Sorts.{IsBoundVar}
+use Rattle.mz_logic_theory.specs.View.{tree}
+use Rattle.mz_mmu_theory.specs.ConvView.{conversion}
+use Rattle.mz_mmu_theory.specs.Sides.{side}
 use Rattle.mz_type_rules.proofs.ClaimSides.{never, no_variable, side_refl, side_turned, side_cong, side_unfolded, side_folded, right_of_gap, left_of_gap}
 use Rattle.mz_type_rules.proofs.convs.+is_bound_side.Goals as goal
 

@@ -1,6 +1,6 @@
 use Rattle.std.proofs.Common.{◌↔◌, ◌≡◌, ◌∙◌, ◌+◌, ℕ, suc, List, ◌∷◌, drop, get_or, sym, ap, subst, true≢false, arith, drop-cons}
 use Rattle.std.proofs.lemmas.List.{drop_all}
-use Rattle.mz_type_rules.specs.Rules.{AreNew}
+use Rattle.mz_mmu_theory.specs.Rules.{AreNew}
 use Rattle.mz_type_rules.proofs.Differing.{AreNewTo, new-first, new-not, new-more, new-by}
 use Rattle.mz_type_rules.proofs.convs.are_new.Goals as goal
 

@@ -1,5 +1,5 @@
 use Rattle.std.proofs.Common.{◌↔◌, drop}
-use Rattle.mz_type_rules.specs.Rules.{AreNew}
+use Rattle.mz_mmu_theory.specs.Rules.{AreNew}
 use Rattle.mz_type_rules.proofs.Differing.{AreNewTo}
 use Rattle.mz_type_rules.proofs.convs.are_new.Given as goal
 

@@ -3,11 +3,11 @@ use Rattle.mz_base_theory.specs.Checks.{AllHold, FailsFirst, Judges}
 use Rattle.mz_base_theory.proofs.Offered.{judges-after}
 use Rattle.mz_sexpr.specs.Node.{parts}
 use Rattle.mz_sexpr.specs.Number.{first}
-use Rattle.mz_logic.specs.Declaration.{signatures}
-use Rattle.mz_logic.specs.Legality.{sort_of}
-use Rattle.mz_logic.specs.View.{tree}
-use Rattle.mz_type_rules.specs.Parts.{part}
-use Rattle.mz_type_rules.specs.Rules.{expr_rules, sorted_rules}
+use Rattle.mz_logic_theory.specs.Declaration.{signatures}
+use Rattle.mz_logic_theory.specs.Legality.{sort_of}
+use Rattle.mz_logic_theory.specs.View.{tree}
+use Rattle.mz_mmu_theory.specs.Parts.{part}
+use Rattle.mz_mmu_theory.specs.Rules.{expr_rules, sorted_rules}
 use Rattle.mz_type_rules.proofs.Judging.{handed_before}
 use Rattle.mz_type_rules.proofs.convs.check_gap_sides.Goals as goal
 

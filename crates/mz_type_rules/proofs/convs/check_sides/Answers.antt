@@ -1,9 +1,9 @@
 use Rattle.std.proofs.Common.{◌<◌, ◌+◌, drop, arith, length, subst, sym}
 use Rattle.mz_base_theory.proofs.Offered.{Decides}
 use Rattle.mz_sexpr.specs.Number.{first, rest}
-use Rattle.mz_logic.specs.Declaration.{signatures}
-use Rattle.mz_mmu_forms.specs.ConvView.{conversion, conversions}
-use Rattle.mz_type_rules.specs.Rules.{side_rules, own_side_rules}
+use Rattle.mz_logic_theory.specs.Declaration.{signatures}
+use Rattle.mz_mmu_theory.specs.ConvView.{conversion, conversions}
+use Rattle.mz_mmu_theory.specs.Rules.{side_rules, own_side_rules}
 use Rattle.mz_type_rules.proofs.Judging.{handed_on, left_fails, left_step}
 use Rattle.mz_type_rules.proofs.Steps.{sides_cut, no_sides_left}
 use Rattle.mz_type_rules.proofs.convs.check_sides.Goals as goal

@@ -3,9 +3,9 @@ use Rattle.mz_base_theory.specs.Checks.{AllHold, Judges}
 use Rattle.mz_base_theory.proofs.Offered.{fails-before, Decides}
 use Rattle.mz_sexpr.specs.Node.{place}
 use Rattle.mz_sexpr.specs.Number.{first}
-use Rattle.mz_logic.specs.Declaration.{signatures}
-use Rattle.mz_logic.specs.View.{tree, trees}
-use Rattle.mz_type_rules.specs.Rules.{expr_rules, exprs_rules}
+use Rattle.mz_logic_theory.specs.Declaration.{signatures}
+use Rattle.mz_logic_theory.specs.View.{tree, trees}
+use Rattle.mz_mmu_theory.specs.Rules.{expr_rules, exprs_rules}
 use Rattle.mz_type_rules.proofs.Judging.{handed_before, handed_within}
 use Rattle.mz_type_rules.proofs.Steps.{app_rules, exprs_left, exprs_step, size_step}
 use Rattle.mz_type_rules.proofs.exprs.+check_expr.Goals as goal

@@ -3,8 +3,8 @@ use Rattle.mz_base_theory.specs.Checks.{Judges}
 use Rattle.mz_base_theory.proofs.Offered.{fails-after, judges-after}
 use Rattle.mz_sexpr.specs.Node.{parts}
 use Rattle.mz_sexpr.specs.Number.{first, rest}
-use Rattle.mz_logic.specs.Declaration.{signatures}
-use Rattle.mz_type_rules.specs.Rules.{exprs_rules, operand_rules}
+use Rattle.mz_logic_theory.specs.Declaration.{signatures}
+use Rattle.mz_mmu_theory.specs.Rules.{exprs_rules, operand_rules}
 use Rattle.mz_type_rules.proofs.Judging.{judges_asked}
 use Rattle.mz_type_rules.proofs.exprs.check_app_operands.Goals as goal
 

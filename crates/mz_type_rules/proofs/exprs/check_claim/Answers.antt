@@ -1,9 +1,9 @@
 use Rattle.std.proofs.Common.{true≢false, refl, sym, inl}
 use Rattle.mz_base_theory.proofs.Offered.{fails-after, all_hold-both}
 use Rattle.mz_sexpr.specs.Number.{first}
-use Rattle.mz_logic.specs.Declaration.{signatures}
-use Rattle.mz_logic.specs.View.{tree}
-use Rattle.mz_type_rules.specs.Rules.{expr_rules}
+use Rattle.mz_logic_theory.specs.Declaration.{signatures}
+use Rattle.mz_logic_theory.specs.View.{tree}
+use Rattle.mz_mmu_theory.specs.Rules.{expr_rules}
 use Rattle.mz_type_rules.proofs.Judging.{handed_before}
 use Rattle.mz_type_rules.proofs.exprs.check_claim.Goals as goal
 

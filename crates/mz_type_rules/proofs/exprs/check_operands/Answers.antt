@@ -1,9 +1,9 @@
 use Rattle.std.proofs.Common.{◌<◌, drop, arith, length}
 use Rattle.mz_base_theory.proofs.Offered.{fails-before}
 use Rattle.mz_sexpr.specs.Number.{first}
-use Rattle.mz_logic.specs.Declaration.{signatures}
-use Rattle.mz_logic.specs.View.{tree, trees}
-use Rattle.mz_type_rules.specs.Rules.{operand_rules, own_operand_rules}
+use Rattle.mz_logic_theory.specs.Declaration.{signatures}
+use Rattle.mz_logic_theory.specs.View.{tree, trees}
+use Rattle.mz_mmu_theory.specs.Rules.{operand_rules, own_operand_rules}
 use Rattle.mz_type_rules.proofs.Judging.{handed_within}
 use Rattle.mz_type_rules.proofs.Steps.{operands_left, no_params_left}
 use Rattle.mz_type_rules.proofs.exprs.check_operands.Goals as goal

@@ -1,8 +1,8 @@
 use Rattle.std.proofs.Common.{◌≤◌, drop, length}
 use Rattle.mz_base_theory.proofs.Offered.{Decides}
-use Rattle.mz_logic.specs.Declaration.{signatures}
-use Rattle.mz_logic.specs.View.{trees}
-use Rattle.mz_type_rules.specs.Rules.{operand_rules}
+use Rattle.mz_logic_theory.specs.Declaration.{signatures}
+use Rattle.mz_logic_theory.specs.View.{trees}
+use Rattle.mz_mmu_theory.specs.Rules.{operand_rules}
 use Rattle.mz_type_rules.proofs.exprs.check_operands.Given as goal
 
 abbrev pub invariant-loop-i : goal.invariant-loop-i

@@ -1,7 +1,7 @@
 use Rattle.std.proofs.Common.{sym, ap, ◌∙◌}
 use Rattle.std.proofs.lemmas.Option.{get_or_from_slice_get}
-use Rattle.mz_logic.specs.Declaration.{signatures}
-use Rattle.mz_logic.proofs.Offered.{none_read}
+use Rattle.mz_logic_theory.specs.Declaration.{signatures}
+use Rattle.mz_logic_theory.proofs.Offered.{none_read}
 use Rattle.mz_type_rules.proofs.exprs.params_of.Goals as goal
 
 pub returns-in-None : goal.returns-in-None

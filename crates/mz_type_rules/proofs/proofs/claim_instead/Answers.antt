@@ -1,7 +1,7 @@
 use Rattle.std.proofs.Common.{◌∙◌, ap, take}
 use Rattle.std.proofs.lemmas.Result.{on_ok_weaker}
 use Rattle.mz_type_rules.specs.Claims.{claim_tree, claim_trees}
-use Rattle.mz_type_rules.specs.Sides.{with_fact}
+use Rattle.mz_mmu_theory.specs.Sides.{with_fact}
 use Rattle.mz_type_rules.proofs.proofs.claim_instead.Goals as goal
 
 pub returns-clause-claims : goal.returns-clause-claims

@@ -1,8 +1,8 @@
 use Rattle.std.proofs.Common.{◌∙◌, ap, take, length, [], ◌∷◌, refl}
 use Rattle.std.proofs.lemmas.List.{take_at}
-use Rattle.mz_logic.specs.Tree.{operand}
+use Rattle.mz_logic_theory.specs.Tree.{operand}
 use Rattle.mz_type_rules.specs.Claims.{claim_trees}
-use Rattle.mz_type_rules.specs.Sides.{with_fact}
+use Rattle.mz_mmu_theory.specs.Sides.{with_fact}
 use Rattle.mz_type_rules.proofs.Claims.{claims_append}
 use Rattle.mz_type_rules.proofs.proofs.name_claim.Goals as goal
 

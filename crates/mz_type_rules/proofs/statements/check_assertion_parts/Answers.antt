@@ -3,10 +3,10 @@ use Rattle.mz_base_theory.specs.Checks.{AllHold, FailsFirst, Judges}
 use Rattle.mz_base_theory.proofs.Offered.{fails-before, judges-after}
 use Rattle.mz_sexpr.specs.Node.{parts}
 use Rattle.mz_sexpr.specs.Number.{first}
-use Rattle.mz_logic.specs.DeclView.{assertion_view}
-use Rattle.mz_logic.specs.View.{tree}
-use Rattle.mz_type_rules.specs.Parts.{part}
-use Rattle.mz_type_rules.specs.Rules.{param_rules, claim_rules, claims_rules}
+use Rattle.mz_logic_theory.specs.DeclView.{assertion_view}
+use Rattle.mz_logic_theory.specs.View.{tree}
+use Rattle.mz_mmu_theory.specs.Parts.{part}
+use Rattle.mz_mmu_theory.specs.Rules.{param_rules, claim_rules, claims_rules}
 use Rattle.mz_type_rules.proofs.Judging.{handed_before, handed_after}
 use Rattle.mz_type_rules.proofs.statements.check_assertion_parts.Goals as goal
 

@@ -4,17 +4,17 @@ use Rattle.mz_base_theory.proofs.Offered.{fails-after, all_hold-both}
 use Rattle.mz_sexpr.specs.Node.{parts, place}
 use Rattle.mz_sexpr.specs.Number.{first}
 use Rattle.mz_sexpr.specs.declared.rule.U.{U}
-use Rattle.mz_mmu_forms.specs.Order.{fault}
-use Rattle.mz_mmu_forms.specs.declared.fault.Stop.TheVariants.{Mem}
-use Rattle.mz_logic.specs.Declaration.{defined, signatures}
-use Rattle.mz_logic.specs.DeclView.{signature}
-use Rattle.mz_logic.specs.Legality.{sort_of}
-use Rattle.mz_logic.specs.Sorts.{HasSort}
-use Rattle.mz_logic.specs.Variables.{InFV}
-use Rattle.mz_logic.specs.View.{tree}
-use Rattle.mz_type_rules.specs.Parts.{part}
-use Rattle.mz_type_rules.specs.Rules.{body_rules, dummy_rules, expr_rules}
-use Rattle.mz_type_rules.proofs.ExprRules.{sort_by_checks}
+use Rattle.mz_mmu_theory.specs.FormOrder.{fault}
+use Rattle.mz_mmu_theory.specs.declared.fault.Stop.TheVariants.{Mem}
+use Rattle.mz_logic_theory.specs.Declaration.{defined, signatures}
+use Rattle.mz_logic_theory.specs.DeclView.{signature}
+use Rattle.mz_logic_theory.specs.Legality.{sort_of}
+use Rattle.mz_logic_theory.specs.Sorts.{HasSort}
+use Rattle.mz_logic_theory.specs.Variables.{InFV}
+use Rattle.mz_logic_theory.specs.View.{tree}
+use Rattle.mz_mmu_theory.specs.Parts.{part}
+use Rattle.mz_mmu_theory.specs.Rules.{body_rules, dummy_rules, expr_rules}
+use Rattle.mz_mmu_theory.proofs.Offered.{sort_by_checks}
 use Rattle.mz_type_rules.proofs.Judging.{stop_handed_on, stopped_before, stopped_after, told_stop, told_holds}
 use Rattle.mz_type_rules.proofs.statements.check_body.Goals as goal
 

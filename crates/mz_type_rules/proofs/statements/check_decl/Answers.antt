@@ -2,10 +2,10 @@ use Rattle.std.proofs.Common.{sym, subst}
 use Rattle.std.specs.Prelude.{Some, None}
 use Rattle.mz_base_theory.specs.Checks.{AllHold, nothing, ◌>>◌}
 use Rattle.mz_base_theory.proofs.Offered.{all_hold-both}
-use Rattle.mz_logic.specs.DeclView.{assertion_view, declaration}
-use Rattle.mz_mmu_forms.specs.ProofView.{proof_view}
+use Rattle.mz_logic_theory.specs.DeclView.{assertion_view, declaration}
+use Rattle.mz_mmu_theory.specs.ProofView.{proof_view}
 use Rattle.mz_type_rules.specs.Answers.{Judged, stated}
-use Rattle.mz_type_rules.specs.Rules.{assertion_rules, theorem_rules, decl_rules}
+use Rattle.mz_mmu_theory.specs.Rules.{assertion_rules, theorem_rules, decl_rules}
 use Rattle.mz_type_rules.proofs.Judging.{stop_handed_on, stopped_before, judged_after, told_stop, told_holds}
 use Rattle.mz_type_rules.proofs.statements.check_decl.Goals as goal
 

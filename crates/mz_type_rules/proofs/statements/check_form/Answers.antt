@@ -1,9 +1,9 @@
 use Rattle.std.proofs.Common.{sym, subst}
-use Rattle.mz_logic.specs.Declaration.{defined}
-use Rattle.mz_logic.specs.DeclView.{signature, form}
-use Rattle.mz_logic.specs.View.{tree}
+use Rattle.mz_logic_theory.specs.Declaration.{defined}
+use Rattle.mz_logic_theory.specs.DeclView.{signature, form}
+use Rattle.mz_logic_theory.specs.View.{tree}
 use Rattle.mz_type_rules.specs.Answers.{Judged}
-use Rattle.mz_type_rules.specs.Rules.{body_rules}
+use Rattle.mz_mmu_theory.specs.Rules.{body_rules}
 use Rattle.mz_type_rules.proofs.statements.check_form.Goals as goal
 
 pub returns-in-Body : goal.returns-in-Body

@@ -3,9 +3,9 @@ use Rattle.std.proofs.lemmas.List.{drop_all}
 use Rattle.mz_base_theory.specs.Checks.{AllHold, FailsFirst}
 use Rattle.mz_base_theory.proofs.Offered.{Decides, decides-whole}
 use Rattle.mz_sexpr.specs.Number.{first, rest}
-use Rattle.mz_logic.specs.View.{tree, trees}
-use Rattle.mz_logic.proofs.Offered.{expr-read, exprs-within, exprs_of, length-exprs, trees-exprs}
-use Rattle.mz_type_rules.specs.Rules.{claim_rules, claims_rules, hyp_node}
+use Rattle.mz_logic_theory.specs.View.{tree, trees}
+use Rattle.mz_logic_theory.proofs.Offered.{expr-read, exprs-within, exprs_of, length-exprs, trees-exprs}
+use Rattle.mz_mmu_theory.specs.Rules.{claim_rules, claims_rules, hyp_node}
 use Rattle.mz_type_rules.proofs.Judging.{handed_on, left_fails, left_step}
 use Rattle.mz_type_rules.proofs.StatementSteps.{claims_cut}
 use Rattle.mz_type_rules.proofs.statements.check_hyps.Goals as goal

@@ -1,8 +1,8 @@
 use Rattle.std.proofs.Common.{drop}
 use Rattle.mz_base_theory.proofs.Offered.{Decides}
-use Rattle.mz_logic.specs.View.{trees}
-use Rattle.mz_logic.proofs.Offered.{exprs_of}
-use Rattle.mz_type_rules.specs.Rules.{claims_rules}
+use Rattle.mz_logic_theory.specs.View.{trees}
+use Rattle.mz_logic_theory.proofs.Offered.{exprs_of}
+use Rattle.mz_mmu_theory.specs.Rules.{claims_rules}
 use Rattle.mz_type_rules.proofs.statements.check_hyps.Given as goal
 
 abbrev pub invariant-loop-i : goal.invariant-loop-i

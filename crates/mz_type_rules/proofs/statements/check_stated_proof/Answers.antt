@@ -4,17 +4,17 @@ use Rattle.mz_base_theory.proofs.Offered.{fails-after, all_hold-both}
 use Rattle.mz_sexpr.specs.Node.{parts, place}
 use Rattle.mz_sexpr.specs.Number.{first}
 use Rattle.mz_sexpr.specs.declared.rule.U.{U}
-use Rattle.mz_logic.specs.Tree.{none, more, operand}
-use Rattle.mz_logic.specs.DeclView.{assertion_view}
-use Rattle.mz_mmu_forms.specs.Order.{fault}
-use Rattle.mz_mmu_forms.specs.ProofView.{proof_view}
-use Rattle.mz_mmu_forms.specs.Stops.{Stops}
-use Rattle.mz_mmu_forms.specs.declared.fault.Stop.TheVariants.{Mem}
+use Rattle.mz_logic_theory.specs.Tree.{none, more, operand}
+use Rattle.mz_logic_theory.specs.DeclView.{assertion_view}
+use Rattle.mz_mmu_theory.specs.FormOrder.{fault}
+use Rattle.mz_mmu_theory.specs.ProofView.{proof_view}
+use Rattle.mz_mmu_theory.specs.Stops.{Stops}
+use Rattle.mz_mmu_theory.specs.declared.fault.Stop.TheVariants.{Mem}
 use Rattle.std.specs.Prelude.{Some}
 use Rattle.mz_type_rules.specs.Claims.{claim_trees}
-use Rattle.mz_type_rules.specs.Parts.{part}
-use Rattle.mz_type_rules.specs.Rules.{dummy_rules, proof_rules, theorem_rules}
-use Rattle.mz_type_rules.specs.Sides.{proved, with_fact}
+use Rattle.mz_mmu_theory.specs.Parts.{part}
+use Rattle.mz_mmu_theory.specs.Rules.{dummy_rules, proof_rules, theorem_rules}
+use Rattle.mz_mmu_theory.specs.Sides.{proved, with_fact}
 use Rattle.mz_type_rules.proofs.Stacked.{many_behind}
 use Rattle.mz_type_rules.proofs.Judging.{stop_handed_on, stopped_before, stopped_after, told_stop, told_holds}
 use Rattle.mz_type_rules.proofs.statements.check_stated_proof.Goals as goal

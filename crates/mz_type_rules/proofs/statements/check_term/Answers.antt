@@ -5,10 +5,10 @@ use Rattle.mz_base_theory.proofs.Offered.{fails-after}
 use Rattle.mz_sexpr.specs.Node.{parts, place}
 use Rattle.mz_sexpr.specs.Number.{first}
 use Rattle.mz_sexpr.specs.declared.rule.U.{U}
-use Rattle.mz_logic.specs.DeclView.{signature, form, term_of}
-use Rattle.mz_mmu_forms.specs.Order.{fault}
-use Rattle.mz_type_rules.specs.Parts.{part}
-use Rattle.mz_type_rules.specs.Rules.{param_rules, body_rules, decl_rules}
+use Rattle.mz_logic_theory.specs.DeclView.{signature, form, term_of}
+use Rattle.mz_mmu_theory.specs.FormOrder.{fault}
+use Rattle.mz_mmu_theory.specs.Parts.{part}
+use Rattle.mz_mmu_theory.specs.Rules.{param_rules, body_rules, decl_rules}
 use Rattle.mz_type_rules.proofs.Judging.{stop_handed_on, stopped_before, told_stop, told_holds, judged_after, judged_asked}
 use Rattle.mz_type_rules.proofs.statements.check_term.Goals as goal
 

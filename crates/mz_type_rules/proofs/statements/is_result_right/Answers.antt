@@ -1,5 +1,5 @@
 use Rattle.std.proofs.Common.{All, refl, sym, subst}
-use Rattle.mz_logic.specs.Variables.{IsBoundAt}
+use Rattle.mz_logic_theory.specs.Variables.{IsBoundAt}
 use Rattle.mz_type_rules.proofs.statements.is_result_right.Goals as goal
 
 pub returns-then-may_be_result_sort : goal.returns-then-may_be_result_sort

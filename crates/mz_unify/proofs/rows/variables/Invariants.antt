@@ -1,5 +1,5 @@
 use Rattle.std.proofs.Common.{List, take}
-use Rattle.mz_logic.specs.Signature.{Signature}
+use Rattle.mz_logic_theory.specs.Signature.{Signature}
 use Rattle.mz_store.specs.Sharing.{IsOver}
 use Rattle.mz_unify.specs.Stored.{trees_at}
 use Rattle.mz_unify.specs.Rows.{TellsAny}

@@ -1,6 +1,6 @@
 use Rattle.std.proofs.Common.{◌≡◌, ℕ, ◌+◌, ◌-◌, ◌≤◌, List, length}
-use Rattle.mz_logic.specs.Tree.{Tree}
-use Rattle.mz_logic.specs.Signature.{Signature}
+use Rattle.mz_logic_theory.specs.Tree.{Tree}
+use Rattle.mz_logic_theory.specs.Signature.{Signature}
 use Rattle.mz_store.specs.Sharing.{AreIn, IsOver}
 use Rattle.mz_unify_theory.specs.Profile.{strict}
 use Rattle.mz_unify.specs.Stored.{mode_of, trees_at, AreItemsIn, AreLeft}

@@ -1,5 +1,5 @@
 use Rattle.std.proofs.Common.{◌∙◌, ◌∷◌, ◌++◌, [], ap}
-use Rattle.mz_logic.specs.Words.{signatures_of}
+use Rattle.mz_logic_theory.specs.Words.{signatures_of}
 use Rattle.mz_unify_theory.specs.Profile.{strict}
 use Rattle.mz_unify.specs.Stored.{trees_at, items_at, matching_at}
 use Rattle.mz_unify.specs.Rows.{state_at}

@@ -1,5 +1,5 @@
 use Rattle.std.proofs.Common.{◌++◌}
-use Rattle.mz_logic.proofs.Offered.{extends_append}
+use Rattle.mz_logic_theory.proofs.Offered.{extends_append}
 use Rattle.mz_unify_theory.proofs.OneSpelling.{assertion-longer, term-longer}
 use Rattle.mz_unify_theory.proofs.laws.longer_spell_the_same.Goals as goal
 

@@ -7,7 +7,7 @@ use Rattle.mz_binary_theory.proofs.Offered.{no-marks}
 use Rattle.mz_binary.proofs.checker.Checker.new.Goals as goal
 
 pub invariant_of-result : goal.invariant_of-result
-invariant_of-result c = record {
+invariant_of-result g c = record {
   binary = c.proof_at-at.ensures.binary;
   within = c.proof_at-at.ensures.within;
   sorts_within = omega arith;
@@ -27,6 +27,6 @@ invariant_of-result c = record {
 }
 
 pub returns-clause-steps : goal.returns-clause-steps
-returns-clause-steps c =
+returns-clause-steps g c =
     let file = c.args.mmb.now in
-    ap (λ (at : ℕ). list_steps c.args.standard file (length file + 1) nothing_taken at) c.proof_at-at.ensures.place ∙ sym (steps-of-list c.args.standard file c.proof_at-at.ensures.binary.layout)
+    ap (λ (at : ℕ). list_steps g.B.Bodies.STANDARD file (length file + 1) nothing_taken at) c.proof_at-at.ensures.place ∙ sym (steps-of-list g.B.Bodies.STANDARD file c.proof_at-at.ensures.binary.layout)

@@ -2,7 +2,7 @@ use Rattle.std.proofs.Common.{◌≡◌, ◌+◌, ◌-◌, ◌*◌, ◌∙◌, �
 use Rattle.mz_cmd.specs.Codes.{statement_byte}
 use Rattle.mz_binary_theory.specs.declared.statement.Statement.{Statement as Told}
 use Rattle.mz_binary.specs.Progress.{Progress, IsReached, marks_past, most_left}
-use Rattle.mz_layout.specs.Heads.{next_row, rows_after}
+use Rattle.mz_layout_tables.specs.Heads.{next_row, rows_after}
 use Rattle.mz_binary_theory.proofs.Offered.{head-at}
 use Rattle.mz_binary.proofs.Passing.{IsPast, passes, reached, further, taken-past}
 use Rattle.mz_binary.proofs.Counting.{left-past, most-past, most-here}
@@ -10,16 +10,17 @@ use Rattle.mz_binary.proofs.TakenSoFar.{taken}
 use Rattle.mz_binary_theory.specs.FileRun.{RunsBody}
 use Rattle.mz_binary_theory.specs.Standards.{lets_gaps}
 use Rattle.mz_machine_theory.specs.FileRows.{Taken}
+use Rattle.mz_binary.proofs.checker.Checker.past.Given.{Over}
 use Rattle.mz_binary.proofs.checker.Checker.past.Goals as goal
 
-abbrev after_of : goal.After-after → Progress
-after_of c = record { standard = c.self.inside.standard; file = c.self.inside.mmb.now; at = c.args.head.next; passed = c.self.inside.passed + 1; rows = c.after.result; marks = c.mark.new.marks.items }
+abbrev after_of : (g : Over) → goal.After-after g → Progress
+after_of g c = record { standard = g.B.Bodies.STANDARD; file = c.self.inside.mmb.now; at = c.args.head.next; passed = c.self.inside.passed + 1; rows = c.after.result; marks = c.mark.new.marks.items }
 
-abbrev told_of : goal.After-after → Told
-told_of c = record { number = c.self.inside.passed + 1; at = c.self.inside.at; kind = c.kind_of.result; row = c.next.result; local = c.is_local.result; gap = c.args.gap }
+abbrev told_of : (g : Over) → goal.After-after g → Told
+told_of g c = record { number = c.self.inside.passed + 1; at = c.self.inside.at; kind = c.kind_of.result; row = c.next.result; local = c.is_local.result; gap = c.args.gap }
 
-past-of : (c : goal.After-after) → IsPast c.args.self (after_of c) (told_of c) c.args.head
-past-of c = record {
+past-of : (g : Over) (c : goal.After-after g) → IsPast c.args.self (after_of g c) (told_of g c) c.args.head
+past-of g c = record {
   same_file = ap (λ (q : Progress). q.file) c.self.view_is;
   same_standard = ap (λ (q : Progress). q.standard) c.self.view_is;
   goes_on = refl;
@@ -31,41 +32,41 @@ past-of c = record {
   row = c.next.ensures ∙ ap (λ (q : Progress). next_row q.rows c.args.head.code) c.self.view_is;
   mark = c.is_local.ensures;
   gap = c.requires.gap;
-  marks_are = c.in-Ok.ensures.ok ∙ ap (λ (q : Progress). marks_past (lets_gaps q.standard) c.args.head.code c.args.gap q.marks) c.self.view_is;
+  marks_are = c.in-Ok.ensures.ok ∙ ap (λ s. marks_past (lets_gaps s) c.args.head.code c.args.gap c.self.inside.gapped.items) c.STANDARD.ensures ∙ ap (λ (q : Progress). marks_past (lets_gaps q.standard) c.args.head.code c.args.gap q.marks) c.self.view_is;
 }
 
 pub invariant_of-after : goal.invariant_of-after
-invariant_of-after c =
-    reached c.args.self (after_of c) (told_of c) c.args.head (past-of c) c.requires.head c.requires.at c.requires.runs (subst IsReached c.self.view_is c.self.invariant)
+invariant_of-after g c =
+    reached c.args.self (after_of g c) (told_of g c) c.args.head (past-of g c) c.requires.head c.requires.at c.requires.runs (subst IsReached c.self.view_is c.self.invariant)
 
 pub returns-clause-next : goal.returns-clause-next
-returns-clause-next c = λ ss env before. passes c.args.self (after_of c) (told_of c) c.args.head (past-of c) c.requires.head c.requires.at c.requires.runs ss env before
+returns-clause-next g c = λ ss env before. passes c.args.self (after_of g c) (told_of g c) c.args.head (past-of g c) c.requires.head c.requires.at c.requires.runs ss env before
 
 pub returns-clause-left : goal.returns-clause-left
-returns-clause-left c =
+returns-clause-left g c =
     let r : IsReached c.args.self = subst IsReached c.self.view_is c.self.invariant in
-    let past = past-of c in
-    let on = further c.args.self (after_of c) (told_of c) c.args.head past c.requires.head c.requires.at c.requires.runs r in
-    left-past c.args.self (after_of c) c.args.head.next _ c.requires.runs
-    (taken-past c.args.self (after_of c) (told_of c) c.args.head past c.requires.head c.requires.at c.requires.runs r) refl past.same_file past.same_standard on.0 on.1
+    let past = past-of g c in
+    let on = further c.args.self (after_of g c) (told_of g c) c.args.head past c.requires.head c.requires.at c.requires.runs r in
+    left-past c.args.self (after_of g c) c.args.head.next _ c.requires.runs
+    (taken-past c.args.self (after_of g c) (told_of g c) c.args.head past c.requires.head c.requires.at c.requires.runs r) refl past.same_file past.same_standard on.0 on.1
 
 pub returns-clause-most : goal.returns-clause-most
-returns-clause-most c = λ old new few.
+returns-clause-most g c = λ old new few.
     let p : Progress = c.args.self in
     let head = c.args.head in
-    let same : most_left (after_of c) ≡ (length p.file - head.next) * (length p.file + 1) = ap (λ (f : List ℕ). (length f - head.next) * (length f + 1)) (past-of c).same_file in
+    let same : most_left (after_of g c) ≡ (length p.file - head.next) * (length p.file + 1) = ap (λ (f : List ℕ). (length f - head.next) * (length f + 1)) (past-of g c).same_file in
     let at-head = head-at p.file head.at (statement_byte head.code) head.body head.next c.requires.head in
     omega (arith, same, most-past (length p.file) p.at head.body head.next old new (omega (arith, at-head.before, c.requires.at)) at-head.order at-head.within few)
 
 -- want of memory for the mark, which only an axiom or theorem gets
 
 pub returns-in_default-clause-next : goal.returns-in_default-clause-next
-returns-in_default-clause-next c = λ ss env before.
+returns-in_default-clause-next g c = λ ss env before.
     let p : Progress = c.args.self in
     subst (λ (t : Taken). RunsBody p.file t p.at) (sym (taken p ss env before)) (c.requires.body c.in_default.ensures.err)
 
 pub returns-in_default-clause-most : goal.returns-in_default-clause-most
-returns-in_default-clause-most c = λ old new few.
+returns-in_default-clause-most g c = λ old new few.
     let p : Progress = c.args.self in
     let head = c.args.head in
     let at-head = head-at p.file head.at (statement_byte head.code) head.body head.next c.requires.head in

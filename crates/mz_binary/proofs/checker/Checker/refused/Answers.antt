@@ -5,10 +5,10 @@ use Rattle.mz_binary.proofs.Counting.{left-at-fault}
 use Rattle.mz_binary.proofs.checker.Checker.refused.Goals as goal
 
 pub returns-clause-next : goal.returns-clause-next
-returns-clause-next c = λ ss env before.
+returns-clause-next g c = λ ss env before.
     let p : Progress = c.args.self in
     fails-here p ss env before (record { statement = c.self.inside.passed + 1; at = c.args.fault.0; rule = c.args.fault.1 }) (subst IsReached c.self.view_is c.self.invariant)
     (ap (λ (q : Progress). q.passed + 1) c.self.view_is) c.requires
 
 pub returns-clause-left : goal.returns-clause-left
-returns-clause-left c = left-at-fault c.args.self c.args.fault c.requires
+returns-clause-left g c = left-at-fault c.args.self c.args.fault c.requires

@@ -1,4 +1,4 @@
-use Rattle.mz_logic.specs.Words.{signatures_of}
+use Rattle.mz_logic_theory.specs.Words.{signatures_of}
 use Rattle.mz_store.proofs.Offered.{over-grown}
 use Rattle.mz_binary_tests.proofs.store.Bench.dummy.Goals as goal
 

@@ -1,8 +1,8 @@
 use Rattle.std.proofs.Common.{◌≡◌, ◌∙◌, ap, sym, subst, arith}
 use Rattle.mz_decompile_text_theory.specs.Naming.{Naming}
 use Rattle.mz_binary_walk.specs.declared.passed.Passed.{Passed}
-use Rattle.mz_mmu_statements.specs.DeclaredNames.{prefix_beside}
-use Rattle.mz_decompile_names.specs.Names.{declared_names}
+use Rattle.mz_mmu_theory.specs.DeclaredNames.{prefix_beside}
+use Rattle.mz_decompile_text_theory.specs.Names.{declared_names}
 use Rattle.mz_decompile_names.proofs.Walking.{Walked, no-names, walked-asks, walked-first, walked-more, walked-last}
 use Rattle.mz_decompile_names.proofs.names.Names.gathered.Goals as goal
 

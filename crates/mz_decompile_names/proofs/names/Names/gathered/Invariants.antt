@@ -1,6 +1,6 @@
 use Rattle.std.proofs.Common.{◌-◌, length}
 use Rattle.mz_binary_walk.specs.Walk.{IsPlaced}
-use Rattle.mz_decompile_names.specs.Names.{declared_names}
+use Rattle.mz_decompile_text_theory.specs.Names.{declared_names}
 use Rattle.mz_decompile_names.proofs.Walking.{Walked}
 use Rattle.mz_decompile_names.proofs.names.Names.gathered.Given as goal
 

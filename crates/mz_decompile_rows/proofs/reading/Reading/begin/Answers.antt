@@ -1,6 +1,6 @@
 use Rattle.std.proofs.Common.{None, arith, subst}
 use Rattle.std.proofs.lemmas.Result.{IfOk-weaker}
-use Rattle.mz_layout.proofs.Offered.{length-term_words}
+use Rattle.mz_layout_tables.proofs.Offered.{length-term_words}
 use Rattle.mz_decompile_text_theory.specs.Naming.{vocabulary_by}
 use Rattle.mz_decompile_rows.specs.Reading.{IsOpened}
 use Rattle.mz_decompile_rows.proofs.Steps.{begin_done, term_there}

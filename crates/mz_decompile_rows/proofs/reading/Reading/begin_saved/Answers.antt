@@ -1,7 +1,7 @@
 use Rattle.std.proofs.Common.{◌≡◌, Some, arith, length, refl, subst}
 use Rattle.std.proofs.lemmas.Result.{IfOk-weaker}
-use Rattle.mz_layout.specs.Tables.{term_row}
-use Rattle.mz_layout.proofs.Offered.{length-term_words}
+use Rattle.mz_layout_tables.specs.Tables.{term_row}
+use Rattle.mz_layout_tables.proofs.Offered.{length-term_words}
 use Rattle.mz_decompile_text_theory.specs.Naming.{vocabulary_by}
 use Rattle.mz_decompile_rows.specs.Reading.{IsOpened}
 use Rattle.mz_decompile_rows.proofs.Steps.{save_done, save_there}

@@ -1,5 +1,5 @@
 use Rattle.std.proofs.Common.{List, length}
-use Rattle.mz_logic.specs.Tree.{Tree}
+use Rattle.mz_logic_theory.specs.Tree.{Tree}
 use Rattle.mz_decompile_text_theory.specs.Naming.{vocabulary_by}
 use Rattle.mz_unify_theory.specs.Spells.{Marks, SpellsHyps}
 use Rattle.mz_unify_theory.specs.Streams.{UnifyCommand}

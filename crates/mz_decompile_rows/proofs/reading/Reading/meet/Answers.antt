@@ -1,5 +1,5 @@
 use Rattle.std.proofs.Common.{◌≡◌, ◌+◌, ◌∙◌, Some, ap, arith, length, refl}
-use Rattle.mz_logic.specs.Tree.{var}
+use Rattle.mz_logic_theory.specs.Tree.{var}
 use Rattle.mz_decompile_text_theory.specs.Naming.{vocabulary_by}
 use Rattle.mz_decompile_text_theory.specs.Phrasing.{expression}
 use Rattle.mz_decompile_rows.proofs.Steps.{meet_done}

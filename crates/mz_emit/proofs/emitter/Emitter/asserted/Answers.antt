@@ -1,21 +1,22 @@
 use Rattle.std.proofs.Common.{◌≡◌, ◌≤◌, ◌+◌, ◌*◌, ◌∙◌, ◌++◌, List, length, sym, subst, ap, arith}
-use Rattle.mz_logic.specs.Declaration.{signatures}
-use Rattle.mz_logic.specs.DeclView.{assertion_view}
-use Rattle.mz_logic.specs.Signature.{Signature}
-use Rattle.mz_logic.specs.Tree.{listed, size, trees_size}
-use Rattle.mz_logic.specs.View.{tree}
-use Rattle.mz_logic.specs.Words.{binders_of}
-use Rattle.mz_logic.specs.declared.binder.Binder.{Binder}
-use Rattle.mz_logic.specs.declared.word.Word.{Word}
+use Rattle.mz_logic_theory.specs.Declaration.{signatures}
+use Rattle.mz_logic_theory.specs.DeclView.{assertion_view}
+use Rattle.mz_logic_theory.specs.Signature.{Signature}
+use Rattle.mz_logic_theory.specs.Tree.{listed, size, trees_size}
+use Rattle.mz_logic_theory.specs.View.{tree}
+use Rattle.mz_logic_theory.specs.Words.{binders_of}
+use Rattle.mz_logic_theory.specs.declared.binder.Binder.{Binder}
+use Rattle.mz_logic_theory.specs.declared.word.Word.{Word}
 use Rattle.mz_store.specs.Bits.{bound_vars}
 use Rattle.mz_store.specs.Sharing.{tree_of, trees_of}
 use Rattle.mz_store.specs.declared.item.Id.{Id}
 use Rattle.mz_unify_theory.specs.Sorted.{Sorted}
 use Rattle.mz_machine_env.proofs.Offered.{binders_many}
 use Rattle.mz_type_rules.specs.Answers.{stated}
-use Rattle.mz_emit_bodies.specs.Instances.{AreSorted}
+use Rattle.mz_emit_theory.specs.InReach.{AreSorted}
 use Rattle.mz_emit_bodies.specs.Variables.{IsShared}
-use Rattle.mz_emit.specs.Emitting.{MakesBody, assertion_body_of, body_weight}
+use Rattle.mz_emit.specs.Emitting.{MakesBody, body_weight}
+use Rattle.mz_emit_accepted_theory.specs.CompiledFile.{assertion_body_of}
 use Rattle.mz_emit.proofs.Speaking.{few_bound, has_params, dummies_behind, few_words, held_after, conclusion_sorted, hyps_sorted, conclusion_reach, hyps_reach, hyps_provable, sound_there, assertion_says}
 use Rattle.mz_emit.proofs.emitter.Emitter.asserted.Goals as goal
 

@@ -1,5 +1,5 @@
 use Rattle.std.proofs.Common.{rules, ◌≤◌, ◌∙◌, List, length, sym, subst, ap, arith}
-use Rattle.mz_logic.specs.declared.binder.Binder.{Binder}
+use Rattle.mz_logic_theory.specs.declared.binder.Binder.{Binder}
 use Rattle.mz_emit.proofs.Speaking.{few_words}
 use Rattle.mz_emit.proofs.emitter.Emitter.assertion.Goals as goal
 

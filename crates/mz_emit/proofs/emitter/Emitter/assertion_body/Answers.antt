@@ -1,7 +1,7 @@
 use Rattle.std.proofs.Common.{Bool, List, ◌≡◌, ◌++◌, length, sym, subst}
 use Rattle.std.specs.Prelude.{IfOk}
-use Rattle.mz_logic.specs.Tree.{listed}
-use Rattle.mz_logic.specs.declared.binder.Binder.{Binder}
+use Rattle.mz_logic_theory.specs.Tree.{listed}
+use Rattle.mz_logic_theory.specs.declared.binder.Binder.{Binder}
 use Rattle.mz_store.specs.Sharing.{tree_of, trees_of}
 use Rattle.mz_type_rules.specs.Answers.{stated}
 use Rattle.mz_emit.specs.Emitting.{IsSoundIfStated, MakesBody}

@@ -1,7 +1,7 @@
 use Rattle.std.proofs.Common.{◌≤◌, ◌++◌, ◌+◌, ◌∙◌, List, length, sym, subst, ap, arith}
-use Rattle.mz_logic.specs.View.{tree}
-use Rattle.mz_logic.specs.Words.{binders_of}
-use Rattle.mz_logic.specs.declared.word.Word.{Word}
+use Rattle.mz_logic_theory.specs.View.{tree}
+use Rattle.mz_logic_theory.specs.Words.{binders_of}
+use Rattle.mz_logic_theory.specs.declared.word.Word.{Word}
 use Rattle.mz_store.specs.Bits.{bound_vars}
 use Rattle.mz_store.specs.Sharing.{tree_of}
 use Rattle.mz_machine_env.proofs.Offered.{binders_many}

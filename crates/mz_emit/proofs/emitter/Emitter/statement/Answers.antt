@@ -1,7 +1,7 @@
 use Rattle.std.proofs.Common.{List, ap, sym, subst, ◌∙◌, ◌++◌, ◌∷◌, [], length, arith}
-use Rattle.mz_logic.specs.DeclView.{declaration}
-use Rattle.mz_logic.specs.Declaration.{Declaration}
-use Rattle.mz_logic.specs.Legality.{IsLegalDecl}
+use Rattle.mz_logic_theory.specs.DeclView.{declaration}
+use Rattle.mz_logic_theory.specs.Declaration.{Declaration}
+use Rattle.mz_logic_theory.specs.Legality.{IsLegalDecl}
 use Rattle.mz_type.specs.StatedView.{with_decl}
 use Rattle.mz_type.specs.TypedText.{declared}
 use Rattle.mz_emit.specs.Emitting.{HasRows}

@@ -1,8 +1,8 @@
 use Rattle.std.proofs.Common.{List, refl, ap, sym, subst, ◌∙◌}
-use Rattle.mz_logic.specs.DeclView.{signature, form, term_of}
-use Rattle.mz_logic.specs.Declaration.{Declaration, term_decl, signatures, dummies_of}
-use Rattle.mz_logic.specs.Legality.{IsLegalEnv}
-use Rattle.mz_logic.specs.View.{tree}
+use Rattle.mz_logic_theory.specs.DeclView.{signature, form, term_of}
+use Rattle.mz_logic_theory.specs.Declaration.{Declaration, term_decl, signatures, dummies_of}
+use Rattle.mz_logic_theory.specs.Legality.{IsLegalEnv}
+use Rattle.mz_logic_theory.specs.View.{tree}
 use Rattle.mz_type.specs.StatedView.{with_decl}
 use Rattle.mz_emit.specs.Emitting.{CanBeDefined, SaysDefinition}
 use Rattle.mz_emit.proofs.Rows.{definition_rows}

@@ -1,6 +1,6 @@
 use Rattle.std.proofs.Common.{refl, ap}
-use Rattle.mz_logic.specs.DeclView.{signature, form, term_of}
-use Rattle.mz_logic.specs.Declaration.{term_decl}
+use Rattle.mz_logic_theory.specs.DeclView.{signature, form, term_of}
+use Rattle.mz_logic_theory.specs.Declaration.{term_decl}
 use Rattle.mz_type.specs.StatedView.{with_decl}
 use Rattle.mz_emit.proofs.Rows.{plain_rows}
 use Rattle.mz_emit.proofs.Saying.{term_words}

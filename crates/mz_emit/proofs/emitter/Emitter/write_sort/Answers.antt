@@ -1,5 +1,5 @@
 use Rattle.std.proofs.Common.{refl}
-use Rattle.mz_logic.specs.Declaration.{sort_decl}
+use Rattle.mz_logic_theory.specs.Declaration.{sort_decl}
 use Rattle.mz_type.specs.StatedView.{with_decl}
 use Rattle.mz_emit.proofs.Rows.{sort_rows}
 use Rattle.mz_emit.proofs.emitter.Emitter.write_sort.Goals as goal

@@ -1,5 +1,5 @@
-use Rattle.mz_logic.specs.DeclView.{form}
-use Rattle.mz_logic.specs.View.{tree}
+use Rattle.mz_logic_theory.specs.DeclView.{form}
+use Rattle.mz_logic_theory.specs.View.{tree}
 use Rattle.mz_emit.proofs.Rows.{plain_is, defined_is}
 use Rattle.mz_emit.proofs.emitter.Emitter.write_term.Goals as goal
 

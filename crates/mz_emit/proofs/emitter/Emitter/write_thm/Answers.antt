@@ -1,10 +1,10 @@
 use Rattle.std.proofs.Common.{List, refl, ap, sym, subst, ◌∙◌}
 use Rattle.std.specs.Prelude.{Option}
-use Rattle.mz_logic.specs.DeclView.{assertion_of, assertion_view}
-use Rattle.mz_logic.specs.Declaration.{Declaration, signatures}
-use Rattle.mz_logic.specs.Legality.{IsLegalEnv}
-use Rattle.mz_logic.specs.declared.binder.Binder.{Binder}
-use Rattle.mz_mmu_forms.specs.Proof.{Proof}
+use Rattle.mz_logic_theory.specs.DeclView.{assertion_of, assertion_view}
+use Rattle.mz_logic_theory.specs.Declaration.{Declaration, signatures}
+use Rattle.mz_logic_theory.specs.Legality.{IsLegalEnv}
+use Rattle.mz_logic_theory.specs.declared.binder.Binder.{Binder}
+use Rattle.mz_mmu_theory.specs.Proof.{Proof}
 use Rattle.mz_type_rules.specs.Answers.{stated}
 use Rattle.mz_type.specs.StatedView.{with_decl}
 use Rattle.mz_type.specs.TypedText.{declared}

@@ -1,6 +1,6 @@
 use Rattle.std.proofs.Common.{◌∙◌, [], refl, ap, subst, arith}
 use Rattle.std.proofs.lemmas.List.{append-nil}
-use Rattle.mz_logic.specs.Tree.{trees_size}
+use Rattle.mz_logic_theory.specs.Tree.{trees_size}
 use Rattle.mz_store.specs.Sharing.{AreIn, tree_of}
 use Rattle.mz_emit.specs.Going.{Going, IsGoing, to_do}
 use Rattle.mz_emit.proofs.Going.{job_of, start_going, end_going, popped, empty, next_going}

@@ -1,5 +1,5 @@
 use Rattle.std.proofs.Common.{[]}
-use Rattle.mz_logic.specs.Tree.{trees_size}
+use Rattle.mz_logic_theory.specs.Tree.{trees_size}
 use Rattle.mz_emit.specs.Going.{Going, Job, to_do}
 use Rattle.mz_emit.proofs.stream.Stream.spell.Given as goal
 

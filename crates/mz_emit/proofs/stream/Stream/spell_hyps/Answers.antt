@@ -1,5 +1,5 @@
 use Rattle.std.proofs.Common.{◌∙◌, [], ◌∷◌, ◌++◌, List, length, reverse, ap, sym, subst, append_assoc, append-nil}
-use Rattle.mz_emit_bodies.specs.Instances.{AllInReach}
+use Rattle.mz_emit_theory.specs.InReach.{AllInReach}
 use Rattle.mz_store.specs.Sharing.{AreIn, trees_of}
 use Rattle.mz_store.specs.declared.item.Id.{Id}
 use Rattle.mz_emit.specs.Going.{HasWritten, hyps_written}

@@ -1,6 +1,6 @@
 use Rattle.std.proofs.Common.{◌≡◌, ◌++◌, List, length, reverse}
-use Rattle.mz_logic.specs.declared.binder.Binder.{Binder}
-use Rattle.mz_emit_bodies.specs.Instances.{AllInReach}
+use Rattle.mz_logic_theory.specs.declared.binder.Binder.{Binder}
+use Rattle.mz_emit_theory.specs.InReach.{AllInReach}
 use Rattle.mz_store.specs.Sharing.{trees_of}
 use Rattle.mz_store.specs.declared.item.Id.{Id}
 use Rattle.mz_emit_theory.specs.StreamWriting.{Writing}

@@ -1,4 +1,4 @@
-use Rattle.mz_mmu_forms.specs.ProofView.{proof_view}
+use Rattle.mz_mmu_theory.specs.ProofView.{proof_view}
 use Rattle.mz_emit_bodies.specs.Owes.{to_do}
 use Rattle.mz_emit_bodies.proofs.Binding.{bind_done, bind_cost}
 use Rattle.mz_emit_bodies.proofs.body.Body.bind.Goals as goal

@@ -1,12 +1,12 @@
 use Rattle.std.proofs.Common.{sym, ap, ◌∙◌, ◌∷◌, ◌++◌, subst, List}
 use Rattle.std.proofs.lemmas.Result.{on_ok_weaker}
 use Rattle.mz_cmd.specs.declared.code.ProofCode.TheVariants as code
-use Rattle.mz_logic.specs.Signature.{Signature}
-use Rattle.mz_logic.specs.Tree.{instance}
-use Rattle.mz_logic.specs.DeclView.{assertion_view}
-use Rattle.mz_logic.specs.View.{tree}
+use Rattle.mz_logic_theory.specs.Signature.{Signature}
+use Rattle.mz_logic_theory.specs.Tree.{instance}
+use Rattle.mz_logic_theory.specs.DeclView.{assertion_view}
+use Rattle.mz_logic_theory.specs.View.{tree}
 use Rattle.mz_store.specs.Sharing.{trees_of}
-use Rattle.mz_emit_bodies.specs.Instances.{AreSorted}
+use Rattle.mz_emit_theory.specs.InReach.{AreSorted}
 use Rattle.mz_emit_bodies.specs.Pushing.{pushes}
 use Rattle.mz_emit_bodies.specs.Owes.{push, give, to_do}
 use Rattle.mz_emit_bodies.proofs.Making.{fits_sorted, grows_on, are_in_grown, trees_grown}

@@ -1,4 +1,4 @@
-use Rattle.mz_logic.specs.Declaration.{signatures}
+use Rattle.mz_logic_theory.specs.Declaration.{signatures}
 use Rattle.mz_emit_bodies.proofs.Dummies.{dummy_made}
 use Rattle.mz_emit_bodies.proofs.body.Body.make_dummy.Goals as goal
 

@@ -1,8 +1,8 @@
 use Rattle.std.proofs.Common.{ap, ◌∙◌, ◌<◌, sym, subst, arith, ◌∷◌, []}
 use Rattle.std.specs.Prelude.{OnOk}
-use Rattle.mz_logic.specs.Conversions.{unfold_conv}
-use Rattle.mz_mmu_forms.specs.ConvView.{conversion}
-use Rattle.mz_emit_bodies.specs.Costs.{pay_cost, pay_costs}
+use Rattle.mz_logic_theory.specs.Conversions.{unfold_conv}
+use Rattle.mz_mmu_theory.specs.ConvView.{conversion}
+use Rattle.mz_emit_theory.specs.Costs.{pay_cost, pay_costs}
 use Rattle.mz_emit_bodies.specs.Sight.{parts}
 use Rattle.mz_emit_bodies.specs.Owes.{pay, pay_all, to_do, left}
 use Rattle.mz_emit_bodies.specs.Going.{Job, Does, steps_left}

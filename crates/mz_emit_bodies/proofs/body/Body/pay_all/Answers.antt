@@ -1,7 +1,7 @@
 use Rattle.std.proofs.Common.{◌∷◌, [], ap, ◌∙◌, subst, arith}
 use Rattle.std.proofs.lemmas.Result.{on_ok_weaker}
-use Rattle.mz_mmu_forms.specs.ConvView.{conversion}
-use Rattle.mz_emit_bodies.specs.Costs.{pay_costs}
+use Rattle.mz_mmu_theory.specs.ConvView.{conversion}
+use Rattle.mz_emit_theory.specs.Costs.{pay_costs}
 use Rattle.mz_emit_bodies.specs.Sight.{parts}
 use Rattle.mz_emit_bodies.specs.Owes.{pay, pay_all, to_do, left}
 use Rattle.mz_emit_bodies.specs.Going.{Does}

@@ -1,11 +1,11 @@
 use Rattle.std.proofs.Common.{◌<◌, sym, ap, ◌∙◌, subst, arith, ◌∷◌, [], ℕ}
 use Rattle.std.specs.Prelude.{OnOk}
-use Rattle.mz_logic.specs.View.{tree}
-use Rattle.mz_mmu_forms.specs.ConvView.{conversion}
-use Rattle.mz_mmu_forms.specs.Proof.{by_conv, by_let}
-use Rattle.mz_mmu_forms.specs.ProofView.{proof_view}
+use Rattle.mz_logic_theory.specs.View.{tree}
+use Rattle.mz_mmu_theory.specs.ConvView.{conversion}
+use Rattle.mz_mmu_theory.specs.Proof.{by_conv, by_let}
+use Rattle.mz_mmu_theory.specs.ProofView.{proof_view}
 use Rattle.mz_emit_bodies.specs.Scopes.{in_sight}
-use Rattle.mz_emit_bodies.specs.Costs.{cost}
+use Rattle.mz_emit_theory.specs.Costs.{cost}
 use Rattle.mz_emit_bodies.specs.Sight.{parts}
 use Rattle.mz_emit_bodies.specs.Owes.{prove, prove_all, to_do, left, let_costs}
 use Rattle.mz_emit_bodies.specs.Going.{Job, Does, steps_left}

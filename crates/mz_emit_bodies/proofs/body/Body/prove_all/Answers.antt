@@ -1,8 +1,8 @@
 use Rattle.std.proofs.Common.{◌∷◌, [], ap, ◌∙◌, subst, arith}
 use Rattle.std.proofs.lemmas.Result.{on_ok_weaker}
-use Rattle.mz_mmu_forms.specs.ProofView.{proof_view}
+use Rattle.mz_mmu_theory.specs.ProofView.{proof_view}
 use Rattle.mz_emit_bodies.specs.Scopes.{in_sight}
-use Rattle.mz_emit_bodies.specs.Costs.{costs}
+use Rattle.mz_emit_theory.specs.Costs.{costs}
 use Rattle.mz_emit_bodies.specs.Sight.{parts}
 use Rattle.mz_emit_bodies.specs.Owes.{prove, prove_all, to_do, left, let_costs}
 use Rattle.mz_emit_bodies.specs.Going.{Does}

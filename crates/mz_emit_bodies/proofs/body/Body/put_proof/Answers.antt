@@ -1,12 +1,12 @@
 use Rattle.std.proofs.Common.{ap, [], ◌*◌}
 use Rattle.std.proofs.lemmas.Result.{on_ok_weaker}
-use Rattle.mz_emit_bodies.specs.Weights.{proof_weight}
-use Rattle.mz_mmu_forms.specs.ProofView.{proof_view}
+use Rattle.mz_emit_theory.specs.Weights.{proof_weight}
+use Rattle.mz_mmu_theory.specs.ProofView.{proof_view}
 use Rattle.mz_unify_theory.specs.Profile.{proof}
-use Rattle.mz_emit_bodies.specs.Claims.{proved}
+use Rattle.mz_emit_theory.specs.Claims.{proved}
 use Rattle.mz_emit_bodies.specs.Owes.{to_do}
 use Rattle.mz_emit_bodies.specs.Stages.{leaving, spending, writing_too}
-use Rattle.mz_emit_bodies.specs.Writing.{write_proof}
+use Rattle.mz_emit_theory.specs.BodyWriting.{write_proof}
 use Rattle.mz_emit_bodies.proofs.Ends.{proof_owed}
 use Rattle.mz_emit_bodies.proofs.body.Body.put_proof.Goals as goal
 

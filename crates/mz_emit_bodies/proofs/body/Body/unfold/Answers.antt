@@ -1,13 +1,13 @@
 use Rattle.std.proofs.Common.{ℕ, ◌<◌, ◌+◌, List, length, sym, ap, ◌∙◌, subst, slice_index_or}
 use Rattle.std.proofs.lemmas.Result.{on_ok_weaker}
-use Rattle.mz_logic.specs.Signature.{Signature}
-use Rattle.mz_logic.specs.DeclView.{term_view}
-use Rattle.mz_logic.specs.Tree.{app, listed, instance, followed_by, variables}
-use Rattle.mz_logic.specs.View.{tree}
-use Rattle.mz_mmu_forms.specs.ConvView.{conversion}
+use Rattle.mz_logic_theory.specs.Signature.{Signature}
+use Rattle.mz_logic_theory.specs.DeclView.{term_view}
+use Rattle.mz_logic_theory.specs.Tree.{app, listed, instance, followed_by, variables}
+use Rattle.mz_logic_theory.specs.View.{tree}
+use Rattle.mz_mmu_theory.specs.ConvView.{conversion}
 use Rattle.mz_store.specs.Sharing.{AreIn, trees_of}
 use Rattle.mz_emit_bodies.specs.Variables.{IsShared}
-use Rattle.mz_emit_bodies.specs.Instances.{InReach, AreSorted}
+use Rattle.mz_emit_theory.specs.InReach.{InReach, AreSorted}
 use Rattle.mz_emit_bodies.specs.Owes.{to_do}
 use Rattle.mz_emit_bodies.proofs.Making.{fits_sorted, grows_on, in_grown, tree_grown, are_in_grown, trees_grown}
 use Rattle.mz_emit_bodies.proofs.Growing.{many_ids, shared_as, vars_as}

@@ -1,5 +1,5 @@
 use Rattle.std.proofs.Common.{◌∙◌}
-use Rattle.mz_logic.specs.View.{tree}
+use Rattle.mz_logic_theory.specs.View.{tree}
 use Rattle.mz_emit_bodies.proofs.Owned.{shared_grown, one_reach, one_own, one_sorted}
 use Rattle.mz_emit_bodies.proofs.shared.Shared.id.Goals as goal
 

@@ -1,7 +1,7 @@
 use Rattle.std.proofs.Common.{ℕ, All, ◌<◌, ◌+◌, ◌∷◌, [], List, length, drop, ap, sym, subst, ◌∙◌, arith}
 use Rattle.std.proofs.lemmas.List.{length-append, drop_more, drop_all}
-use Rattle.mz_logic.specs.Tree.{Tree, Trees, more, followed_by, variables}
-use Rattle.mz_logic.proofs.Offered.{followed_by_none, followed_by_push}
+use Rattle.mz_logic_theory.specs.Tree.{Tree, Trees, more, followed_by, variables}
+use Rattle.mz_logic_theory.proofs.Offered.{followed_by_none, followed_by_push}
 use Rattle.mz_store.specs.declared.item.Id.{Id}
 use Rattle.mz_store.specs.Sharing.{AreIn, tree_of, trees_of}
 use Rattle.mz_emit_bodies.proofs.Making.{trees_push, in_push}

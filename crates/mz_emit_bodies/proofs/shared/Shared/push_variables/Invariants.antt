@@ -1,5 +1,5 @@
 use Rattle.std.proofs.Common.{◌≡◌, ◌+◌, length, drop}
-use Rattle.mz_logic.specs.Tree.{followed_by, variables}
+use Rattle.mz_logic_theory.specs.Tree.{followed_by, variables}
 use Rattle.mz_store.specs.Sharing.{AreIn, trees_of}
 use Rattle.mz_emit_bodies.proofs.shared.Shared.push_variables.Given as goal
 

@@ -1,8 +1,8 @@
 use Rattle.std.proofs.Common.{ℕ, ◌%◌, ◌*◌, ◌^◌, List, length, take, arith, ap, sym, ◌∙◌, refl, subst}
 use Rattle.std.proofs.lemmas.List.{take_all, length-take-le}
-use Rattle.mz_logic.specs.Words.{BitsRight, binders_of}
-use Rattle.mz_logic.specs.WordsWritten.{bound_from, words_of}
-use Rattle.mz_logic.specs.declared.binder.Binder.{Binder}
+use Rattle.mz_logic_theory.specs.Words.{BitsRight, binders_of}
+use Rattle.mz_logic_theory.specs.WordsWritten.{bound_from, words_of}
+use Rattle.mz_logic_theory.specs.declared.binder.Binder.{Binder}
 use Rattle.mz_emit_bodies.specs.Bits.{place_bits}
 use Rattle.mz_emit_bodies.proofs.Bits.{after_bound, after_regular, one_more, few_here, fewer_here, deps_before, bits_right, binders_back, few_bound, bit_below, bits_below, place_bits_long}
 use Rattle.mz_emit_bodies.proofs.words.Words.of.Goals.{then-binder+in_ok-push+in_ok-push-2, else-binder+in_ok-push-3+in_ok-push-4}

@@ -1,5 +1,5 @@
 use Rattle.std.proofs.Common.{◌≡◌, length, take}
-use Rattle.mz_logic.specs.WordsWritten.{bound_from, words_of}
+use Rattle.mz_logic_theory.specs.WordsWritten.{bound_from, words_of}
 use Rattle.mz_emit_bodies.specs.Bits.{place_bits}
 use Rattle.mz_emit_bodies.proofs.words.Words.of.Given as goal
 

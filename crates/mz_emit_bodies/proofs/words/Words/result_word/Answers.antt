@@ -1,5 +1,5 @@
 use Rattle.std.proofs.Common.{ℕ, ◌≡◌, ◌+◌, ◌*◌, ◌^◌, length, ap, ◌∙◌, arith}
-use Rattle.mz_logic.specs.WordsWritten.{bound_from}
+use Rattle.mz_logic_theory.specs.WordsWritten.{bound_from}
 use Rattle.mz_emit_bodies.proofs.Bits.{place_bits_long, bits_below}
 use Rattle.mz_emit_bodies.proofs.words.Words.result_word.Goals as goal
 

@@ -1,4 +1,4 @@
-use Rattle.mz_layout.proofs.RoomFor.{room-for-statement}
+use Rattle.mz_layout_tables.proofs.Offered.{room-for-statement}
 use Rattle.mz_layout.proofs.writer.LayoutWriter.add_stmt.Goals as goal
 
 pub invariant_of-self-2 : goal.invariant_of-self-2

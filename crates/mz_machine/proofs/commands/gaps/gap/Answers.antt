@@ -1,8 +1,8 @@
 use Rattle.std.proofs.Common.{◌∙◌, ◌∷◌, List, Ok, sym, ap, subst, eq-eqb, inl, inr}
 use Rattle.std.proofs.lemmas.Bool.{ne_eqb}
 use Rattle.std.proofs.lemmas.Result.{err_from_is_err_and}
-use Rattle.mz_logic.specs.declared.binder.Binder.{Binder}
-use Rattle.mz_logic.specs.Sorts.{HasSort}
+use Rattle.mz_logic_theory.specs.declared.binder.Binder.{Binder}
+use Rattle.mz_logic_theory.specs.Sorts.{HasSort}
 use Rattle.mz_store.specs.Sharing.{tree_of}
 use Rattle.mz_unify.specs.Stored.{items_at, item_at, IsItemIn}
 use Rattle.mz_machine_env.specs.Before.{signatures_of}

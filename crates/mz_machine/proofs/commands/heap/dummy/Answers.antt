@@ -1,5 +1,5 @@
 use Rattle.std.proofs.Common.{◌≡◌, ◌∙◌, ◌∷◌, [], ◌++◌, ◌<◌, ◌≤◌, length, sym, ap, arith, lt-ltb, le-ltb}
-use Rattle.mz_logic.specs.Tree.{var}
+use Rattle.mz_logic_theory.specs.Tree.{var}
 use Rattle.mz_store.specs.Sharing.{tree_of, dummy_binder}
 use Rattle.mz_unify_theory.specs.Spells.{dummy_of}
 use Rattle.mz_machine_theory.specs.Premises.{bound_count}

@@ -1,8 +1,8 @@
 use Rattle.std.proofs.Common.{◌≡◌, ◌<◌, ◌∙◌, Err, Ok, [], length, sym, ap, subst, arith, append-nil}
 use Rattle.std.proofs.lemmas.Result.{err_from_is_err_and}
-use Rattle.mz_logic.specs.Tree.{app}
-use Rattle.mz_logic.specs.Words.{binders_of}
-use Rattle.mz_layout.specs.Tables.{term_row}
+use Rattle.mz_logic_theory.specs.Tree.{app}
+use Rattle.mz_logic_theory.specs.Words.{binders_of}
+use Rattle.mz_layout_tables.specs.Tables.{term_row}
 use Rattle.mz_store.specs.Sharing.{tree_of, CanTake, trees_of as trees_in}
 use Rattle.mz_unify_theory.specs.Spells.{trees_of}
 use Rattle.mz_unify.specs.Stored.{trees_at}

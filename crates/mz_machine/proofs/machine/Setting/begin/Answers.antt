@@ -1,9 +1,10 @@
 use Rattle.std.proofs.Common.{◌∙◌, refl, length, sym, ap, subst}
 use Rattle.mz_base.specs.Gaps.{gaps_of}
-use Rattle.mz_logic.specs.Words.{binders_of, BitsRight}
+use Rattle.mz_logic_theory.specs.Words.{binders_of, BitsRight}
 use Rattle.mz_store.specs.Bits.{bound_vars}
 use Rattle.mz_machine_theory.specs.MachineState.{signatures_in}
-use Rattle.mz_machine_env.specs.OwnRow.{byte_of, kind_at, heading_of, mode_for, first_items}
+use Rattle.mz_machine_env.specs.OwnRow.{byte_of, mode_for, first_items}
+use Rattle.mz_machine_theory.specs.Headings.{kind_at, heading_of}
 use Rattle.mz_machine_env.specs.Before.{tables_before}
 use Rattle.mz_machine.proofs.GapRows.{start-plain}
 use Rattle.mz_machine_env.proofs.Offered.{kind-byte, own-bits, words-are}

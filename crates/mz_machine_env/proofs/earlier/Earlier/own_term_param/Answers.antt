@@ -1,5 +1,5 @@
 use Rattle.std.proofs.Common.{◌<◌, sym, subst}
-use Rattle.mz_layout.specs.Tables.{term_count}
+use Rattle.mz_layout_tables.specs.Tables.{term_count}
 use Rattle.mz_machine_env.proofs.BeforeLaws.{row-in-file}
 use Rattle.mz_machine_env.specs.Before.{Before}
 use Rattle.mz_machine_env.proofs.earlier.Earlier.own_term_param.Goals as goal

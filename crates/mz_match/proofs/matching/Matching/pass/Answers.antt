@@ -1,14 +1,14 @@
 use Rattle.std.proofs.Common.{◌<◌, ◌+◌, ◌++◌, ◌∷◌, [], ◌∙◌, drop, length, sym, ap, subst, refl, arith}
 use Rattle.std.proofs.lemmas.List.{append-nil}
 use Rattle.mz_base_theory.specs.Checks.{FailsFirst}
-use Rattle.mz_spec.specs.State.{env_of}
+use Rattle.mz_spec_theory.specs.State.{env_of}
 use Rattle.mz_match.specs.declared.matching.Matching.{Matching}
 use Rattle.mz_match_theory.specs.declared.verdict.Verdict.TheVariants as verdicts
-use Rattle.mz_match_theory.specs.Match.{partner_checks, partner_of}
+use Rattle.mz_spec_proved_theory.specs.Match.{partner_checks, partner_of}
 use Rattle.mz_match.specs.Told.{IsTold}
 use Rattle.mz_match_theory.specs.Verdict.{IsVerdictBy}
-use Rattle.mz_logic.specs.Declaration.{terms}
-use Rattle.mz_match.proofs.BesideRows.{exact-no}
+use Rattle.mz_logic_theory.specs.Declaration.{terms}
+use Rattle.mz_match_rows.proofs.Offered.{exact-no}
 use Rattle.mz_match.proofs.Pairing.{told-next, done-fewer, differs-here, matched-local, matched-public, term-row, no-term-row}
 use Rattle.mz_match.proofs.matching.Matching.pass.Goals as goal
 use Rattle.mz_match.proofs.matching.Matching.pass.Goals.{then-not-told+in_default+then-has_kind+in-Ok, then-not-told+in_default+else-has_kind, else-not-told}

@@ -1,6 +1,6 @@
 use Rattle.std.proofs.Common.{ap, subst, List, Contains, MatchOption}
-use Rattle.mz_math_notation.specs.declared.notation.Notation.{Notation}
-use Rattle.mz_math_notation.specs.Clear.{JoinedBy}
+use Rattle.mz_math_theory.specs.declared.notation.Notation.{Notation}
+use Rattle.mz_math_theory.specs.Clear.{JoinedBy}
 use Rattle.mz_math.proofs.words.Vocabulary.infix.Goals as goal
 
 pub returns : goal.returns

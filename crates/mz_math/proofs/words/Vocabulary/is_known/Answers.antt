@@ -1,9 +1,9 @@
 use Rattle.std.proofs.Common.{◌≡◌, ◌∙◌, ◌⊎◌, ℕ, List, ap, sym, subst, refl, Contains, inl}
 use Rattle.std.proofs.lemmas.Bool.{true≢false}
-use Rattle.mz_math_notation.specs.Notation.{TermName}
-use Rattle.mz_math_notation.specs.Clear.{HasConstant}
-use Rattle.mz_math.specs.Grammar.{Words}
-use Rattle.mz_math.proofs.Knowing.{known-last, known-parenthesis, known-constant, known-name}
+use Rattle.mz_math_theory.specs.Notation.{TermName}
+use Rattle.mz_math_theory.specs.Clear.{HasConstant}
+use Rattle.mz_math_theory.specs.Grammar.{Words}
+use Rattle.mz_math_theory.proofs.Offered.{known-last, known-parenthesis, known-constant, known-name}
 use Rattle.mz_math.proofs.words.Vocabulary.is_known.Goals as goal
 
 pub returns-then-names_variable : goal.returns-then-names_variable

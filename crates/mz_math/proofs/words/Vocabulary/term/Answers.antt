@@ -1,6 +1,6 @@
 use Rattle.std.proofs.Common.{◌≡◌, ◌∙◌, ap, sym, subst, slice_get, Contains}
 use Rattle.std.proofs.lemmas.Option.{none-some}
-use Rattle.mz_math.specs.Grammar.{Words}
+use Rattle.mz_math_theory.specs.Grammar.{Words}
 use Rattle.mz_math.proofs.words.Vocabulary.term.Goals as goal
 
 pub returns-in-None : goal.returns-in-None

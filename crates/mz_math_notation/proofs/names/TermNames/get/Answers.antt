@@ -1,7 +1,7 @@
-use Rattle.std.proofs.Common.{◌≡◌, ◌∙◌, ℕ, List, refl, subst, Contains}
+use Rattle.std.proofs.Common.{◌≡◌, ◌∙◌, List, refl, subst, Contains}
 use Rattle.std.specs.Prelude.{MatchOption}
 use Rattle.mz_math_notation.specs.Names.{IsFoundAs}
-use Rattle.mz_math_notation.specs.Notation.{TermName}
+use Rattle.mz_math_theory.specs.Notation.{TermName}
 use Rattle.mz_math_notation.proofs.Naming.{looked-up}
 use Rattle.mz_math_notation.proofs.names.TermNames.get.Goals as goal
 

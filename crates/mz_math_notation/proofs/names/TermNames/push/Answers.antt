@@ -1,6 +1,6 @@
 use Rattle.std.proofs.Common.{◌≡◌, ◌∙◌, ◌++◌, ◌∷◌, [], List, ap, sym, refl, subst, Contains}
 use Rattle.mz_math_notation.specs.Names.{AreOnce, all_named, name_with}
-use Rattle.mz_math_notation.specs.Notation.{TermName}
+use Rattle.mz_math_theory.specs.Notation.{TermName}
 use Rattle.mz_math_notation.proofs.Naming.{name-more, once-more}
 use Rattle.mz_math_notation.proofs.names.TermNames.push.Goals as goal
 

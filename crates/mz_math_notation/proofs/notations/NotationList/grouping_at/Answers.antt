@@ -1,5 +1,5 @@
-use Rattle.std.proofs.Common.{◌≡◌, ◌∙◌, ℕ, List, Contains, MatchOption, sym, subst}
-use Rattle.mz_math_notation.specs.Notation.{Notation}
+use Rattle.std.proofs.Common.{◌≡◌, ◌∙◌, List, Contains, MatchOption, sym, subst}
+use Rattle.mz_math_theory.specs.declared.notation.Notation.{Notation}
 use Rattle.mz_math_notation.specs.Headed.{AreLevelled}
 use Rattle.mz_math_notation.proofs.notations.NotationList.grouping_at.Goals as goal
 

@@ -1,6 +1,6 @@
 use Rattle.std.proofs.Common.{◌∙◌, inr, sym, subst}
 use Rattle.std.proofs.lemmas.Bool.{true≢false}
-use Rattle.mz_math_notation.specs.Clear.{JoinedBy}
+use Rattle.mz_math_theory.specs.Clear.{JoinedBy}
 use Rattle.mz_math_notation.proofs.notations.NotationList.joined_by.Goals as goal
 
 pub returns-in-None : goal.returns-in-None

@@ -1,6 +1,6 @@
 use Rattle.std.proofs.Common.{◌∙◌, inl, sym, subst}
 use Rattle.std.proofs.lemmas.Bool.{true≢false}
-use Rattle.mz_math_notation.specs.Clear.{LedBy}
+use Rattle.mz_math_theory.specs.Clear.{LedBy}
 use Rattle.mz_math_notation.proofs.notations.NotationList.led_by.Goals as goal
 
 pub returns-in-None : goal.returns-in-None

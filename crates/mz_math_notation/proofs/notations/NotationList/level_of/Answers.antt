@@ -1,6 +1,6 @@
 use Rattle.std.proofs.Common.{◌∙◌, List, MatchOption, subst, ℕ}
-use Rattle.mz_math_notation.specs.Notation.{Notation}
-use Rattle.mz_math_notation.specs.Clear.{HasConstant}
+use Rattle.mz_math_theory.specs.declared.notation.Notation.{Notation}
+use Rattle.mz_math_theory.specs.Clear.{HasConstant}
 use Rattle.mz_math_notation.proofs.notations.NotationList.level_of.Goals as goal
 
 pub returns : goal.returns

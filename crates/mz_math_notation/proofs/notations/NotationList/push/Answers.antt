@@ -1,6 +1,6 @@
 use Rattle.std.proofs.Common.{◌∙◌, ◌++◌, ◌∷◌, [], ℕ, List, Some, ap, sym, subst, Contains}
 use Rattle.std.specs.Prelude.{bytes_eq, if◌then◌else◌}
-use Rattle.mz_math_notation.specs.Notation.{Notation}
+use Rattle.mz_math_theory.specs.declared.notation.Notation.{Notation}
 use Rattle.mz_math_notation.specs.Headed.{AreFound, AreLevelled, IsHeadedBy}
 use Rattle.mz_math_tokens.specs.Places.{LeadsTo, place_of}
 use Rattle.mz_math_tokens.proofs.Offered.{leads-kept, leads-more}

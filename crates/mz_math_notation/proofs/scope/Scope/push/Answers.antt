@@ -1,7 +1,7 @@
 use Rattle.std.proofs.Common.{◌≡◌, ◌∷◌, [], ◌∙◌, ap, sym, subst, length, length-append, arith, ◌+◌, ◌<◌, Contains}
-use Rattle.mz_math_notation.specs.Notation.{Variables}
-use Rattle.mz_math_notation.specs.Kept.{AreVariables}
-use Rattle.mz_math_notation.proofs.Tables.{variables-more}
+use Rattle.mz_math_theory.specs.Notation.{Variables}
+use Rattle.mz_math_theory.specs.Kept.{AreVariables}
+use Rattle.mz_math_theory.proofs.Offered.{variables-more}
 use Rattle.mz_math_notation.proofs.scope.Scope.push.Goals as goal
 
 pub push-requires : goal.push-requires

@@ -1,9 +1,10 @@
 use Rattle.std.proofs.Common.{◌≡◌, ◌++◌, ◌∷◌, [], ◌∙◌, List, ap, sym, subst, refl, inl, inr}
 use Rattle.std.proofs.lemmas.Bool.{MatchBool-at_true, MatchBool-at_false}
-use Rattle.mz_math_notation.specs.Notation.{Table, Coercion, with_coercion}
-use Rattle.mz_math_coercions.specs.Coercions.{OnePath}
-use Rattle.mz_math_notation.specs.Kept.{IsTable}
-use Rattle.mz_math_notation.proofs.Tables.{coercion-is}
+use Rattle.mz_math_theory.specs.Notation.{Table, with_coercion}
+use Rattle.mz_math_theory.specs.declared.coercion.Coercion.{Coercion}
+use Rattle.mz_math_theory.specs.Coercions.{OnePath}
+use Rattle.mz_math_theory.specs.Kept.{IsTable}
+use Rattle.mz_math_theory.proofs.Offered.{coercion-is}
 use Rattle.mz_math_notation.proofs.table.Notations.add_coercion.Goals as goal
 
 pub invariant_of-self-then-not-added : goal.invariant_of-self-then-not-added

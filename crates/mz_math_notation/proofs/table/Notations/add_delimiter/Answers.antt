@@ -1,5 +1,5 @@
 use Rattle.std.specs.Prelude.{⊤}
-use Rattle.mz_math_notation.proofs.Tables.{delimiter-answer}
+use Rattle.mz_math_theory.proofs.Offered.{delimiter-answer}
 use Rattle.mz_math_notation.proofs.table.Notations.add_delimiter.Goals as goal
 
 pub returns-in-Err-clause-answer : goal.returns-in-Err-clause-answer

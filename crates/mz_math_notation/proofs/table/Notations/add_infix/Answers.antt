@@ -1,11 +1,12 @@
 use Rattle.std.specs.Prelude.{⊤}
 use Rattle.std.proofs.Common.{ap, subst, Err}
-use Rattle.mz_math_notation.specs.Notation.{Notation, Table, with_notation}
-use Rattle.mz_math_notation.specs.Answers.{IsMade}
-use Rattle.mz_logic.specs.Declaration.{signatures}
+use Rattle.mz_math_theory.specs.Notation.{Table, with_notation}
+use Rattle.mz_math_theory.specs.declared.notation.Notation.{Notation}
+use Rattle.mz_math_theory.specs.NotationAnswers.{IsMade}
+use Rattle.mz_logic_theory.specs.Declaration.{signatures}
 use Rattle.mz_math_tokens.specs.declared.pieces.Delimiters.{Delimiters}
-use Rattle.mz_math_notation.specs.Forms.{IsInfix}
-use Rattle.mz_math_notation.proofs.Tables.{infix-one, infix-shaped, form-answer, added-answer, added-ok, added-err}
+use Rattle.mz_math_theory.specs.Forms.{IsInfix}
+use Rattle.mz_math_theory.proofs.Offered.{infix-one, infix-shaped, form-answer, added-answer, added-ok, added-err}
 use Rattle.mz_math_notation.proofs.table.Notations.add_infix.Goals as goal
 
 pub returns-in-Err-clause-answer : goal.returns-in-Err-clause-answer

@@ -1,7 +1,7 @@
 use Rattle.std.proofs.Common.{◌∙◌, sym, subst}
-use Rattle.mz_math_notation.specs.Notation.{Table}
-use Rattle.mz_math_notation.specs.Answers.{IsAdded}
-use Rattle.mz_math_notation.proofs.Tables.{shaped-slot, shaped-constant, with-slot, with-constant}
+use Rattle.mz_math_theory.specs.Notation.{Table}
+use Rattle.mz_math_theory.specs.NotationAnswers.{IsAdded}
+use Rattle.mz_math_theory.proofs.Offered.{shaped-slot, shaped-constant, with-slot, with-constant}
 use Rattle.mz_math_notation.proofs.table.Notations.add_notation.Goals as goal
 
 pub push_infix-requires : goal.push_infix-requires

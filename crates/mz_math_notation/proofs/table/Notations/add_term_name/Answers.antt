@@ -1,7 +1,7 @@
 use Rattle.std.proofs.Common.{List, sym, subst, Contains}
-use Rattle.mz_math_notation.specs.Notation.{Table, TermName}
-use Rattle.mz_math_notation.specs.Kept.{IsTable}
-use Rattle.mz_math_notation.proofs.Tables.{name-is}
+use Rattle.mz_math_theory.specs.Notation.{Table, TermName}
+use Rattle.mz_math_theory.specs.Kept.{IsTable}
+use Rattle.mz_math_theory.proofs.Offered.{name-is}
 use Rattle.mz_math_notation.proofs.table.Notations.add_term_name.Goals as goal
 
 pub invariant_of-self-2 : goal.invariant_of-self-2

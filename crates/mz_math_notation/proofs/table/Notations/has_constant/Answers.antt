@@ -1,7 +1,7 @@
 use Rattle.std.proofs.Common.{inl, inr, refl, sym, subst}
 use Rattle.std.proofs.lemmas.Bool.{false≢true}
-use Rattle.mz_math_notation.specs.Notation.{Table}
-use Rattle.mz_math_notation.specs.Clear.{HasConstant}
+use Rattle.mz_math_theory.specs.Notation.{Table}
+use Rattle.mz_math_theory.specs.Clear.{HasConstant}
 use Rattle.mz_math_notation.proofs.table.Notations.has_constant.Goals as goal
 
 pub returns-in-Some : goal.returns-in-Some

@@ -1,6 +1,7 @@
 use Rattle.std.proofs.Common.{ap, subst, List, Contains, MatchOption}
-use Rattle.mz_math_notation.specs.Notation.{Notation, Table}
-use Rattle.mz_math_notation.specs.Clear.{JoinedBy}
+use Rattle.mz_math_theory.specs.Notation.{Table}
+use Rattle.mz_math_theory.specs.declared.notation.Notation.{Notation}
+use Rattle.mz_math_theory.specs.Clear.{JoinedBy}
 use Rattle.mz_math_notation.proofs.table.Notations.joined_by.Goals as goal
 
 pub returns : goal.returns

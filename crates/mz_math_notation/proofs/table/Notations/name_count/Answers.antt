@@ -1,5 +1,5 @@
 use Rattle.std.proofs.Common.{◌∙◌, length, ap}
-use Rattle.mz_math_notation.specs.Notation.{Table}
+use Rattle.mz_math_theory.specs.Notation.{Table}
 use Rattle.mz_math_notation.proofs.table.Notations.name_count.Goals as goal
 
 pub returns : goal.returns

@@ -1,6 +1,6 @@
 use Rattle.std.proofs.Common.{◌≡◌, ◌↔◌, subst, Contains}
 use Rattle.std.specs.Prelude.{IsTrue}
-use Rattle.mz_math_notation.specs.Notation.{Table, TermName}
+use Rattle.mz_math_theory.specs.Notation.{Table, TermName}
 use Rattle.mz_math_notation.proofs.Naming.{found-decides}
 use Rattle.mz_math_notation.proofs.table.Notations.names_term.Goals as goal
 

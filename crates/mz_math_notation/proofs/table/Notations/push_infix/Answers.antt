@@ -1,12 +1,12 @@
 use Rattle.std.proofs.Common.{◌++◌, ◌∷◌, [], ◌∙◌, List, sym, subst, refl, inr}
 use Rattle.std.proofs.lemmas.Bool.{true≢false}
-use Rattle.mz_math_notation.specs.Notation.{Notation, Table, with_infix}
-use Rattle.mz_math_notation.specs.Clear.{IsClear}
-use Rattle.mz_math_notation.specs.Kept.{IsTable}
-use Rattle.mz_math_notation.specs.Answers.{IsClearTable}
-use Rattle.mz_math_notation.proofs.Clearing.{infix-other}
+use Rattle.mz_math_theory.specs.Notation.{Table, with_infix}
+use Rattle.mz_math_theory.specs.declared.notation.Notation.{Notation}
+use Rattle.mz_math_theory.specs.Clear.{IsClear}
+use Rattle.mz_math_theory.specs.Kept.{IsTable}
+use Rattle.mz_math_theory.specs.NotationAnswers.{IsClearTable}
+use Rattle.mz_math_theory.proofs.Offered.{infix-other, infix-is, pushed-infix, added-mem}
 use Rattle.mz_math_notation.proofs.Spotting.{joined-apart}
-use Rattle.mz_math_notation.proofs.Tables.{infix-is, pushed-infix, added-mem}
 use Rattle.mz_math_notation.proofs.table.Notations.push_infix.Goals as goal
 
 pub returns-in_err-is_clear : goal.returns-in_err-is_clear

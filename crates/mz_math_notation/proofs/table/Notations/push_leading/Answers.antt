@@ -1,12 +1,12 @@
 use Rattle.std.proofs.Common.{◌++◌, ◌∷◌, [], ◌∙◌, List, sym, subst, refl, inl}
 use Rattle.std.proofs.lemmas.Bool.{true≢false}
-use Rattle.mz_math_notation.specs.Notation.{Notation, Table, with_leading}
-use Rattle.mz_math_notation.specs.Clear.{IsClear}
-use Rattle.mz_math_notation.specs.Kept.{IsTable}
-use Rattle.mz_math_notation.specs.Answers.{IsClearTable}
-use Rattle.mz_math_notation.proofs.Clearing.{leading-other}
+use Rattle.mz_math_theory.specs.Notation.{Table, with_leading}
+use Rattle.mz_math_theory.specs.declared.notation.Notation.{Notation}
+use Rattle.mz_math_theory.specs.Clear.{IsClear}
+use Rattle.mz_math_theory.specs.Kept.{IsTable}
+use Rattle.mz_math_theory.specs.NotationAnswers.{IsClearTable}
+use Rattle.mz_math_theory.proofs.Offered.{leading-other, leading-is, pushed-leading, added-mem}
 use Rattle.mz_math_notation.proofs.Spotting.{led-apart}
-use Rattle.mz_math_notation.proofs.Tables.{leading-is, pushed-leading, added-mem}
 use Rattle.mz_math_notation.proofs.table.Notations.push_leading.Goals as goal
 
 pub returns-in_err-is_clear : goal.returns-in_err-is_clear

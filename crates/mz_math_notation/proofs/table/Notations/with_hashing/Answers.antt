@@ -1,4 +1,4 @@
-use Rattle.mz_math_notation.proofs.Tables.{empty-made}
+use Rattle.mz_math_theory.proofs.Offered.{empty-made}
 use Rattle.mz_math_notation.proofs.table.Notations.with_hashing.Goals as goal
 
 pub invariant_of-result : goal.invariant_of-result

@@ -1,13 +1,12 @@
 use Rattle.std.proofs.Common.{◌∙◌, ap, sym, subst, refl, arith}
-use Rattle.mz_logic.specs.Tree.{app, followed_by}
+use Rattle.mz_logic_theory.specs.Tree.{app, followed_by}
 use Rattle.mz_sexpr.specs.Number.{node_at, nodes_after}
-use Rattle.mz_mmu_forms.specs.Cursor.{nodes_from, node_size}
-use Rattle.mz_mmu_forms.specs.Expressions.{IsExpr}
-use Rattle.mz_mmu_forms.specs.Order.{expr_asked, exprs_asked, known_asked}
+use Rattle.mz_mmu_theory.specs.Cursor.{nodes_from, node_size}
+use Rattle.mz_mmu_theory.specs.Expressions.{IsExpr}
+use Rattle.mz_mmu_theory.specs.FormOrder.{expr_asked, exprs_asked, known_asked}
 use Rattle.mz_mmu_forms.specs.ScopeView.{scope}
-use Rattle.mz_mmu_forms.specs.Stops.{Stops}
-use Rattle.mz_mmu_forms.proofs.Cursors.{opened, list_of, stands_there, node_size_positive}
-use Rattle.mz_mmu_forms.proofs.Hold.{known_holds}
+use Rattle.mz_mmu_theory.specs.Stops.{Stops}
+use Rattle.mz_mmu_theory.proofs.Offered.{opened, list_of, stands_there, node_size_positive, known_holds}
 use Rattle.mz_mmu_forms.proofs.Stopping.{failed, stops_before, stops_after}
 use Rattle.mz_mmu_forms.proofs.reader.Reader.begun.Goals as goal
 

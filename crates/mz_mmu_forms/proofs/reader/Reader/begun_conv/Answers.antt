@@ -1,10 +1,10 @@
 use Rattle.std.proofs.Common.{◌∙◌, sym, arith}
-use Rattle.mz_logic.specs.View.{tree}
+use Rattle.mz_logic_theory.specs.View.{tree}
 use Rattle.mz_sexpr.specs.Number.{node_at}
-use Rattle.mz_mmu_forms.specs.Order.{conv_asked}
+use Rattle.mz_mmu_theory.specs.FormOrder.{conv_asked}
 use Rattle.mz_mmu_forms.specs.ScopeView.{scope}
-use Rattle.mz_mmu_forms.specs.Stops.{Stops}
-use Rattle.mz_mmu_forms.proofs.Cursors.{opened, node_size_positive}
+use Rattle.mz_mmu_theory.specs.Stops.{Stops}
+use Rattle.mz_mmu_theory.proofs.Offered.{opened, node_size_positive}
 use Rattle.mz_mmu_forms.proofs.ConvNesting.{atom_conv, atom_conv_stops, list_says, list_stops, list_fewer}
 use Rattle.mz_mmu_forms.proofs.Stopping.{failed}
 use Rattle.mz_mmu_forms.proofs.reader.Reader.begun_conv.Goals as goal

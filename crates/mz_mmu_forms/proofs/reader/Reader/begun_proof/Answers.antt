@@ -1,9 +1,9 @@
 use Rattle.std.proofs.Common.{◌∙◌, sym, refl, arith}
 use Rattle.mz_sexpr.specs.Number.{node_at}
-use Rattle.mz_mmu_forms.specs.Order.{proof_asked}
+use Rattle.mz_mmu_theory.specs.FormOrder.{proof_asked}
 use Rattle.mz_mmu_forms.specs.ScopeView.{scope}
-use Rattle.mz_mmu_forms.specs.Stops.{Stops}
-use Rattle.mz_mmu_forms.proofs.Cursors.{opened, node_size_positive}
+use Rattle.mz_mmu_theory.specs.Stops.{Stops}
+use Rattle.mz_mmu_theory.proofs.Offered.{opened, node_size_positive}
 use Rattle.mz_mmu_forms.proofs.ProofNesting.{proof_list_says, proof_list_stops, proof_list_fewer, proof_list_few}
 use Rattle.mz_mmu_forms.proofs.Stopping.{failed}
 use Rattle.mz_mmu_forms.proofs.reader.Reader.begun_proof.Goals as goal

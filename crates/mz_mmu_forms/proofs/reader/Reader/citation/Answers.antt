@@ -2,14 +2,14 @@ use Rattle.std.proofs.Common.{ap, sym, subst, []}
 use Rattle.mz_base_theory.specs.Checks.{◌>>◌}
 use Rattle.mz_sexpr.specs.Node.{place}
 use Rattle.mz_sexpr.specs.Number.{node_at, nodes_after}
-use Rattle.mz_mmu_forms.specs.Cursor.{nodes_from}
-use Rattle.mz_mmu_forms.specs.Proofs.{IsProofBy, no_word}
-use Rattle.mz_mmu_forms.specs.Order.{known_asked, expr_list_asked, proofs_asked, proof_asked_by}
+use Rattle.mz_mmu_theory.specs.Cursor.{nodes_from}
+use Rattle.mz_mmu_theory.specs.Proofs.{IsProofBy}
+use Rattle.mz_mmu_theory.specs.declared.keyword.Keyword.TheVariants.{Other as no_word}
+use Rattle.mz_mmu_theory.specs.FormOrder.{known_asked, expr_list_asked, proofs_asked, proof_asked_by}
 use Rattle.mz_mmu_forms.specs.ProofSteps.{IsNextProof, proof_turns}
 use Rattle.mz_mmu_forms.specs.ScopeView.{scope}
-use Rattle.mz_mmu_forms.specs.Stops.{Stops}
-use Rattle.mz_mmu_forms.proofs.Cursors.{stepped, stands_there}
-use Rattle.mz_mmu_forms.proofs.Hold.{known_holds}
+use Rattle.mz_mmu_theory.specs.Stops.{Stops}
+use Rattle.mz_mmu_theory.proofs.Offered.{stepped, stands_there, known_holds}
 use Rattle.mz_mmu_forms.proofs.ProofNesting.{cited_so_far, next_proof_says, next_proof_fewer, fewer_behind, few_behind}
 use Rattle.mz_mmu_forms.proofs.Stopping.{failed, stops_before, stops_after}
 use Rattle.mz_mmu_forms.proofs.reader.Reader.citation.Goals as goal

@@ -1,8 +1,9 @@
 use Rattle.std.proofs.Common.{subst, []}
 use Rattle.mz_sexpr.specs.Number.{node_at}
-use Rattle.mz_mmu_forms.specs.Cursor.{nodes_from}
-use Rattle.mz_mmu_forms.specs.Proofs.{IsConvBy, no_word}
-use Rattle.mz_mmu_forms.specs.Order.{conv_asked_by}
+use Rattle.mz_mmu_theory.specs.Cursor.{nodes_from}
+use Rattle.mz_mmu_theory.specs.Proofs.{IsConvBy}
+use Rattle.mz_mmu_theory.specs.declared.keyword.Keyword.TheVariants.{Other as no_word}
+use Rattle.mz_mmu_theory.specs.FormOrder.{conv_asked_by}
 use Rattle.mz_mmu_forms.specs.ConvSteps.{IsNextConv}
 use Rattle.mz_mmu_forms.specs.ScopeView.{scope}
 use Rattle.mz_mmu_forms.proofs.ConvNesting.{cong_under_way, next_says, next_fewer}

@@ -1,10 +1,10 @@
 use Rattle.std.proofs.Common.{sym, subst, refl}
-use Rattle.mz_logic.specs.Conversions.{sym_conv, unfold_conv, no_convs}
-use Rattle.mz_mmu_forms.specs.Proofs.{IsConv}
-use Rattle.mz_mmu_forms.specs.Order.{conv_asked}
-use Rattle.mz_mmu_forms.specs.ConvView.{conversion}
+use Rattle.mz_logic_theory.specs.Conversions.{sym_conv, unfold_conv, no_convs}
+use Rattle.mz_mmu_theory.specs.Proofs.{IsConv}
+use Rattle.mz_mmu_theory.specs.FormOrder.{conv_asked}
+use Rattle.mz_mmu_theory.specs.ConvView.{conversion}
 use Rattle.mz_mmu_forms.specs.ConvSteps.{conv_left, ConvWaits}
-use Rattle.mz_mmu_forms.specs.Cursor.{IsThere}
+use Rattle.mz_mmu_theory.specs.Cursor.{IsThere}
 use Rattle.mz_mmu_forms.proofs.ConvNesting.{one_more, next_says}
 use Rattle.mz_mmu_forms.proofs.reader.Reader.conv_back.Goals as goal
 

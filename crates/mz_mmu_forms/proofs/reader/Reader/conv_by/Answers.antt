@@ -1,12 +1,13 @@
 use Rattle.std.proofs.Common.{◌∙◌, ap, sym, ℕ}
 use Rattle.mz_sexpr.specs.Node.{place, word}
 use Rattle.mz_sexpr.specs.Number.{node_at}
-use Rattle.mz_mmu_forms.specs.Cursor.{nodes_from}
-use Rattle.mz_mmu_forms.specs.Proofs.{refl_word, sym_word, unfold_word, sorry_word, no_word, conv_keyword_of}
-use Rattle.mz_mmu_forms.specs.Order.{conv_asked_by}
+use Rattle.mz_mmu_theory.specs.Cursor.{nodes_from}
+use Rattle.mz_mmu_theory.specs.Proofs.{conv_keyword_of}
+use Rattle.mz_mmu_theory.specs.declared.keyword.Keyword.TheVariants.{Refl as refl_word, Sym as sym_word, Unfold as unfold_word, Sorry as sorry_word, Other as no_word}
+use Rattle.mz_mmu_theory.specs.FormOrder.{conv_asked_by}
 use Rattle.mz_mmu_forms.specs.ConvSteps.{ConvSaysBy}
 use Rattle.mz_mmu_forms.specs.ScopeView.{scope}
-use Rattle.mz_mmu_forms.specs.Stops.{Stops}
+use Rattle.mz_mmu_theory.specs.Stops.{Stops}
 use Rattle.mz_mmu_forms.proofs.ConvNesting.{says_by, stops_by, says_by_any, stops_by_any}
 use Rattle.mz_mmu_forms.proofs.Dispatch.{if_ok, if_err, conv_other}
 use Rattle.mz_mmu_forms.proofs.reader.Reader.conv_by.Goals as goal

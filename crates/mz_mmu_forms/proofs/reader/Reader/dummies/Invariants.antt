@@ -1,10 +1,10 @@
 use Rattle.std.proofs.Common.{◌+◌, ◌<◌, ◌^◌, ℕ, List, ◌++◌, length}
 use Rattle.mz_base_theory.proofs.Offered.{Decides}
-use Rattle.mz_logic.specs.declared.binder.Binder.{Binder}
+use Rattle.mz_logic_theory.specs.declared.binder.Binder.{Binder}
 use Rattle.mz_sexpr.specs.Number.{node_at}
-use Rattle.mz_mmu_forms.specs.Cursor.{nodes_from, IsThere, nodes_size}
-use Rattle.mz_mmu_forms.specs.Expressions.{IsDummy, AreBinders, AreDummies}
-use Rattle.mz_mmu_forms.specs.Order.{dummy_asked, binders_asked, dummies_asked}
+use Rattle.mz_mmu_theory.specs.Cursor.{nodes_from, IsThere, nodes_size}
+use Rattle.mz_mmu_theory.specs.Expressions.{IsDummy, AreBinders, AreDummies}
+use Rattle.mz_mmu_theory.specs.FormOrder.{dummy_asked, binders_asked, dummies_asked}
 use Rattle.mz_mmu_forms.specs.ScopeView.{names}
 use Rattle.mz_mmu_forms.proofs.reader.Reader.dummies.Given as goal
 

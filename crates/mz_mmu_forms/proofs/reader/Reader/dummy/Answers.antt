@@ -1,12 +1,11 @@
 use Rattle.std.proofs.Common.{◌∙◌, refl, sym, subst, true}
 use Rattle.mz_sexpr.specs.Node.{node, no_nodes, parts}
 use Rattle.mz_sexpr.specs.Number.{node_at}
-use Rattle.mz_mmu_forms.specs.Expressions.{IsDummy}
-use Rattle.mz_mmu_forms.specs.Order.{dummy_asked, new_asked, known_asked}
+use Rattle.mz_mmu_theory.specs.Expressions.{IsDummy}
+use Rattle.mz_mmu_theory.specs.FormOrder.{dummy_asked, new_asked, known_asked}
 use Rattle.mz_mmu_forms.specs.ScopeView.{names}
-use Rattle.mz_mmu_forms.specs.Stops.{Stops}
-use Rattle.mz_mmu_forms.proofs.Cursors.{stands_from, list_of}
-use Rattle.mz_mmu_forms.proofs.Hold.{new_holds}
+use Rattle.mz_mmu_theory.specs.Stops.{Stops}
+use Rattle.mz_mmu_theory.proofs.Offered.{stands_from, list_of, new_holds}
 use Rattle.mz_mmu_forms.proofs.Stopping.{failed, stops_before, stops_after}
 use Rattle.mz_mmu_forms.proofs.reader.Reader.dummy.Goals as goal
 

@@ -1,10 +1,10 @@
 use Rattle.std.proofs.Common.{◌∙◌, sym, subst, refl, arith}
 use Rattle.std.proofs.lemmas.List.{append-nil, nil_from_length}
 use Rattle.mz_sexpr.specs.Number.{node_at}
-use Rattle.mz_logic.specs.View.{tree}
-use Rattle.mz_mmu_forms.specs.Order.{expr_asked}
+use Rattle.mz_logic_theory.specs.View.{tree}
+use Rattle.mz_mmu_theory.specs.FormOrder.{expr_asked}
 use Rattle.mz_mmu_forms.specs.ScopeView.{scope}
-use Rattle.mz_mmu_forms.specs.Stops.{Stops}
+use Rattle.mz_mmu_theory.specs.Stops.{Stops}
 use Rattle.mz_mmu_forms.proofs.Nesting.{Nested, ended_read, ended_fewer, atom_read, atom_fewer, inner_read, inner_fewer, inner_stops, back_read, back_fewer, whole_read}
 use Rattle.mz_mmu_forms.proofs.Stopping.{failed}
 use Rattle.mz_mmu_forms.proofs.reader.Reader.expr.Goals as goal

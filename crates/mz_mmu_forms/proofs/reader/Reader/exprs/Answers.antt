@@ -1,14 +1,14 @@
 use Rattle.std.proofs.Common.{ap, sym, subst, refl}
-use Rattle.mz_logic.specs.Tree.{none}
-use Rattle.mz_logic.specs.View.{tree}
-use Rattle.mz_logic.proofs.Offered.{followed_by_none}
+use Rattle.mz_logic_theory.specs.Tree.{none}
+use Rattle.mz_logic_theory.specs.View.{tree}
+use Rattle.mz_logic_theory.proofs.Offered.{followed_by_none}
 use Rattle.mz_sexpr.specs.Number.{node_at, nodes_after}
-use Rattle.mz_mmu_forms.specs.Cursor.{nodes_from}
-use Rattle.mz_mmu_forms.specs.Expressions.{AreExprs}
-use Rattle.mz_mmu_forms.specs.Order.{expr_asked, exprs_asked}
+use Rattle.mz_mmu_theory.specs.Cursor.{nodes_from}
+use Rattle.mz_mmu_theory.specs.Expressions.{AreExprs}
+use Rattle.mz_mmu_theory.specs.FormOrder.{expr_asked, exprs_asked}
 use Rattle.mz_mmu_forms.specs.ScopeView.{scope}
-use Rattle.mz_mmu_forms.specs.Stops.{Stops}
-use Rattle.mz_mmu_forms.proofs.Cursors.{stepped, stands_there}
+use Rattle.mz_mmu_theory.specs.Stops.{Stops}
+use Rattle.mz_mmu_theory.proofs.Offered.{stepped, stands_there}
 use Rattle.mz_mmu_forms.proofs.ExprLists.{exprs_read_more, exprs_asked_more}
 use Rattle.mz_mmu_forms.proofs.Stopping.{failed, stops_before, stops_whole}
 use Rattle.mz_mmu_forms.proofs.reader.Reader.exprs.Goals as goal

@@ -1,8 +1,8 @@
 use Rattle.mz_base_theory.proofs.Offered.{Decides}
-use Rattle.mz_logic.specs.Tree.{Trees, followed_by}
-use Rattle.mz_mmu_forms.specs.Cursor.{nodes_from, IsThere, nodes_size}
-use Rattle.mz_mmu_forms.specs.Expressions.{AreExprs}
-use Rattle.mz_mmu_forms.specs.Order.{exprs_asked}
+use Rattle.mz_logic_theory.specs.Tree.{Trees, followed_by}
+use Rattle.mz_mmu_theory.specs.Cursor.{nodes_from, IsThere, nodes_size}
+use Rattle.mz_mmu_theory.specs.Expressions.{AreExprs}
+use Rattle.mz_mmu_theory.specs.FormOrder.{exprs_asked}
 use Rattle.mz_mmu_forms.specs.ScopeView.{scope}
 use Rattle.mz_mmu_forms.proofs.reader.Reader.exprs.Given as goal
 

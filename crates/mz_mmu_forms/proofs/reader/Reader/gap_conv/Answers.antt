@@ -2,13 +2,13 @@ use Rattle.std.proofs.Common.{◌∙◌, sym, subst}
 use Rattle.mz_base_theory.specs.Checks.{◌>>◌}
 use Rattle.mz_sexpr.specs.Node.{Node, place}
 use Rattle.mz_sexpr.specs.Number.{node_at}
-use Rattle.mz_logic.specs.View.{tree}
-use Rattle.mz_mmu_forms.specs.Cursor.{nodes_from}
-use Rattle.mz_mmu_forms.specs.Order.{gap_asked, expr_asked, conv_asked_by}
-use Rattle.mz_mmu_forms.specs.Proofs.{sorry_word}
+use Rattle.mz_logic_theory.specs.View.{tree}
+use Rattle.mz_mmu_theory.specs.Cursor.{nodes_from}
+use Rattle.mz_mmu_theory.specs.FormOrder.{gap_asked, expr_asked, conv_asked_by}
+use Rattle.mz_mmu_theory.specs.declared.keyword.Keyword.TheVariants.{Sorry as sorry_word}
 use Rattle.mz_mmu_forms.specs.ScopeView.{scope}
-use Rattle.mz_mmu_forms.specs.Stops.{Stops}
-use Rattle.mz_mmu_forms.proofs.Hold.{expr_holds}
+use Rattle.mz_mmu_theory.specs.Stops.{Stops}
+use Rattle.mz_mmu_theory.proofs.Offered.{expr_holds}
 use Rattle.mz_mmu_forms.proofs.Stopping.{failed, stops_before, stops_after}
 use Rattle.mz_mmu_forms.proofs.reader.Reader.gap_conv.Goals as goal
 

@@ -1,8 +1,8 @@
 use Rattle.std.proofs.Common.{◌≡◌, ◌∙◌, ◌++◌, Some, None, sym}
 use Rattle.mz_sexpr.specs.Number.{node_at}
-use Rattle.mz_mmu_forms.specs.Order.{new_asked}
-use Rattle.mz_mmu_forms.specs.Stops.{Stops}
-use Rattle.mz_mmu_forms.proofs.Hold.{new_name_is, new_name_both, taken_left, taken_right}
+use Rattle.mz_mmu_theory.specs.FormOrder.{new_asked}
+use Rattle.mz_mmu_theory.specs.Stops.{Stops}
+use Rattle.mz_mmu_theory.proofs.Offered.{new_name_is, new_name_both, taken_left, taken_right}
 use Rattle.mz_mmu_forms.proofs.Stopping.{failed}
 use Rattle.mz_mmu_forms.proofs.reader.Reader.let_name.Goals as goal
 

@@ -1,7 +1,7 @@
 use Rattle.std.proofs.Common.{refl}
 use Rattle.mz_sexpr.specs.Node.{place}
 use Rattle.mz_sexpr.specs.Number.{node_at}
-use Rattle.mz_mmu_forms.specs.Cursor.{nodes_from}
+use Rattle.mz_mmu_theory.specs.Cursor.{nodes_from}
 use Rattle.mz_mmu_forms.proofs.ProofNesting.{let_waits, second_fewer, second_few}
 use Rattle.mz_mmu_forms.proofs.reader.Reader.let_proof.Goals as goal
 

@@ -2,12 +2,11 @@ use Rattle.std.proofs.Common.{◌∙◌, refl, sym, subst, true, false}
 use Rattle.mz_base_theory.specs.Checks.{◌>>◌}
 use Rattle.mz_sexpr.specs.Node.{node, no_nodes, parts}
 use Rattle.mz_sexpr.specs.Number.{node_at}
-use Rattle.mz_mmu_forms.specs.Expressions.{IsParam}
-use Rattle.mz_mmu_forms.specs.Order.{param_asked, param_name_asked, known_asked, variable_list_asked}
+use Rattle.mz_mmu_theory.specs.Expressions.{IsParam}
+use Rattle.mz_mmu_theory.specs.FormOrder.{param_asked, param_name_asked, known_asked, variable_list_asked}
 use Rattle.mz_mmu_forms.specs.ScopeView.{names}
-use Rattle.mz_mmu_forms.specs.Stops.{Stops}
-use Rattle.mz_mmu_forms.proofs.Cursors.{stands_from, list_of}
-use Rattle.mz_mmu_forms.proofs.Hold.{param_name_holds, known_holds}
+use Rattle.mz_mmu_theory.specs.Stops.{Stops}
+use Rattle.mz_mmu_theory.proofs.Offered.{stands_from, list_of, param_name_holds, known_holds}
 use Rattle.mz_mmu_forms.proofs.Stopping.{failed, stops_before, stops_after}
 use Rattle.mz_mmu_forms.proofs.reader.Reader.param.Goals as goal
 

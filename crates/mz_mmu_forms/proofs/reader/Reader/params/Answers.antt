@@ -1,14 +1,13 @@
 use Rattle.std.proofs.Common.{ap, sym, subst, refl, arith, [], ◌∷◌, ◌++◌, length, append-nil}
 use Rattle.mz_base_theory.proofs.Offered.{length-push}
 use Rattle.mz_sexpr.specs.Number.{node_at, nodes_after}
-use Rattle.mz_mmu_forms.specs.Cursor.{nodes_from, nodes_size}
-use Rattle.mz_mmu_forms.specs.Expressions.{IsParam, AreBinders, AreParams}
-use Rattle.mz_mmu_forms.specs.Order.{param_asked, binders_asked, params_asked, first_word}
+use Rattle.mz_mmu_theory.specs.Cursor.{nodes_from, nodes_size}
+use Rattle.mz_mmu_theory.specs.Expressions.{IsParam, AreBinders, AreParams}
+use Rattle.mz_mmu_theory.specs.FormOrder.{param_asked, binders_asked, params_asked, first_word}
 use Rattle.mz_mmu_forms.specs.ScopeView.{names}
-use Rattle.mz_mmu_forms.specs.Stops.{Stops}
+use Rattle.mz_mmu_theory.specs.Stops.{Stops}
 use Rattle.mz_sexpr.specs.Node.{parts}
-use Rattle.mz_mmu_forms.proofs.Cursors.{stepped, stands_there, node_size_positive}
-use Rattle.mz_mmu_forms.proofs.Hold.{param_holds, param_word, param_new}
+use Rattle.mz_mmu_theory.proofs.Offered.{stepped, stands_there, node_size_positive, param_holds, param_word, param_new}
 use Rattle.mz_mmu_forms.proofs.BinderLists.{binders_read_more, binders_asked_more}
 use Rattle.mz_mmu_forms.proofs.Stopping.{failed, stops_before, stops_whole}
 use Rattle.mz_mmu_forms.proofs.reader.Reader.params.Goals as goal

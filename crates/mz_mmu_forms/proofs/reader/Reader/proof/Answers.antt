@@ -1,11 +1,11 @@
 use Rattle.std.proofs.Common.{◌∙◌, ap, sym, subst, refl, arith}
 use Rattle.std.proofs.lemmas.List.{append-nil, nil_from_length}
 use Rattle.mz_sexpr.specs.Number.{node_at}
-use Rattle.mz_mmu_forms.specs.Cursor.{node_size}
-use Rattle.mz_mmu_forms.specs.Order.{proof_asked}
+use Rattle.mz_mmu_theory.specs.Cursor.{node_size}
+use Rattle.mz_mmu_theory.specs.FormOrder.{proof_asked}
 use Rattle.mz_mmu_forms.specs.ProofSteps.{CanGoOn, SaysOfProof, size_behind, proof_turns}
 use Rattle.mz_mmu_forms.specs.ScopeView.{scope}
-use Rattle.mz_mmu_forms.specs.Stops.{Stops}
+use Rattle.mz_mmu_theory.specs.Stops.{Stops}
 use Rattle.mz_mmu_forms.proofs.Enclosing.{Around, opened_fewer, closed_fewer, goes_in, goes_back, last_waits, outermost, at_top}
 use Rattle.mz_mmu_forms.proofs.ProofNesting.{Form, ProofWaitsAt, ProofSaysAt, waits_stops, can_go_on, goes_on_behind}
 use Rattle.mz_mmu_forms.proofs.Stopping.{failed}

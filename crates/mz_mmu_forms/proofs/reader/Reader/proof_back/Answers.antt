@@ -1,9 +1,9 @@
 use Rattle.std.proofs.Common.{ap, subst, arith}
-use Rattle.mz_logic.specs.View.{tree}
-use Rattle.mz_mmu_forms.specs.Proof.{by_conv}
-use Rattle.mz_mmu_forms.specs.ProofView.{proof_view}
-use Rattle.mz_mmu_forms.specs.Proofs.{IsProof}
-use Rattle.mz_mmu_forms.specs.Order.{proof_asked}
+use Rattle.mz_logic_theory.specs.View.{tree}
+use Rattle.mz_mmu_theory.specs.Proof.{by_conv}
+use Rattle.mz_mmu_theory.specs.ProofView.{proof_view}
+use Rattle.mz_mmu_theory.specs.Proofs.{IsProof}
+use Rattle.mz_mmu_theory.specs.FormOrder.{proof_asked}
 use Rattle.mz_mmu_forms.specs.ProofSteps.{CanGoOn, ProofWaits, size_behind}
 use Rattle.mz_mmu_forms.proofs.ProofNesting.{conv_done, let_done, scope_done, cite_done, next_proof_fewer}
 use Rattle.mz_mmu_forms.proofs.reader.Reader.proof_back.Goals as goal

@@ -1,7 +1,8 @@
 use Rattle.std.proofs.Common.{◌∙◌, ap, sym}
 use Rattle.mz_sexpr.specs.Node.{place, word}
 use Rattle.mz_sexpr.specs.Number.{node_at}
-use Rattle.mz_mmu_forms.specs.Proofs.{conv_word, let_word, sorry_word, no_word, proof_keyword_of}
+use Rattle.mz_mmu_theory.specs.Proofs.{proof_keyword_of}
+use Rattle.mz_mmu_theory.specs.declared.keyword.Keyword.TheVariants.{Conv as conv_word, Let as let_word, Sorry as sorry_word, Other as no_word}
 use Rattle.mz_mmu_forms.specs.ScopeView.{scope}
 use Rattle.mz_mmu_forms.proofs.ProofNesting.{proof_says_by, proof_stops_by_word}
 use Rattle.mz_mmu_forms.proofs.Dispatch.{proof_other}

@@ -1,12 +1,11 @@
 use Rattle.std.proofs.Common.{◌∙◌, sym, subst}
 use Rattle.mz_sexpr.specs.Node.{node, no_nodes, parts}
 use Rattle.mz_sexpr.specs.Number.{node_at}
-use Rattle.mz_mmu_forms.specs.Expressions.{IsResult}
-use Rattle.mz_mmu_forms.specs.Order.{result_asked, known_asked, variable_list_asked}
+use Rattle.mz_mmu_theory.specs.Expressions.{IsResult}
+use Rattle.mz_mmu_theory.specs.FormOrder.{result_asked, known_asked, variable_list_asked}
 use Rattle.mz_mmu_forms.specs.ScopeView.{names}
-use Rattle.mz_mmu_forms.specs.Stops.{Stops}
-use Rattle.mz_mmu_forms.proofs.Cursors.{stands_from, list_of}
-use Rattle.mz_mmu_forms.proofs.Hold.{known_holds}
+use Rattle.mz_mmu_theory.specs.Stops.{Stops}
+use Rattle.mz_mmu_theory.proofs.Offered.{stands_from, list_of, known_holds}
 use Rattle.mz_mmu_forms.proofs.Stopping.{failed, stops_before, stops_after}
 use Rattle.mz_mmu_forms.proofs.reader.Reader.result.Goals as goal
 

@@ -1,6 +1,6 @@
 use Rattle.mz_sexpr.specs.Node.{place}
 use Rattle.mz_sexpr.specs.Number.{node_at}
-use Rattle.mz_mmu_forms.specs.Cursor.{nodes_from}
+use Rattle.mz_mmu_theory.specs.Cursor.{nodes_from}
 use Rattle.mz_mmu_forms.proofs.ConvNesting.{sym_waits, sym_fewer}
 use Rattle.mz_mmu_forms.proofs.reader.Reader.sym.Goals as goal
 

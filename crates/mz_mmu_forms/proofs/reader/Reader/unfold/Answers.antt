@@ -2,14 +2,14 @@ use Rattle.std.proofs.Common.{sym, subst}
 use Rattle.mz_base_theory.specs.Checks.{◌>>◌}
 use Rattle.mz_sexpr.specs.Node.{Node, place}
 use Rattle.mz_sexpr.specs.Number.{node_at}
-use Rattle.mz_mmu_forms.specs.Cursor.{nodes_from}
-use Rattle.mz_mmu_forms.specs.Expressions.{IsVariableList}
-use Rattle.mz_mmu_forms.specs.Proofs.{unfold_word}
-use Rattle.mz_mmu_forms.specs.Order.{known_asked, expr_list_asked, variable_list_asked, conv_asked, conv_asked_by}
+use Rattle.mz_mmu_theory.specs.Cursor.{nodes_from}
+use Rattle.mz_mmu_theory.specs.Expressions.{IsVariableList}
+use Rattle.mz_mmu_theory.specs.declared.keyword.Keyword.TheVariants.{Unfold as unfold_word}
+use Rattle.mz_mmu_theory.specs.FormOrder.{known_asked, expr_list_asked, variable_list_asked, conv_asked, conv_asked_by}
 use Rattle.mz_mmu_forms.specs.ScopeView.{scope}
-use Rattle.mz_mmu_forms.specs.Stops.{Stops}
+use Rattle.mz_mmu_theory.specs.Stops.{Stops}
 use Rattle.mz_mmu_forms.proofs.ConvNesting.{unfold_waits, unfold_fewer}
-use Rattle.mz_mmu_forms.proofs.Hold.{known_holds, expr_list_holds}
+use Rattle.mz_mmu_theory.proofs.Offered.{known_holds, expr_list_holds}
 use Rattle.mz_mmu_forms.proofs.Stopping.{failed, stops_before, stops_after}
 use Rattle.mz_mmu_forms.proofs.reader.Reader.unfold.Goals as goal
 

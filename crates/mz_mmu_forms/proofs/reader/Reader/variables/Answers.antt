@@ -1,9 +1,9 @@
 use Rattle.std.proofs.Common.{ap, sym, subst, refl, [], append-nil}
 use Rattle.mz_sexpr.specs.Number.{node_at, nodes_after}
-use Rattle.mz_mmu_forms.specs.Cursor.{nodes_from}
-use Rattle.mz_mmu_forms.specs.Expressions.{AreVariables, IsVariableList}
-use Rattle.mz_mmu_forms.specs.Order.{variable_list_asked}
-use Rattle.mz_mmu_forms.proofs.Cursors.{stepped, stands_there}
+use Rattle.mz_mmu_theory.specs.Cursor.{nodes_from}
+use Rattle.mz_mmu_theory.specs.Expressions.{AreVariables, IsVariableList}
+use Rattle.mz_mmu_theory.specs.FormOrder.{variable_list_asked}
+use Rattle.mz_mmu_theory.proofs.Offered.{stepped, stands_there}
 use Rattle.mz_mmu_forms.proofs.BinderLists.{variables_read_more, variables_asked_more}
 use Rattle.mz_mmu_forms.proofs.reader.Reader.variables.Goals as goal
 

@@ -1,9 +1,9 @@
 use Rattle.std.proofs.Common.{ℕ, List, ◌++◌}
 use Rattle.mz_base_theory.proofs.Offered.{Decides}
 use Rattle.mz_sexpr.specs.Number.{node_at}
-use Rattle.mz_mmu_forms.specs.Cursor.{nodes_from, IsThere, nodes_size}
-use Rattle.mz_mmu_forms.specs.Expressions.{AreVariables, IsVariableList}
-use Rattle.mz_mmu_forms.specs.Order.{variables_asked, variable_list_asked}
+use Rattle.mz_mmu_theory.specs.Cursor.{nodes_from, IsThere, nodes_size}
+use Rattle.mz_mmu_theory.specs.Expressions.{AreVariables, IsVariableList}
+use Rattle.mz_mmu_theory.specs.FormOrder.{variables_asked, variable_list_asked}
 use Rattle.mz_mmu_forms.proofs.reader.Reader.variables.Given as goal
 
 abbrev pub decreases-loop-left : goal.decreases-loop-left

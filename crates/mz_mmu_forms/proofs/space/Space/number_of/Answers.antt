@@ -2,7 +2,7 @@ use Rattle.std.proofs.Common.{◌≡◌, ℕ, List, map, position, sym, ap, ◌�
 use Rattle.mz_base.specs.Names.{number_of}
 use Rattle.mz_base.proofs.Offered.{first-place}
 use Rattle.mz_mmu_forms.specs.SpaceView.{Key, word_of_key, AreKeysFrom}
-use Rattle.mz_mmu_forms.specs.Name.{IsName}
+use Rattle.mz_mmu_theory.specs.Name.{IsName}
 use Rattle.mz_mmu_forms.proofs.Keys.{is_key, keys-tell}
 use Rattle.mz_mmu_forms.proofs.space.Space.number_of.Goals as goal
 

@@ -1,7 +1,7 @@
 use Rattle.std.proofs.Common.{◌≡◌, ◌<◌, ◌∙◌, Err, Ok, [], length, map, refl, sym, ap, subst, arith, append-nil}
 use Rattle.std.proofs.lemmas.Result.{err_from_is_err_and}
-use Rattle.mz_logic.specs.Words.{binders_of}
-use Rattle.mz_layout.specs.Tables.{term_row}
+use Rattle.mz_logic_theory.specs.Words.{binders_of}
+use Rattle.mz_layout_tables.specs.Tables.{term_row}
 use Rattle.mz_store.specs.Sharing.{CanTake}
 use Rattle.mz_pmachine_unify.specs.Numbering.{expr_of, exprs_of, trees_of as trees_in}
 use Rattle.mz_pmachine_unify.proofs.Offered.{from-exprs}

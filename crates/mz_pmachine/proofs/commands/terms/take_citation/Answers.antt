@@ -1,7 +1,7 @@
 use Rattle.std.proofs.Common.{◌≡◌, ◌∙◌, Err, Ok, List, true, false, length, map, refl, sym, subst, arith}
 use Rattle.std.proofs.lemmas.Result.{err_from_is_err_and}
-use Rattle.mz_logic.specs.Words.{binders_of}
-use Rattle.mz_layout.specs.Tables.{thm_row}
+use Rattle.mz_logic_theory.specs.Words.{binders_of}
+use Rattle.mz_layout_tables.specs.Tables.{thm_row}
 use Rattle.mz_store.specs.declared.item.Id.{Id}
 use Rattle.mz_pmachine_unify.specs.Stored.{items_at, trees_at}
 use Rattle.mz_pmachine_theory.specs.Numbered.{tree_of, portable}

@@ -1,8 +1,9 @@
 use Rattle.std.proofs.Common.{◌∙◌, refl, length, sym, ap, subst}
-use Rattle.mz_logic.specs.Words.{binders_of, BitsRight}
+use Rattle.mz_logic_theory.specs.Words.{binders_of, BitsRight}
 use Rattle.mz_store.specs.Bits.{bound_vars}
 use Rattle.mz_machine_theory.specs.MachineState.{signatures_in}
-use Rattle.mz_machine_env.specs.OwnRow.{byte_of, kind_at, mode_for, first_items}
+use Rattle.mz_machine_env.specs.OwnRow.{byte_of, mode_for, first_items}
+use Rattle.mz_machine_theory.specs.Headings.{kind_at}
 use Rattle.mz_machine_env.specs.Before.{tables_before}
 use Rattle.mz_machine_env.proofs.Offered.{kind-byte, own-bits, words-are}
 use Rattle.mz_pmachine.proofs.Beginning.{params-are, is-begun, state-begun, AreVars}

@@ -9,7 +9,8 @@ use Rattle.mz_machine_theory.specs.MachineState.{Kind}
 use Rattle.mz_machine_theory.specs.ProofMachine.{proof_end, ends_with}
 use Rattle.mz_machine_theory.specs.Bodies.{match_steps}
 use Rattle.mz_machine_env.specs.Before.{tables_of}
-use Rattle.mz_machine_env.specs.OwnRow.{byte_of, kind_at, heading_by, heading_of, kind_of, mode_for, IsNextRow}
+use Rattle.mz_machine_env.specs.OwnRow.{byte_of, kind_of, mode_for, IsNextRow}
+use Rattle.mz_machine_theory.specs.Headings.{kind_at, heading_by, heading_of}
 use Rattle.mz_machine_env.proofs.Offered.{kind-byte}
 use Rattle.mz_pmachine.specs.OverNodes.{state_at, AreFirst}
 use Rattle.mz_machine.specs.OverStore.{IsContextOf}

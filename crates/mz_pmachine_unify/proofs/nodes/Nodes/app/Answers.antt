@@ -1,5 +1,5 @@
 use Rattle.std.proofs.Common.{sym, ◌∙◌, subst, ap}
-use Rattle.mz_logic.specs.Words.{signatures_of, word_sort}
+use Rattle.mz_logic_theory.specs.Words.{signatures_of, word_sort}
 use Rattle.mz_pmachine_unify.specs.Numbering.{IsOver}
 use Rattle.mz_store.proofs.Offered.{on-ok-from}
 use Rattle.mz_pmachine_unify.proofs.OverTerms.{over-term}

@@ -1,6 +1,6 @@
 use Rattle.std.proofs.Common.{◌∙◌, ◌+◌, ◌≡◌, ap, arith, length, map, ◌++◌}
 use Rattle.mz_pmachine_theory.specs.Numbered.{a_variable}
-use Rattle.mz_logic.specs.Words.{binders_from}
+use Rattle.mz_logic_theory.specs.Words.{binders_from}
 use Rattle.mz_store.specs.Bits.{bound_vars}
 use Rattle.mz_pmachine_unify.specs.Numbering.{expr_of}
 use Rattle.mz_pmachine_unify.specs.Entering.{variable_node, entered_all}

@@ -1,5 +1,5 @@
 use Rattle.std.proofs.Common.{sym, subst}
-use Rattle.mz_logic.specs.Sorts.{HasSort}
+use Rattle.mz_logic_theory.specs.Sorts.{HasSort}
 use Rattle.mz_pmachine_unify.specs.Numbering.{tree_of}
 use Rattle.mz_pmachine_unify.proofs.Reading.{shown-at}
 use Rattle.mz_pmachine_unify.proofs.nodes.Nodes.sort_of.Goals as goal

@@ -1,5 +1,5 @@
 use Rattle.std.proofs.Common.{sym, subst}
-use Rattle.mz_logic.specs.Variables.{InV}
+use Rattle.mz_logic_theory.specs.Variables.{InV}
 use Rattle.mz_store.specs.Bits.{Tells, bound_vars}
 use Rattle.mz_pmachine_unify.specs.Numbering.{tree_of}
 use Rattle.mz_pmachine_unify.proofs.Reading.{shown-at}

@@ -1,6 +1,6 @@
 use Rattle.std.proofs.Common.{◌≡◌, ◌≤◌, ◌+◌, ◌*◌, drop}
-use Rattle.mz_logic.specs.Tree.{size, trees_size}
-use Rattle.mz_logic.specs.View.{tree, trees}
+use Rattle.mz_logic_theory.specs.Tree.{size, trees_size}
+use Rattle.mz_logic_theory.specs.View.{tree, trees}
 use Rattle.mz_prefix_theory.specs.PublicPart.{any_mentions_local}
 use Rattle.mz_prefix.proofs.names.Names.+mentions_local.Given as goal
 

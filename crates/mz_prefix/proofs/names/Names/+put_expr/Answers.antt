@@ -1,9 +1,9 @@
 use Rattle.std.proofs.Common.{◌∙◌, ◌++◌, refl, sym, ap, arith, append_assoc}
 use Rattle.mz_prefix_theory.specs.Lines.{spaced}
 use Rattle.mz_prefix_theory.specs.Prefix.{operand_tokens}
-use Rattle.mz_logic.specs.View.{tree}
+use Rattle.mz_logic_theory.specs.View.{tree}
 use Rattle.mz_type_rules.proofs.Offered.{size_step}
-use Rattle.mz_logic.specs.Tree.{trees_size}
+use Rattle.mz_logic_theory.specs.Tree.{trees_size}
 use Rattle.mz_prefix.specs.Names.{spoken}
 use Rattle.mz_prefix.proofs.Parts.{part-added, parts-end, operands_text, operand_text, operands-cut, enclosed-is}
 use Rattle.mz_prefix.proofs.names.Names.+put_expr.Goals as goal

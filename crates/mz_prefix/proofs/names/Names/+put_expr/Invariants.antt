@@ -1,6 +1,6 @@
 use Rattle.std.proofs.Common.{◌≡◌, ◌≤◌, ◌+◌, ◌*◌, ◌++◌, drop}
-use Rattle.mz_logic.specs.Tree.{size, trees_size}
-use Rattle.mz_logic.specs.View.{tree, trees}
+use Rattle.mz_logic_theory.specs.Tree.{size, trees_size}
+use Rattle.mz_logic_theory.specs.View.{tree, trees}
 use Rattle.mz_prefix.specs.Names.{spoken}
 use Rattle.mz_prefix.proofs.Parts.{operands_text}
 use Rattle.mz_prefix.proofs.names.Names.+put_expr.Given as goal

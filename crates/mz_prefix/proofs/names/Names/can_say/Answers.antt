@@ -1,5 +1,5 @@
 use Rattle.std.proofs.Common.{◌≡◌, ◌∙◌, true, false, sym, subst}
-use Rattle.mz_logic.specs.DeclView.{declaration}
+use Rattle.mz_logic_theory.specs.DeclView.{declaration}
 use Rattle.mz_prefix_theory.specs.PublicPart.{IsSayable}
 use Rattle.mz_prefix.proofs.Gathering.{told-of}
 use Rattle.mz_prefix.proofs.names.Names.can_say.Goals as goal

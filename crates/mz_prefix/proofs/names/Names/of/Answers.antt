@@ -1,5 +1,5 @@
 use Rattle.std.proofs.Common.{arith}
-use Rattle.mz_logic.specs.DeclView.{declaration}
+use Rattle.mz_logic_theory.specs.DeclView.{declaration}
 use Rattle.mz_prefix.proofs.Gathering.{told-of, gathered-on, gathered-all}
 use Rattle.mz_prefix.proofs.names.Names.of.Goals as goal
 

@@ -1,6 +1,6 @@
 use Rattle.std.specs.Prelude.{OnOk}
 use Rattle.std.proofs.Common.{◌≡◌, ◌++◌, ◌∙◌, sym, ap, subst}
-use Rattle.mz_logic.specs.DeclView.{assertion_view, declaration}
+use Rattle.mz_logic_theory.specs.DeclView.{assertion_view, declaration}
 use Rattle.mz_prefix.specs.Names.{spoken}
 use Rattle.mz_prefix.specs.Writing.{told}
 use Rattle.mz_prefix.proofs.LineTexts.{told-assertion}

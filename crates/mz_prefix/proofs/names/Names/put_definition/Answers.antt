@@ -1,5 +1,5 @@
-use Rattle.mz_logic.specs.DeclView.{signature}
-use Rattle.mz_logic.specs.View.{tree}
+use Rattle.mz_logic_theory.specs.DeclView.{signature}
+use Rattle.mz_logic_theory.specs.View.{tree}
 use Rattle.mz_prefix.specs.Names.{spoken}
 use Rattle.mz_prefix.proofs.LineTexts.{definition-made}
 use Rattle.mz_prefix.proofs.names.Names.put_definition.Goals as goal

@@ -1,7 +1,7 @@
 use Rattle.std.proofs.Common.{◌∙◌, ◌++◌, ◌<◌, ◌≤◌, length, ap, refl, sym, arith}
 use Rattle.mz_base_theory.proofs.Offered.{appended}
-use Rattle.mz_logic.specs.View.{tree}
-use Rattle.mz_logic.proofs.Offered.{expr-read, exprs_of, length-exprs, trees-exprs}
+use Rattle.mz_logic_theory.specs.View.{tree}
+use Rattle.mz_logic_theory.proofs.Offered.{expr-read, exprs_of, length-exprs, trees-exprs}
 use Rattle.mz_prefix_theory.specs.Lines.{hyps_words}
 use Rattle.mz_prefix_theory.specs.Words.{written}
 use Rattle.mz_prefix_theory.specs.Declared.{formula_of, formulas_of}

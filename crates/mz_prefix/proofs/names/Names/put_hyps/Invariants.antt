@@ -1,5 +1,5 @@
 use Rattle.std.proofs.Common.{◌≡◌, ◌++◌, drop}
-use Rattle.mz_logic.proofs.Offered.{exprs_of}
+use Rattle.mz_logic_theory.proofs.Offered.{exprs_of}
 use Rattle.mz_prefix.specs.Names.{spoken}
 use Rattle.mz_prefix.proofs.Parts.{hyps_text}
 use Rattle.mz_prefix.proofs.names.Names.put_hyps.Given as goal

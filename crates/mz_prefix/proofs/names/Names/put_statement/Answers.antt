@@ -1,6 +1,6 @@
 use Rattle.std.specs.Prelude.{OnOk, if◌then◌else◌}
 use Rattle.std.proofs.Common.{◌≡◌, ◌++◌, ◌∙◌, Bool, [], sym, ap, subst, append-nil}
-use Rattle.mz_logic.specs.DeclView.{declaration}
+use Rattle.mz_logic_theory.specs.DeclView.{declaration}
 use Rattle.mz_type.specs.TypedText.{statement_at}
 use Rattle.mz_prefix.specs.Writing.{told}
 use Rattle.mz_prefix.proofs.Gathering.{told-of}

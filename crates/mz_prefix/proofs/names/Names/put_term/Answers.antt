@@ -1,8 +1,8 @@
 use Rattle.std.specs.Prelude.{OnOk}
 use Rattle.std.proofs.Common.{◌≡◌, ◌++◌, ◌∙◌, sym, ap, subst}
-use Rattle.mz_logic.specs.DeclView.{signature, form}
-use Rattle.mz_logic.specs.Declaration.{defined, term_decl}
-use Rattle.mz_logic.specs.View.{tree}
+use Rattle.mz_logic_theory.specs.DeclView.{signature, form}
+use Rattle.mz_logic_theory.specs.Declaration.{defined, term_decl}
+use Rattle.mz_logic_theory.specs.View.{tree}
 use Rattle.mz_prefix_theory.specs.Lines.{line_text}
 use Rattle.mz_prefix_theory.specs.Declared.{term_line_of}
 use Rattle.mz_prefix.specs.Names.{spoken}

@@ -1,4 +1,4 @@
-use Rattle.mz_logic.specs.DeclView.{assertion_view}
+use Rattle.mz_logic_theory.specs.DeclView.{assertion_view}
 use Rattle.mz_prefix.specs.Names.{spoken}
 use Rattle.mz_prefix.proofs.LineTexts.{assertion-made}
 use Rattle.mz_prefix.proofs.names.Names.put_thm.Goals as goal

@@ -3,15 +3,15 @@ use Rattle.std.proofs.lemmas.List.{append-nil}
 use Rattle.std.proofs.lemmas.Result.{err_from_is_err_and}
 use Rattle.mz_base_theory.proofs.Offered.{drop-past}
 use Rattle.mz_base_theory.specs.Checks.{AllHold, FailsFirst}
-use Rattle.mz_spec_grammar.specs.Statement.{LiteralText}
-use Rattle.mz_spec_grammar.specs.declared.statement.LiteralText.{LiteralText as LiteralRead}
-use Rattle.mz_spec_grammar.specs.Reading.{OnFault}
-use Rattle.mz_spec_variables.specs.Dependencies.{Every}
-use Rattle.mz_spec_variables.specs.View.{literal_levels}
-use Rattle.mz_spec.specs.Forms.{AreLiterals}
+use Rattle.mz_spec_theory.specs.Statement.{LiteralText}
+use Rattle.mz_spec_theory.specs.declared.statement.LiteralText.{LiteralText as LiteralRead}
+use Rattle.mz_spec_theory.specs.Reading.{OnFault}
+use Rattle.mz_spec_theory.specs.Dependencies.{Every}
+use Rattle.mz_spec_theory.specs.View.{literal_levels}
+use Rattle.mz_spec_theory.specs.Forms.{AreLiterals}
 use Rattle.mz_spec.specs.Noting.{IsNumeral, literals_size}
-use Rattle.mz_spec.proofs.Loops.{mem-decided}
-use Rattle.mz_spec_grammar.specs.Code.{literal}
+use Rattle.mz_spec_theory.proofs.Offered.{mem-decided}
+use Rattle.mz_spec_theory.specs.StatementCode.{literal}
 use Rattle.mz_spec.specs.Answers.{JudgesOrMem}
 use Rattle.mz_spec.proofs.Spans.{levels_in, levels-passed, numeral-here, numerals-passed, push-halt, size-here, size-passed, spans-passed}
 use Rattle.mz_spec.proofs.literals.Literals.of.Goals as goal

@@ -1,11 +1,11 @@
 use Rattle.std.proofs.Common.{◌≡◌, ◌+◌, ◌++◌, ◌∷◌, [], List, length, map, drop}
 use Rattle.mz_base_theory.proofs.Offered.{Decides}
-use Rattle.mz_spec_grammar.specs.Code.{literal}
-use Rattle.mz_spec_grammar.specs.Statement.{LiteralText}
-use Rattle.mz_spec.specs.Forms.{AreLiterals}
+use Rattle.mz_spec_theory.specs.StatementCode.{literal}
+use Rattle.mz_spec_theory.specs.Statement.{LiteralText}
+use Rattle.mz_spec_theory.specs.Forms.{AreLiterals}
 use Rattle.mz_spec.specs.Noting.{IsNumeral, literals_size}
-use Rattle.mz_spec_variables.specs.Dependencies.{Every}
-use Rattle.mz_spec_variables.specs.View.{literal_levels}
+use Rattle.mz_spec_theory.specs.Dependencies.{Every}
+use Rattle.mz_spec_theory.specs.View.{literal_levels}
 use Rattle.mz_spec.proofs.Spans.{levels_in}
 use Rattle.mz_spec.proofs.literals.Literals.of.Given as goal
 

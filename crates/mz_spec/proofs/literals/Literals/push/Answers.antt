@@ -1,4 +1,4 @@
-use Rattle.mz_spec_grammar.specs.Code.{literal}
+use Rattle.mz_spec_theory.specs.StatementCode.{literal}
 use Rattle.mz_spec.proofs.Spans.{literals-next}
 use Rattle.mz_spec.proofs.literals.Literals.push.Goals as goal
 

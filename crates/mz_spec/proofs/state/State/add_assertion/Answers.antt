@@ -1,9 +1,8 @@
-use Rattle.mz_spec_grammar.specs.Code.{assertion}
-use Rattle.mz_logic.specs.DeclView.{assertion_of}
+use Rattle.mz_spec_theory.specs.StatementCode.{assertion}
+use Rattle.mz_logic_theory.specs.DeclView.{assertion_of}
 use Rattle.mz_spec.specs.Entries.{state}
-use Rattle.mz_spec_variables.specs.View.{view}
-use Rattle.mz_spec.proofs.Legal.{declared-legal}
-use Rattle.mz_spec.proofs.Tokens.{formulas-tokens}
+use Rattle.mz_spec_theory.specs.View.{view}
+use Rattle.mz_spec_theory.proofs.Offered.{declared-legal, formulas-tokens}
 use Rattle.mz_spec.proofs.state.State.add_assertion.Goals as goal
 
 pub push-requires : goal.push-requires

@@ -2,12 +2,12 @@ use Rattle.std.proofs.Common.{◌∙◌, ℕ, Err, ap, refl, sym, subst}
 use Rattle.std.proofs.lemmas.Result.{err_from_is_err_and}
 use Rattle.mz_base_theory.specs.Checks.{AllHold, ◌>>◌}
 use Rattle.mz_base_theory.proofs.Offered.{all_hold-both, fails-after, fails-before}
-use Rattle.mz_spec_grammar.specs.Code.{coercion, lexeme}
-use Rattle.mz_logic.specs.Declaration.{signatures}
-use Rattle.mz_math_notation.specs.Forms.{IsAnswer, coercion_checks}
+use Rattle.mz_spec_theory.specs.StatementCode.{coercion, lexeme}
+use Rattle.mz_logic_theory.specs.Declaration.{signatures}
+use Rattle.mz_math_theory.specs.Forms.{IsAnswer, coercion_checks}
 use Rattle.mz_spec.specs.Answers.{JudgesStatement}
 use Rattle.mz_spec.specs.Entries.{state}
-use Rattle.mz_spec.specs.Rules.{is_known}
+use Rattle.mz_spec_theory.specs.Rules.{is_known}
 use Rattle.mz_spec.proofs.Noted.{coercion-after, coercion-fault, coercion-holds, coercion-is, coercion-known}
 use Rattle.mz_spec.proofs.Judged.{few-sorts}
 use Rattle.mz_spec.proofs.state.State.add_coercion.Goals as goal

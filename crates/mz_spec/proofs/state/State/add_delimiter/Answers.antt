@@ -1,6 +1,6 @@
 use Rattle.std.proofs.Common.{refl}
 use Rattle.std.specs.Prelude.{option_map}
-use Rattle.mz_spec_grammar.specs.Code.{lexeme}
+use Rattle.mz_spec_theory.specs.StatementCode.{lexeme}
 use Rattle.mz_spec.specs.Entries.{state}
 use Rattle.mz_spec.proofs.Noted.{delimiter-after}
 use Rattle.mz_spec.proofs.state.State.add_delimiter.Goals as goal

@@ -2,14 +2,14 @@ use Rattle.std.proofs.Common.{◌∙◌, ◌<◌, ◌^◌, ◌++◌, ◌∷◌, 
 use Rattle.std.specs.Prelude.{option_map}
 use Rattle.std.proofs.lemmas.Result.{err_from_is_err_and}
 use Rattle.mz_base_theory.specs.Checks.{AllHold, FailsFirst, each_in_order}
-use Rattle.mz_spec_grammar.specs.Code.{head, literal, notation, tail, type_text}
-use Rattle.mz_spec_grammar.specs.Reading.{OnFault}
+use Rattle.mz_spec_theory.specs.StatementCode.{head, literal, notation, tail, type_text}
+use Rattle.mz_spec_theory.specs.Reading.{OnFault}
 use Rattle.mz_spec.specs.Answers.{JudgesStatement}
 use Rattle.mz_spec.specs.Entries.{state}
 use Rattle.mz_spec.specs.Noting.{IsNumeral, literals_size}
-use Rattle.mz_spec_variables.specs.Dependencies.{Every}
-use Rattle.mz_spec.specs.Rules.{is_level}
-use Rattle.mz_spec_variables.specs.View.{literal_levels}
+use Rattle.mz_spec_theory.specs.Dependencies.{Every}
+use Rattle.mz_spec_theory.specs.Rules.{is_level}
+use Rattle.mz_spec_theory.specs.View.{literal_levels}
 use Rattle.mz_spec.proofs.Numerals.{notation-numerals}
 use Rattle.mz_spec.proofs.Sizes.{notation-size}
 use Rattle.mz_spec.proofs.Noted.{general-literals, general-tail}

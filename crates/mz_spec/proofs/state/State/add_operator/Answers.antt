@@ -1,6 +1,6 @@
 use Rattle.std.proofs.Common.{◌∙◌, ℕ, Err, ap, subst, sym}
 use Rattle.std.proofs.lemmas.Result.{err_from_is_err_and}
-use Rattle.mz_spec_grammar.specs.Code.{lexeme, level, operator}
+use Rattle.mz_spec_theory.specs.StatementCode.{lexeme, level, operator}
 use Rattle.mz_spec.specs.Answers.{JudgesStatement}
 use Rattle.mz_spec.specs.Entries.{state}
 use Rattle.mz_spec.proofs.Noted.{operator-fault, operator-holds, operator-known, operator-level}

@@ -1,7 +1,7 @@
 use Rattle.std.proofs.Common.{OnOk, sym, subst}
-use Rattle.mz_spec_grammar.specs.Code.{statement}
+use Rattle.mz_spec_theory.specs.StatementCode.{statement}
 use Rattle.mz_spec.specs.Answers.{JudgesStatement}
-use Rattle.mz_spec.specs.Declaring.{After}
+use Rattle.mz_spec_theory.specs.Declaring.{After}
 use Rattle.mz_spec.specs.Entries.{state}
 use Rattle.mz_spec.proofs.state.State.add_read.Goals as goal
 

@@ -1,8 +1,8 @@
 use Rattle.std.proofs.Common.{[]}
-use Rattle.mz_spec_grammar.specs.Code.{term}
-use Rattle.mz_logic.specs.DeclView.{term_of}
+use Rattle.mz_spec_theory.specs.StatementCode.{term}
+use Rattle.mz_logic_theory.specs.DeclView.{term_of}
 use Rattle.mz_spec.specs.Entries.{state}
-use Rattle.mz_spec.proofs.Legal.{declared-legal}
+use Rattle.mz_spec_theory.proofs.Offered.{declared-legal}
 use Rattle.mz_spec.proofs.state.State.add_term.Goals as goal
 
 pub push_term-requires-clause-new : goal.push_term-requires-clause-new

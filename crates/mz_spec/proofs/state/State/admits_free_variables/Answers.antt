@@ -1,10 +1,10 @@
 use Rattle.std.proofs.Common.{◌∙◌, ◌↔◌, ℕ, List, Bool, Contains, IsTrue, sym, subst}
 use Rattle.std.specs.Prelude.{IfOk}
-use Rattle.mz_logic.specs.Declaration.{signatures}
-use Rattle.mz_logic.specs.Sorts.{HasSort}
-use Rattle.mz_logic.specs.Variables.{InFV}
-use Rattle.mz_logic.specs.View.{tree}
-use Rattle.mz_logic.specs.declared.binder.Binder.{Binder}
+use Rattle.mz_logic_theory.specs.Declaration.{signatures}
+use Rattle.mz_logic_theory.specs.Sorts.{HasSort}
+use Rattle.mz_logic_theory.specs.Variables.{InFV}
+use Rattle.mz_logic_theory.specs.View.{tree}
+use Rattle.mz_logic_theory.specs.declared.binder.Binder.{Binder}
 use Rattle.mz_spec.proofs.state.State.admits_free_variables.Goals as goal
 
 pub free_vars_are_among-requires : goal.free_vars_are_among-requires

@@ -1,11 +1,11 @@
 use Rattle.std.proofs.Common.{[], map, sym, true≢false}
 use Rattle.std.proofs.lemmas.Option.{none-some}
-use Rattle.mz_spec_grammar.specs.Code.{type_text}
+use Rattle.mz_spec_theory.specs.StatementCode.{type_text}
 use Rattle.mz_spec_variables.specs.Code.{variable}
 use Rattle.mz_spec.specs.Entries.{state}
-use Rattle.mz_spec.specs.Rules.{AreBinders}
+use Rattle.mz_spec_theory.specs.Rules.{AreBinders}
 use Rattle.mz_spec.proofs.Binding.{binders-step, binders-out, group-step, typed-at}
-use Rattle.mz_spec.proofs.Loops.{test-in, test-out}
+use Rattle.mz_spec_theory.proofs.Offered.{test-in, test-out}
 use Rattle.mz_spec.proofs.state.State.are_binders.Goals as goal
 
 pub loop-i-init : goal.loop-i-init

@@ -1,10 +1,10 @@
 use Rattle.std.proofs.Common.{ℕ, [], Option, map, take, drop}
 use Rattle.std.specs.Prelude.{◌↔◌}
-use Rattle.mz_spec_grammar.specs.Statement.{TypeText}
+use Rattle.mz_spec_theory.specs.Statement.{TypeText}
 use Rattle.mz_spec_variables.specs.Code.{IsOfTypes, typed, variable}
-use Rattle.mz_spec_variables.specs.Dependencies.{Every}
+use Rattle.mz_spec_theory.specs.Dependencies.{Every}
 use Rattle.mz_spec.specs.Entries.{state}
-use Rattle.mz_spec.specs.Rules.{AreBinders}
+use Rattle.mz_spec_theory.specs.Rules.{AreBinders}
 use Rattle.mz_spec.proofs.Binding.{IsGroupBehind}
 use Rattle.mz_spec.proofs.state.State.are_binders.Given as goal
 

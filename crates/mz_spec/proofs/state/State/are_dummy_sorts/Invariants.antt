@@ -2,8 +2,8 @@ use Rattle.std.proofs.Common.{map, drop}
 use Rattle.std.specs.Prelude.{◌↔◌}
 use Rattle.mz_spec_variables.specs.Code.{variable}
 use Rattle.mz_spec.specs.Entries.{state}
-use Rattle.mz_spec_variables.specs.Dependencies.{Every}
-use Rattle.mz_spec.specs.Rules.{IsDummySort}
+use Rattle.mz_spec_theory.specs.Dependencies.{Every}
+use Rattle.mz_spec_theory.specs.Rules.{IsDummySort}
 use Rattle.mz_spec.proofs.state.State.are_dummy_sorts.Given as goal
 
 abbrev pub invariant-loop-dummy : goal.invariant-loop-dummy

@@ -1,18 +1,16 @@
 use Rattle.std.proofs.Common.{◌∙◌, length, map, Err, ap, subst, sym, arith}
 use Rattle.std.proofs.lemmas.Result.{err_from_is_err_and}
 use Rattle.mz_base_theory.specs.Checks.{nothing, ◌>>◌, each_in_order}
-use Rattle.mz_spec_grammar.specs.Code.{assertion, head, group, lexeme, source}
+use Rattle.mz_spec_theory.specs.StatementCode.{assertion, head, group, lexeme, source}
 use Rattle.mz_spec.specs.Answers.{JudgesOrMem}
 use Rattle.mz_spec_variables.specs.Code.{AreGrouped}
 use Rattle.mz_spec.specs.Entries.{state}
-use Rattle.mz_spec.specs.Rules.{new_name, body_rules, statement_checks}
-use Rattle.mz_spec_variables.specs.View.{view, stated_of}
+use Rattle.mz_spec_theory.specs.Rules.{new_name, body_rules, statement_checks}
+use Rattle.mz_spec_theory.specs.View.{view, stated_of}
 use Rattle.mz_spec.proofs.Judged.{parts-halt, rest-halt, parts-hold, few-sorts, few-params, parts-names}
-use Rattle.mz_spec.proofs.Naming.{stated-small}
-use Rattle.mz_spec.proofs.Strung.{stated-to_formulas, free-none}
-use Rattle.mz_spec.proofs.Loops.{mem-before}
+use Rattle.mz_spec_theory.proofs.Offered.{stated-small, stated-to_formulas, free-none, mem-before}
 use Rattle.mz_base_theory.proofs.Offered.{all_hold-both}
-use Rattle.mz_spec.specs.Formulas.{strings_checks, free_checks}
+use Rattle.mz_spec_theory.specs.Formulas.{strings_checks, free_checks}
 use Rattle.mz_spec.proofs.state.State.assertion_over.Goals as goal
 
 pub check_parts-requires-clause-grouped : goal.check_parts-requires-clause-grouped

@@ -1,8 +1,8 @@
 use Rattle.std.proofs.Common.{◌∙◌, ℕ, List, ap}
-use Rattle.mz_logic.specs.declared.binder.Binder.{Binder}
+use Rattle.mz_logic_theory.specs.declared.binder.Binder.{Binder}
 use Rattle.mz_spec_variables.specs.Code.{variable}
 use Rattle.mz_spec.specs.Entries.{state}
-use Rattle.mz_spec.specs.State.{sort_number}
+use Rattle.mz_spec_theory.specs.State.{sort_number}
 use Rattle.mz_spec.proofs.state.State.binder_of.Goals as goal
 
 pub returns-clause-binder : goal.returns-clause-binder

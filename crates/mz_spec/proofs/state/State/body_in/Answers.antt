@@ -1,24 +1,23 @@
 use Rattle.std.proofs.Common.{◌∙◌, List, [], ◌∷◌, map, Err, ap, sym, subst}
 use Rattle.std.proofs.lemmas.Result.{err_from_is_err_and}
 use Rattle.mz_base_theory.specs.Checks.{AllHold, FailsFirst, retold}
-use Rattle.mz_spec_grammar.specs.Code.{lexeme}
-use Rattle.mz_spec_grammar.specs.Reading.{OnFault}
-use Rattle.mz_logic.specs.Declaration.{defined}
-use Rattle.mz_logic.specs.View.{tree}
-use Rattle.mz_logic.specs.declared.binder.Binder.{Binder}
-use Rattle.mz_math_notation.specs.Notation.{Variables}
-use Rattle.mz_math.specs.Formula.{Reader, IsFormula, formula_checks}
-use Rattle.mz_math.specs.declared.formula.Wanted.TheVariants.{Sort as of_sort}
+use Rattle.mz_spec_theory.specs.StatementCode.{lexeme}
+use Rattle.mz_spec_theory.specs.Reading.{OnFault}
+use Rattle.mz_logic_theory.specs.Declaration.{defined}
+use Rattle.mz_logic_theory.specs.View.{tree}
+use Rattle.mz_logic_theory.specs.declared.binder.Binder.{Binder}
+use Rattle.mz_math_theory.specs.Notation.{Variables}
+use Rattle.mz_math_theory.specs.Formula.{Reader, IsFormula, formula_checks}
+use Rattle.mz_math_theory.specs.declared.wanted.Wanted.TheVariants.{Sort as of_sort}
 use Rattle.mz_spec.specs.Answers.{JudgesOrMem}
 use Rattle.mz_spec_variables.specs.Code.{AreGrouped, variable}
 use Rattle.mz_spec.specs.Entries.{state}
-use Rattle.mz_spec.specs.Formulas.{inner, told}
-use Rattle.mz_spec.specs.Rules.{body_rules}
-use Rattle.mz_spec.specs.State.{binder_of, sort_number}
-use Rattle.mz_spec_variables.specs.View.{Variable, body, params_of}
+use Rattle.mz_spec_theory.specs.Formulas.{inner, told}
+use Rattle.mz_spec_theory.specs.Rules.{body_rules}
+use Rattle.mz_spec_theory.specs.State.{binder_of, sort_number}
+use Rattle.mz_spec_theory.specs.View.{Variable, body, params_of}
 use Rattle.mz_spec.proofs.Judged.{few-sorts}
-use Rattle.mz_spec.proofs.Loops.{test-in, test-out}
-use Rattle.mz_spec.proofs.Sorted.{body-sorted}
+use Rattle.mz_spec_theory.proofs.Offered.{test-in, test-out, body-sorted}
 use Rattle.mz_spec.proofs.Bodied.{body-halt, body-holds, body-fails, covers-all, all-covers, scope-names}
 use Rattle.mz_spec.proofs.state.State.body_in.Goals as goal
 

@@ -1,9 +1,9 @@
 use Rattle.std.proofs.Common.{◌∙◌, map, ap, sym, subst, refl, inl, inr}
 use Rattle.mz_spec_variables.specs.Code.{variable}
 use Rattle.mz_spec.specs.Entries.{state}
-use Rattle.mz_spec_variables.specs.Dependencies.{Every}
-use Rattle.mz_spec.specs.Rules.{IsDummySort, IsNotPure}
-use Rattle.mz_spec.proofs.Loops.{test-in, test-out}
+use Rattle.mz_spec_theory.specs.Dependencies.{Every}
+use Rattle.mz_spec_theory.specs.Rules.{IsDummySort, IsNotPure}
+use Rattle.mz_spec_theory.proofs.Offered.{test-in, test-out}
 use Rattle.mz_spec.proofs.state.State.check_binders.Goals as goal
 
 pub returns-then-not-have_binders : goal.returns-then-not-have_binders

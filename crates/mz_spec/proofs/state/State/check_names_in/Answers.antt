@@ -2,14 +2,14 @@ use Rattle.std.proofs.Common.{◌∙◌, [], map, Err, ap, subst, sym}
 use Rattle.std.proofs.lemmas.Result.{err_from_is_err_and}
 use Rattle.mz_base_theory.specs.Checks.{AllHold, FailsFirst, each_in_order, ◌>>◌}
 use Rattle.mz_base_theory.proofs.Offered.{all_hold-both, fails-before, fails-after}
-use Rattle.mz_spec_grammar.specs.Code.{lexeme, type_text}
+use Rattle.mz_spec_theory.specs.StatementCode.{lexeme, type_text}
 use Rattle.mz_spec.specs.Answers.{JudgesOrMem}
 use Rattle.mz_spec_variables.specs.Code.{variable}
 use Rattle.mz_spec.specs.Entries.{state}
 use Rattle.mz_spec.specs.Noting.{named_rules}
-use Rattle.mz_spec.specs.Rules.{are_others, is_known, type_checks}
-use Rattle.mz_spec_variables.specs.View.{names_of}
-use Rattle.mz_spec.proofs.Loops.{mem-before}
+use Rattle.mz_spec_theory.specs.Rules.{are_others, is_known, type_checks}
+use Rattle.mz_spec_theory.specs.View.{names_of}
+use Rattle.mz_spec_theory.proofs.Offered.{mem-before}
 use Rattle.mz_spec.proofs.state.State.check_names_in.Goals as goal
 
 pub returns-in_err-push_names : goal.returns-in_err-push_names

@@ -1,10 +1,10 @@
 use Rattle.std.proofs.Common.{map, refl}
 use Rattle.std.proofs.lemmas.Result.{err_from_is_err_and}
 use Rattle.mz_base_theory.specs.Checks.{each_in_order}
-use Rattle.mz_spec_grammar.specs.Code.{type_text}
+use Rattle.mz_spec_theory.specs.StatementCode.{type_text}
 use Rattle.mz_spec.specs.Entries.{state}
-use Rattle.mz_spec.specs.Rules.{type_checks}
-use Rattle.mz_spec.proofs.Loops.{rows-step, rows-fail}
+use Rattle.mz_spec_theory.specs.Rules.{type_checks}
+use Rattle.mz_spec_theory.proofs.Offered.{rows-step, rows-fail}
 use Rattle.mz_spec.proofs.state.State.check_types.Goals as goal
 
 pub returns-in_err-check_type : goal.returns-in_err-check_type

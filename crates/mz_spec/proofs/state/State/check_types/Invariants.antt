@@ -1,9 +1,9 @@
 use Rattle.std.proofs.Common.{map, drop}
 use Rattle.mz_base_theory.specs.Checks.{each_in_order}
 use Rattle.mz_base_theory.proofs.Offered.{Decides}
-use Rattle.mz_spec_grammar.specs.Code.{type_text}
+use Rattle.mz_spec_theory.specs.StatementCode.{type_text}
 use Rattle.mz_spec.specs.Entries.{state}
-use Rattle.mz_spec.specs.Rules.{type_checks}
+use Rattle.mz_spec_theory.specs.Rules.{type_checks}
 use Rattle.mz_spec.proofs.state.State.check_types.Given as goal
 
 abbrev pub invariant-loop-ty : goal.invariant-loop-ty

@@ -1,19 +1,19 @@
 use Rattle.std.proofs.Common.{◌∙◌, map, Err, ap, sym, subst}
 use Rattle.std.proofs.lemmas.Result.{err_from_is_err_and}
 use Rattle.mz_base_theory.specs.Checks.{AllHold, FailsFirst, retold}
-use Rattle.mz_spec_grammar.specs.Code.{assertion, group, lexeme, source}
-use Rattle.mz_spec_grammar.specs.Reading.{OnFault}
-use Rattle.mz_logic.specs.View.{tree}
-use Rattle.mz_math_notation.specs.Notation.{Variables}
-use Rattle.mz_math.specs.Formula.{Reader, IsFormula, formula_checks}
-use Rattle.mz_math.specs.declared.formula.Wanted.TheVariants.{Provable as provable}
+use Rattle.mz_spec_theory.specs.StatementCode.{assertion, group, lexeme, source}
+use Rattle.mz_spec_theory.specs.Reading.{OnFault}
+use Rattle.mz_logic_theory.specs.View.{tree}
+use Rattle.mz_math_theory.specs.Notation.{Variables}
+use Rattle.mz_math_theory.specs.Formula.{Reader, IsFormula, formula_checks}
+use Rattle.mz_math_theory.specs.declared.wanted.Wanted.TheVariants.{Provable as provable}
 use Rattle.mz_spec.specs.Answers.{JudgesOrMem}
-use Rattle.mz_spec.specs.Code.{EndsSmall}
+use Rattle.mz_spec_theory.specs.SpecCode.{EndsSmall}
 use Rattle.mz_spec.specs.Entries.{state}
-use Rattle.mz_spec.specs.Formulas.{AreHyps, AreTokens, inner, told, strings_checks}
-use Rattle.mz_spec_variables.specs.Dependencies.{Every}
-use Rattle.mz_spec_variables.specs.View.{claim, stated_claim, stated_of, view}
-use Rattle.mz_spec.proofs.Strung.{before-halt, last-halt, all-strings, stated-of_formulas}
+use Rattle.mz_spec_theory.specs.Formulas.{AreHyps, AreTokens, inner, told, strings_checks}
+use Rattle.mz_spec_theory.specs.Dependencies.{Every}
+use Rattle.mz_spec_theory.specs.View.{claim, stated_claim, stated_of, view}
+use Rattle.mz_spec_theory.proofs.Offered.{before-halt, last-halt, all-strings, stated-of_formulas}
 use Rattle.mz_spec.proofs.state.State.claims_in.Goals as goal
 
 pub hyps_of-requires : goal.hyps_of-requires

@@ -1,9 +1,9 @@
 use Rattle.std.proofs.Common.{◌∙◌, [], map, ap}
 use Rattle.std.proofs.lemmas.Result.{IfOk-weaker}
-use Rattle.mz_spec_grammar.specs.Code.{assertion}
-use Rattle.mz_spec.specs.Code.{stated}
+use Rattle.mz_spec_theory.specs.StatementCode.{assertion}
+use Rattle.mz_spec_theory.specs.SpecCode.{stated}
 use Rattle.mz_spec.specs.Entries.{state}
-use Rattle.mz_spec_variables.specs.View.{view}
+use Rattle.mz_spec_theory.specs.View.{view}
 use Rattle.mz_spec.proofs.Judged.{few-sorts}
 use Rattle.mz_spec.proofs.state.State.claims_of.Goals as goal
 

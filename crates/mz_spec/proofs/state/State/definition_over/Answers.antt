@@ -2,20 +2,20 @@ use Rattle.std.proofs.Common.{◌∙◌, List, length, map, option_map, Err, ap,
 use Rattle.std.proofs.lemmas.Result.{err_from_is_err_and}
 use Rattle.mz_base_theory.specs.Checks.{nothing, ◌>>◌}
 use Rattle.mz_base_theory.proofs.Offered.{all_hold-both}
-use Rattle.mz_spec_grammar.specs.Code.{definition, head, lexeme, type_text}
-use Rattle.mz_logic.specs.Declaration.{Declaration, term_decl}
-use Rattle.mz_logic.specs.DeclView.{form}
-use Rattle.mz_logic.specs.declared.binder.Binder.{Binder}
-use Rattle.mz_logic.specs.declared.binder.ResultType.{ResultType}
+use Rattle.mz_spec_theory.specs.StatementCode.{definition, head, lexeme, type_text}
+use Rattle.mz_logic_theory.specs.Declaration.{Declaration, term_decl}
+use Rattle.mz_logic_theory.specs.DeclView.{form}
+use Rattle.mz_logic_theory.specs.declared.binder.Binder.{Binder}
+use Rattle.mz_logic_theory.specs.declared.binder.ResultType.{ResultType}
 use Rattle.mz_spec.specs.Answers.{JudgesOrMem}
 use Rattle.mz_spec_variables.specs.Code.{AreGrouped, variable}
 use Rattle.mz_spec.specs.Entries.{state}
-use Rattle.mz_spec.specs.Rules.{new_name, body_rules, statement_checks}
-use Rattle.mz_spec.specs.State.{binder_of, param_binders}
-use Rattle.mz_spec_variables.specs.View.{Variable, view, params_of}
+use Rattle.mz_spec_theory.specs.Rules.{new_name, body_rules, statement_checks}
+use Rattle.mz_spec_theory.specs.State.{binder_of, param_binders}
+use Rattle.mz_spec_theory.specs.View.{Variable, view, params_of}
 use Rattle.mz_spec.proofs.Bodied.{bodies-small}
 use Rattle.mz_spec.proofs.Judged.{parts-halt, rest-halt, parts-hold, few-sorts, few-params, parts-names}
-use Rattle.mz_spec.proofs.Loops.{mem-before}
+use Rattle.mz_spec_theory.proofs.Offered.{mem-before}
 use Rattle.mz_spec.proofs.state.State.definition_over.Goals as goal
 
 pub check_parts-requires-clause-grouped : goal.check_parts-requires-clause-grouped

@@ -1,13 +1,13 @@
 use Rattle.std.proofs.Common.{◌≡◌, List, [], ◌∷◌, option_map, sym, subst}
 use Rattle.std.specs.Prelude.{IfOk}
-use Rattle.mz_spec_grammar.specs.Code.{lexeme}
-use Rattle.mz_spec_grammar.specs.Statement.{TypeText}
-use Rattle.mz_logic.specs.DeclView.{form}
+use Rattle.mz_spec_theory.specs.StatementCode.{lexeme}
+use Rattle.mz_spec_theory.specs.Statement.{TypeText}
+use Rattle.mz_logic_theory.specs.DeclView.{form}
 use Rattle.mz_spec_variables.specs.Code.{AreParts}
-use Rattle.mz_spec.specs.Declaring.{IsForm}
+use Rattle.mz_spec_theory.specs.Declaring.{IsForm}
 use Rattle.mz_spec.specs.Entries.{state}
-use Rattle.mz_spec.specs.State.{result_of}
-use Rattle.mz_spec_variables.specs.View.{Variable}
+use Rattle.mz_spec_theory.specs.State.{result_of}
+use Rattle.mz_spec_theory.specs.View.{Variable}
 use Rattle.mz_spec.proofs.state.State.form_of.Goals as goal
 
 pub returns-in-Some-clause-form : goal.returns-in-Some-clause-form

@@ -1,10 +1,10 @@
 use Rattle.std.proofs.Common.{ℕ, sym, subst}
 use Rattle.mz_base_theory.specs.Checks.{FailsFirst, retold}
-use Rattle.mz_spec_grammar.specs.Code.{lexeme}
-use Rattle.mz_spec_grammar.specs.declared.refusal.Fault.{Fault}
-use Rattle.mz_logic.specs.View.{tree}
-use Rattle.mz_math.specs.Formula.{IsFormula, Misreads, Reader, formula_checks}
-use Rattle.mz_spec.specs.Formulas.{inner, told}
+use Rattle.mz_spec_theory.specs.StatementCode.{lexeme}
+use Rattle.mz_spec_theory.specs.declared.refusal.Fault.{Fault}
+use Rattle.mz_logic_theory.specs.View.{tree}
+use Rattle.mz_math_theory.specs.Formula.{IsFormula, Misreads, Reader, formula_checks}
+use Rattle.mz_spec_theory.specs.Formulas.{inner, told}
 use Rattle.mz_spec.proofs.Told.{told-fails, told-holds, misread-small}
 use Rattle.mz_spec.proofs.state.State.formula.Goals as goal
 

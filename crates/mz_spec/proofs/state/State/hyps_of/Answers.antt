@@ -2,19 +2,19 @@ use Rattle.std.proofs.Common.{◌∙◌, [], map, get_or, Err, ap, sym, subst}
 use Rattle.std.proofs.lemmas.Result.{err_from_is_err_and}
 use Rattle.mz_base_theory.proofs.Offered.{drop-past}
 use Rattle.mz_base_theory.specs.Checks.{AllHold, FailsFirst, retold}
-use Rattle.mz_spec_grammar.specs.Code.{lexeme}
-use Rattle.mz_spec_grammar.specs.Reading.{OnFault}
-use Rattle.mz_math_notation.specs.Notation.{Variables}
-use Rattle.mz_math.specs.Formula.{Reader, IsFormula, formula_checks}
-use Rattle.mz_math.specs.declared.formula.Wanted.TheVariants.{Provable as provable}
+use Rattle.mz_spec_theory.specs.StatementCode.{lexeme}
+use Rattle.mz_spec_theory.specs.Reading.{OnFault}
+use Rattle.mz_math_theory.specs.Notation.{Variables}
+use Rattle.mz_math_theory.specs.Formula.{Reader, IsFormula, formula_checks}
+use Rattle.mz_math_theory.specs.declared.wanted.Wanted.TheVariants.{Provable as provable}
 use Rattle.mz_spec.specs.Answers.{JudgesOrMem}
-use Rattle.mz_spec.specs.Code.{EndsSmall, stated}
+use Rattle.mz_spec_theory.specs.SpecCode.{EndsSmall, stated}
 use Rattle.mz_spec.specs.Entries.{state}
-use Rattle.mz_spec.specs.Formulas.{AreHyps, inner, told, strings_checks}
-use Rattle.mz_spec_variables.specs.View.{stated_claim}
+use Rattle.mz_spec_theory.specs.Formulas.{AreHyps, inner, told, strings_checks}
+use Rattle.mz_spec_theory.specs.View.{stated_claim}
 use Rattle.mz_lex.specs.declared.token.TokenKind.TheVariants as kinds
-use Rattle.mz_spec.specs.declared.formulas.Stated.{Stated as StatedRead}
-use Rattle.mz_spec.proofs.Loops.{item-is}
+use Rattle.mz_spec_theory.specs.declared.stated.Stated.{Stated as StatedRead}
+use Rattle.mz_spec_theory.proofs.Offered.{item-is}
 use Rattle.mz_spec.proofs.Hyps.{left-step, left-fail, small-step, meant-step, hyps-end}
 use Rattle.mz_spec.proofs.state.State.hyps_of.Goals as goal
 

@@ -1,13 +1,13 @@
 use Rattle.std.proofs.Common.{◌≡◌, List, map, drop}
 use Rattle.mz_base_theory.proofs.Offered.{Decides}
-use Rattle.mz_logic.specs.Tree.{Trees, followed_by}
+use Rattle.mz_logic_theory.specs.Tree.{Trees, followed_by}
 use Rattle.mz_math_tokens.specs.declared.pieces.Piece.{Piece}
-use Rattle.mz_spec.specs.Code.{EndsSmall, stated}
+use Rattle.mz_spec_theory.specs.SpecCode.{EndsSmall, stated}
 use Rattle.mz_spec.specs.Entries.{state}
-use Rattle.mz_spec.specs.Formulas.{AreHyps, AreTokens, strings_checks}
-use Rattle.mz_spec_variables.specs.Dependencies.{Every}
-use Rattle.mz_spec.specs.State.{scope_of}
-use Rattle.mz_spec_variables.specs.View.{Variable, stated_claim}
+use Rattle.mz_spec_theory.specs.Formulas.{AreHyps, AreTokens, strings_checks}
+use Rattle.mz_spec_theory.specs.Dependencies.{Every}
+use Rattle.mz_spec_theory.specs.State.{scope_of}
+use Rattle.mz_spec_theory.specs.View.{Variable, stated_claim}
 use Rattle.mz_spec.proofs.state.State.hyps_of.Given as goal
 
 abbrev pub invariant-loop-hyp : goal.invariant-loop-hyp

@@ -3,12 +3,12 @@ use Rattle.std.specs.Prelude.{option_map}
 use Rattle.std.proofs.lemmas.Result.{err_from_is_err_and}
 use Rattle.mz_base_theory.specs.Checks.{each_in_order, ◌>>◌}
 use Rattle.mz_base_theory.proofs.Offered.{all_hold-first}
-use Rattle.mz_spec_grammar.specs.Code.{head, literal, notation, tail, type_text}
+use Rattle.mz_spec_theory.specs.StatementCode.{head, literal, notation, tail, type_text}
 use Rattle.mz_spec.specs.Answers.{JudgesStatement}
 use Rattle.mz_spec.specs.Entries.{state}
 use Rattle.mz_spec.specs.Noting.{named_rules}
-use Rattle.mz_spec.specs.Rules.{are_others, binder_rules, is_known, type_checks}
-use Rattle.mz_spec_variables.specs.View.{names_of, view}
+use Rattle.mz_spec_theory.specs.Rules.{are_others, binder_rules, is_known, type_checks}
+use Rattle.mz_spec_theory.specs.View.{names_of, view}
 use Rattle.mz_spec.proofs.Noted.{general-rules, general-fault, general-holds}
 use Rattle.mz_spec.proofs.state.State.notation_over.Goals as goal
 

@@ -1,12 +1,12 @@
 use Rattle.std.proofs.Common.{arith, ◌++◌, ◌∷◌, [], map, ap, refl, subst, sym}
 use Rattle.std.specs.Prelude.{option_map}
-use Rattle.mz_math_notation.specs.Forms.{General}
-use Rattle.mz_spec_grammar.specs.Code.{head, literal, notation, tail, type_text}
+use Rattle.mz_math_theory.specs.Forms.{General}
+use Rattle.mz_spec_theory.specs.StatementCode.{head, literal, notation, tail, type_text}
 use Rattle.mz_spec.specs.Entries.{state}
-use Rattle.mz_spec.specs.Forms.{AreLiterals}
-use Rattle.mz_spec_variables.specs.View.{view}
+use Rattle.mz_spec_theory.specs.Forms.{AreLiterals}
+use Rattle.mz_spec_theory.specs.View.{view}
 use Rattle.mz_spec.proofs.Judged.{few-sorts, few-params}
-use Rattle.mz_spec.proofs.Naming.{variables-named}
+use Rattle.mz_spec_theory.proofs.Offered.{variables-named}
 use Rattle.mz_spec.proofs.Noted.{parts-variables, general-answer, general-after}
 use Rattle.mz_spec.proofs.state.State.note_general.Goals as goal
 

@@ -1,11 +1,11 @@
 use Rattle.std.proofs.Common.{true, false, refl}
-use Rattle.mz_spec_grammar.specs.Code.{lexeme, level}
-use Rattle.mz_spec_grammar.specs.declared.kind.Fixity.TheVariants as fixities
-use Rattle.mz_logic.specs.Declaration.{signatures}
+use Rattle.mz_spec_theory.specs.StatementCode.{lexeme, level}
+use Rattle.mz_spec_theory.specs.declared.kind.Fixity.TheVariants as fixities
+use Rattle.mz_logic_theory.specs.Declaration.{signatures}
 use Rattle.mz_spec.specs.Entries.{state}
-use Rattle.mz_spec.specs.Formulas.{inner}
-use Rattle.mz_spec.specs.Forms.{level_of}
-use Rattle.mz_spec.specs.State.{term_number}
+use Rattle.mz_spec_theory.specs.Formulas.{inner}
+use Rattle.mz_spec_theory.specs.Forms.{level_of}
+use Rattle.mz_spec_theory.specs.State.{term_number}
 use Rattle.mz_spec.proofs.Noted.{infix-after, infix-answer, operator-after, operator-answer, prefix-after, prefix-answer}
 use Rattle.mz_spec.proofs.state.State.note_operator.Goals as goal
 

@@ -1,9 +1,9 @@
 use Rattle.std.proofs.Common.{◌++◌, map, ap}
 use Rattle.mz_spec_variables.specs.Code.{IsOfTypes, typed, variable}
 use Rattle.mz_spec.specs.Entries.{state}
-use Rattle.mz_spec.specs.State.{binder_of}
+use Rattle.mz_spec_theory.specs.State.{binder_of}
 use Rattle.mz_spec.proofs.Binding.{every-at}
-use Rattle.mz_spec.proofs.Loops.{item-step, items-end}
+use Rattle.mz_spec_theory.proofs.Offered.{item-step, items-end}
 use Rattle.mz_spec.proofs.state.State.push_binders.Goals as goal
 
 pub loop-variable-init : goal.loop-variable-init

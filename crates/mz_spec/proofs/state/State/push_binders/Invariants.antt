@@ -1,10 +1,10 @@
 use Rattle.std.proofs.Common.{◌≡◌, ◌++◌, ℕ, Option, map, drop}
-use Rattle.mz_spec_grammar.specs.Statement.{TypeText}
+use Rattle.mz_spec_theory.specs.Statement.{TypeText}
 use Rattle.mz_spec_variables.specs.Code.{IsOfTypes, typed, variable}
-use Rattle.mz_spec_variables.specs.Dependencies.{Every}
+use Rattle.mz_spec_theory.specs.Dependencies.{Every}
 use Rattle.mz_spec.specs.Entries.{state}
 use Rattle.mz_spec.specs.Found.{IsFound}
-use Rattle.mz_spec.specs.State.{binder_of}
+use Rattle.mz_spec_theory.specs.State.{binder_of}
 use Rattle.mz_spec.proofs.state.State.push_binders.Given as goal
 
 abbrev pub invariant-loop-variable : goal.invariant-loop-variable

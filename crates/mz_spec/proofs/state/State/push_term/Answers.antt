@@ -1,6 +1,6 @@
 use Rattle.std.proofs.Common.{◌∙◌, ◌++◌, ◌∷◌, [], ap, sym, refl, arith}
-use Rattle.mz_spec_grammar.specs.Code.{lexeme}
-use Rattle.mz_logic.specs.DeclView.{term_of}
+use Rattle.mz_spec_theory.specs.StatementCode.{lexeme}
+use Rattle.mz_logic_theory.specs.DeclView.{term_of}
 use Rattle.mz_spec.specs.Entries.{state}
 use Rattle.mz_spec.proofs.Judged.{few-terms}
 use Rattle.mz_spec.proofs.NamesAlone.{names-many, new-apart, term-pushed}

@@ -3,13 +3,12 @@ use Rattle.std.proofs.lemmas.List.{length-map}
 use Rattle.std.specs.Prelude.{IsTrue}
 use Rattle.mz_base_theory.proofs.Offered.{drop-item}
 use Rattle.mz_base.specs.Identifiers.{is_name}
-use Rattle.mz_math_notation.specs.Kept.{AreVariables}
+use Rattle.mz_math_theory.specs.Kept.{AreVariables}
 use Rattle.mz_spec_variables.specs.Code.{IsOfTypes, typed, variable}
 use Rattle.mz_spec.specs.Entries.{state}
-use Rattle.mz_spec.specs.State.{binder_of, variable_bytes}
+use Rattle.mz_spec_theory.specs.State.{binder_of, variable_bytes}
 use Rattle.mz_spec.proofs.Binding.{every-at}
-use Rattle.mz_spec.proofs.Loops.{item-step, items-end}
-use Rattle.mz_spec.proofs.Places.{next-named, next-other}
+use Rattle.mz_spec_theory.proofs.Offered.{item-step, items-end, next-named, next-other}
 use Rattle.mz_spec.proofs.state.State.push_variables.Goals as goal
 
 pub push-requires-clause-name : goal.push-requires-clause-name

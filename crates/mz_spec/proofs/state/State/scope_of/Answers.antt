@@ -1,8 +1,8 @@
 use Rattle.std.proofs.Common.{◌≡◌, ◌∙◌, ◌++◌, map, ap, sym, subst}
-use Rattle.mz_math_notation.specs.Kept.{AreVariables}
+use Rattle.mz_math_theory.specs.Kept.{AreVariables}
 use Rattle.mz_spec_variables.specs.Code.{AreGrouped, variable}
-use Rattle.mz_spec.specs.State.{variable_bytes}
-use Rattle.mz_spec.proofs.Places.{front-variables}
+use Rattle.mz_spec_theory.specs.State.{variable_bytes}
+use Rattle.mz_spec_theory.proofs.Offered.{front-variables}
 use Rattle.mz_spec.proofs.state.State.scope_of.Goals as goal
 
 pub push_variables-requires-clause-names : goal.push_variables-requires-clause-names

@@ -1,12 +1,12 @@
 use Rattle.std.proofs.Common.{◌∙◌, length, Err, ap, subst, sym, arith}
 use Rattle.std.proofs.lemmas.Result.{err_from_is_err_and}
 use Rattle.mz_base_theory.specs.Checks.{nothing}
-use Rattle.mz_spec_grammar.specs.Code.{lexeme, term}
+use Rattle.mz_spec_theory.specs.StatementCode.{lexeme, term}
 use Rattle.mz_spec.specs.Answers.{JudgesOrMem}
 use Rattle.mz_spec_variables.specs.Code.{AreGrouped}
 use Rattle.mz_spec.specs.Entries.{state}
-use Rattle.mz_spec.specs.Rules.{new_name, statement_checks}
-use Rattle.mz_spec_variables.specs.View.{view}
+use Rattle.mz_spec_theory.specs.Rules.{new_name, statement_checks}
+use Rattle.mz_spec_theory.specs.View.{view}
 use Rattle.mz_spec.proofs.Judged.{parts-halt, parts-hold, few-sorts, few-params}
 use Rattle.mz_spec.proofs.state.State.term_over.Goals as goal
 

@@ -1,6 +1,6 @@
 use Rattle.std.proofs.Common.{◌∙◌, map, ap, refl}
 use Rattle.mz_spec_variables.specs.Code.{dummies_read, params_read, variable}
-use Rattle.mz_spec_variables.specs.View.{dummies_of, params_of}
+use Rattle.mz_spec_theory.specs.View.{dummies_of, params_of}
 use Rattle.mz_spec_variables.proofs.Grouped.{grouped-dummies, grouped-params}
 use Rattle.mz_spec_variables.proofs.parts.Parts.new.Goals as goal
 

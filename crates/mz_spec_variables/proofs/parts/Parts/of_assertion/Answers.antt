@@ -1,6 +1,6 @@
 use Rattle.std.proofs.Common.{map}
-use Rattle.mz_spec_grammar.specs.Code.{group, source}
-use Rattle.mz_spec_variables.specs.View.{types_of}
+use Rattle.mz_spec_theory.specs.StatementCode.{group, source}
+use Rattle.mz_spec_theory.specs.View.{types_of}
 use Rattle.mz_spec_variables.proofs.Grouped.{grouped-alone}
 use Rattle.mz_spec_variables.proofs.parts.Parts.of_assertion.Goals as goal
 

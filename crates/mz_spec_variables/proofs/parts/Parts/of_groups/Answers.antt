@@ -1,5 +1,5 @@
 use Rattle.std.proofs.Common.{map, rules}
-use Rattle.mz_spec_grammar.specs.Code.{group}
+use Rattle.mz_spec_theory.specs.StatementCode.{group}
 use Rattle.mz_spec_variables.proofs.Grouped.{grouped}
 use Rattle.mz_spec_variables.proofs.parts.Parts.of_groups.Goals as goal
 

@@ -1,5 +1,5 @@
 use Rattle.std.proofs.Common.{map}
-use Rattle.mz_spec_grammar.specs.Code.{group, type_text}
+use Rattle.mz_spec_theory.specs.StatementCode.{group, type_text}
 use Rattle.mz_spec_variables.proofs.Grouped.{grouped-alone}
 use Rattle.mz_spec_variables.proofs.parts.Parts.of_term.Goals as goal
 

@@ -1,6 +1,6 @@
 use Rattle.std.proofs.Common.{◌∙◌, ap, Some, sym, true≢false}
 use Rattle.std.proofs.lemmas.Option.{none-some}
-use Rattle.mz_logic.proofs.Offered.{one_at}
+use Rattle.mz_logic_theory.proofs.Offered.{one_at}
 use Rattle.mz_spec_variables.proofs.variables.Variable.is_of.Goals as goal
 
 pub returns-in-None : goal.returns-in-None

@@ -1,6 +1,6 @@
 use Rattle.std.proofs.Common.{◌∙◌, ◌+◌, ◌≡◌, ap, arith, length, map, ◌++◌}
-use Rattle.mz_logic.specs.Tree.{var}
-use Rattle.mz_logic.specs.Words.{binders_from}
+use Rattle.mz_logic_theory.specs.Tree.{var}
+use Rattle.mz_logic_theory.specs.Words.{binders_from}
 use Rattle.mz_store.specs.Bits.{bound_vars}
 use Rattle.mz_store.specs.Sharing.{tree_of}
 use Rattle.mz_store.specs.Nodes.{variable_node, entered_all}

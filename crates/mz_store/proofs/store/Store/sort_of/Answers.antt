@@ -1,6 +1,6 @@
 use Rattle.std.proofs.Common.{nat_eq, sym, subst}
 use Rattle.std.specs.HashMap.{get}
-use Rattle.mz_logic.specs.Sorts.{HasSort}
+use Rattle.mz_logic_theory.specs.Sorts.{HasSort}
 use Rattle.mz_store.specs.Sharing.{tree_of}
 use Rattle.mz_store.proofs.Adding.{shows-at}
 use Rattle.mz_store.proofs.store.Store.sort_of.Goals as goal

@@ -2,7 +2,7 @@ use Rattle.std.proofs.Common.{◌≡◌, ◌∷◌, ℕ, List, length, sym, ap, 
 use Rattle.std.proofs.lemmas.Result.{on_ok_weaker}
 use Rattle.std.specs.Prelude.{reverse, drop, slice_get}
 use Rattle.mz_cmd.specs.declared.code.ProofCode.TheVariants as code
-use Rattle.mz_layout.specs.Tables.{term_row}
+use Rattle.mz_layout_tables.specs.Tables.{term_row}
 use Rattle.mz_machine_env.proofs.Offered.{drop-within}
 use Rattle.mz_trace.specs.Nodes.{IsApplication, Applies}
 use Rattle.mz_trace.specs.Entries.{HasSides}

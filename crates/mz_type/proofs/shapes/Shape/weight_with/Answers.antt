@@ -1,5 +1,5 @@
 use Rattle.std.proofs.Common.{◌≡◌, ◌-◌, ◌*◌, get_or, ap, ◌∙◌, arith}
-use Rattle.mz_logic.specs.View.{tree}
+use Rattle.mz_logic_theory.specs.View.{tree}
 use Rattle.mz_type.specs.Shapes.{beneath}
 use Rattle.mz_type.proofs.Shaping.{put_on_cut, size_is}
 use Rattle.mz_type.proofs.Weighing.{size_cut}

@@ -1,6 +1,6 @@
 use Rattle.std.proofs.Common.{◌≡◌, ◌+◌, drop}
-use Rattle.mz_logic.specs.Tree.{trees_size}
-use Rattle.mz_logic.specs.View.{trees}
+use Rattle.mz_logic_theory.specs.Tree.{trees_size}
+use Rattle.mz_logic_theory.specs.View.{trees}
 use Rattle.mz_type.specs.Shapes.{put_on}
 use Rattle.mz_type.proofs.shapes.Shape.weight_with.Given as goal
 

@@ -1,6 +1,6 @@
 use Rattle.std.proofs.Common.{sym, subst}
-use Rattle.mz_logic.specs.DeclView.{term_view, term_of}
-use Rattle.mz_logic.specs.Legality.{IsLegalDecl}
+use Rattle.mz_logic_theory.specs.DeclView.{term_view, term_of}
+use Rattle.mz_logic_theory.specs.Legality.{IsLegalDecl}
 use Rattle.mz_type.proofs.Shaping.{shapes_with_term}
 use Rattle.mz_type.proofs.shapes.Shaped.push_term.Goals as goal
 

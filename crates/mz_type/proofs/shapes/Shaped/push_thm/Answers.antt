@@ -1,6 +1,6 @@
 use Rattle.std.proofs.Common.{sym, subst}
-use Rattle.mz_logic.specs.DeclView.{assertion_view, assertion_of}
-use Rattle.mz_logic.specs.Legality.{IsLegalDecl}
+use Rattle.mz_logic_theory.specs.DeclView.{assertion_view, assertion_of}
+use Rattle.mz_logic_theory.specs.Legality.{IsLegalDecl}
 use Rattle.mz_type.proofs.Shaping.{shapes_with_assertion}
 use Rattle.mz_type.proofs.shapes.Shaped.push_thm.Goals as goal
 

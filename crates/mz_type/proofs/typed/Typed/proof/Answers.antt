@@ -1,9 +1,9 @@
 use Rattle.std.proofs.Common.{◌≡◌, Option, Some, None, refl, sym, ap, ◌∙◌, slice_get, arith}
 use Rattle.std.specs.Prelude.{option_map}
 use Rattle.std.specs.Borrow.{Bor}
-use Rattle.mz_mmu_forms.specs.ProofView.{proof_view}
-use Rattle.mz_mmu_statements.specs.StatementView.{option_proof}
-use Rattle.mz_mmu_forms.specs.declared.proof.Proof.{Proof as Coded}
+use Rattle.mz_mmu_theory.specs.ProofView.{proof_view}
+use Rattle.mz_mmu_theory.specs.StatementView.{option_proof}
+use Rattle.mz_mmu_theory.specs.declared.proof.Proof.{Proof as Coded}
 use Rattle.mz_type_rules.specs.Answers.{stated}
 use Rattle.mz_type.proofs.StatedSteps.{both_there, beside_at}
 use Rattle.mz_type.proofs.typed.Typed.proof.Goals as goal

@@ -3,13 +3,13 @@ use Rattle.mz_base_theory.specs.Checks.{AllHold}
 use Rattle.mz_base_theory.proofs.Offered.{Decides}
 use Rattle.mz_sexpr.specs.Number.{first, rest}
 use Rattle.mz_sexpr.specs.Node.{place}
-use Rattle.mz_logic.specs.Conversions.{sym_conv, unfold_conv}
-use Rattle.mz_logic.specs.Declaration.{signatures}
-use Rattle.mz_mmu_forms.specs.ConvCode.{conv_steps}
-use Rattle.mz_mmu_forms.specs.ConvView.{conversion, conversions}
-use Rattle.mz_mmu_forms.specs.Stops.{Stops}
+use Rattle.mz_logic_theory.specs.Conversions.{sym_conv, unfold_conv}
+use Rattle.mz_logic_theory.specs.Declaration.{signatures}
+use Rattle.mz_mmu_theory.specs.ConvCode.{conv_steps}
+use Rattle.mz_mmu_theory.specs.ConvView.{conversion, conversions}
+use Rattle.mz_mmu_theory.specs.Stops.{Stops}
 use Rattle.mz_type_rules.specs.Answers.{Judged}
-use Rattle.mz_type_rules.specs.Rules.{conv_rules, convs_rules}
+use Rattle.mz_mmu_theory.specs.Rules.{conv_rules, convs_rules}
 use Rattle.mz_type_rules.proofs.Building.{convs_size_step}
 use Rattle.mz_type_rules.proofs.Judging.{stop_handed_on, stopped_before, stopped_within, left_step}
 use Rattle.mz_type_rules.proofs.ConvSteps as step

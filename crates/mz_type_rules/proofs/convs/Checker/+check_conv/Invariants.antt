@@ -1,10 +1,10 @@
 use Rattle.std.proofs.Common.{◌≤◌, ◌+◌, ◌*◌, drop, length}
 use Rattle.mz_base_theory.proofs.Offered.{Decides}
-use Rattle.mz_logic.specs.Declaration.{signatures}
-use Rattle.mz_mmu_forms.specs.ConvCode.{conv_steps, convs_steps}
-use Rattle.mz_mmu_forms.specs.ConvView.{conversion, conversions}
-use Rattle.mz_type_rules.specs.Names.{ConvsThere}
-use Rattle.mz_type_rules.specs.Rules.{convs_rules}
+use Rattle.mz_logic_theory.specs.Declaration.{signatures}
+use Rattle.mz_mmu_theory.specs.ConvCode.{conv_steps, convs_steps}
+use Rattle.mz_mmu_theory.specs.ConvView.{conversion, conversions}
+use Rattle.mz_mmu_theory.specs.Names.{ConvsThere}
+use Rattle.mz_mmu_theory.specs.Rules.{convs_rules}
 use Rattle.mz_type_rules.proofs.convs.Checker.+check_conv.Given as goal
 
 abbrev pub decreases-check_conv : goal.decreases-check_conv

@@ -6,20 +6,20 @@ use Rattle.mz_base_theory.specs.Checks.{AllHold, ◌>>◌}
 use Rattle.mz_base_theory.proofs.Offered.{all_hold-both, all_hold-first, all_hold-rest, Decides}
 use Rattle.mz_sexpr.specs.Number.{first, rest}
 use Rattle.mz_sexpr.specs.Node.{parts}
-use Rattle.mz_logic.specs.Tree.{none, more, listed, operand, followed_by}
-use Rattle.mz_logic.specs.Declaration.{signatures, assertions}
-use Rattle.mz_logic.specs.View.{tree}
-use Rattle.mz_mmu_forms.specs.ConvView.{conversion}
-use Rattle.mz_mmu_forms.specs.Proof.{by_citation, by_conv, by_let}
-use Rattle.mz_mmu_forms.specs.ProofCode.{proof_steps}
-use Rattle.mz_mmu_forms.specs.ProofView.{proof_view, proofs_view}
-use Rattle.mz_mmu_forms.specs.Stops.{Stops}
-use Rattle.mz_mmu_forms.specs.declared.fault.Stop.TheVariants.{Mem}
+use Rattle.mz_logic_theory.specs.Tree.{none, more, listed, operand, followed_by}
+use Rattle.mz_logic_theory.specs.Declaration.{signatures, assertions}
+use Rattle.mz_logic_theory.specs.View.{tree}
+use Rattle.mz_mmu_theory.specs.ConvView.{conversion}
+use Rattle.mz_mmu_theory.specs.Proof.{by_citation, by_conv, by_let}
+use Rattle.mz_mmu_theory.specs.ProofCode.{proof_steps}
+use Rattle.mz_mmu_theory.specs.ProofView.{proof_view, proofs_view}
+use Rattle.mz_mmu_theory.specs.Stops.{Stops}
+use Rattle.mz_mmu_theory.specs.declared.fault.Stop.TheVariants.{Mem}
 use Rattle.mz_type_rules.specs.Claims.{claim_trees}
-use Rattle.mz_type_rules.specs.Names.{ProofThere, ProofsThere}
-use Rattle.mz_type_rules.specs.Parts.{part, after}
-use Rattle.mz_type_rules.specs.Rules.{expr_rules, conv_rules, proof_rules, proofs_rules}
-use Rattle.mz_type_rules.specs.Sides.{proved, all_proved, with_fact}
+use Rattle.mz_mmu_theory.specs.Names.{ProofThere, ProofsThere}
+use Rattle.mz_mmu_theory.specs.Parts.{part, after}
+use Rattle.mz_mmu_theory.specs.Rules.{expr_rules, conv_rules, proof_rules, proofs_rules}
+use Rattle.mz_mmu_theory.specs.Sides.{proved, all_proved, with_fact}
 use Rattle.mz_type_rules.proofs.Building.{builds_more, built_whole}
 use Rattle.mz_type_rules.proofs.Judging.{stop_handed_on, stopped_before, stopped_after, stopped_within, left_step}
 use Rattle.mz_type_rules.proofs.ProofSteps as step

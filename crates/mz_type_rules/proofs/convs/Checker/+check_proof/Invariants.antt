@@ -1,16 +1,16 @@
 use Rattle.std.proofs.Common.{◌≡◌, ◌≤◌, ◌+◌, ◌*◌, drop, length}
 use Rattle.mz_base_theory.proofs.Offered.{Decides}
-use Rattle.mz_logic.specs.Declaration.{signatures, assertions}
-use Rattle.mz_logic.specs.Tree.{listed, followed_by}
-use Rattle.mz_mmu_forms.specs.ProofCode.{proof_steps, proofs_steps}
-use Rattle.mz_mmu_forms.specs.ProofView.{proof_view, proofs_view}
+use Rattle.mz_logic_theory.specs.Declaration.{signatures, assertions}
+use Rattle.mz_logic_theory.specs.Tree.{listed, followed_by}
+use Rattle.mz_mmu_theory.specs.ProofCode.{proof_steps, proofs_steps}
+use Rattle.mz_mmu_theory.specs.ProofView.{proof_view, proofs_view}
 use Rattle.mz_type_rules.specs.Claims.{claim_trees}
 use Rattle.mz_sexpr.specs.Node.{parts}
 use Rattle.mz_sexpr.specs.Number.{first}
-use Rattle.mz_type_rules.specs.Names.{ProofsThere}
-use Rattle.mz_type_rules.specs.Parts.{after}
-use Rattle.mz_type_rules.specs.Rules.{proofs_rules}
-use Rattle.mz_type_rules.specs.Sides.{all_proved}
+use Rattle.mz_mmu_theory.specs.Names.{ProofsThere}
+use Rattle.mz_mmu_theory.specs.Parts.{after}
+use Rattle.mz_mmu_theory.specs.Rules.{proofs_rules}
+use Rattle.mz_mmu_theory.specs.Sides.{all_proved}
 use Rattle.mz_type_rules.proofs.Building.{Builds}
 use Rattle.mz_type_rules.proofs.convs.Checker.+check_proof.Given as goal
 

@@ -2,17 +2,17 @@ use Rattle.std.proofs.Common.{true≢false, sym, ap, ◌∙◌, subst, length, i
 use Rattle.mz_base_theory.specs.Checks.{Judges, AllHold}
 use Rattle.mz_sexpr.specs.Number.{first}
 use Rattle.mz_sexpr.specs.Node.{parts}
-use Rattle.mz_logic.specs.Tree.{instance, instances}
-use Rattle.mz_logic.specs.Declaration.{signatures}
-use Rattle.mz_logic.specs.DeclView.{assertion_view}
-use Rattle.mz_logic.specs.Sorts.{Fits}
-use Rattle.mz_logic.specs.Variables.{Apart}
-use Rattle.mz_logic.specs.View.{tree}
-use Rattle.mz_mmu_forms.specs.Stops.{Stops}
-use Rattle.mz_mmu_forms.specs.declared.fault.Stop.TheVariants.{Mem}
+use Rattle.mz_logic_theory.specs.Tree.{instance, instances}
+use Rattle.mz_logic_theory.specs.Declaration.{signatures}
+use Rattle.mz_logic_theory.specs.DeclView.{assertion_view}
+use Rattle.mz_logic_theory.specs.Sorts.{Fits}
+use Rattle.mz_logic_theory.specs.Variables.{Apart}
+use Rattle.mz_logic_theory.specs.View.{tree}
+use Rattle.mz_mmu_theory.specs.Stops.{Stops}
+use Rattle.mz_mmu_theory.specs.declared.fault.Stop.TheVariants.{Mem}
 use Rattle.mz_type_rules.specs.Claims.{claim_trees}
-use Rattle.mz_type_rules.specs.Parts.{part}
-use Rattle.mz_type_rules.specs.Rules.{operand_rules, citation_rules, subproof_rules}
+use Rattle.mz_mmu_theory.specs.Parts.{part}
+use Rattle.mz_mmu_theory.specs.Rules.{operand_rules, citation_rules, subproof_rules}
 use Rattle.mz_type_rules.proofs.Claims.{length-claims}
 use Rattle.mz_type_rules.proofs.Judging.{stop_proved, told_stop, told_holds}
 use Rattle.mz_type_rules.proofs.ProofSteps as step

@@ -2,12 +2,12 @@ use Rattle.std.proofs.Common.{sym, subst, ◌≡◌, drop, take}
 use Rattle.std.proofs.lemmas.Option.{get_or_from_slice_get}
 use Rattle.std.specs.Result.{OnOk}
 use Rattle.mz_sexpr.specs.Number.{first}
-use Rattle.mz_logic.specs.Declaration.{signatures, assertions}
-use Rattle.mz_logic.specs.Tree.{instance}
+use Rattle.mz_logic_theory.specs.Declaration.{signatures, assertions}
+use Rattle.mz_logic_theory.specs.Tree.{instance}
 use Rattle.mz_type_rules.specs.Answers.{Judged}
 use Rattle.mz_type_rules.specs.Claims.{claim_trees}
-use Rattle.mz_type_rules.specs.Rules.{citation_rules}
-use Rattle.mz_type_rules.specs.Sides.{with_fact}
+use Rattle.mz_mmu_theory.specs.Rules.{citation_rules}
+use Rattle.mz_mmu_theory.specs.Sides.{with_fact}
 use Rattle.mz_type_rules.proofs.ProofSteps as step
 use Rattle.mz_type_rules.proofs.convs.Checker.check_cited.Goals as goal
 

@@ -5,13 +5,13 @@ use Rattle.mz_base_theory.proofs.Offered.{Decides, decides-whole}
 use Rattle.mz_sexpr.specs.Node.{place}
 use Rattle.mz_sexpr.specs.Number.{first, rest}
 use Rattle.mz_sexpr.specs.declared.rule.U.{U}
-use Rattle.mz_logic.specs.Tree.{listed, instance, instances}
-use Rattle.mz_logic.specs.View.{tree, trees}
-use Rattle.mz_logic.proofs.Offered.{expr-read, exprs_of, length-exprs, trees-exprs}
-use Rattle.mz_mmu_forms.specs.Order.{fault}
-use Rattle.mz_mmu_forms.specs.declared.fault.Stop.TheVariants.{Mem}
+use Rattle.mz_logic_theory.specs.Tree.{listed, instance, instances}
+use Rattle.mz_logic_theory.specs.View.{tree, trees}
+use Rattle.mz_logic_theory.proofs.Offered.{expr-read, exprs_of, length-exprs, trees-exprs}
+use Rattle.mz_mmu_theory.specs.FormOrder.{fault}
+use Rattle.mz_mmu_theory.specs.declared.fault.Stop.TheVariants.{Mem}
 use Rattle.mz_type_rules.specs.Claims.{claim_tree, claim_trees}
-use Rattle.mz_type_rules.specs.Rules.{subproof_rules}
+use Rattle.mz_mmu_theory.specs.Rules.{subproof_rules}
 use Rattle.mz_type_rules.proofs.Judging.{left_fails, left_step, stop_handed_on}
 use Rattle.mz_type_rules.proofs.ProofSteps.{subproofs_cut}
 use Rattle.mz_type_rules.proofs.convs.Checker.check_claims.Goals as goal

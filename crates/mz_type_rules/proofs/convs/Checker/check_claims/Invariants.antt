@@ -1,10 +1,10 @@
 use Rattle.std.proofs.Common.{drop}
 use Rattle.mz_base_theory.proofs.Offered.{Decides}
-use Rattle.mz_logic.specs.Tree.{instances}
-use Rattle.mz_logic.specs.View.{trees}
-use Rattle.mz_logic.proofs.Offered.{exprs_of}
+use Rattle.mz_logic_theory.specs.Tree.{instances}
+use Rattle.mz_logic_theory.specs.View.{trees}
+use Rattle.mz_logic_theory.proofs.Offered.{exprs_of}
 use Rattle.mz_type_rules.specs.Claims.{claim_trees}
-use Rattle.mz_type_rules.specs.Rules.{subproof_rules}
+use Rattle.mz_mmu_theory.specs.Rules.{subproof_rules}
 use Rattle.mz_type_rules.proofs.convs.Checker.check_claims.Given as goal
 
 abbrev pub invariant-loop-i : goal.invariant-loop-i

@@ -3,8 +3,8 @@ use Rattle.mz_base_theory.specs.Checks.{Judges}
 use Rattle.mz_base_theory.proofs.Offered.{fails-after}
 use Rattle.mz_sexpr.specs.Number.{first, rest}
 use Rattle.mz_sexpr.specs.Node.{parts}
-use Rattle.mz_logic.specs.Declaration.{signatures}
-use Rattle.mz_type_rules.specs.Rules.{conv_count, convs_rules, side_rules}
+use Rattle.mz_logic_theory.specs.Declaration.{signatures}
+use Rattle.mz_mmu_theory.specs.Rules.{conv_count, convs_rules, side_rules}
 use Rattle.mz_type_rules.proofs.Judging.{told_judged, judged_after, judged_asked}
 use Rattle.mz_type_rules.proofs.ConvSteps as step
 use Rattle.mz_type_rules.proofs.convs.Checker.check_cong_sides.Goals as goal

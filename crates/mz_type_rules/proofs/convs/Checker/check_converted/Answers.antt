@@ -2,12 +2,12 @@ use Rattle.std.proofs.Common.{subst}
 use Rattle.mz_base_theory.specs.Checks.{Judges, ◌>>◌}
 use Rattle.mz_sexpr.specs.Number.{first}
 use Rattle.mz_sexpr.specs.Node.{parts}
-use Rattle.mz_logic.specs.Declaration.{signatures}
-use Rattle.mz_logic.specs.View.{tree}
-use Rattle.mz_mmu_forms.specs.ConvView.{conversion}
+use Rattle.mz_logic_theory.specs.Declaration.{signatures}
+use Rattle.mz_logic_theory.specs.View.{tree}
+use Rattle.mz_mmu_theory.specs.ConvView.{conversion}
 use Rattle.mz_type_rules.specs.Answers.{Judged}
-use Rattle.mz_type_rules.specs.Parts.{part}
-use Rattle.mz_type_rules.specs.Rules.{expr_rules, conv_rules}
+use Rattle.mz_mmu_theory.specs.Parts.{part}
+use Rattle.mz_mmu_theory.specs.Rules.{expr_rules, conv_rules}
 use Rattle.mz_type_rules.proofs.Judging.{stop_handed_on, stopped_before, judged_after, told_stop, told_holds}
 use Rattle.mz_type_rules.proofs.convs.Checker.check_converted.Goals as goal
 

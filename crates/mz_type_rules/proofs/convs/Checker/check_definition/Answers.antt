@@ -2,14 +2,14 @@ use Rattle.std.proofs.Common.{true≢false, sym, ap, ◌∙◌, subst, length}
 use Rattle.mz_base_theory.specs.Checks.{Judges}
 use Rattle.mz_sexpr.specs.Number.{first}
 use Rattle.mz_sexpr.specs.Node.{parts}
-use Rattle.mz_logic.specs.Tree.{instance, followed_by, variables}
-use Rattle.mz_logic.specs.Declaration.{signatures, dummies_of}
-use Rattle.mz_logic.specs.DeclView.{term_view}
-use Rattle.mz_mmu_forms.specs.ConvView.{conversion}
-use Rattle.mz_mmu_forms.specs.declared.fault.Stop.TheVariants.{Mem}
-use Rattle.mz_type_rules.specs.Parts.{part}
-use Rattle.mz_type_rules.specs.Rules.{operand_rules, variable_rules, unfold_rules}
-use Rattle.mz_type_rules.specs.Sides.{left}
+use Rattle.mz_logic_theory.specs.Tree.{instance, followed_by, variables}
+use Rattle.mz_logic_theory.specs.Declaration.{signatures, dummies_of}
+use Rattle.mz_logic_theory.specs.DeclView.{term_view}
+use Rattle.mz_mmu_theory.specs.ConvView.{conversion}
+use Rattle.mz_mmu_theory.specs.declared.fault.Stop.TheVariants.{Mem}
+use Rattle.mz_mmu_theory.specs.Parts.{part}
+use Rattle.mz_mmu_theory.specs.Rules.{operand_rules, variable_rules, unfold_rules}
+use Rattle.mz_mmu_theory.specs.Sides.{left}
 use Rattle.mz_type_rules.proofs.Judging.{stop_handed_on, told_stop, told_holds}
 use Rattle.mz_type_rules.proofs.ConvSteps as step
 use Rattle.mz_type_rules.proofs.convs.Checker.check_definition.Goals as goal

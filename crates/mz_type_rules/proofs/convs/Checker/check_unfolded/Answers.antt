@@ -1,9 +1,9 @@
 use Rattle.std.proofs.Common.{sym}
 use Rattle.std.proofs.lemmas.Option.{get_or_from_slice_get}
 use Rattle.mz_sexpr.specs.Number.{first}
-use Rattle.mz_logic.specs.Declaration.{terms}
-use Rattle.mz_logic.specs.DeclView.{term_view}
-use Rattle.mz_mmu_forms.specs.ConvView.{conversion}
+use Rattle.mz_logic_theory.specs.Declaration.{terms}
+use Rattle.mz_logic_theory.specs.DeclView.{term_view}
+use Rattle.mz_mmu_theory.specs.ConvView.{conversion}
 use Rattle.mz_type_rules.proofs.ConvSteps as step
 use Rattle.mz_type_rules.proofs.convs.Checker.check_unfolded.Goals as goal
 

@@ -1,8 +1,8 @@
 use Rattle.std.proofs.Common.{◌∙◌, ap, sym}
 use Rattle.std.proofs.lemmas.Result.{on_ok_weaker}
-use Rattle.mz_logic.specs.Tree.{listed}
+use Rattle.mz_logic_theory.specs.Tree.{listed}
 use Rattle.mz_type_rules.specs.Claims.{claim_trees}
-use Rattle.mz_type_rules.specs.Sides.{with_fact}
+use Rattle.mz_mmu_theory.specs.Sides.{with_fact}
 use Rattle.mz_type_rules.proofs.ProofSteps as step
 use Rattle.mz_type_rules.proofs.convs.Checker.claim_hyp.Goals as goal
 

@@ -1,13 +1,13 @@
 use Rattle.std.proofs.Common.{◌∙◌, ap, subst, drop, take}
 use Rattle.std.proofs.lemmas.Result.{on_ok_weaker}
 use Rattle.mz_sexpr.specs.Number.{first}
-use Rattle.mz_logic.specs.Declaration.{signatures}
-use Rattle.mz_logic.specs.DeclView.{assertion_view}
-use Rattle.mz_mmu_forms.specs.Stops.{Stops}
+use Rattle.mz_logic_theory.specs.Declaration.{signatures}
+use Rattle.mz_logic_theory.specs.DeclView.{assertion_view}
+use Rattle.mz_mmu_theory.specs.Stops.{Stops}
 use Rattle.mz_base_theory.specs.Checks.{AllHold}
 use Rattle.mz_type_rules.specs.Claims.{claim_tree, claim_trees}
-use Rattle.mz_type_rules.specs.Rules.{citation_rules}
-use Rattle.mz_type_rules.specs.Sides.{with_fact}
+use Rattle.mz_mmu_theory.specs.Rules.{citation_rules}
+use Rattle.mz_mmu_theory.specs.Sides.{with_fact}
 use Rattle.mz_type_rules.proofs.Judging.{stop_handed_on}
 use Rattle.mz_type_rules.proofs.Stacked.{judged_still}
 use Rattle.mz_type_rules.proofs.convs.Checker.conclude.Goals as goal

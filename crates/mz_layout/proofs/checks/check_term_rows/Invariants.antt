@@ -1,9 +1,0 @@
-use Rattle.std.specs.List.{range_with_len}
-use Rattle.mz_base_theory.specs.Checks.{each_in_order}
-use Rattle.mz_base_theory.proofs.Offered.{Decides, rows_from}
-use Rattle.mz_layout.specs.Tables.{term_count}
-use Rattle.mz_layout.specs.Layout.{term_check}
-use Rattle.mz_layout.proofs.checks.check_term_rows.Given as goal
-
-abbrev pub invariant-loop-t : goal.invariant-loop-t
-invariant-loop-t l = Decides (rows_from (term_check l.file) l.t (term_count l.file)) (each_in_order (term_check l.file) (range_with_len 0 (term_count l.file)))

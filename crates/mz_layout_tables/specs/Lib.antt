@@ -1,0 +1,10 @@
+pub mod Numbers
+pub mod Tables
+pub mod Rows
+pub mod Heads
+pub mod Layout
+pub mod Normal
+pub mod Standing
+pub mod NormalLaws
+pub mod RowWords
+pub mod WordsPass

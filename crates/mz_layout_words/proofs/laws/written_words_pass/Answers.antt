@@ -1,5 +1,0 @@
-use Rattle.mz_layout_words.proofs.WordsPass.{params-pass, rows-pass}
-use Rattle.mz_layout_words.proofs.laws.written_words_pass.Goals as goal
-
-pub returns : goal.returns
-returns c = record { params = params-pass; rows = rows-pass }

@@ -1,0 +1,33 @@
+pub mod Instance
+pub mod Apart
+pub mod Extend
+pub mod Rules
+pub mod Sound
+pub mod LegalIsRight
+pub mod Compose
+pub mod Graft
+pub mod Fresh
+pub mod Closing
+pub mod Lists
+mod Left
+pub mod Push
+pub mod Lookup
+pub mod Trees
+pub mod Scoped
+pub mod Bound
+pub mod Follow
+pub mod Repeated
+pub mod Grouped
+pub mod AsExprs
+pub mod EightRules
+pub mod PlainLegality
+pub mod Longer
+pub mod WorkedExamples
+pub mod WordsAsParams
+pub mod WordBits
+pub mod WordsWritten
+pub mod NearMisses
+mod Constructors
+pub mod Ranges
+pub mod SortedSides
+pub mod Offered

@@ -1,0 +1,10 @@
+mod BesideRows
+mod FewDummies
+mod SaidStreams
+mod PlainTrees
+mod SameBodies
+mod Compared
+mod Steps
+mod KeptMarks
+pub mod RowPairs
+pub mod Offered

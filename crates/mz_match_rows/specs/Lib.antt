@@ -1,0 +1,6 @@
+pub mod TermCodes
+pub mod Streams
+pub mod Marks
+pub mod Comparison
+pub mod Beside
+pub mod TellsRow

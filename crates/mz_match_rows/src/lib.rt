@@ -1,0 +1,17 @@
+//! Parts of a declaration compared with a row's words and unify stream, read in place.
+//!
+//! `specs/Comparison.antt` says what is compared, in `mz_spec_proved_theory`'s words when the two agree.
+#![tactic(auto)]
+
+mod compare;
+mod count;
+mod marks;
+mod publics;
+mod signature;
+mod stream;
+
+pub use compare::{Sides, same_body, same_first, same_hyps};
+pub use count::count_all;
+pub use marks::kept_marks;
+pub use publics::Publics;
+pub use signature::{match_params, match_signature};

@@ -1,0 +1,22 @@
+pub mod Paths
+mod Listing
+pub mod Constants
+pub mod Clearing
+pub mod Tables
+pub mod Readable
+pub mod Chains
+pub mod Unique
+pub mod Readings
+pub mod OneMeaning
+pub mod Meanings
+pub mod Judging
+pub mod Knowing
+pub mod KnownTokens
+pub mod Deciding
+pub mod Standing
+pub mod Existing
+pub mod Statements
+pub mod StayingClear
+pub mod MadeNotations
+pub mod Lawful
+pub mod Offered

@@ -1,0 +1,16 @@
+pub mod Coercions
+pub mod CoercionAnswers
+pub mod Listed
+pub mod Notation
+pub mod Clear
+pub mod Kept
+pub mod Forms
+pub mod NotationAnswers
+pub mod Grammar
+pub mod Readable
+pub mod Meaning
+pub mod Formula
+pub mod Reading
+pub mod Lookups
+pub mod FormulaAnswers
+pub mod Laws

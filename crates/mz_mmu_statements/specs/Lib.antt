@@ -1,4 +1,0 @@
-pub mod Statements
-pub mod DeclaredNames
-pub mod StatementView
-pub mod Order

@@ -1,0 +1,45 @@
+//! The bodies of a binary on the machine that compares addresses.
+ghost use Rattle.mz_binary_theory.specs.declared.standard.Standard.TheVariants.{Portable};
+
+use mz_binary::Bodies;
+use mz_binary_theory::Standard;
+use mz_cmd::Steps;
+use mz_layout_tables::{Mmb, Rows};
+use mz_machine::BodyChecked;
+use mz_machine_env::BodyKind;
+use mz_pmachine::{PortableRoom, check_portable_in};
+use mz_store::Seed;
+use std::alloc::Global;
+use std::sync::ledger::Ledger;
+
+/// Finished proofs as verifiers hold them that compare addresses: the machine over numbered nodes, which
+/// lets no gap through and has no use for the seed.
+#[derive(Drop)]
+pub struct PortableBodies {
+    room: PortableRoom,
+}
+
+impl Bodies for PortableBodies {
+    ghost STANDARD = { Portable };
+
+    const STANDARD: Standard = Standard::Portable;
+
+    fn new(_: Seed) -> PortableBodies {
+        PortableBodies {
+            room: PortableRoom::new(),
+        }
+    }
+
+    fn check_body<L: Ledger>(
+        &mut self,
+        alloc: Global,
+        mmb: &Mmb,
+        kind: BodyKind,
+        row: u32,
+        before: Rows,
+        body: (u32, u32),
+        steps: &mut Steps<L>,
+    ) -> BodyChecked {
+        check_portable_in(alloc, &mut self.room, mmb, kind, row, before, body, steps)
+    }
+}

@@ -1,0 +1,4 @@
+pub mod Endings
+pub mod Given
+pub mod Offered
+pub mod Rooms

@@ -1,0 +1,31 @@
+use Rattle.std.proofs.Common.{◌∷◌, [], refl, sym, inl, inr}
+use Rattle.std.proofs.lemmas.List.{append-nil}
+use Rattle.mz_io.specs.Calls.{IsRead, IsUnread, IsOver}
+use Rattle.mz_tool_engine.specs.Run.{AreRead, StopAt, IsPartly}
+use Rattle.mz_io.proofs.Offered.{grows-both}
+use Rattle.mz_tool_engine.proofs.inputs.read_two.Goals as goal
+
+pub returns-in-TooLong-read_bounded-clause-log : goal.returns-in-TooLong-read_bounded-clause-log
+returns-in-TooLong-read_bounded-clause-log g c =
+    grows-both _ _ _ (IsRead c.args.first.now c.in-Bytes.bytes.items) (IsOver c.args.limit c.args.second.now) (StopAt (IsOver c.args.limit) (c.args.first.now ∷ c.args.second.now ∷ []))
+    c.in-Bytes.ensures.log c.in-TooLong-read_bounded.ensures.log
+    (λ first second one two. inr (c.in-Bytes.bytes.items, first, second, refl, one, inl two))
+
+pub returns-in-Bytes-read_bounded-clause-log : goal.returns-in-Bytes-read_bounded-clause-log
+returns-in-Bytes-read_bounded-clause-log g c =
+    grows-both _ _ _ (IsRead c.args.first.now c.in-Bytes.bytes.items) (IsRead c.args.second.now c.in-Bytes-read_bounded.more.items)
+    (AreRead (c.args.first.now ∷ c.args.second.now ∷ []) (c.in-Bytes.bytes.items ∷ c.in-Bytes-read_bounded.more.items ∷ []))
+    c.in-Bytes.ensures.log c.in-Bytes-read_bounded.ensures.log
+    (λ first second one two. (first, second, refl, one, (second, [], sym (append-nil second), two, refl)))
+
+pub returns-in-Fault-read_bounded-clause-log : goal.returns-in-Fault-read_bounded-clause-log
+returns-in-Fault-read_bounded-clause-log g c =
+    grows-both _ _ _ (IsRead c.args.first.now c.in-Bytes.bytes.items) (IsUnread c.args.second.now) (StopAt IsUnread (c.args.first.now ∷ c.args.second.now ∷ []))
+    c.in-Bytes.ensures.log c.in-Fault-read_bounded.ensures.log
+    (λ first second one two. inr (c.in-Bytes.bytes.items, first, second, refl, one, inl two))
+
+pub returns-in-Mem-read_bounded-clause-log : goal.returns-in-Mem-read_bounded-clause-log
+returns-in-Mem-read_bounded-clause-log g c =
+    grows-both _ _ _ (IsRead c.args.first.now c.in-Bytes.bytes.items) (IsPartly c.args.second.now) (StopAt IsPartly (c.args.first.now ∷ c.args.second.now ∷ []))
+    c.in-Bytes.ensures.log c.in-Mem-read_bounded.ensures.log
+    (λ first second one two. inr (c.in-Bytes.bytes.items, first, second, refl, one, inl two))

@@ -1,0 +1,123 @@
+-- What a run of a command is: every call that it makes on a folder and a sink, what these answered, and how it ends
+-- (this project's own). The calls are those of mz_io's `Calls`; what is said of a command stands in `Said`, which each
+-- command fills in a file of its own.
+use Rattle.std.specs.Prelude.{◌≡◌, ◌++◌, ◌⊎◌, ℕ, Bool, true, false, List, [], ◌∷◌, Option, Some, None}
+use Rattle.mz_io.specs.Calls.{Call, puts, IsBegun, IsRead, IsUnread, IsOver, IsWritten, IsCut, Hold}
+use Rattle.mz_tool_engine.specs.Said.{Said, Files}
+use Rattle.mz_tool_engine.specs.declared.status.Status.{Status}
+use Rattle.mz_tool_engine.specs.declared.status.Status.TheVariants as statuses
+
+-- the bytes of the longest file that is read or written
+abbrev pub longest : ℕ
+longest = 4294967295
+
+-- ---- the calls: files are read, and one may be put
+
+-- files of these names were read one after another, each to its end, and these are their bytes
+abbrev pub AreRead : List (List ℕ) → List (List ℕ) → List Call → Type 0
+AreRead [] [] calls = calls ≡ []
+AreRead [] (bytes ∷ rest) calls = ⊥
+AreRead (name ∷ names) [] calls = ⊥
+AreRead (name ∷ names) (bytes ∷ rest) calls = (first : List Call) × (later : List Call) × (calls ≡ first ++ later) × IsRead name bytes first × AreRead names rest later
+
+-- the files before one of these were read, and of the calls for that one P holds; no further one was looked for
+abbrev pub StopAt : (List ℕ → List Call → Type 0) → List (List ℕ) → List Call → Type 0
+StopAt P [] calls = ⊥
+StopAt P (name ∷ names) calls = P name calls
+    ⊎ ((bytes : List ℕ) × (first : List Call) × (later : List Call) × (calls ≡ first ++ later) × IsRead name bytes first × StopAt P names later)
+
+-- a file was read in part
+abbrev pub IsPartly : List ℕ → List Call → Type 0
+IsPartly name calls = (bytes : List ℕ) × IsBegun name bytes calls
+
+-- the files were read, or only a front of them
+abbrev pub AreReadOrLeft : List (List ℕ) → List Call → Type 0
+AreReadOrLeft names calls = ((contents : List (List ℕ)) × AreRead names contents calls) ⊎ StopAt IsPartly names calls
+
+-- where there are a name and bytes, the file was put once: whether it was; and else none was
+abbrev pub IsPutting : Bool → Option (List ℕ) → Option (List ℕ) → List Call → Type 0
+IsPutting done None put calls = calls ≡ []
+IsPutting done (Some name) None calls = calls ≡ []
+IsPutting done (Some name) (Some bytes) calls = calls ≡ puts name bytes done ∷ []
+
+-- files were read whole, and then one was put, where one is
+abbrev pub AreReadAndPut : List (List ℕ) → List (List ℕ) → Option (List ℕ) → Option (List ℕ) → List Call → Type 0
+AreReadAndPut names contents name put calls = (reads : List Call) × (puts : List Call) × (calls ≡ reads ++ puts) × AreRead names contents reads × IsPutting true name put puts
+
+-- files were read whole, and then one was to be put, and this failed
+abbrev pub AreReadNotPut : List (List ℕ) → List (List ℕ) → Option (List ℕ) → Option (List ℕ) → List Call → Type 0
+AreReadNotPut names contents name put calls = (out : List ℕ) × (bytes : List ℕ) × (reads : List Call) × (name ≡ Some out) × (put ≡ Some bytes)
+    × (calls ≡ reads ++ puts out bytes false ∷ []) × AreRead names contents reads
+
+-- a front of the text was handed over and taken, in pieces, and nothing more was
+pub record IsBegunText (text : List ℕ) (calls : List Call) : Type 0 where
+  pub front : List ℕ
+  pub rest : List ℕ
+  pub text_is : text ≡ front ++ rest
+  pub written : IsWritten front calls
+
+-- ---- the answer, over the bytes of the files that were read
+
+-- it is yes, and not no
+abbrev pub Affirms : Said → List (List ℕ) → Option (List ℕ) → List ℕ → Type 0
+Affirms said contents put text = said.yes contents put text × ((other : List ℕ) → said.no contents other → ⊥)
+
+-- it is no, and not yes
+abbrev pub Refuses : Said → List (List ℕ) → List ℕ → Type 0
+Refuses said contents text = said.no contents text × ((put : Option (List ℕ)) (other : List ℕ) → said.yes contents put other → ⊥)
+
+-- it is one of them; a refusal puts nothing
+abbrev pub IsAnswer : Said → List (List ℕ) → Option (List ℕ) → List ℕ → Type 0
+IsAnswer said contents put text = Affirms said contents put text ⊎ ((put ≡ None) × Refuses said contents text)
+
+-- ---- the run, by the status with which it ends
+
+-- The calls on the folder, and those on the sink, in a run of the command with files of at most `limit` bytes.
+abbrev pub IsRunOf : ℕ → Said → Status → List Call → List Call → Type 0
+-- the files were read, the file of the answer was put, where one is put, and the text was written; no call failed. What a yes promises of these bytes holds
+IsRunOf limit said statuses.Done calls written = (contents : List (List ℕ)) × (put : Option (List ℕ)) × (text : List ℕ)
+    × Affirms said contents put text × said.sound contents
+    × AreReadAndPut said.reads contents said.puts put calls × IsWritten text written
+-- the files were read, none was put, and the refusal was written; no call failed
+IsRunOf limit said statuses.Refused calls written = (contents : List (List ℕ)) × (text : List ℕ)
+    × Refuses said contents text × AreRead said.reads contents calls × IsWritten text written
+-- a command is asked for
+IsRunOf limit said statuses.Usage calls written = ⊥
+-- the last call failed, and no other; nothing was put or written
+IsRunOf limit said statuses.ReadFault calls written = StopAt IsUnread said.reads calls × (written ≡ [])
+-- the same, of the call that was to put the answer's file: the answer is yes
+IsRunOf limit said statuses.WriteFault calls written = (contents : List (List ℕ)) × (put : Option (List ℕ)) × (text : List ℕ)
+    × Affirms said contents put text × AreReadNotPut said.reads contents said.puts put calls × (written ≡ [])
+-- the same, of a call that handed over a part of the answer's text, all before which was taken
+IsRunOf limit said statuses.OutFault calls written = (contents : List (List ℕ)) × (put : Option (List ℕ)) × (text : List ℕ)
+    × IsAnswer said contents put text × AreReadAndPut said.reads contents said.puts put calls × IsCut text written
+-- one of the files gave more bytes than the limit; nothing was put or written
+IsRunOf limit said statuses.TooLong calls written = StopAt (IsOver limit) said.reads calls × (written ≡ [])
+-- no call failed, and nothing was put; nothing was written either, or a front of what the command writes as it goes
+IsRunOf limit said statuses.Memory calls written =
+    (AreReadOrLeft said.reads calls × (written ≡ []))
+    ⊎ ((contents : List (List ℕ)) × (text : List ℕ) × AreRead said.reads contents calls × said.begun contents text × IsBegunText text written)
+
+-- ---- the run of a program whose words ask for a request, of which this is said
+
+-- the words ask for it
+abbrev pub Asks : Said → List (List ℕ) → Type 0
+Asks said words = (words ≡ said.words) × said.is_in_range
+
+-- The calls in a run with these words: none where they ask for nothing.
+abbrev pub IsRun : {R : Type 0} → (R → Said) → List (List ℕ) → Status → List Call → List Call → Type 0
+IsRun {R} said_of words status calls written =
+    ((asked : R) × Asks (said_of asked) words × IsRunOf longest (said_of asked) status calls written)
+    ⊎ (((asked : R) → Asks (said_of asked) words → ⊥) × (status ≡ statuses.Usage) × (calls ≡ []) × (written ≡ []))
+
+-- ---- the same over files
+
+-- the answer is yes; it is no; what a yes promises of all of them
+abbrev pub IsYes : Files → Said → Option (List ℕ) → List ℕ → Type 0
+IsYes file said put text = (contents : List (List ℕ)) × Hold file said.reads contents × said.yes contents put text
+
+abbrev pub IsNo : Files → Said → List ℕ → Type 0
+IsNo file said text = (contents : List (List ℕ)) × Hold file said.reads contents × said.no contents text
+
+abbrev pub IsProved : Files → Said → Type 0
+IsProved file said = (contents : List (List ℕ)) × Hold file said.reads contents × said.sound contents

@@ -1,0 +1,73 @@
+// The engine: how any command is answered.
+ghost use Rattle.std.specs.Prelude.{◌≡◌, ◌≤◌, ◌<◌, ◌++◌, ◌^◌, ℕ, List, Option, Some, length};
+ghost use Rattle.mz_io.specs.Calls.{Call, Grows, Hold};
+ghost use Rattle.mz_io.specs.Outside.{HasRoom};
+ghost use Rattle.mz_tool_engine.specs.Answering.{IsWritingAnswer};
+ghost use Rattle.mz_tool_engine.specs.Files.{AreThere, BeginsLonger};
+ghost use Rattle.mz_tool_engine.specs.Run.{IsRunOf, IsAnswer, longest};
+
+use crate::command::Command;
+use crate::inputs::ReadAll;
+use crate::outcome::Outcome;
+use crate::output::put_file;
+use crate::status::Status;
+use mz_io::{Folder, Sink, write_whole};
+use std::alloc::Global;
+
+/// Answers a command, with files of at most `limit` bytes: reads them, asks the command, puts its file where the answer
+/// is yes, and writes the text.
+///
+/// Want of memory may come in place of any answer.
+pub fn answer<C: Command, F: Folder, O: Sink>(
+    alloc: Global,
+    limit: u64,
+    command: &C,
+    folder: &mut F,
+    out: &mut O,
+) -> Status
+    requires limit { limit < 2 ^ 32 }
+    // Over any folder and any sink: all calls that the run makes on them, with what these answered, and what it
+    // answers over the bytes that came.
+    ensures log { (calls : List Call) × (written : List Call) × (F.calls folder.new ≡ F.calls folder.old ++ calls) × (O.calls out.new ≡ O.calls out.old ++ written)
+        × IsRunOf limit (C.says command.now) result calls written }
+
+    // Where no coming call is listed to fail, only a missing file, a want of room and a full sink are faults; after a
+    // file that is too long none is looked for.
+    ensures only_missing { F.is_clear folder.old → AreThere (F.file folder.old) (C.says command.now).reads → F.faults folder.new ≡ F.faults folder.old }
+    ensures unread { F.is_clear folder.old → BeginsLonger limit (F.file folder.old) (C.says command.now).reads → F.faults folder.new ≡ F.faults folder.old }
+    ensures only_room { F.is_clear folder.old → ((name : List ℕ) → (C.says command.now).puts ≡ Some name → HasRoom (F.rooms folder.old) name longest)
+        → F.put_faults folder.new ≡ F.put_faults folder.old }
+    ensures only_full { F.told → O.is_clear out.old → ((contents : List (List ℕ)) (put : Option (List ℕ)) (text : List ℕ) → Hold (F.file folder.old) (C.says command.now).reads contents
+        → IsAnswer (C.says command.now) contents put text → length text ≤ O.room out.old) → O.faults out.new ≡ O.faults out.old }
+{
+    let contents = match command.inputs().read(alloc, limit, folder) {
+        ReadAll::Contents(contents) => contents,
+        ReadAll::TooLong => return Status::TooLong,
+        ReadAll::Fault => return Status::ReadFault,
+        ReadAll::Mem => return Status::Memory,
+    };
+    let Ok(outcome) = command.answer(alloc, &contents, out) else {
+        return Status::OutFault;
+    };
+    match outcome {
+        Outcome::Yes { put, text } => {
+            let Ok(()) = put_file(command.output(), &put, folder) else {
+                return Status::WriteFault;
+            };
+            write_answer(&text, Status::Done, out)
+        }
+        Outcome::No { text } => write_answer(&text, Status::Refused, out),
+        Outcome::Mem => Status::Memory,
+    }
+}
+
+/// Writes what is left of an answer's text, after which the run ends with this status.
+fn write_answer<O: Sink>(text: &[u8], status: Status, out: &mut O) -> Status
+    ensures log { Grows (O.calls out.old) (O.calls out.new) (IsWritingAnswer status result text.now) }
+    ensures only_full { O.is_clear out.old → length text.now ≤ O.room out.old → O.faults out.new ≡ O.faults out.old }
+{
+    if write_whole(out, text).is_err() {
+        return Status::OutFault;
+    }
+    status
+}

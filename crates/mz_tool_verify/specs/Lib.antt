@@ -1,0 +1,4 @@
+pub mod Judging
+pub mod Verify
+pub mod Show
+pub mod Requests
