@@ -1,26 +1,32 @@
-# Completion of the program's words in bash: the command, then files of the kinds that it reads and writes.
+# Completion of the words of ./mz in bash: the command, then files of the kinds that it reads and writes.
 
-_mz_files() { # the endings that fit, as mm0 or mmu
-    local ending
+# (begin: made of scripts/manual/commands.txt)
+_mz_commands=$'verify\ncompile\ncompile_draft\nspec\ndecompile\nshow\nassemble\naxioms\ndraft\nportable\nsample\ncheck\nprove\nexplore\nserve\nbuild\ninstall\nversion\nhelp'
+_mz_ending() { # the ending of the file at a place behind a command
+    case $1:$2 in
+        1:assemble) echo list ;;
+        1:verify | 2:spec | 1:decompile | 1:axioms | 1:draft | 1:portable | 1:check | 1:explore) echo mm0 ;;
+        2:verify | 2:compile | 2:compile_draft | 2:decompile | 1:show | 2:assemble | 2:axioms | 2:draft | 2:portable | 2:explore) echo mmb ;;
+        1:compile | 1:compile_draft | 1:spec | 3:decompile) echo mmu ;;
+        1:prove) echo proofs ;;
+    esac
+}
+# (end)
+
+_mz_files() { # the files with this ending, and folders
     compopt -o filenames
     COMPREPLY=($(compgen -d -- "$1"))
-    for ending in "${@:2}"; do
-        COMPREPLY+=($(compgen -f -X "!*.$ending" -- "$1"))
-    done
+    [ -n "$2" ] && COMPREPLY+=($(compgen -f -X "!*.$2" -- "$1"))
 }
 
 _mz() {
     local word=${COMP_WORDS[COMP_CWORD]} IFS=$'\n'
     COMPREPLY=()
-    case $COMP_CWORD:${COMP_WORDS[1]} in
-        1:*) COMPREPLY=($(compgen -W $'verify\ncompile\ncompile_draft\nspec\nshow\nassemble\naxioms\ndraft\nportable\ndecompile\nsample' -- "$word")) ;;
-        2:verify | 2:axioms | 2:draft | 2:portable | 2:decompile) _mz_files "$word" mm0 ;;
-        3:verify | 3:axioms | 3:draft | 3:portable | 3:decompile | 2:show) _mz_files "$word" mmb ;;
-        2:compile | 2:compile_draft | 2:spec | 4:decompile) _mz_files "$word" mmu ;;
-        3:spec) _mz_files "$word" mm0 ;;
-        3:compile | 3:compile_draft | 3:assemble) _mz_files "$word" mmb ;;
-        2:assemble) _mz_files "$word" list ;;
-    esac
+    if [ "$COMP_CWORD" -eq 1 ] || { [ "$COMP_CWORD" -eq 2 ] && [ "${COMP_WORDS[1]}" = help ]; }; then
+        COMPREPLY=($(compgen -W "$_mz_commands" -- "$word"))
+    else
+        _mz_files "$word" "$(_mz_ending $((COMP_CWORD - 1)) "${COMP_WORDS[1]}")"
+    fi
 }
 
 complete -F _mz mz ./mz

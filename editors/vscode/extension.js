@@ -1,0 +1,148 @@
+// Speaks with the language server `mz serve`. It needs nothing but the editor and the program.
+"use strict";
+const { spawn } = require("child_process");
+const vscode = require("vscode");
+
+const languages = ["mm0", "mmu", "proofs"];
+
+/** Messages to and from the server: JSON with a head that tells its length. */
+class Connection {
+  constructor(process, notice) {
+    this.process = process;
+    this.notice = notice;
+    this.waiting = new Map();
+    this.count = 0;
+    this.bytes = Buffer.alloc(0);
+    process.stdout.on("data", part => this.take(part));
+  }
+
+  send(message) {
+    const text = Buffer.from(JSON.stringify({ jsonrpc: "2.0", ...message }), "utf8");
+    this.process.stdin.write(`Content-Length: ${text.length}\r\n\r\n`);
+    this.process.stdin.write(text);
+  }
+
+  tell(method, params) {
+    this.send({ method, params });
+  }
+
+  ask(method, params) {
+    const id = ++this.count;
+    this.send({ id, method, params });
+    return new Promise((resolve, reject) => this.waiting.set(id, { resolve, reject }));
+  }
+
+  take(part) {
+    this.bytes = Buffer.concat([this.bytes, part]);
+    for (;;) {
+      const head = this.bytes.indexOf("\r\n\r\n");
+      if (head < 0) return;
+      const length = Number(/Content-Length: (\d+)/i.exec(this.bytes.toString("ascii", 0, head))[1]);
+      if (this.bytes.length < head + 4 + length) return;
+      const message = JSON.parse(this.bytes.toString("utf8", head + 4, head + 4 + length));
+      this.bytes = this.bytes.subarray(head + 4 + length);
+      this.heard(message);
+    }
+  }
+
+  heard(message) {
+    if (message.id === undefined) {
+      this.notice(message.method, message.params);
+      return;
+    }
+    const { resolve, reject } = this.waiting.get(message.id);
+    this.waiting.delete(message.id);
+    if (message.error) reject(new Error(message.error.message));
+    else resolve(message.result);
+  }
+}
+
+const range = it => new vscode.Range(it.start.line, it.start.character, it.end.line, it.end.character);
+const location = it => new vscode.Location(vscode.Uri.parse(it.uri), range(it.range));
+const named = document => ({ textDocument: { uri: document.uri.toString() } });
+const placed = (document, { line, character }) => ({ ...named(document), position: { line, character } });
+
+function diagnostic(it) {
+  const made = new vscode.Diagnostic(range(it.range), it.message, it.severity - 1); // the protocol counts from 1
+  made.source = it.source;
+  made.code = it.code;
+  return made;
+}
+
+function completion(it) {
+  const made = new vscode.CompletionItem(it.label, it.kind - 1);
+  made.detail = it.detail;
+  made.documentation = it.documentation;
+  return made;
+}
+
+function symbol(it) {
+  return new vscode.DocumentSymbol(it.name, it.detail, it.kind - 1, range(it.range), range(it.selectionRange));
+}
+
+function hover(it) {
+  return it ? new vscode.Hover(new vscode.MarkdownString(it.contents.value), range(it.range)) : undefined;
+}
+
+function register(server) {
+  const ask = server.ask.bind(server);
+  const all = of => list => (list || []).map(of);
+  return [
+    vscode.languages.registerHoverProvider(languages, {
+      provideHover: (document, at) => ask("textDocument/hover", placed(document, at)).then(hover) }),
+    vscode.languages.registerDefinitionProvider(languages, {
+      provideDefinition: (document, at) => ask("textDocument/definition", placed(document, at)).then(all(location)) }),
+    vscode.languages.registerReferenceProvider(languages, {
+      provideReferences: (document, at, context) =>
+        ask("textDocument/references", { ...placed(document, at), context }).then(all(location)) }),
+    vscode.languages.registerDocumentSymbolProvider(languages, {
+      provideDocumentSymbols: document => ask("textDocument/documentSymbol", named(document)).then(all(symbol)) }),
+    vscode.languages.registerCompletionItemProvider(languages, {
+      provideCompletionItems: (document, at) => ask("textDocument/completion", placed(document, at)).then(all(completion)) },
+      "(", ":", "$"),
+  ];
+}
+
+/** Tells the server of documents that are opened, changed, saved and closed. */
+function follow(server) {
+  const ours = document => languages.includes(document.languageId);
+  const open = document => {
+    if (!ours(document)) return;
+    const { languageId, version } = document;
+    server.tell("textDocument/didOpen",
+      { textDocument: { uri: document.uri.toString(), languageId, version, text: document.getText() } });
+  };
+  vscode.workspace.textDocuments.forEach(open);
+  return [
+    vscode.workspace.onDidOpenTextDocument(open),
+    vscode.workspace.onDidChangeTextDocument(({ document }) => ours(document) && server.tell("textDocument/didChange", {
+      textDocument: { uri: document.uri.toString(), version: document.version },
+      contentChanges: [{ text: document.getText() }] })),
+    vscode.workspace.onDidSaveTextDocument(document => ours(document) && server.tell("textDocument/didSave", named(document))),
+    vscode.workspace.onDidCloseTextDocument(document => ours(document) && server.tell("textDocument/didClose", named(document))),
+  ];
+}
+
+let server;
+
+async function activate(context) {
+  const program = vscode.workspace.getConfiguration("mz").get("program");
+  const process = spawn(program, ["serve"], { stdio: ["pipe", "pipe", "ignore"] });
+  process.on("error", fault => vscode.window.showWarningMessage(`${program} serve can't be started: ${fault.message}`));
+  const found = vscode.languages.createDiagnosticCollection("mz");
+  server = new Connection(process, (method, params) => {
+    if (method === "textDocument/publishDiagnostics") found.set(vscode.Uri.parse(params.uri), params.diagnostics.map(diagnostic));
+    if (method === "window/showMessage") vscode.window.showWarningMessage(params.message);
+  });
+  await server.ask("initialize", { processId: null, rootUri: null, capabilities: {} });
+  server.tell("initialized", {});
+  context.subscriptions.push(found, ...register(server), ...follow(server));
+}
+
+async function deactivate() {
+  if (!server) return;
+  await server.ask("shutdown", null);
+  server.tell("exit", {});
+}
+
+module.exports = { activate, deactivate };

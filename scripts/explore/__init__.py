@@ -1,0 +1,1 @@
+"""Pages of a development: its specification, its statements and their proofs, for a browser that needs no server."""

@@ -1,0 +1,68 @@
+"""Reads commands.txt."""
+import os
+import re
+from dataclasses import dataclass, field
+
+SOURCE = os.path.join(os.path.dirname(os.path.abspath(__file__)), "commands.txt")
+
+
+@dataclass
+class Command:
+    """One command: its name, the words behind it, and what is said of it."""
+
+    name: str
+    words: list
+    of_program: bool
+    does: str = ""
+    files: list = field(default_factory=list)
+    example: str = ""
+    read: str = ""
+    more: list = field(default_factory=list)
+
+    def shape(self):
+        return " ".join([self.name, *self.words])
+
+
+@dataclass
+class Manual:
+    """All of commands.txt."""
+
+    commands: list = field(default_factory=list)
+    exits: list = field(default_factory=list)
+    variables: list = field(default_factory=list)
+
+    def of_program(self):
+        return [it for it in self.commands if it.of_program]
+
+    def named(self, name):
+        return next((it for it in self.commands if it.name == name), None)
+
+
+def add_to(command, line):
+    key, colon, text = line.partition(": ")
+    if colon and key in ("does", "example", "read"):
+        setattr(command, key, text)
+    elif colon and key == "files":
+        command.files = text.split()
+    else:
+        command.more.append(line)
+
+
+def read():
+    manual, part = Manual(), ""
+    with open(SOURCE, encoding="utf-8") as file:
+        lines = [it.rstrip("\n") for it in file]
+    for line in lines:
+        heading = re.match(r"\[(\w+)\]$", line)
+        if heading:
+            part = heading[1]
+        elif not line or line.startswith("#"):
+            continue
+        elif part in ("exits", "variables"):
+            getattr(manual, part).append(tuple(line.split(" ", 1)))
+        elif line.startswith(" "):
+            add_to(manual.commands[-1], line.strip())
+        else:
+            name, *words = line.split()
+            manual.commands.append(Command(name, words, part == "program"))
+    return manual

@@ -1,0 +1,64 @@
+// Runs the extension of editors/vscode over a stand-in for the editor, with a real server: node editor.js PROGRAM FILE
+"use strict";
+const assert = require("assert");
+const fs = require("fs");
+const Module = require("module");
+const path = require("path");
+
+class Kept {
+  constructor(...parts) {
+    this.parts = parts;
+  }
+}
+
+const providers = {}, told = {}, warnings = [];
+const register = kind => (languages, provider) => ((providers[kind] = provider), new Kept());
+const listen = kind => call => ((told[kind] = call), new Kept());
+const uri = text => ({ toString: () => text });
+const [program, file] = process.argv.slice(2);
+const document = { languageId: "mm0", version: 1, uri: uri(`file://${file}`), getText: () => fs.readFileSync(file, "utf8") };
+
+const vscode = {
+  Range: Kept, Location: Kept, Diagnostic: Kept, CompletionItem: Kept, DocumentSymbol: Kept, Hover: Kept, MarkdownString: Kept,
+  Uri: { parse: uri },
+  languages: {
+    createDiagnosticCollection: () => ({ set: () => {} }),
+    registerHoverProvider: register("hover"), registerDefinitionProvider: register("definition"),
+    registerReferenceProvider: register("references"), registerDocumentSymbolProvider: register("symbols"),
+    registerCompletionItemProvider: register("completion"),
+  },
+  window: { showWarningMessage: text => warnings.push(text) },
+  workspace: {
+    textDocuments: [document],
+    getConfiguration: () => ({ get: () => program }),
+    onDidOpenTextDocument: listen("opened"), onDidChangeTextDocument: listen("changed"),
+    onDidSaveTextDocument: listen("saved"), onDidCloseTextDocument: listen("closed"),
+  },
+};
+const load = Module._load;
+Module._load = (name, ...rest) => (name === "vscode" ? vscode : load(name, ...rest));
+const extension = require(path.join(__dirname, "../../../editors/vscode/extension.js"));
+
+async function main() {
+  const subscriptions = [];
+  await extension.activate({ subscriptions });
+  const at = { line: 8, character: 7 };
+  const hover = await providers.hover.provideHover(document, at);
+  assert.match(hover.parts[0].parts[0], /axiom eq_refl \(a: elt\): \$ a = a \$;/);
+  const [definition] = await providers.definition.provideDefinition(document, at);
+  assert.strictEqual(path.basename(definition.parts[0].toString()), "monoid.mmu");
+  const references = await providers.references.provideReferences(document, at, { includeDeclaration: true });
+  assert.strictEqual(references.length, 4);
+  const symbols = await providers.symbols.provideDocumentSymbols(document);
+  assert.deepStrictEqual(symbols.map(it => it.parts[0]), ["wff", "elt", "eq", "mul", "eq_refl", "eq_symm", "mul_eq", "eq_left"]);
+  const items = await providers.completion.provideCompletionItems(document, { line: 12, character: 50 });
+  assert(items.some(it => it.parts[0] === "mul"));
+  told.closed(document);
+  await extension.deactivate();
+  console.log("the extension answers");
+}
+
+main().catch(fault => {
+  console.error(fault);
+  process.exit(1);
+});
