@@ -1,5 +1,6 @@
 // Laws of pairs of files.
 ghost use Rattle.std.specs.Prelude.{◌≡◌, ◌⊎◌, ◌↔◌, ℕ, false, List, Some, slice_get, take};
+ghost use Rattle.std.specs.List.{All};
 ghost use Rattle.mz_logic_theory.specs.Tree.{none};
 ghost use Rattle.mz_logic_theory.specs.Declaration.{Assertion, Declaration, assertion_decl};
 ghost use Rattle.mz_logic_theory.specs.LegalLists.{Statement, Legal};
@@ -8,7 +9,7 @@ ghost use Rattle.mz_match_theory.specs.declared.verdict.Counts.{Counts};
 ghost use Rattle.mz_match_theory.specs.declared.verdict.Verdict.{Verdict};
 ghost use Rattle.mz_spec_proved_theory.specs.declared.kind.Kind.TheVariants as kinds;
 ghost use Rattle.mz_spec_proved_theory.specs.Match.{kind_of, publics, Agrees};
-ghost use Rattle.mz_spec_proved_theory.specs.Headline.{Proves};
+ghost use Rattle.mz_spec_proved_theory.specs.Headline.{IsConcrete, Proves};
 ghost use Rattle.mz_match_theory.specs.Verdict.{Accepts, AcceptsWith, FirstRefusal, IsSound};
 
 /// Each specification and binary are accepted, with one number of declarations of each kind, or have
@@ -27,11 +28,11 @@ pub fn accepted_pairs_are_sound()
 {}
 
 /// Where a binary is accepted, the specification is proved, which says nothing of the binary. It is
-/// proved exactly where a legal list of statements has just its declarations for public ones; and a
-/// theorem without hypotheses is, only where an axiom is declared before it.
+/// proved exactly where a legal list of statements, in which each definition has its body, has just its
+/// declarations for public ones; and a theorem without hypotheses is, only where an axiom is declared before it.
 pub fn accepted_pairs_prove()
     ensures accepted { (spec bin : List ℕ) → Accepts spec bin → Proves spec }
-    ensures exact { (spec : List ℕ) → Proves spec ↔ ((ds : List Declaration) × (ss : List Statement) × SpecOf spec ds × Legal ss × Agrees ds (publics ss)) }
+    ensures exact { (spec : List ℕ) → Proves spec ↔ ((ds : List Declaration) × (ss : List Statement) × SpecOf spec ds × Legal ss × All (λ s. IsConcrete s.decl) ss × Agrees ds (publics ss)) }
     ensures grounded { (spec : List ℕ) (p : Proves spec) (i : ℕ) (a : Assertion) → slice_get p.declared i ≡ Some (assertion_decl a) → a.is_axiom ≡ false → a.hyps ≡ none
         → (k : ℕ) × (d : Declaration) × (slice_get (take i p.declared) k ≡ Some d) × (kind_of d ≡ kinds.Axiom) }
 {}

@@ -1,5 +1,5 @@
 -- A theorem without hypotheses follows only where an axiom is declared before it: what is promised isn't empty.
-use Rattle.std.proofs.Common.{◌≡◌, ◌∙◌, ℕ, zero, suc, Bool, true, false, List, [], ◌∷◌, ◌++◌, take, Some, refl, sym, ap, subst}
+use Rattle.std.proofs.Common.{◌≡◌, ◌∙◌, ℕ, zero, suc, Bool, true, List, [], ◌∷◌, ◌++◌, take, Some, refl, ap, subst}
 use Rattle.std.specs.Prelude.{if◌then◌else◌, slice_get}
 use Rattle.mz_logic_theory.specs.Tree.{Tree, Trees, none, more}
 use Rattle.mz_logic_theory.specs.Declaration.{Declaration, Assertion, sort_decl, term_decl, assertion_decl, assertions}
@@ -9,7 +9,7 @@ use Rattle.mz_logic_theory.specs.Closed.{IsAxiomIn, CitesAxioms}
 use Rattle.mz_logic_theory.specs.declared.binder.Binder.{Binder}
 use Rattle.mz_spec_proved_theory.specs.declared.kind.Kind.TheVariants as kinds
 use Rattle.mz_spec_proved_theory.specs.Match.{term_rows, kind_of}
-use Rattle.mz_spec_proved_theory.specs.Trees.{AllSameOver, SameTrees}
+use Rattle.mz_spec_proved_theory.specs.Trees.{SameTrees}
 use Rattle.mz_spec_proved_theory.specs.Headline.{Follows}
 
 -- ---- assertions among statements

@@ -1,9 +1,10 @@
 -- What `accepted` promises, said of the specification alone: neither this nor anything on which it rests speaks of a
 -- binary (mm0.md, section on theorems; Carneiro: a specification is proved where a list of statements extends it by
 -- definitions and theorems alone).
-use Rattle.std.specs.Prelude.{◌≡◌, ℕ, true, false, List, ◌∷◌, ◌++◌, take, slice_get, Some}
+use Rattle.std.specs.Prelude.{◌≡◌, ⊤, ℕ, true, false, List, ◌∷◌, ◌++◌, take, slice_get, Some}
+use Rattle.std.specs.List.{All}
 use Rattle.mz_base_theory.specs.Checks.{AllHold}
-use Rattle.mz_logic_theory.specs.Declaration.{Declaration, Assertion, assertion_decl}
+use Rattle.mz_logic_theory.specs.Declaration.{Declaration, Assertion, sort_decl, term_decl, assertion_decl, Form, plain_form, abstract_form, defined}
 use Rattle.mz_logic_theory.specs.LegalLists.{Statement, declarations, Legal}
 use Rattle.mz_logic_theory.specs.Closed.{IsClosed}
 use Rattle.mz_spec_theory.specs.Spec.{SpecOf}
@@ -32,12 +33,25 @@ pub record Follows (ds : List Declaration) (ss : List Statement) (i : ℕ) (theo
   pub axioms : AxiomsAreDeclared (take i ds) before
   pub closed : IsClosed (declarations before) proved
 
--- The specification is proved: there is a legal list of statements, of which the public ones are what the specification
--- declares, one by one, and each theorem that it declares follows there from the axioms that it declares before.
+-- a definition isn't left without a body, as a specification may leave it
+abbrev pub IsConcreteForm : Form → Type 0
+IsConcreteForm plain_form = ⊤
+IsConcreteForm abstract_form = ⊥
+IsConcreteForm (defined dummies body) = ⊤
+
+abbrev pub IsConcrete : Declaration → Type 0
+IsConcrete (sort_decl modifiers) = ⊤
+IsConcrete (term_decl t) = IsConcreteForm t.form
+IsConcrete (assertion_decl a) = ⊤
+
+-- The specification is proved: there is a legal list of statements, in which each definition has its body, of which the
+-- public ones are what the specification declares, one by one; and each theorem that it declares follows there from the
+-- axioms that it declares before.
 pub record Proves (spec : List ℕ) : Type 0 where
   pub declared : List Declaration
   pub statements : List Statement
   pub is_spec : SpecOf spec declared
   pub legal : Legal statements
+  pub concrete : All (λ s. IsConcrete s.decl) statements
   pub agrees : Agrees declared (publics statements)
   pub theorems : (i : ℕ) (a : Assertion) → slice_get declared i ≡ Some (assertion_decl a) → a.is_axiom ≡ false → Follows declared statements i a

@@ -6,7 +6,7 @@ pub returns-clause-accepted : goal.returns-clause-accepted
 returns-clause-accepted c = accepted-proves
 
 pub returns-clause-exact : goal.returns-clause-exact
-returns-clause-exact c = λ spec. (λ p. (p.declared, p.statements, p.is_spec, p.legal, p.agrees), λ (ds, ss, is, legal, agrees). list-proves spec ds ss is legal agrees)
+returns-clause-exact c = λ spec. (λ p. (p.declared, p.statements, p.is_spec, p.legal, p.concrete, p.agrees), λ (ds, ss, is, legal, concrete, agrees). list-proves spec ds ss is legal concrete agrees)
 
 pub returns-clause-grounded : goal.returns-clause-grounded
 returns-clause-grounded c = λ spec p i a at theorem bare. needs-axiom p.declared p.statements i a (p.theorems i a at theorem) bare
