@@ -1,4 +1,3 @@
-pub mod Binding
 pub mod Told
 pub mod Hyps
 pub mod Judged
@@ -8,5 +7,5 @@ pub mod Numerals
 pub mod Noted
 pub mod Spans
 mod Sizes
-mod NamesAlone
+mod TableChanges
 pub mod Offered

@@ -21,20 +21,22 @@ use Rattle.mz_spec_theory.specs.declared.refusal.Halt.{Halt}
 use Rattle.mz_spec_theory.specs.declared.refusal.Halt.TheVariants as halts
 use Rattle.mz_spec_theory.specs.Reading.{OnFault}
 use Rattle.mz_spec_theory.specs.Statement.{TypeText, Head, Level, LiteralText, TailText, Statement, coercion_statement, delimiter_statement, operator_statement, notation_statement}
-use Rattle.mz_spec.specs.Answers.{JudgesOrMem, JudgesStatement}
+use Rattle.mz_spec_rules.specs.Answers.{JudgesOrMem}
+use Rattle.mz_spec.specs.Answers.{JudgesStatement}
 use Rattle.mz_spec_theory.specs.Formulas.{AreTokens, inner}
 use Rattle.mz_spec_theory.specs.Forms.{ArePartsOf, MakesOperator, MakesNotation, at_statement, coercion_of, form_checks}
-use Rattle.mz_spec.specs.Noting.{halt_of, noting_rules}
+use Rattle.mz_spec.specs.Noting.{halt_of}
+use Rattle.mz_spec_rules.specs.Noting.{noting_rules}
 use Rattle.mz_spec_theory.specs.Dependencies.{Every}
 use Rattle.mz_spec_theory.specs.Rules.{is_level, is_known, are_others, type_checks, binder_rules, statement_checks}
-use Rattle.mz_spec.specs.Entries.{names_alone}
+use Rattle.mz_spec_rules.specs.Entries.{names_alone}
 use Rattle.mz_spec_theory.specs.State.{State, sort_number, term_number, variable_bytes}
 use Rattle.mz_spec_variables.specs.Code.{AreParts, variable}
 use Rattle.mz_spec_theory.specs.Declaring.{After}
 use Rattle.mz_spec_variables.specs.declared.parts.Parts.{Parts}
 use Rattle.mz_spec_theory.specs.View.{Variable, alone, params_of, variables_of, group_types, names_of, literal_levels, tail_levels}
 use Rattle.mz_spec_theory.proofs.Offered.{assoc, fails-front, judges-behind, mem-before, mem-after, IsNamed, split-variables, general-other}
-use Rattle.mz_spec.proofs.NamesAlone.{over_table, same-names, notation-same, delimiters-same}
+use Rattle.mz_spec.proofs.TableChanges.{over_table, same-names, notation-same, delimiters-same}
 
 -- ---- statements without formulas
 

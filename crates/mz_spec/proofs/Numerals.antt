@@ -1,24 +1,20 @@
 -- The levels of a statement that lexemes of a text spell are written in digits.
-use Rattle.std.proofs.Common.{◌≡◌, ◌++◌, ◌<◌, ◌+◌, ◌*◌, ◌-◌, take, ℕ, List, [], ◌∷◌, length, get_or, Bool, true, false, Option, Some, None, sym, refl, subst, arith}
+use Rattle.std.proofs.Common.{◌≡◌, ◌++◌, ℕ, List, [], ◌∷◌, Bool, true, false, Option, Some, None, sym, refl, subst, arith}
 use Rattle.std.specs.Prelude.{⊤, ◌||◌, ◌&&◌, IsTrue, codes, bytes_eq}
 use Rattle.std.specs.List.{list_all}
 use Rattle.std.specs.Bool.{Decides}
-use Rattle.std.specs.Str.Parse.{digits_value}
-use Rattle.std.proofs.lemmas.Str.{digit_value_digit}
-use Rattle.std.proofs.lemmas.Int.Digits.{digits_value_more}
 use Rattle.std.proofs.lemmas.Bool.Decides.{nat_tests}
 use Rattle.std.proofs.lemmas.Slice.Eq.{bytes_eq-Decides}
 use Rattle.std.proofs.lemmas.Bool.{and_from}
 use Rattle.mz_base_theory.proofs.Offered.{both-true}
 use Rattle.mz_base.specs.Identifiers.{is_digit}
-use Rattle.mz_base.proofs.Offered.{digit-at, digit-between}
 use Rattle.mz_lex.specs.Kinds.{is_number_start, is_number, is_of_kind}
 use Rattle.mz_lex.specs.Lexemes.{Lexeme}
 use Rattle.mz_spec_theory.specs.declared.kind.Kind.TheVariants.{Notation}
 use Rattle.mz_spec_theory.specs.declared.kind.Fixity.{Fixity}
 use Rattle.mz_spec_theory.specs.Statement.{TypeText, Head, Level, number_level, max_level, LiteralText, constant_literal, name_literal, TailText, Statement, operator_statement, notation_statement, Sign, keyword, symbol, name, name_or_blank, formula, number, only_if, IsSign, AreSigns, each, end_signs, type_signs, group_signs, level_sign, literal_signs, tail_signs, statement_signs}
 use Rattle.mz_spec_theory.specs.Kept.{AreOfText, IsSpelled}
-use Rattle.mz_spec.specs.Noting.{IsNumeral}
+use Rattle.mz_spec_rules.specs.Noting.{IsNumeral}
 use Rattle.mz_spec_theory.specs.Dependencies.{Every}
 use Rattle.mz_spec_theory.specs.View.{literal_levels, tail_levels}
 use Rattle.mz_spec_theory.proofs.Offered.{every-front}
@@ -33,14 +29,6 @@ number-digits (c ∷ cs) is = go (bytes_eq (c ∷ cs) (codes "0")) (bytes_eq-Dec
     go : (b : Bool) → Decides b ((c ∷ cs) ≡ codes "0") → (b || (is_number_start c && list_all is_digit cs)) ≡ true → IsTrue (list_all is_digit (c ∷ cs))
     go true by e = subst (λ t. IsTrue (list_all is_digit t)) (sym (by.0 refl)) refl
     go false by e = let both = both-true (is_number_start c) (list_all is_digit cs) e in and_from (is_digit c) (list_all is_digit cs) (start-digit c both.0) both.1
-
--- one more digit
-pub next-value : (ds : List ℕ) (i value : ℕ) → i < length ds → IsTrue (list_all is_digit ds) → value ≡ digits_value 10 (take i ds) → digits_value 10 (take (i + 1) ds) ≡ value * 10 + (get_or ds i 0 - 48)
-next-value ds i value below all is =
-    let between = digit-between (get_or ds i 0) (digit-at ds i 0 all below) in
-    let worth = digit_value_digit (get_or ds i 0) (between.0, between.1) in
-    let more = digits_value_more 10 ds i below in
-    omega (arith, worth, more, is, between.0)
 
 -- ---- signs
 

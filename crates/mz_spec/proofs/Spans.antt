@@ -12,7 +12,8 @@ use Rattle.mz_spec_theory.specs.declared.statement.LiteralText.{LiteralText as L
 use Rattle.mz_spec_theory.specs.Reading.{OnFault}
 use Rattle.mz_spec_theory.specs.Statement.{LiteralText, constant_literal, name_literal}
 use Rattle.mz_spec_theory.specs.Forms.{IsLiteral, AreLiterals}
-use Rattle.mz_spec.specs.Noting.{IsNumeral, literal_size, literals_size}
+use Rattle.mz_spec_rules.specs.Noting.{IsNumeral}
+use Rattle.mz_spec.specs.Noting.{literal_size, literals_size}
 use Rattle.mz_spec_theory.specs.Dependencies.{Every}
 use Rattle.mz_spec_theory.specs.Rules.{is_level}
 use Rattle.mz_spec_theory.specs.View.{literal_levels}

@@ -1,10 +1,7 @@
 -- What reading a specification answers.
 use Rattle.std.specs.Prelude.{⊤, ℕ, List}
-use Rattle.std.proofs.Common.{Result, Ok, Err}
-use Rattle.mz_base_theory.specs.Checks.{Checks, AllHold, FailsFirst}
-use Rattle.mz_spec_theory.specs.Reading.{OnFault}
+use Rattle.std.proofs.Common.{Result}
 use Rattle.mz_spec_theory.specs.Statement.{Statement}
-use Rattle.mz_spec_theory.specs.declared.refusal.Fault.{Fault}
 use Rattle.mz_spec_theory.specs.declared.refusal.Halt.{Halt}
 use Rattle.mz_spec_theory.specs.declared.refusal.Halt.TheVariants as halts
 use Rattle.mz_math_tokens.specs.declared.pieces.Piece.{Piece}
@@ -15,6 +12,7 @@ use Rattle.mz_spec_theory.specs.State.{State}
 use Rattle.mz_spec_theory.specs.Formulas.{AreTokens}
 use Rattle.mz_spec_theory.specs.Rules.{statement_checks}
 use Rattle.mz_spec_theory.specs.Spec.{SpecMakes, SpecFault}
+use Rattle.mz_spec_rules.specs.Answers.{JudgesOrMem}
 
 -- the declarations of the text, or its first fault
 abbrev pub IsAnswer : List ℕ → SpecRead → Type 0
@@ -22,12 +20,7 @@ IsAnswer text (Spec entries) = SpecMakes text entries
 IsAnswer text (Refused refusal) = SpecFault text refusal
 IsAnswer text Mem = ⊤
 
--- all hold, or the first that does not has this fault, or memory was wanting
-abbrev pub JudgesOrMem : {A : Type 0} → Result A Halt → Checks Fault → Type 0
-JudgesOrMem (Ok _) cs = AllHold cs
-JudgesOrMem (Err halt) cs = OnFault halt (FailsFirst cs)
-
--- the same of a statement, by whatever tokens its formulas have
+-- all rules of a statement hold, or the first that does not has this fault, or memory was wanting, by whatever tokens its formulas have
 abbrev pub JudgesStatement : {A : Type 0} → Result A Halt → State → ℕ → Statement → Type 0
 JudgesStatement result σ place s = (tokens : List (List Piece)) → AreTokens σ (view s).formulas tokens → JudgesOrMem result (statement_checks σ place s tokens)
 

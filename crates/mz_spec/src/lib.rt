@@ -8,13 +8,10 @@
 mod declare;
 mod formulas;
 mod laws;
-mod levels;
 mod literals;
 mod notations;
 mod reader;
-mod rules;
-mod scope;
-mod state;
+mod statements;
 
 pub use laws::{readings_are_one, specifications_are_legal};
 pub use mz_base::Hashing;

@@ -3,16 +3,17 @@ ghost use Rattle.std.specs.Prelude.{◌≡◌, ◌<◌, ◌^◌, ◌++◌, ◌�
 ghost use Rattle.mz_base_theory.specs.Checks.{each_in_order};
 ghost use Rattle.mz_spec_theory.specs.StatementCode.{literal as literal_lem};
 ghost use Rattle.mz_spec_theory.specs.Statement.{LiteralText as LiteralLem};
-ghost use Rattle.mz_spec.specs.Answers.{JudgesOrMem};
+ghost use Rattle.mz_spec_rules.specs.Answers.{JudgesOrMem};
 ghost use Rattle.mz_spec_theory.specs.Forms.{AreLiterals, IsLiteral};
-ghost use Rattle.mz_spec.specs.Noting.{IsNumeral, literal_size, literals_size};
+ghost use Rattle.mz_spec_rules.specs.Noting.{IsNumeral};
+ghost use Rattle.mz_spec.specs.Noting.{literal_size, literals_size};
 ghost use Rattle.mz_spec_theory.specs.Dependencies.{Every};
 ghost use Rattle.mz_spec_theory.specs.Rules.{is_level};
 ghost use Rattle.mz_spec_theory.specs.View.{literal_levels};
 
 use crate::formulas::inner;
-use crate::levels::level_of;
 use mz_math_theory::Literal;
+use mz_spec_rules::level_of;
 use mz_spec_theory::{Halt, LiteralText};
 use std::alloc::{AllocError, Global};
 

@@ -1,14 +1,15 @@
 // Reading a specification.
 ghost use Rattle.std.specs.Prelude.{◌≡◌, ◌<◌, ◌^◌, length, IfErr, OnOk};
 ghost use Rattle.mz_spec.specs.Answers.{IsAnswer, halted as halted_lem};
-ghost use Rattle.mz_spec.specs.Entries.{state as state_lem};
+ghost use Rattle.mz_spec_rules.specs.Entries.{state as state_lem};
 ghost use Rattle.mz_spec_theory.specs.Kept.{IsKept};
 ghost use Rattle.mz_spec_theory.specs.Spec.{SpecMakes};
 ghost use Rattle.mz_spec_theory.specs.State.{entries_of, nothing};
 
-use crate::state::State;
+use crate::statements::add;
 use mz_base::Hashing;
 use mz_spec_grammar::read_statement;
+use mz_spec_rules::State;
 use mz_spec_theory::{Halt, Spec, SpecRefusal};
 use std::alloc::Global;
 
@@ -58,7 +59,7 @@ fn read_into<'a>(alloc: Global, text: &'a [u8], state: &mut State<'a>) -> Result
             Ok(Some(read)) => read,
             Err(halt) => return Err((statement, halt)),
         };
-        if let Err(halt) = state.add(alloc, read.place, read.statement) {
+        if let Err(halt) = add(state, alloc, read.place, read.statement) {
             return Err((statement, halt));
         }
         at = read.end;

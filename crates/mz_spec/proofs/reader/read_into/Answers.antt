@@ -1,7 +1,7 @@
 use Rattle.std.proofs.Common.{◌≡◌, ◌+◌, ◌-◌, length, ap, sym, subst, arith}
 use Rattle.mz_spec_theory.specs.StatementCode.{statement}
 use Rattle.mz_spec.specs.Answers.{IsAnswer, halted}
-use Rattle.mz_spec.specs.Entries.{state}
+use Rattle.mz_spec_rules.specs.Entries.{state}
 use Rattle.mz_spec_theory.specs.Kept.{IsKept}
 use Rattle.mz_spec.specs.Reading.{StandTo}
 use Rattle.mz_spec_theory.proofs.Offered.{kept-nothing, kept-after}
@@ -83,7 +83,7 @@ statements-preserved c =
     let within = rw c.in-Ok-Some.field-0-is at c.in-Ok-Some.ensures.within in
     let s = statement c.in-Ok-Some.read.statement in
     let σ = state c.statements.state in
-    let τ = state c.add.new.self in
+    let τ = state c.add.new.state in
     let two = read-two c.args.text.now c.statements.at c.in-Ok-Some.read is in
     let few = c.statements.invariant.few in
     let some = c.statements.invariant.some in

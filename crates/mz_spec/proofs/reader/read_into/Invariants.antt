@@ -1,5 +1,5 @@
 use Rattle.std.proofs.Common.{◌*◌, ◌+◌, ◌≤◌, ◌-◌, length}
-use Rattle.mz_spec.specs.Entries.{state}
+use Rattle.mz_spec_rules.specs.Entries.{state}
 use Rattle.mz_spec_theory.specs.Kept.{IsKept}
 use Rattle.mz_spec.specs.Reading.{StandTo}
 use Rattle.mz_spec.proofs.reader.read_into.Given as goal

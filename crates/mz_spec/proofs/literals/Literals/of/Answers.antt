@@ -9,10 +9,11 @@ use Rattle.mz_spec_theory.specs.Reading.{OnFault}
 use Rattle.mz_spec_theory.specs.Dependencies.{Every}
 use Rattle.mz_spec_theory.specs.View.{literal_levels}
 use Rattle.mz_spec_theory.specs.Forms.{AreLiterals}
-use Rattle.mz_spec.specs.Noting.{IsNumeral, literals_size}
+use Rattle.mz_spec_rules.specs.Noting.{IsNumeral}
+use Rattle.mz_spec.specs.Noting.{literals_size}
 use Rattle.mz_spec_theory.proofs.Offered.{mem-decided}
 use Rattle.mz_spec_theory.specs.StatementCode.{literal}
-use Rattle.mz_spec.specs.Answers.{JudgesOrMem}
+use Rattle.mz_spec_rules.specs.Answers.{JudgesOrMem}
 use Rattle.mz_spec.proofs.Spans.{levels_in, levels-passed, numeral-here, numerals-passed, push-halt, size-here, size-passed, spans-passed}
 use Rattle.mz_spec.proofs.literals.Literals.of.Goals as goal
 

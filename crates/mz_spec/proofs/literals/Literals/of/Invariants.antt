@@ -3,7 +3,8 @@ use Rattle.mz_base_theory.proofs.Offered.{Decides}
 use Rattle.mz_spec_theory.specs.StatementCode.{literal}
 use Rattle.mz_spec_theory.specs.Statement.{LiteralText}
 use Rattle.mz_spec_theory.specs.Forms.{AreLiterals}
-use Rattle.mz_spec.specs.Noting.{IsNumeral, literals_size}
+use Rattle.mz_spec_rules.specs.Noting.{IsNumeral}
+use Rattle.mz_spec.specs.Noting.{literals_size}
 use Rattle.mz_spec_theory.specs.Dependencies.{Every}
 use Rattle.mz_spec_theory.specs.View.{literal_levels}
 use Rattle.mz_spec.proofs.Spans.{levels_in}

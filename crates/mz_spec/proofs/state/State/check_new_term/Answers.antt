@@ -1,9 +1,0 @@
-use Rattle.std.proofs.Common.{refl, inl}
-use Rattle.mz_spec.proofs.NamesAlone.{told-new, told-taken}
-use Rattle.mz_spec.proofs.state.State.check_new_term.Goals as goal
-
-pub returns-then-names_term : goal.returns-then-names_term
-returns-then-names_term c = inl (told-taken c.args.self.now.notations.names c.args.name.bytes.now c.names_term.result c.names_term.ensures c.if-names_term.true, refl)
-
-pub returns : goal.returns
-returns c = (told-new c.args.self.now.notations.names c.args.name.bytes.now c.names_term.result c.names_term.ensures c.if-names_term.false, tt)

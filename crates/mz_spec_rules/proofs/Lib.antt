@@ -1,0 +1,4 @@
+pub mod Binding
+pub mod Numerals
+pub mod NamesAlone
+pub mod Offered

@@ -1,0 +1,4 @@
+pub mod Entries
+pub mod Answers
+pub mod Noting
+pub mod Found
