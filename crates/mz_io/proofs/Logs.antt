@@ -1,10 +1,10 @@
 -- How logs of reads and writes grow.
-use Rattle.std.proofs.Common.{◌≡◌, ◌<◌, ◌-◌, ◌+◌, ◌++◌, ◌∙◌, [], ◌∷◌, ℕ, List, length, take, drop, map, true, refl, ap, sym, append_assoc, inr}
-use Rattle.std.proofs.lemmas.List.{append-nil, map-append, take-append-drop}
+use Rattle.std.proofs.Common.{◌≡◌, ◌<◌, ◌++◌, ◌∙◌, [], ◌∷◌, ℕ, List, length, map, true, refl, ap, sym, append_assoc}
+use Rattle.std.proofs.lemmas.List.{append-nil, map-append}
 use Rattle.std.proofs.lemmas.List.Elements.{All-nil, All-push}
 use Rattle.std.proofs.lemmas.List.Folds.{concat-append}
 use Rattle.std.specs.List.{concat}
-use Rattle.mz_io.specs.Calls.{Call, starts, pulls, pull_fails, writes, write_fails, Grows, pulls_of, bytes_of, IsBegun, IsRead, IsBroken, IsWritten, IsCut}
+use Rattle.mz_io.specs.Calls.{Call, starts, pulls, writes, write_fails, Grows, bytes_of, IsBegun, IsWritten, IsCut}
 
 -- no call
 pub grows-none : (old : List Call) (P : List Call → Type 0) → P [] → Grows old old P

@@ -31,6 +31,10 @@ written (Err e) piece = write_fails piece
 abbrev pub Grows : List Call → List Call → (List Call → Type 0) → Type 0
 Grows old new P = (more : List Call) × (new ≡ old ++ more) × P more
 
+-- P holds of the calls by which the log has grown, where it has
+abbrev pub Since : List Call → List Call → (List Call → Type 0) → Type 0
+Since old new P = (calls : List Call) → new ≡ old ++ calls → P calls
+
 -- ---- reading
 
 -- pulls that gave these pieces, of so many bytes asked for
@@ -78,6 +82,16 @@ pub record IsWritten (text : List ℕ) (calls : List Call) : Type 0 where
   pub pieces : List (List ℕ)
   pub text_is : text ≡ concat pieces
   pub calls_are : calls ≡ map writes pieces
+
+-- the bytes that were taken, one piece after another
+abbrev pub taken : List Call → List ℕ
+taken [] = []
+taken (writes bytes ∷ calls) = bytes ++ taken calls
+taken (starts name done ∷ calls) = taken calls
+taken (pulls asked bytes ∷ calls) = taken calls
+taken (pull_fails ∷ calls) = taken calls
+taken (puts name bytes done ∷ calls) = taken calls
+taken (write_fails piece ∷ calls) = taken calls
 
 -- a front of the text was taken, in pieces, and then a call failed that was handed what follows there
 pub record IsCut (text : List ℕ) (calls : List Call) : Type 0 where
@@ -134,9 +148,18 @@ AreReadNotPut names contents name put calls = (out : List ℕ) × (bytes : List 
 
 -- ---- what the calls tell of files
 
--- what was read whole under a name is what stands under it: the bytes are those that the folder gave
-abbrev pub Gives : (List ℕ → Option (List ℕ)) → List Call → Type 0
-Gives file calls = (name bytes : List ℕ) (before part after : List Call) → calls ≡ before ++ (part ++ after) → IsRead name bytes part → file name ≡ Some bytes
+-- Reading calls that are answered from these files: of the started one this is left before them, and that after them. A
+-- start that is done leaves the whole file; a pull gives the next bytes, none of so many asked for only at the end; after a
+-- failure nothing is started.
+abbrev pub AreAnswered : (List ℕ → Option (List ℕ)) → List ℕ → List Call → List ℕ → Type 0
+AreAnswered file left [] after = after ≡ left
+AreAnswered file left (starts name true ∷ calls) after = (bytes : List ℕ) × (file name ≡ Some bytes) × AreAnswered file bytes calls after
+AreAnswered file left (starts name false ∷ calls) after = AreAnswered file [] calls after
+AreAnswered file left (pulls asked bytes ∷ calls) after = (rest : List ℕ) × (left ≡ bytes ++ rest) × (bytes ≡ [] → 0 < asked → rest ≡ []) × AreAnswered file rest calls after
+AreAnswered file left (pull_fails ∷ calls) after = AreAnswered file [] calls after
+AreAnswered file left (puts name bytes done ∷ calls) after = ⊥
+AreAnswered file left (writes bytes ∷ calls) after = ⊥
+AreAnswered file left (write_fails piece ∷ calls) after = ⊥
 
 -- the files of these names hold these bytes, in order
 abbrev pub Hold : (List ℕ → Option (List ℕ)) → List (List ℕ) → List (List ℕ) → Type 0
@@ -144,7 +167,3 @@ Hold file [] [] = ⊤
 Hold file [] (bytes ∷ rest) = ⊥
 Hold file (name ∷ names) [] = ⊥
 Hold file (name ∷ names) (bytes ∷ rest) = (file name ≡ Some bytes) × Hold file names rest
-
--- P, where what the calls since then gave is what these files hold
-abbrev pub IfGiven : (List ℕ → Option (List ℕ)) → List Call → List Call → Type 0 → Type 0
-IfGiven file old new P = ((calls : List Call) → new ≡ old ++ calls → Gives file calls) → P

@@ -1,5 +1,6 @@
 //! A sink in memory, whose calls fail as listed: what the program prints in its tests.
 ghost use Rattle.std.specs.Prelude.{◌≡◌, ◌≤◌, ◌+◌, ◌-◌, ◌<◌, ◌^◌, ◌++◌, ◌∷◌, [], ℕ, OnOk, OnErr, IfOk, length, vec_len, vec_capacity};
+ghost use Rattle.mz_io.specs.Calls.{taken};
 
 use crate::log::{Log, Note};
 use crate::plan::Plan;
@@ -21,6 +22,8 @@ pub struct MemSink {
     // What room is left needs no more memory.
     ghost spare: { vec_len bytes + room ≤ vec_capacity bytes },
     ghost takes: { 0 < most },
+    // It holds what its calls took.
+    ghost holds: { bytes.items ≡ taken log.calls },
 }
 
 impl MemSink {
@@ -95,6 +98,8 @@ impl Sink for MemSink {
     ghost is_clear = { λ sink. IsClear sink.plan };
 
     ghost room = { room_in };
+
+    ghost tells = { λ told sink. sink.holds };
 
     fn write(&mut self, piece: &[u8]) -> Result<usize, Failed>
         ensures logged { self.new.log.calls ≡ self.old.log.calls ++ write_of result piece.now ∷ [] }

@@ -1,6 +1,6 @@
 //! Reading a whole file, up to a limit.
 ghost use Rattle.std.specs.Prelude.{◌≡◌, ◌≤◌, ◌∷◌, List, ℕ, true, Some, IsSome, length};
-ghost use Rattle.mz_io.specs.Calls.{Grows, starts};
+ghost use Rattle.mz_io.specs.Calls.{Grows, AreAnswered, starts};
 ghost use Rattle.mz_io.specs.Outside.{Rose, SameFiles};
 ghost use Rattle.mz_io.specs.Read.{IfBytes, OnTooLong, OnFault, IsLonger, IsReading};
 
@@ -25,6 +25,9 @@ pub fn read_bounded<F: Folder>(alloc: Global, folder: &mut F, name: &str, limit:
     // The file is started and pulled from, up to the first failure, the limit or the end, and the bytes
     // are those that came.
     ensures log { Grows (F.calls folder.old) (F.calls folder.new) (IsReading limit name.now result) }
+
+    // Where contents are told, they are those of the folder's files.
+    ensures answered { F.told → Grows (F.calls folder.old) (F.calls folder.new) (λ calls. AreAnswered (F.file folder.old) (F.left folder.old) calls (F.left folder.new)) }
 
     // A file within the limit is read whole, and a longer one never is.
     ensures bytes { F.told → IfBytes result (λ bytes. F.file folder.old name.now ≡ Some bytes) }
@@ -51,6 +54,7 @@ pub fn read_bounded<F: Folder>(alloc: Global, folder: &mut F, name: &str, limit:
 /// Reads what is left of the started file.
 fn read_started<F: Folder>(alloc: Global, folder: &mut F, limit: u64) -> Read
     ensures log { (name : List ℕ) → Grows (F.calls folder.old) (F.calls folder.new) (λ more. IsReading limit name result (starts name true ∷ more)) }
+    ensures answered { F.told → Grows (F.calls folder.old) (F.calls folder.new) (λ calls. AreAnswered (F.file folder.old) (F.left folder.old) calls (F.left folder.new)) }
     ensures bytes { F.told → IfBytes result (λ bytes. F.left folder.old ≡ bytes) }
     ensures within { IfBytes result (λ bytes. length bytes ≤ limit) }
     ensures too_long { F.told → OnTooLong result (IsLonger limit (Some (F.left folder.old))) }

@@ -1,6 +1,6 @@
 //! A sink for what the program writes.
 ghost use Rattle.std.specs.Prelude.{◌≡◌, ◌≤◌, ◌<◌, ◌+◌, ◌++◌, ◌∷◌, List, [], ℕ, length, IfOk};
-ghost use Rattle.mz_io.specs.Calls.{Call, written as write_of};
+ghost use Rattle.mz_io.specs.Calls.{Call, taken, written as write_of};
 ghost use Rattle.mz_io.specs.Outside.{HasCause, Appends};
 
 use crate::Failed;
@@ -41,4 +41,7 @@ pub trait Sink {
         ensures stays_clear { is_clear self.old → is_clear self.new }
         ensures only_full { is_clear self.old → (0 < length piece.now → 0 < room self.old) → faults self.new ≡ faults self.old }
         ensures lessens { is_clear self.old → IfOk result (λ n. room self.new + n ≡ room self.old) };
+
+    /// What a sink tells as written is what its calls took.
+    ghost tells: { told → (sink : Self) → written sink ≡ taken (calls sink) };
 }

@@ -64,6 +64,8 @@ impl<W: Write> Sink for StdSink<W> {
 
     ghost room = { λ _. 0 };
 
+    ghost tells = { λ told sink. absurd told };
+
     fn write(&mut self, piece: &[u8]) -> Result<usize, Failed> {
         match self.write_some(piece) {
             Some(count) => {

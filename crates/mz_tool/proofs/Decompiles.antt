@@ -9,8 +9,8 @@ use Rattle.mz_decompile_theory.specs.Texts.{IsPlainText}
 use Rattle.mz_decompile.specs.declared.decompiled.Decompiled.{Decompiled}
 use Rattle.mz_decompile.specs.declared.decompiled.Decompiled.TheVariants as answers
 use Rattle.mz_decompile.specs.Decompiling.{IsDecompilation, IsTextFor, IsDecided}
-use Rattle.mz_prefix_theory.specs.Wording.{longest}
-use Rattle.mz_tool.specs.Run.{AreItsTexts, IsDecompiledTo, IsNotDecompiled}
+use Rattle.mz_tool_engine.specs.Run.{longest}
+use Rattle.mz_tool.specs.Decompile.{AreItsTexts, IsDecompiledTo, IsNotDecompiled}
 use Rattle.mz_tool.specs.Decompiled.{text_line}
 
 -- a text is no longer than a file that is read

@@ -8,7 +8,8 @@ use Rattle.mz_match_theory.specs.declared.verdict.Verdict.TheVariants as verdict
 use Rattle.mz_match.specs.Drafts.{IsDraft, verdict_of}
 use Rattle.mz_binary_theory.specs.Standards.{draft_standard}
 use Rattle.mz_match_theory.specs.Verdict.{AcceptsWithBy, FirstRefusalBy, line_of}
-use Rattle.mz_tool.specs.Run.{IsDraftTold, IsRefutedBy}
+use Rattle.mz_tool_verify.specs.Verify.{IsRefutedBy}
+use Rattle.mz_tool.specs.Draft.{IsDraftTold}
 
 accepted-apart : (d : Draft) → ((counts : Counts) (gaps : List ℕ) → d ≡ drafts.Accepted counts gaps → ⊥) → (counts : Counts) → verdict_of d ≡ verdicts.Accepted counts → ⊥
 accepted-apart (drafts.Accepted counts gaps) other counts' is = other counts gaps refl

@@ -1,8 +1,18 @@
--- The words say which request they ask for.
+-- The words say which request they ask for, and what is promised of the specification alone follows from what is proved.
 use Rattle.std.proofs.Common.{◌≡◌, ◌∙◌, ◌⊎◌, ℕ, true, false, refl, List, [], ◌∷◌, ap, sym, subst, inl, inr, arith}
 use Rattle.std.specs.Prelude.{bytes_eq, codes, decimal, if◌then◌else◌}
 use Rattle.std.proofs.lemmas.Fmt.{decimal_injective}
-use Rattle.mz_tool.specs.Request.{Request, verify, show, compile, assemble, axioms, draft, portable, specify, decompile, sample, words_of, IsInRange, Asks}
+use Rattle.mz_match_theory.proofs.Offered.{sound-proves}
+use Rattle.mz_sample.specs.Samples.{sample_specification}
+use Rattle.mz_tool_engine.specs.Run.{Asks, IsProved}
+use Rattle.mz_tool_engine.specs.Said.{Files}
+use Rattle.mz_tool.specs.Requests.{Request, verify, show, compile, assemble, axioms, draft, portable, specify, decompile, sample, said_of}
+
+abbrev words_of : Request → List (List ℕ)
+words_of r = (said_of r).words
+
+abbrev IsInRange : Request → Type 0
+IsInRange r = (said_of r).is_in_range
 
 -- what words ask for: a sample of the size that is written so, or another request
 data Read : Type 0 where
@@ -89,5 +99,23 @@ module _ (r s : Request) (e : words_of r ≡ words_of s) (i : IsInRange r) (j : 
       is ∙ same-sizes n m (sym (ap words_of is) ∙ e ∙ ap words_of is') (subst IsInRange is i) (subst IsInRange is' j) ∙ sym is'
 
 -- words ask for one request at the most
-pub one-request : (words : List (List ℕ)) (r s : Request) → Asks words r → Asks words s → r ≡ s
+pub one-request : (words : List (List ℕ)) (r s : Request) → Asks (said_of r) words → Asks (said_of s) words → r ≡ s
 one-request words r s first other = same-read r s (sym first.0 ∙ other.0) first.1 other.1 (is-read r) (is-read s)
+
+-- what a yes promises of the specification alone follows from what it promises of all files
+pub promised : (file : Files) (r : Request) → IsProved file (said_of r) → (said_of r).promise file
+promised file (verify a b) (spec ∷ bin ∷ [], hold, sound) = (spec, hold.0, sound-proves spec bin sound)
+promised file (verify a b) (contents, hold, sound) = absurd sound
+promised file (axioms a b) (spec ∷ bin ∷ [], hold, sound) = (spec, hold.0, sound-proves spec bin sound)
+promised file (axioms a b) (contents, hold, sound) = absurd sound
+promised file (portable a b) (spec ∷ bin ∷ [], hold, (sound, accepts)) = (spec, hold.0, sound-proves spec bin sound)
+promised file (portable a b) (contents, hold, sound) = absurd sound
+promised file (decompile a b out) (spec ∷ bin ∷ [], hold, (sound, texts)) = (spec, hold.0, sound-proves spec bin sound)
+promised file (decompile a b out) (contents, hold, sound) = absurd sound
+promised file (sample n) ([], hold, (bin, compiles, sound)) = sound-proves (sample_specification n) bin sound
+promised file (sample n) (contents, hold, sound) = absurd sound
+promised file (show b) proved = tt
+promised file (compile gaps a b) proved = tt
+promised file (assemble a b) proved = tt
+promised file (draft a b) proved = tt
+promised file (specify a b) proved = tt

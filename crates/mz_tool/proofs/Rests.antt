@@ -4,7 +4,8 @@ use Rattle.mz_match_theory.specs.declared.verdict.Counts.{Counts}
 use Rattle.mz_match_theory.specs.declared.verdict.Verdict.{Verdict}
 use Rattle.mz_match_theory.specs.Verdict.{AcceptsWith, FirstRefusal, counts_of}
 use Rattle.mz_axioms.specs.Lists.{TheoremSupport, AreSupports}
-use Rattle.mz_tool.specs.Run.{AreAxiomsTold, IsRefuted}
+use Rattle.mz_tool_verify.specs.Verify.{IsRefuted}
+use Rattle.mz_tool.specs.Axioms.{AreAxiomsTold}
 
 module _ (spec bin : List ℕ) (not_both : (spec bin : List ℕ) (counts : Counts) (verdict : Verdict) → AcceptsWith spec bin counts → FirstRefusal spec bin verdict → ⊥) where
   pub supports-alone : (supports : List TheoremSupport) → AreSupports spec bin supports → (line : List ℕ) → IsRefuted spec bin line → ⊥

@@ -1,5 +1,5 @@
 -- What comes of a sample: its text is compiled, and the binary verified.
-use Rattle.std.proofs.Common.{◌≡◌, ◌∙◌, ◌++◌, ℕ, List, [], Option, Some, None, sym, subst, inl, inr, refl, ap, false}
+use Rattle.std.proofs.Common.{◌≡◌, ◌∙◌, ◌++◌, ℕ, List, [], ◌∷◌, length, Option, Some, None, sym, subst, inl, inr, refl, ap, false, arith}
 use Rattle.mz_logic_theory.specs.LegalLists.{Statement}
 use Rattle.mz_binary_theory.proofs.Offered.{one-list, good-spelled}
 use Rattle.mz_spec_proved_theory.specs.Match.{publics, Agrees}
@@ -9,12 +9,13 @@ use Rattle.mz_mmu_theory.specs.TypeLaws.{IsTypedOrFaulty}
 use Rattle.mz_mmu_theory.specs.Meaning.{marked}
 use Rattle.mz_emit_accepted_theory.specs.Compiling.{CompilesTo, IsDecided}
 use Rattle.mz_sample.specs.Samples.{sample_specification, sample_text}
-use Rattle.mz_tool.specs.declared.outcome.Outcome.{Outcome}
-use Rattle.mz_tool.specs.declared.outcome.Outcome.TheVariants as outcomes
-use Rattle.mz_tool.specs.Request.{Request, sample}
-use Rattle.mz_tool.specs.Outcomes.{IfYes, IfNo, OnYes, OnNo, IsAfter}
-use Rattle.mz_tool.specs.Run.{IsYesOf, IsNoOf, IsProvedOf, IsVerified, IsRefuted, IsCompiledTo, IsNotCompiled, IsUpheld, IsFaulted, IsProvedByText, sizes_line, IsSampleUpheld, IsSampleFaulted}
-use Rattle.mz_tool.proofs.Answered.{put-bytes, not-compiled-alone}
+use Rattle.mz_tool_engine.specs.declared.outcome.Outcome.{Outcome}
+use Rattle.mz_tool_engine.specs.declared.outcome.Outcome.TheVariants as outcomes
+use Rattle.mz_tool_engine.specs.Outcomes.{IfYes, IfNo, OnYes, OnNo, IsAfter}
+use Rattle.mz_tool_verify.specs.Verify.{IsVerified, IsRefuted}
+use Rattle.mz_tool.specs.Compile.{IsCompiledTo, IsNotCompiled}
+use Rattle.mz_tool.specs.Sample.{IsUpheld, IsFaulted, IsProvedByText, sizes_line, IsSampleUpheld, IsSampleFaulted}
+use Rattle.mz_tool.proofs.Compiles.{put-bytes, not-compiled-alone}
 use Rattle.mz_tool.proofs.StatedLists.{stated-agree}
 use Rattle.mz_binary_theory.specs.Standards.{strict_standard}
 
@@ -126,35 +127,11 @@ module _ (P : Type 0) (line : List ℕ) where
   still-no outcomes.Mem (outcomes.No text') is on = absurd is
   still-no outcomes.Mem outcomes.Mem is on = tt
 
--- the answer over no file is that of the request
-module _ (r : Request) (xs : List (List ℕ)) (n : ℕ) (asked : r ≡ sample n) (read : xs ≡ []) where
-  pub sample-yes : (o : Outcome) → IfYes o (λ put text. (put ≡ None) × IsSampleUpheld n text) → IfYes o (λ put text. IsYesOf r xs put text)
-  sample-yes o is =
-      let P : Request → Type 0 = λ q. IfYes o (λ put text. IsYesOf q xs put text) in
-      let Q : List (List ℕ) → Type 0 = λ ys. IfYes o (λ put text. IsYesOf (sample n) ys put text) in
-      subst P (sym asked) (subst Q (sym read) is)
-
-  pub sample-no : (o : Outcome) → IfNo o (λ text. IsSampleFaulted n text) → IfNo o (λ text. IsNoOf r xs text)
-  sample-no o is =
-      let P : Request → Type 0 = λ q. IfNo o (λ text. IsNoOf q xs text) in
-      let Q : List (List ℕ) → Type 0 = λ ys. IfNo o (λ text. IsNoOf (sample n) ys text) in
-      subst P (sym asked) (subst Q (sym read) is)
-
-  pub sample-proved : (o : Outcome) → OnYes o (IsProvedByText (sample_specification n) (sample_text n)) → OnYes o (IsProvedOf r xs)
-  sample-proved o is = let P : Request → Type 0 = λ q. OnYes o (IsProvedOf q xs) in subst P (sym asked) is
-
-  pub sample-only_yes : (o : Outcome) → ((text : List ℕ) → IsSampleUpheld n text → OnNo o ⊥) → (put : Option (List ℕ)) (text : List ℕ) → IsYesOf r xs put text → OnNo o ⊥
-  sample-only_yes o none put text is =
-      let P : Request → Type 0 = λ q. IsYesOf q xs put text in
-      let Q : List (List ℕ) → Type 0 = λ ys. IsYesOf (sample n) ys put text in
-      none text (subst Q read (subst P asked is)).1
-
-  pub sample-only_no : (o : Outcome) → ((text : List ℕ) → IsSampleFaulted n text → OnYes o ⊥) → (text : List ℕ) → IsNoOf r xs text → OnYes o ⊥
-  sample-only_no o none text is =
-      let P : Request → Type 0 = λ q. IsNoOf q xs text in
-      let Q : List (List ℕ) → Type 0 = λ ys. IsNoOf (sample n) ys text in
-      none text (subst Q read (subst P asked is))
-
 -- what holds of two lists holds of the same ones
 pub at-sample : (a b x y : List ℕ) (P : List ℕ → List ℕ → Type 0) → a ≡ x → b ≡ y → P a b → P x y
 at-sample a b x y P e f p = subst (P x) f (subst (λ (z : List ℕ). P z b) e p)
+
+-- where no file is read there are no contents
+pub none-read : (xs : List (List ℕ)) → length xs ≡ 0 → xs ≡ []
+none-read [] e = refl
+none-read (x ∷ xs) e = absurd (omega (arith, e))

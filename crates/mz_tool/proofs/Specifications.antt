@@ -8,7 +8,7 @@ use Rattle.mz_prefix.specs.SpecTexts.{IsWording, IsDecided}
 use Rattle.mz_match_theory.specs.Verdict.{Accepts}
 use Rattle.mz_emit_accepted_theory.specs.Compiling.{CompilesTo}
 use Rattle.mz_prefix_theory.specs.AgreeLaws.{DeclaresText}
-use Rattle.mz_tool.specs.Run.{IsSpecifiedTo, IsNotSpecified, AreItsSpecifications}
+use Rattle.mz_tool.specs.Specify.{IsSpecifiedTo, IsNotSpecified, AreItsSpecifications}
 use Rattle.mz_tool.specs.Specified.{spec_line}
 
 -- a specification is no longer than a file that is read

@@ -1,18 +1,12 @@
 -- The line of what making a text of a binary answers (this project's own).
 use Rattle.std.specs.Prelude.{⊤, ℕ, List, [], length}
 use Rattle.mz_match_theory.specs.Verdict.{line_of}
-use Rattle.mz_emit_accepted_theory.specs.declared.rule.L.TheVariants.{Bytes}
-use Rattle.mz_emit_accepted_theory.specs.Lines.{limit_line}
-use Rattle.mz_decompile_theory.specs.Restated.{Unstated, deep, too_long}
+use Rattle.mz_decompile_theory.specs.Restated.{deep, too_long}
 use Rattle.mz_decompile.specs.declared.decompiled.Decompiled.{Decompiled}
 use Rattle.mz_decompile.specs.declared.decompiled.Decompiled.TheVariants as answers
-use Rattle.mz_decompile.specs.Printed.{decompiled_line, deep_line}
-use Rattle.mz_tool.specs.Judging.{IsRefusal}
-
--- the line of what stands against a text
-abbrev pub unstated_line : Unstated → List ℕ
-unstated_line (deep statement) = deep_line statement
-unstated_line (too_long count) = limit_line Bytes count
+use Rattle.mz_decompile.specs.Printed.{decompiled_line}
+use Rattle.mz_tool_verify.specs.Judging.{IsRefusal}
+use Rattle.mz_tool.specs.Decompile.{unstated_line}
 
 -- want of memory has none
 abbrev pub text_line : Decompiled → List ℕ

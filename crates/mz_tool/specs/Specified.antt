@@ -5,7 +5,7 @@ use Rattle.mz_prefix_theory.specs.Wording.{local_in, long_in, too_long}
 use Rattle.mz_prefix.specs.Told.{specified_line}
 use Rattle.mz_prefix.specs.declared.spec_text.SpecText.{SpecText}
 use Rattle.mz_prefix.specs.declared.spec_text.SpecText.TheVariants as answers
-use Rattle.mz_tool.specs.Run.{unwritten_line}
+use Rattle.mz_tool.specs.Specify.{unwritten_line}
 
 abbrev pub spec_line : SpecText → List ℕ
 spec_line (answers.Text bytes) = specified_line (length bytes.items)

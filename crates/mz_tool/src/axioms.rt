@@ -2,19 +2,52 @@
 ghost use Rattle.std.specs.Prelude.{◌≡◌, ◌<◌, ◌^◌, ℕ, List, None, length};
 ghost use Rattle.mz_match_theory.specs.Verdict.{IsSound};
 ghost use Rattle.mz_axioms.specs.Reading.{IsAxiomsRead};
-ghost use Rattle.mz_tool.specs.Run.{AreAxiomsTold, IsRefuted};
-ghost use Rattle.mz_tool.specs.Outcomes.{IfYes, IfNo, OnYes, OnNo};
+ghost use Rattle.mz_tool_engine.specs.Outcomes.{IfYes, IfNo, OnYes, OnNo};
+ghost use Rattle.mz_tool_verify.specs.Verify.{IsRefuted};
+ghost use Rattle.mz_tool.specs.Axioms.{AreAxiomsTold};
 
-use crate::outcome::Outcome;
-use crate::output::Put;
 use mz_axioms::{AxiomsRead, axioms_of, axioms_text};
 use mz_cmd::Steps;
+use mz_io::{Failed, Sink};
 use mz_match::verdict_line;
 use mz_match_theory::{accepted_pairs_are_sound, each_pair_has_one_verdict};
 use mz_store::Seed;
+use mz_tool_engine::{Command, Contents, Inputs, Outcome, Output, Put};
 use std::alloc::Global;
 use std::marker::Brand;
 use std::sync::ledger::{Blank, Ledger};
+
+/// `axioms SPEC BIN`: the names of the files, and the seed with which the terms of the binary's bodies are numbered.
+#[derive(Clone, Copy)]
+pub struct AxiomsCommand<'a> {
+    pub seed: Seed,
+    pub spec: &'a str,
+    pub bin: &'a str,
+}
+
+impl<'a> Command for AxiomsCommand<'a> {
+    ghost use Rattle.mz_tool.specs.Axioms.{axioms_says};
+
+    ghost says = { λ command. axioms_says command.spec.now command.bin.now };
+
+    fn inputs(&self) -> Inputs<'_> {
+        Inputs::Two(self.spec, self.bin)
+    }
+
+    fn output(&self) -> Output<'_> {
+        Output::Nothing
+    }
+
+    fn answer<O: Sink>(
+        &self,
+        alloc: Global,
+        contents: &Contents,
+        out: &mut O,
+    ) -> Result<Outcome, Failed> {
+        let (spec, bin) = contents.two();
+        Ok(axioms(alloc, self.seed, spec, bin))
+    }
+}
 
 /// Tells on which axioms each theorem of a specification rests, where a binary is accepted against it.
 pub fn axioms(alloc: Global, seed: Seed, spec: &[u8], bin: &[u8]) -> Outcome

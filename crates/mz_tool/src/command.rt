@@ -1,82 +1,54 @@
 // The words given to the program.
-ghost use Rattle.std.specs.Prelude.{◌≡◌, [], ◌∷◌, map, string_bytes, IfSome, IfNone};
-ghost use Rattle.mz_tool.specs.Request.{Request, Asks, names_read, name_put};
-ghost use Rattle.mz_tool.specs.Inputs.{names_of, name_of};
+ghost use Rattle.std.specs.Prelude.{[], ◌∷◌, map, string_bytes, IfSome, IfNone};
+ghost use Rattle.mz_tool_engine.specs.Run.{Asks};
+ghost use Rattle.mz_tool.specs.Requests.{Request, said_of};
 
-use crate::inputs::Inputs;
-use crate::output::Output;
+use crate::assemble::AssembleCommand;
+use crate::axioms::AxiomsCommand;
+use crate::compile::CompileCommand;
+use crate::decompile::DecompileCommand;
+use crate::draft::DraftCommand;
+use crate::portable::PortableCommand;
+use crate::sample::SampleCommand;
 use crate::size::SampleSize;
+use crate::specify::SpecifyCommand;
 use mz_base::Mode;
+use mz_io::{Failed, Sink};
+use mz_store::Seed;
+use mz_tool_engine::{Command, Contents, Inputs, Outcome, Output};
+use mz_tool_verify::{ShowCommand, VerifyCommand};
+use std::alloc::Global;
 
-/// A command of the program, with the names of its files, or the size of its sample.
+/// A command of the program.
 #[derive(Clone, Copy)]
-pub enum Command<'a> {
-    /// `verify SPEC BIN`
-    Verify {
-        spec: &'a str,
-        bin: &'a str,
-    },
-    /// `show BIN`
-    Show {
-        bin: &'a str,
-    },
-    /// `compile TEXT OUT`, and `compile_draft TEXT OUT` for a draft
-    Compile {
-        mode: Mode,
-        text: &'a str,
-        out: &'a str,
-    },
-    /// `assemble LIST OUT`
-    Assemble {
-        listing: &'a str,
-        out: &'a str,
-    },
-    /// `axioms SPEC BIN`
-    Axioms {
-        spec: &'a str,
-        bin: &'a str,
-    },
-    /// `draft SPEC BIN`
-    Draft {
-        spec: &'a str,
-        bin: &'a str,
-    },
-    /// `portable SPEC BIN`
-    Portable {
-        spec: &'a str,
-        bin: &'a str,
-    },
-    /// `spec TEXT OUT`
-    Specify {
-        text: &'a str,
-        out: &'a str,
-    },
-    /// `decompile SPEC BIN OUT`
-    Decompile {
-        spec: &'a str,
-        bin: &'a str,
-        out: &'a str,
-    },
-    /// `sample N`
-    Sample {
-        size: SampleSize,
-    },
+pub enum ProgramCommand<'a> {
+    Verify(VerifyCommand<'a>),
+    Show(ShowCommand<'a>),
+    Compile(CompileCommand<'a>),
+    Assemble(AssembleCommand<'a>),
+    Axioms(AxiomsCommand<'a>),
+    Draft(DraftCommand<'a>),
+    Portable(PortableCommand<'a>),
+    Specify(SpecifyCommand<'a>),
+    Decompile(DecompileCommand<'a>),
+    Sample(SampleCommand),
 }
 
-impl<'a> Command<'a> {
-    ghost use Rattle.mz_tool.specs.Asked.{request};
+impl<'a> ProgramCommand<'a> {
+    ghost use Rattle.mz_tool.specs.Requests.{request};
 
     /// The command that the words ask for, where they ask for one.
-    pub fn read(words: &'a [String]) -> Option<Command<'a>>
-        ensures asked { IfSome result (λ command. Asks (map string_bytes words.now) (request command)) }
-        ensures usage { IfNone result ((asked : Request) → Asks (map string_bytes words.now) asked → ⊥) }
+    pub fn read(seed: Seed, words: &'a [String]) -> Option<ProgramCommand<'a>>
+        ensures asked { IfSome result (λ command. Asks (said_of (request command)) (map string_bytes words.now)) }
+        ensures usage { IfNone result ((asked : Request) → Asks (said_of asked) (map string_bytes words.now) → ⊥) }
     {
         match words {
-            [command, word] => Command::of_one(command.as_str(), word.as_str()),
+            [command, word] => ProgramCommand::of_one(command.as_str(), word.as_str()),
             [command, first, second] => {
-                Command::of_two(command.as_str(), first.as_str(), second.as_str())
+                ProgramCommand::of_two(seed, command.as_str(), first.as_str(), second.as_str())
             }
-            [command, first, second, third] => Command::of_three(
+            [command, first, second, third] => ProgramCommand::of_three(
+                seed,
                 command.as_str(),
                 first.as_str(),
                 second.as_str(),
@@ -87,112 +59,125 @@ impl<'a> Command<'a> {
     }
 
     /// The command of this name, with one word more.
-    fn of_one(name: &str, word: &'a str) -> Option<Command<'a>>
-        ensures asked { IfSome result (λ command. Asks (name.now ∷ word.now ∷ []) (request command)) }
-        ensures usage { IfNone result ((asked : Request) → Asks (name.now ∷ word.now ∷ []) asked → ⊥) }
+    fn of_one(name: &str, word: &'a str) -> Option<ProgramCommand<'a>>
+        ensures asked { IfSome result (λ command. Asks (said_of (request command)) (name.now ∷ word.now ∷ [])) }
+        ensures usage { IfNone result ((asked : Request) → Asks (said_of asked) (name.now ∷ word.now ∷ []) → ⊥) }
     {
         match name {
-            "show" => Some(Command::Show { bin: word }),
+            "show" => Some(ProgramCommand::Show(ShowCommand { bin: word })),
             "sample" => {
                 let size = SampleSize::read(word)?;
-                Some(Command::Sample { size })
+                Some(ProgramCommand::Sample(SampleCommand { size }))
             }
             _ => None,
         }
     }
 
     /// The command of this name, with two words more.
-    fn of_two(name: &str, first: &'a str, second: &'a str) -> Option<Command<'a>>
-        ensures asked { IfSome result (λ command. Asks (name.now ∷ first.now ∷ second.now ∷ []) (request command)) }
-        ensures usage { IfNone result ((asked : Request) → Asks (name.now ∷ first.now ∷ second.now ∷ []) asked → ⊥) }
+    fn of_two(seed: Seed, name: &str, first: &'a str, second: &'a str) -> Option<ProgramCommand<'a>>
+        ensures asked { IfSome result (λ command. Asks (said_of (request command)) (name.now ∷ first.now ∷ second.now ∷ [])) }
+        ensures usage { IfNone result ((asked : Request) → Asks (said_of asked) (name.now ∷ first.now ∷ second.now ∷ []) → ⊥) }
     {
+        let (spec, bin) = (first, second);
+        let (text, out) = (first, second);
         match name {
-            "verify" => Some(Command::Verify {
-                spec: first,
-                bin: second,
-            }),
-            "compile" => Some(Command::Compile {
+            "verify" => Some(ProgramCommand::Verify(VerifyCommand { seed, spec, bin })),
+            "compile" => Some(ProgramCommand::Compile(CompileCommand {
+                seed,
                 mode: Mode::Strict,
-                text: first,
-                out: second,
-            }),
-            "compile_draft" => Some(Command::Compile {
+                text,
+                out,
+            })),
+            "compile_draft" => Some(ProgramCommand::Compile(CompileCommand {
+                seed,
                 mode: Mode::Draft,
-                text: first,
-                out: second,
-            }),
-            "assemble" => Some(Command::Assemble {
-                listing: first,
-                out: second,
-            }),
-            "axioms" => Some(Command::Axioms {
-                spec: first,
-                bin: second,
-            }),
-            "draft" => Some(Command::Draft {
-                spec: first,
-                bin: second,
-            }),
-            "portable" => Some(Command::Portable {
-                spec: first,
-                bin: second,
-            }),
-            "spec" => Some(Command::Specify {
-                text: first,
-                out: second,
-            }),
+                text,
+                out,
+            })),
+            "assemble" => Some(ProgramCommand::Assemble(AssembleCommand { listing: text, out })),
+            "axioms" => Some(ProgramCommand::Axioms(AxiomsCommand { seed, spec, bin })),
+            "draft" => Some(ProgramCommand::Draft(DraftCommand { seed, spec, bin })),
+            "portable" => Some(ProgramCommand::Portable(PortableCommand { seed, spec, bin })),
+            "spec" => Some(ProgramCommand::Specify(SpecifyCommand { seed, text, out })),
             _ => None,
         }
     }
 
     /// The command of this name, with three words more.
-    fn of_three(name: &str, first: &'a str, second: &'a str, third: &'a str) -> Option<Command<'a>>
-        ensures asked { IfSome result (λ command. Asks (name.now ∷ first.now ∷ second.now ∷ third.now ∷ []) (request command)) }
-        ensures usage { IfNone result ((asked : Request) → Asks (name.now ∷ first.now ∷ second.now ∷ third.now ∷ []) asked → ⊥) }
+    fn of_three(
+        seed: Seed,
+        name: &str,
+        spec: &'a str,
+        bin: &'a str,
+        out: &'a str,
+    ) -> Option<ProgramCommand<'a>>
+        ensures asked { IfSome result (λ command. Asks (said_of (request command)) (name.now ∷ spec.now ∷ bin.now ∷ out.now ∷ [])) }
+        ensures usage { IfNone result ((asked : Request) → Asks (said_of asked) (name.now ∷ spec.now ∷ bin.now ∷ out.now ∷ []) → ⊥) }
     {
         match name {
-            "decompile" => Some(Command::Decompile {
-                spec: first,
-                bin: second,
-                out: third,
-            }),
+            "decompile" => Some(ProgramCommand::Decompile(DecompileCommand {
+                seed,
+                spec,
+                bin,
+                out,
+            })),
             _ => None,
         }
     }
+}
 
-    /// The files that it reads, in order.
-    pub fn inputs(self) -> Inputs<'a>
-        ensures { names_of result ≡ names_read (request self.entry) }
-    {
+impl<'a> Command for ProgramCommand<'a> {
+    ghost use Rattle.mz_tool.specs.Requests.{request};
+
+    ghost says = { λ command. said_of (request command) };
+
+    fn inputs(&self) -> Inputs<'_> {
         match self {
-            Command::Verify { spec, bin } => Inputs::Two(spec, bin),
-            Command::Show { bin } => Inputs::One(bin),
-            Command::Compile { text, .. } => Inputs::One(text),
-            Command::Assemble { listing, .. } => Inputs::One(listing),
-            Command::Axioms { spec, bin } => Inputs::Two(spec, bin),
-            Command::Draft { spec, bin } => Inputs::Two(spec, bin),
-            Command::Portable { spec, bin } => Inputs::Two(spec, bin),
-            Command::Specify { text, .. } => Inputs::One(text),
-            Command::Decompile { spec, bin, .. } => Inputs::Two(spec, bin),
-            Command::Sample { .. } => Inputs::Nothing,
+            ProgramCommand::Verify(command) => command.inputs(),
+            ProgramCommand::Show(command) => command.inputs(),
+            ProgramCommand::Compile(command) => command.inputs(),
+            ProgramCommand::Assemble(command) => command.inputs(),
+            ProgramCommand::Axioms(command) => command.inputs(),
+            ProgramCommand::Draft(command) => command.inputs(),
+            ProgramCommand::Portable(command) => command.inputs(),
+            ProgramCommand::Specify(command) => command.inputs(),
+            ProgramCommand::Decompile(command) => command.inputs(),
+            ProgramCommand::Sample(command) => command.inputs(),
         }
     }
 
-    /// The file that it puts, where it puts one.
-    pub fn output(self) -> Output<'a>
-        ensures { name_of result ≡ name_put (request self.entry) }
-    {
+    fn output(&self) -> Output<'_> {
         match self {
-            Command::Verify { .. }
-            | Command::Show { .. }
-            | Command::Axioms { .. }
-            | Command::Draft { .. }
-            | Command::Portable { .. }
-            | Command::Sample { .. } => Output::Nothing,
-            Command::Compile { out, .. }
-            | Command::Assemble { out, .. }
-            | Command::Specify { out, .. }
-            | Command::Decompile { out, .. } => Output::File(out),
+            ProgramCommand::Verify(command) => command.output(),
+            ProgramCommand::Show(command) => command.output(),
+            ProgramCommand::Compile(command) => command.output(),
+            ProgramCommand::Assemble(command) => command.output(),
+            ProgramCommand::Axioms(command) => command.output(),
+            ProgramCommand::Draft(command) => command.output(),
+            ProgramCommand::Portable(command) => command.output(),
+            ProgramCommand::Specify(command) => command.output(),
+            ProgramCommand::Decompile(command) => command.output(),
+            ProgramCommand::Sample(command) => command.output(),
+        }
+    }
+
+    fn answer<O: Sink>(
+        &self,
+        alloc: Global,
+        contents: &Contents,
+        out: &mut O,
+    ) -> Result<Outcome, Failed> {
+        match self {
+            ProgramCommand::Verify(command) => command.answer(alloc, contents, out),
+            ProgramCommand::Show(command) => command.answer(alloc, contents, out),
+            ProgramCommand::Compile(command) => command.answer(alloc, contents, out),
+            ProgramCommand::Assemble(command) => command.answer(alloc, contents, out),
+            ProgramCommand::Axioms(command) => command.answer(alloc, contents, out),
+            ProgramCommand::Draft(command) => command.answer(alloc, contents, out),
+            ProgramCommand::Portable(command) => command.answer(alloc, contents, out),
+            ProgramCommand::Specify(command) => command.answer(alloc, contents, out),
+            ProgramCommand::Decompile(command) => command.answer(alloc, contents, out),
+            ProgramCommand::Sample(command) => command.answer(alloc, contents, out),
         }
     }
 }

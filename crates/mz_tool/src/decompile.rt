@@ -1,26 +1,59 @@
 // The command `decompile`.
-ghost use Rattle.std.specs.Prelude.{◌≡◌, ◌≤◌, ◌<◌, ◌^◌, IfOk, ℕ, List, Option, Some, length};
+ghost use Rattle.std.specs.Prelude.{◌≡◌, ◌<◌, ◌^◌, IfOk, ℕ, List, Option, length};
 ghost use Rattle.mz_match_theory.specs.Verdict.{IsSound};
 ghost use Rattle.mz_decompile.specs.Decompiling.{IsDecompilation, IsTextForPair};
+ghost use Rattle.mz_tool_engine.specs.Answering.{IsShort};
+ghost use Rattle.mz_tool_engine.specs.Outcomes.{IfYes, IfNo, OnYes, OnNo};
+ghost use Rattle.mz_tool.specs.Decompile.{AreItsTexts, IsDecompiledTo, IsNotDecompiled};
 ghost use Rattle.mz_tool.specs.Decompiled.{text_line, HasLine};
-ghost use Rattle.mz_prefix_theory.specs.Wording.{longest};
-ghost use Rattle.mz_tool.specs.Run.{AreItsTexts, IsDecompiledTo, IsNotDecompiled};
-ghost use Rattle.mz_tool.specs.Outcomes.{IfYes, IfNo, OnYes, OnNo};
 
-use crate::outcome::Outcome;
-use crate::output::Put;
 use mz_cmd::{Mem, Steps};
 use mz_decompile::{
     Decompiled, decompilation_is_decided, decompile_bytes, decompiled_line, deep_line,
 };
 use mz_emit::compiled_line;
 use mz_emit_accepted_theory::{Compiled, L};
+use mz_io::{Failed, Sink};
 use mz_match::verdict_line;
 use mz_match_theory::accepted_pairs_are_sound;
 use mz_store::Seed;
+use mz_tool_engine::{Command, Contents, Inputs, Outcome, Output, Put};
 use std::alloc::Global;
 use std::marker::Brand;
 use std::sync::ledger::{Blank, Ledger};
+
+/// `decompile SPEC BIN OUT`: the names of the files, and the seed with which the terms of the binary's bodies are numbered.
+#[derive(Clone, Copy)]
+pub struct DecompileCommand<'a> {
+    pub seed: Seed,
+    pub spec: &'a str,
+    pub bin: &'a str,
+    pub out: &'a str,
+}
+
+impl<'a> Command for DecompileCommand<'a> {
+    ghost use Rattle.mz_tool.specs.Decompile.{decompile_says};
+
+    ghost says = { λ command. decompile_says command.spec.now command.bin.now command.out.now };
+
+    fn inputs(&self) -> Inputs<'_> {
+        Inputs::Two(self.spec, self.bin)
+    }
+
+    fn output(&self) -> Output<'_> {
+        Output::File(self.out)
+    }
+
+    fn answer<O: Sink>(
+        &self,
+        alloc: Global,
+        contents: &Contents,
+        out: &mut O,
+    ) -> Result<Outcome, Failed> {
+        let (spec, bin) = contents.two();
+        Ok(decompile(alloc, self.seed, spec, bin))
+    }
+}
 
 /// The line that tells an answer other than want of memory.
 fn line_of(alloc: Global, made: &Decompiled) -> Result<Vec<u8>, Mem>
@@ -48,7 +81,7 @@ pub fn decompile(alloc: Global, seed: Seed, spec: &[u8], bin: &[u8]) -> Outcome
     requires spec { length spec.now < 2 ^ 32 }
     requires bin { length bin.now < 2 ^ 32 }
     ensures yes { IfYes result (λ put line. IsDecompiledTo spec.now bin.now put line) }
-    ensures short { IfYes result (λ put line. (bytes : List ℕ) → put ≡ Some bytes → length bytes ≤ longest) }
+    ensures short { IfYes result (λ put line. IsShort put) }
     ensures no { IfNo result (λ line. IsNotDecompiled spec.now bin.now line) }
     ensures sound { OnYes result (IsSound spec.now bin.now × AreItsTexts spec.now bin.now) }
     ensures only_yes { (put : Option (List ℕ)) (line : List ℕ) → IsDecompiledTo spec.now bin.now put line → OnNo result ⊥ }

@@ -5,19 +5,52 @@ ghost use Rattle.mz_match_theory.specs.declared.verdict.Verdict.{Verdict as TheV
 ghost use Rattle.mz_match_theory.specs.declared.verdict.Verdict.TheVariants as verdicts;
 ghost use Rattle.mz_match.specs.Drafts.{IsDraft, IsDraftSound, IsDraftSoundIfAccepted, verdict_of};
 ghost use Rattle.mz_match_theory.specs.Verdict.{AcceptsWithBy, FirstRefusalBy};
-ghost use Rattle.mz_tool.specs.Run.{IsDraftTold, IsRefutedBy};
-ghost use Rattle.mz_tool.specs.Outcomes.{IfYes, IfNo, OnYes, OnNo};
+ghost use Rattle.mz_tool_engine.specs.Outcomes.{IfYes, IfNo, OnYes, OnNo};
+ghost use Rattle.mz_tool_verify.specs.Verify.{IsRefutedBy};
+ghost use Rattle.mz_tool.specs.Draft.{IsDraftTold};
 
-use crate::outcome::Outcome;
-use crate::output::Put;
 use mz_axioms::gaps_text;
 use mz_cmd::Steps;
+use mz_io::{Failed, Sink};
 use mz_match::{Draft, draft_bytes, verdict_line};
 use mz_match_theory::{Counts, Verdict};
 use mz_store::Seed;
+use mz_tool_engine::{Command, Contents, Inputs, Outcome, Output, Put};
 use std::alloc::Global;
 use std::marker::Brand;
 use std::sync::ledger::{Blank, Ledger};
+
+/// `draft SPEC BIN`: the names of the files, and the seed with which the terms of the binary's bodies are numbered.
+#[derive(Clone, Copy)]
+pub struct DraftCommand<'a> {
+    pub seed: Seed,
+    pub spec: &'a str,
+    pub bin: &'a str,
+}
+
+impl<'a> Command for DraftCommand<'a> {
+    ghost use Rattle.mz_tool.specs.Draft.{draft_says};
+
+    ghost says = { λ command. draft_says command.spec.now command.bin.now };
+
+    fn inputs(&self) -> Inputs<'_> {
+        Inputs::Two(self.spec, self.bin)
+    }
+
+    fn output(&self) -> Output<'_> {
+        Output::Nothing
+    }
+
+    fn answer<O: Sink>(
+        &self,
+        alloc: Global,
+        contents: &Contents,
+        out: &mut O,
+    ) -> Result<Outcome, Failed> {
+        let (spec, bin) = contents.two();
+        Ok(draft(alloc, self.seed, spec, bin))
+    }
+}
 
 /// Tells which theorems of a specification rest on a gap, where a binary whose proofs may have gaps is
 /// accepted against it.

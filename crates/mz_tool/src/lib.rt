@@ -2,8 +2,10 @@
 //! makes them of listings, tells what theorems rest on and which of them rest on a gap, compiles proof
 //! texts, writes specifications for them, makes texts of binaries, and tries itself on samples.
 //!
-//! `specs/Request.antt` says what the words ask for, and `specs/Run.antt` what is answered. The
-//! program itself (`mz_main`) hands [`run`] the folder and the output of the system.
+//! `specs/Requests.antt` says what the words ask for. All that is said of a command stands in a file of
+//! its own, as `specs/Compile.antt`; of `verify` and `show` in `mz_tool_verify`. What a run is says the
+//! engine (`mz_tool_engine`). The program itself (`mz_main`) hands [`run`] the folder and the output of the
+//! system.
 #![tactic(auto)]
 
 mod assemble;
@@ -12,22 +14,22 @@ mod command;
 mod compile;
 mod decompile;
 mod draft;
-mod inputs;
-mod outcome;
-mod output;
 mod portable;
 mod program;
 mod sample;
-mod show;
 mod size;
 mod specify;
-mod status;
-mod verdict;
-mod verify;
-mod whole;
 
-pub use command::Command;
+pub use assemble::AssembleCommand;
+pub use axioms::AxiomsCommand;
+pub use command::ProgramCommand;
+pub use compile::CompileCommand;
+pub use decompile::DecompileCommand;
+pub use draft::DraftCommand;
 pub use mz_store::Seed;
-pub use program::{answer, run};
+pub use mz_tool_engine::{LONGEST, Status, answer};
+pub use portable::PortableCommand;
+pub use program::{Mz, run};
+pub use sample::SampleCommand;
 pub use size::SampleSize;
-pub use status::{LONGEST, Status};
+pub use specify::SpecifyCommand;

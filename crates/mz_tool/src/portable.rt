@@ -3,18 +3,51 @@ ghost use Rattle.std.specs.Prelude.{◌≡◌, ◌<◌, ◌⊎◌, ◌^◌, ℕ,
 ghost use Rattle.mz_binary_theory.specs.declared.standard.Standard.TheVariants.{Portable};
 ghost use Rattle.mz_match_theory.specs.Verdict.{Accepts, IsSoundIfAccepted, IsSound};
 ghost use Rattle.mz_portable.specs.Portable.{FirstPortableRefusal, IsAcceptedByTable, IsPortableVerdict, PortablyAccepts};
-ghost use Rattle.mz_tool.specs.Run.{IsVerifiedBy, IsRefutedBy};
-ghost use Rattle.mz_tool.specs.Outcomes.{IfYes, IfNo, OnYes, OnNo};
+ghost use Rattle.mz_tool_engine.specs.Outcomes.{IfYes, IfNo, OnYes, OnNo};
+ghost use Rattle.mz_tool_verify.specs.Verify.{IsVerifiedBy, IsRefutedBy};
 
-use crate::outcome::Outcome;
-use crate::verdict::answered_by;
 use mz_cmd::Steps;
+use mz_io::{Failed, Sink};
 use mz_match_theory::{Counts, Verdict};
 use mz_portable::portable_bytes;
 use mz_store::Seed;
+use mz_tool_engine::{Command, Contents, Inputs, Outcome, Output};
+use mz_tool_verify::answered_by;
 use std::alloc::Global;
 use std::marker::Brand;
 use std::sync::ledger::{Blank, Ledger};
+
+/// `portable SPEC BIN`: the names of the files, and the seed with which the terms of the binary's bodies are numbered.
+#[derive(Clone, Copy)]
+pub struct PortableCommand<'a> {
+    pub seed: Seed,
+    pub spec: &'a str,
+    pub bin: &'a str,
+}
+
+impl<'a> Command for PortableCommand<'a> {
+    ghost use Rattle.mz_tool.specs.Portable.{portable_says};
+
+    ghost says = { λ command. portable_says command.spec.now command.bin.now };
+
+    fn inputs(&self) -> Inputs<'_> {
+        Inputs::Two(self.spec, self.bin)
+    }
+
+    fn output(&self) -> Output<'_> {
+        Output::Nothing
+    }
+
+    fn answer<O: Sink>(
+        &self,
+        alloc: Global,
+        contents: &Contents,
+        out: &mut O,
+    ) -> Result<Outcome, Failed> {
+        let (spec, bin) = contents.two();
+        Ok(portable(alloc, self.seed, spec, bin))
+    }
+}
 
 /// Judges a binary against a specification as verifiers do that compare addresses.
 pub fn portable(alloc: Global, seed: Seed, spec: &[u8], bin: &[u8]) -> Outcome

@@ -1,20 +1,49 @@
 // The command `sample`.
 ghost use Rattle.std.specs.Prelude.{◌≡◌, ◌<◌, ◌^◌, ℕ, List, None, length};
 ghost use Rattle.mz_sample.specs.Samples.{sample_specification, sample_text};
-ghost use Rattle.mz_tool.specs.Run.{IsUpheld, IsFaulted, IsProvedByText, IsSampleUpheld, IsSampleFaulted};
-ghost use Rattle.mz_tool.specs.Outcomes.{IfYes, IfNo, OnYes, OnNo, IsAfter};
+ghost use Rattle.mz_tool_engine.specs.Outcomes.{IfYes, IfNo, OnYes, OnNo, IsAfter};
+ghost use Rattle.mz_tool.specs.Sample.{IsUpheld, IsFaulted, IsProvedByText, IsSampleUpheld, IsSampleFaulted};
 
 use crate::compile::compile;
-use crate::outcome::Outcome;
-use crate::output::Put;
 use crate::size::SampleSize;
-use crate::verify::verify;
 use mz_base::Mode;
 use mz_emit::compilation_is_decided;
+use mz_io::{Failed, Sink};
 use mz_sample::{sample_line, sample_specification, sample_text};
 use mz_store::Seed;
+use mz_tool_engine::{Command, Contents, Inputs, Outcome, Output, Put};
+use mz_tool_verify::verify;
 use mz_type::typed_or_faulty;
 use std::alloc::Global;
+
+/// `sample N`: the size of the sample.
+#[derive(Clone, Copy)]
+pub struct SampleCommand {
+    pub size: SampleSize,
+}
+
+impl Command for SampleCommand {
+    ghost use Rattle.mz_tool.specs.Sample.{sample_says};
+
+    ghost says = { λ command. sample_says command.size.number };
+
+    fn inputs(&self) -> Inputs<'_> {
+        Inputs::Nothing
+    }
+
+    fn output(&self) -> Output<'_> {
+        Output::Nothing
+    }
+
+    fn answer<O: Sink>(
+        &self,
+        alloc: Global,
+        contents: &Contents,
+        out: &mut O,
+    ) -> Result<Outcome, Failed> {
+        Ok(sample(alloc, self.size))
+    }
+}
 
 /// Makes a sample, compiles its text, and verifies the binary against its specification. The line on
 /// how long both are comes before that of the verdict.

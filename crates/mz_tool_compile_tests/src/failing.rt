@@ -5,7 +5,7 @@ use crate::runs::{folder_of, words_of};
 use crate::texts::SORT;
 use mz_io::{Folder, MemFolder, MemSink};
 use mz_store::Seed;
-use mz_tool::{Command, Status, answer, run};
+use mz_tool::{ProgramCommand, Status, answer, run};
 use std::process::Abort;
 
 const ACCEPTED_ONE: &str = "accepted: 1 sorts, 0 terms, 0 axioms, 0 definitions, 0 theorems\n";
@@ -211,9 +211,9 @@ fn expect_within(
     let mut folder = smallest(rt);
     let mut out = MemSink::new(alloc, 200).expect(rt, "memory");
     let words = words_of(alloc, line).expect(rt, "memory");
-    let command = Command::read(&words).expect(rt, line);
+    let command = ProgramCommand::read(Seed::FIXED, &words).expect(rt, line);
     let limit = u64::from(limit);
-    let status = answer(alloc, Seed::FIXED, limit, command, &mut folder, &mut out);
+    let status = answer(alloc, limit, &command, &mut folder, &mut out);
     assert!(rt; status == wanted, "{line} within {limit} bytes");
     assert!(rt;
         out.bytes() == text.as_bytes(),

@@ -1,5 +1,5 @@
 -- How a run ends, put together of its parts.
-use Rattle.std.proofs.Common.{◌≡◌, ◌≤◌, ◌++◌, ◌∙◌, ◌⊎◌, [], ◌∷◌, ℕ, suc, List, Option, Some, None, Ok, true, false, length, refl, sym, ap, subst, inl, inr, arith}
+use Rattle.std.proofs.Common.{◌≡◌, ◌≤◌, ◌++◌, ◌∙◌, ◌⊎◌, [], ◌∷◌, ℕ, suc, List, Option, Some, None, Ok, true, false, length, refl, sym, ap, subst, inl, inr}
 use Rattle.std.proofs.lemmas.List.{append-nil}
 use Rattle.std.proofs.lemmas.Option.{none-some}
 use Rattle.mz_io.specs.Calls.{Call, puts, Grows, IsWritten, IsCut, Hold}

@@ -9,13 +9,13 @@ use Rattle.mz_tool_engine.specs.declared.status.Status.TheVariants.{Done}
 
 module _ (file : Files) where
   -- what is told of a row of calls is told of its parts
-  gives-part : (before part after calls : List Call) → calls ≡ before ++ (part ++ after) → Gives file calls → Gives file part
+  pub gives-part : (before part after calls : List Call) → calls ≡ before ++ (part ++ after) → Gives file calls → Gives file part
   gives-part before part after calls e given = record {
     whole = λ name bytes a b c f read. given.whole name bytes (before ++ a) b (c ++ after) (e ∙ ap (λ p. before ++ (p ++ after)) f ∙ simp append_assoc) read;
     front = λ name bytes a b c f begun. given.front name bytes (before ++ a) b (c ++ after) (e ∙ ap (λ p. before ++ (p ++ after)) f ∙ simp append_assoc) begun;
   }
 
-  gives-later : (first later calls : List Call) → calls ≡ first ++ later → Gives file calls → Gives file later
+  pub gives-later : (first later calls : List Call) → calls ≡ first ++ later → Gives file calls → Gives file later
   gives-later first later calls e given = gives-part first later [] calls (e ∙ ap (λ last. first ++ last) (sym (append-nil later))) given
 
   pub read-holds : (names contents : List (List ℕ)) (calls : List Call) → Gives file calls → AreRead names contents calls → Hold file names contents

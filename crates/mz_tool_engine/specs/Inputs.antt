@@ -44,3 +44,10 @@ IfRead (reads.Contents read) P = P (contents_of read)
 IfRead reads.TooLong P = Unit {0}
 IfRead reads.Fault P = Unit {0}
 IfRead reads.Mem P = Unit {0}
+
+-- a fact, where a call on the folder failed
+abbrev pub OnReadFault : ReadAll → Type 0 → Type 0
+OnReadFault (reads.Contents read) P = Unit {0}
+OnReadFault reads.TooLong P = Unit {0}
+OnReadFault reads.Fault P = P
+OnReadFault reads.Mem P = Unit {0}

@@ -1,8 +1,9 @@
 pub mod Said
-pub mod Inputs
 pub mod Run
+pub mod Given
+pub mod Follows
 pub mod Files
+pub mod Inputs
 pub mod Outcomes
 pub mod Answering
-pub mod Given
 pub mod Ending

@@ -1,7 +1,7 @@
 -- What a run of a command is: every call that it makes on a folder and a sink, what these answered, and how it ends
 -- (this project's own). The calls are those of mz_io's `Calls`; what is said of a command stands in `Said`, which each
 -- command fills in a file of its own.
-use Rattle.std.specs.Prelude.{◌≡◌, ◌++◌, ◌⊎◌, ℕ, Bool, true, false, List, [], ◌∷◌, Option, Some, None}
+use Rattle.std.specs.Prelude.{◌≡◌, ◌++◌, ◌⊎◌, ℕ, Bool, true, false, List, [], ◌∷◌, Option, Some, None, refl}
 use Rattle.mz_io.specs.Calls.{Call, puts, IsBegun, IsRead, IsUnread, IsOver, IsWritten, IsCut, Hold}
 use Rattle.mz_tool_engine.specs.Said.{Said, Files}
 use Rattle.mz_tool_engine.specs.declared.status.Status.{Status}
@@ -104,6 +104,13 @@ IsRunOf limit said statuses.Memory calls written =
 abbrev pub Asks : Said → List (List ℕ) → Type 0
 Asks said words = (words ≡ said.words) × said.is_in_range
 
+-- something of the request that the words ask for; something of each that they ask for, and they ask for one at the most
+abbrev pub SomeAsked : {R : Type 0} → (R → Said) → List (List ℕ) → (Said → Type 0) → Type 0
+SomeAsked {R} said_of words P = (asked : R) × Asks (said_of asked) words × P (said_of asked)
+
+abbrev pub EachAsked : {R : Type 0} → (R → Said) → List (List ℕ) → (Said → Type 0) → Type 0
+EachAsked {R} said_of words P = (asked : R) → Asks (said_of asked) words → P (said_of asked)
+
 -- The calls in a run with these words: none where they ask for nothing.
 abbrev pub IsRun : {R : Type 0} → (R → Said) → List (List ℕ) → Status → List Call → List Call → Type 0
 IsRun {R} said_of words status calls written =
@@ -121,3 +128,23 @@ IsNo file said text = (contents : List (List ℕ)) × Hold file said.reads conte
 
 abbrev pub IsProved : Files → Said → Type 0
 IsProved file said = (contents : List (List ℕ)) × Hold file said.reads contents × said.sound contents
+
+-- the answer; what is written as it is made
+abbrev pub IsAnswerOver : Files → Said → Option (List ℕ) → List ℕ → Type 0
+IsAnswerOver file said put text = (contents : List (List ℕ)) × Hold file said.reads contents × IsAnswer said contents put text
+
+abbrev pub IsBegunOver : Files → Said → List ℕ → Type 0
+IsBegunOver file said text = (contents : List (List ℕ)) × Hold file said.reads contents × said.begun contents text
+
+-- ---- what is said of a command is said of the request that it answers
+
+-- the files that it reads and puts are the same, and a run and an answer by the one are so by the other
+pub record IsSaidOf (said other : Said) : Type 0 where
+  pub reads : said.reads ≡ other.reads
+  pub puts : said.puts ≡ other.puts
+  pub ran : (limit : ℕ) (status : Status) (calls written : List Call) → IsRunOf limit said status calls written → IsRunOf limit other status calls written
+  pub answer : (contents : List (List ℕ)) (put : Option (List ℕ)) (text : List ℕ) → IsAnswer said contents put text → IsAnswer other contents put text
+
+-- it is so of any by itself
+pub said-itself : (said : Said) → IsSaidOf said said
+said-itself said = record { reads = refl; puts = refl; ran = λ limit status calls written ran. ran; answer = λ contents put text answer. answer }

@@ -1,6 +1,7 @@
 // A command, as the engine asks it.
 ghost use Rattle.std.specs.Prelude.{◌≡◌, ◌≤◌, ℕ, List, Option, length};
 ghost use Rattle.mz_io.specs.Calls.{Grows};
+ghost use Rattle.mz_io.specs.Outside.{HasCause};
 ghost use Rattle.mz_tool_engine.specs.Said.{Said};
 ghost use Rattle.mz_tool_engine.specs.Inputs.{names_of, name_of, contents_of, AreWithin};
 ghost use Rattle.mz_tool_engine.specs.Run.{IsAnswer, longest};
@@ -36,6 +37,9 @@ pub trait Command {
         requires files { length (contents_of contents.now) ≡ length (says self.now).reads }
         requires short { AreWithin longest (contents_of contents.now) }
         ensures log { Grows (O.calls out.old) (O.calls out.new) (IsAnswering (says self.now) (contents_of contents.now) result) }
+
+        // A failure of the sink was counted.
+        ensures cause { HasCause (O.faults out.old) (O.faults out.new) result }
 
         // While no coming call is listed to fail and there is room for the answer's text, nothing fails, and there is room for
         // what is left of it.

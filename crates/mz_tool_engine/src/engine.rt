@@ -1,9 +1,10 @@
 // The engine: how any command is answered.
-ghost use Rattle.std.specs.Prelude.{◌≡◌, ◌≤◌, ◌<◌, ◌++◌, ◌^◌, ℕ, List, Option, Some, length};
-ghost use Rattle.mz_io.specs.Calls.{Call, Grows, Hold};
-ghost use Rattle.mz_io.specs.Outside.{HasRoom};
+ghost use Rattle.std.specs.Prelude.{◌≡◌, ◌≤◌, ◌<◌, ◌++◌, ◌⊎◌, ◌^◌, ℕ, List, [], Option, Some, None, length};
+ghost use Rattle.mz_io.specs.Calls.{Call, Grows, Since, Hold};
+ghost use Rattle.mz_io.specs.Outside.{HasRoom, Rose};
 ghost use Rattle.mz_tool_engine.specs.Answering.{IsWritingAnswer};
 ghost use Rattle.mz_tool_engine.specs.Files.{AreThere, BeginsLonger};
+ghost use Rattle.mz_tool_engine.specs.Given.{Tells};
 ghost use Rattle.mz_tool_engine.specs.Run.{IsRunOf, IsAnswer, longest};
 
 use crate::command::Command;
@@ -30,6 +31,16 @@ pub fn answer<C: Command, F: Folder, O: Sink>(
     // answers over the bytes that came.
     ensures log { (calls : List Call) × (written : List Call) × (F.calls folder.new ≡ F.calls folder.old ++ calls) × (O.calls out.new ≡ O.calls out.old ++ written)
         × IsRunOf limit (C.says command.now) result calls written }
+
+    // A folder that tells its files gave what they held at first, and holds afterwards what was put.
+    ensures files { F.told → Since (F.calls folder.old) (F.calls folder.new) (Tells (F.file folder.old) (F.file folder.new)) }
+
+    // Each call that failed was counted, and the folder stays as it was where nothing is read or put.
+    ensures read_fault { result ≡ Status.ReadFault → Rose (F.faults folder.old) (F.faults folder.new) }
+    ensures write_fault { result ≡ Status.WriteFault → Rose (F.put_faults folder.old) (F.put_faults folder.new) }
+    ensures out_fault { result ≡ Status.OutFault → Rose (O.faults out.old) (O.faults out.new) }
+    ensures put_faults { (C.says command.now).puts ≡ None → F.put_faults folder.new ≡ F.put_faults folder.old }
+    ensures apart { (C.says command.now).reads ≡ [] → (C.says command.now).puts ≡ None → folder.new ≡ folder.old }
 
     // Where no coming call is listed to fail, only a missing file, a want of room and a full sink are faults; after a
     // file that is too long none is looked for.
@@ -64,6 +75,8 @@ pub fn answer<C: Command, F: Folder, O: Sink>(
 /// Writes what is left of an answer's text, after which the run ends with this status.
 fn write_answer<O: Sink>(text: &[u8], status: Status, out: &mut O) -> Status
     ensures log { Grows (O.calls out.old) (O.calls out.new) (IsWritingAnswer status result text.now) }
+    ensures ends { (result ≡ status) ⊎ ((result ≡ Status.OutFault) × Rose (O.faults out.old) (O.faults out.new)) }
+    ensures later { O.faults out.old ≤ O.faults out.new }
     ensures only_full { O.is_clear out.old → length text.now ≤ O.room out.old → O.faults out.new ≡ O.faults out.old }
 {
     if write_whole(out, text).is_err() {

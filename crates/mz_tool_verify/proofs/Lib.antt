@@ -1,3 +1,4 @@
-mod Judged
+pub mod Judged
 mod Listed
 mod Requests
+pub mod Offered

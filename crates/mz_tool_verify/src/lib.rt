@@ -15,5 +15,5 @@ pub use judge::{VerifyCommand, verify};
 pub use list::ShowCommand;
 pub use mz_store::Seed;
 pub use mz_tool_engine::Status;
-pub use program::run;
+pub use program::{Verifier, run};
 pub use verdict::answered_by;

@@ -2,7 +2,10 @@
 #![tactic(auto)]
 
 ghost use Rattle.std.specs.Prelude.{map, string_bytes};
+ghost use Rattle.mz_tool_engine.specs.Follows.{Follows};
+ghost use Rattle.mz_tool_engine.specs.Given.{Gives};
 ghost use Rattle.mz_tool_engine.specs.Run.{IsRun};
+ghost use Rattle.mz_tool_engine.specs.Said.{Files};
 ghost use Rattle.mz_tool_verify.specs.Requests.{said_of};
 
 use mz_io::{DiskFolder, Folder, Sink, StdSink};
@@ -42,7 +45,11 @@ fn run_on_system<R: Files + Alloc, W: Write>(
     words: &[String],
     stream: W,
 ) -> (Status, DiskFolder<R>, StdSink<W>)
-    ensures { IsRun said_of (map string_bytes words.now) result.0 (⟦<DiskFolder<R> as Folder>⟧.calls result.1) (⟦<StdSink<W> as Sink>⟧.calls result.2) }
+    ensures log { IsRun said_of (map string_bytes words.now) result.0 (⟦<DiskFolder<R> as Folder>⟧.calls result.1) (⟦<StdSink<W> as Sink>⟧.calls result.2) }
+
+    // What follows of them, for whatever files the folder's calls gave.
+    ensures follows { (file : Files) → Gives file (⟦<DiskFolder<R> as Folder>⟧.calls result.1)
+        → Follows said_of (map string_bytes words.now) file result.0 (⟦<DiskFolder<R> as Folder>⟧.calls result.1) (⟦<StdSink<W> as Sink>⟧.calls result.2) }
 {
     let mut folder = DiskFolder::new(rt);
     let mut out = StdSink::new(stream);

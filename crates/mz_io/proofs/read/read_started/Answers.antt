@@ -1,7 +1,8 @@
 use Rattle.std.proofs.Common.{rules, ◌≡◌, ◌++◌, ◌<◌, ◌∷◌, [], true, refl, inr, ◌∙◌, ap, sym, append_assoc, arith, length, take, ℕ, List}
-use Rattle.std.proofs.lemmas.List.{length-take, length-append}
+use Rattle.std.proofs.lemmas.List.{length-append}
 use Rattle.mz_io.specs.Calls.{starts, pulls, pull_fails, IsBegun, IsUnread, IsRead, IsOver}
 use Rattle.mz_io.proofs.Logs.{grows-on, begun-more}
+use Rattle.mz_io.proofs.Answered.{pulls-answered}
 use Rattle.mz_io.proofs.read.read_started.Goals as goal
 
 pub returns-in-Err-clause-log : goal.returns-in-Err-clause-log
@@ -56,4 +57,27 @@ pulls-preserved g c =
           (c.pulls.invariant.1 name) c.in-Ok.ensures.logged
           (λ more begun. rw kept (begun-more name c.pulls.bytes.items piece (length c.pull.new.buf) (starts name true ∷ more) (omega arith) begun)),
       search rules,
+      λ told.
+          pulls-answered (g.F.Folder.file c.args.folder.now) (g.F.Folder.left c.args.folder.now) (g.F.Folder.left c.pulls.folder) (g.F.Folder.left c.pull.new.self) _ _ _
+          c.pull.result c.pull.new.buf (c.pulls.invariant.3 told) c.pull.ensures.logged (c.pull.ensures.bytes told) c.pull.ensures.bound,
     )
+
+pub returns-in-Err-clause-answered : goal.returns-in-Err-clause-answered
+returns-in-Err-clause-answered g c = λ told.
+    pulls-answered (g.F.Folder.file c.args.folder.now) (g.F.Folder.left c.args.folder.now) (g.F.Folder.left c.pulls.folder) (g.F.Folder.left c.pull.new.self) _ _ _
+    c.pull.result c.pull.new.buf (c.pulls.invariant.3 told) c.pull.ensures.logged (c.pull.ensures.bytes told) c.pull.ensures.bound
+
+pub returns-in-Ok-eq0-clause-answered : goal.returns-in-Ok-eq0-clause-answered
+returns-in-Ok-eq0-clause-answered g c = λ told.
+    pulls-answered (g.F.Folder.file c.args.folder.now) (g.F.Folder.left c.args.folder.now) (g.F.Folder.left c.pulls.folder) (g.F.Folder.left c.pull.new.self) _ _ _
+    c.pull.result c.pull.new.buf (c.pulls.invariant.3 told) c.pull.ensures.logged (c.pull.ensures.bytes told) c.pull.ensures.bound
+
+pub returns-then-count-limit-clause-answered : goal.returns-then-count-limit-clause-answered
+returns-then-count-limit-clause-answered g c = λ told.
+    pulls-answered (g.F.Folder.file c.args.folder.now) (g.F.Folder.left c.args.folder.now) (g.F.Folder.left c.pulls.folder) (g.F.Folder.left c.pull.new.self) _ _ _
+    c.pull.result c.pull.new.buf (c.pulls.invariant.3 told) c.pull.ensures.logged (c.pull.ensures.bytes told) c.pull.ensures.bound
+
+pub returns-then-is_err-clause-answered : goal.returns-then-is_err-clause-answered
+returns-then-is_err-clause-answered g c = λ told.
+    pulls-answered (g.F.Folder.file c.args.folder.now) (g.F.Folder.left c.args.folder.now) (g.F.Folder.left c.pulls.folder) (g.F.Folder.left c.pull.new.self) _ _ _
+    c.pull.result c.pull.new.buf (c.pulls.invariant.3 told) c.pull.ensures.logged (c.pull.ensures.bytes told) c.pull.ensures.bound

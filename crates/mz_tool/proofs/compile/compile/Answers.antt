@@ -1,10 +1,8 @@
-use Rattle.std.proofs.Common.{◌∙◌, refl, ap, subst, length}
-use Rattle.std.specs.Prelude.{◌≤◌}
+use Rattle.std.proofs.Common.{◌∙◌, refl, ap, subst}
 use Rattle.mz_base.specs.Gaps.{gaps_of}
 use Rattle.mz_emit_accepted_theory.specs.Compiling.{IsCompilation}
 use Rattle.mz_emit_accepted_theory.specs.Lines.{line_of}
-use Rattle.mz_prefix_theory.specs.Wording.{longest}
-use Rattle.mz_tool.proofs.Answered.{is-not-compiled, compiled-alone, not-compiled-alone, as-finished, short-binary, put-bytes}
+use Rattle.mz_tool.proofs.Compiles.{is-not-compiled, compiled-alone, not-compiled-alone, as-finished, short-binary, put-short}
 use Rattle.mz_tool.proofs.compile.compile.Goals as goal
 
 pub returns-in-Bytes : goal.returns-in-Bytes
@@ -14,7 +12,7 @@ returns-in-Bytes c =
     let finished = as-finished c.args.text.now c.compile_bytes-compiled.result c.in-Bytes.bytes c.in-Bytes.is c.compile_bytes-compiled.ensures.finished in
     record {
       yes = (c.in-Bytes.bytes.items, refl, compiles, finished, c.in-Ok.ensures ∙ ap line_of c.in-Bytes.is);
-      short = λ bytes put. subst (λ b. length b ≤ longest) (put-bytes c.in-Bytes.bytes.items bytes put) (short-binary gaps c.args.text.now c.in-Bytes.bytes.items compiles);
+      short = put-short c.in-Bytes.bytes.items (short-binary gaps c.args.text.now c.in-Bytes.bytes.items compiles);
       no = tt;
       only_yes = λ put line is. tt;
       only_no = not-compiled-alone gaps c.args.text.now (c.compilation_is_decided.ensures gaps c.args.text.now) c.in-Bytes.bytes.items compiles;

@@ -1,9 +1,7 @@
-use Rattle.std.proofs.Common.{◌∙◌, refl, ap, subst, length}
-use Rattle.std.specs.Prelude.{◌≤◌}
+use Rattle.std.proofs.Common.{◌∙◌, refl, ap, subst}
 use Rattle.mz_decompile.specs.Decompiling.{IsDecompilation, IsTextForPair}
-use Rattle.mz_prefix_theory.specs.Wording.{longest}
 use Rattle.mz_tool.specs.Decompiled.{text_line}
-use Rattle.mz_tool.proofs.Answered.{put-bytes}
+use Rattle.mz_tool.proofs.Compiles.{put-short}
 use Rattle.mz_tool.proofs.Decompiles.{short-text, its-texts, its-sound, is-not-decompiled, decompiled-alone, not-decompiled-alone}
 use Rattle.mz_tool.proofs.decompile.decompile.Goals as goal
 
@@ -17,7 +15,7 @@ returns-in-Text c =
     let decided = c.decompilation_is_decided.ensures spec bin in
     record {
       yes = (text, refl, plain, c.in-Ok.ensures ∙ ap text_line c.in-Text.is);
-      short = λ bytes put. subst (λ b. length b ≤ longest) (put-bytes text bytes put) (short-text spec bin text plain);
+      short = put-short text (short-text spec bin text plain);
       no = tt;
       sound = (its-sound spec bin text c.accepted_pairs_are_sound.ensures decided plain, its-texts spec bin text decided plain stated);
       only_yes = λ put line is. tt;

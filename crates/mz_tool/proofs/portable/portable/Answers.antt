@@ -1,5 +1,6 @@
 use Rattle.mz_binary_theory.specs.declared.standard.Standard.TheVariants.{Portable}
-use Rattle.mz_tool.proofs.Judged.{judged-yes, judged-no, judged-portable, judged-only_yes, judged-only_no}
+use Rattle.mz_tool_verify.proofs.Offered.{judged-yes, judged-no, judged-only_yes, judged-only_no}
+use Rattle.mz_tool.proofs.Tables.{judged-portable}
 use Rattle.mz_tool.proofs.portable.portable.Goals as goal
 
 pub returns : goal.returns

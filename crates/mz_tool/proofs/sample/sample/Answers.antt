@@ -1,7 +1,7 @@
 use Rattle.std.proofs.Common.{◌≡◌, ◌∙◌, ℕ, List, None, length, ap}
 use Rattle.mz_sample.specs.Samples.{sample_specification, sample_text, sample_line}
-use Rattle.mz_tool.specs.Outcomes.{IfYes, IfNo, OnYes, OnNo}
-use Rattle.mz_tool.specs.Run.{IsUpheld, IsFaulted, IsProvedByText, sizes_line}
+use Rattle.mz_tool_engine.specs.Outcomes.{IfYes, IfNo, OnYes, OnNo}
+use Rattle.mz_tool.specs.Sample.{IsUpheld, IsFaulted, IsProvedByText, sizes_line}
 use Rattle.mz_tool.proofs.Sampled.{after-yes, after-no, still-yes, still-no, at-sample}
 use Rattle.mz_tool.proofs.sample.sample.Goals as goal
 

@@ -1,6 +1,6 @@
 use Rattle.std.proofs.Common.{false, ap, sym, subst}
 use Rattle.mz_emit_accepted_theory.specs.Compiling.{CompilesTo}
-use Rattle.mz_tool.specs.Inputs.{bytes_of}
+use Rattle.mz_tool_engine.specs.Inputs.{bytes_of}
 use Rattle.mz_tool.proofs.Sampled.{compiled-put, upheld-only_yes, upheld-only_no, verified-yes, verified-no, verified-proved, not-yes, faulted-no}
 use Rattle.mz_tool.proofs.sample.upheld.Goals as goal
 

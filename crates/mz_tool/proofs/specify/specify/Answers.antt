@@ -1,9 +1,8 @@
-use Rattle.std.proofs.Common.{◌∙◌, refl, ap, subst, length}
-use Rattle.std.specs.Prelude.{◌≤◌}
+use Rattle.std.proofs.Common.{◌∙◌, refl, ap, subst}
 use Rattle.mz_prefix_theory.specs.Wording.{longest}
 use Rattle.mz_prefix.specs.SpecTexts.{IsWording, DeclaresItsText}
 use Rattle.mz_tool.specs.Specified.{spec_line}
-use Rattle.mz_tool.proofs.Answered.{put-bytes}
+use Rattle.mz_tool.proofs.Compiles.{put-short}
 use Rattle.mz_tool.proofs.Specifications.{is-not-specified, specified-alone, not-specified-alone, short-specification, its-specifications}
 use Rattle.mz_tool.proofs.specify.specify.Goals as goal
 
@@ -15,7 +14,7 @@ returns-in-Text c =
     let decided = c.specification_is_decided.ensures longest text in
     record {
       yes = (c.in-Text.bytes.items, refl, worded, c.in-Ok.ensures ∙ ap spec_line c.in-Text.is);
-      short = λ bytes put. subst (λ b. length b ≤ longest) (put-bytes c.in-Text.bytes.items bytes put) (short-specification text c.in-Text.bytes.items worded);
+      short = put-short c.in-Text.bytes.items (short-specification text c.in-Text.bytes.items worded);
       no = tt;
       sound = its-specifications text c.in-Text.bytes.items decided worded declared;
       only_yes = λ put line is. tt;

@@ -1,8 +1,11 @@
-use Rattle.std.proofs.Common.{◌≤◌, ◌++◌, ◌∙◌, None, length, ap, sym, subst, append_assoc}
+use Rattle.std.proofs.Common.{◌≤◌, ◌++◌, ◌∙◌, None, length, ap, sym, subst, append_assoc, is_ok}
 use Rattle.mz_tool_engine.specs.Inputs.{names_of, name_of, contents_of, bytes_of}
 use Rattle.mz_tool_engine.specs.Run.{AreRead}
 use Rattle.mz_tool_engine.specs.declared.outcome.Outcome.TheVariants as outcomes
+use Rattle.mz_tool_engine.specs.declared.status.Status.TheVariants as statuses
 use Rattle.mz_tool_engine.proofs.Endings.{read-and_nothing_put, read-and_put, read-not_put, ends-in_yes, ends-in_no, fits-read, answer-same, left-same, then-quiet}
+use Rattle.mz_tool_engine.proofs.Faults.{ends-otherwise, ends-in_fault, done-fault, refused-fault, done-read, refused-read, fault-read, done-write, refused-write, fault-write}
+use Rattle.mz_tool_engine.proofs.Telling.{reads-tell, put-tells}
 use Rattle.mz_tool_engine.proofs.engine.answer.Goals as goal
 
 pub returns-in_default-clause-log : goal.returns-in_default-clause-log
@@ -80,3 +83,85 @@ pub returns-clause-only_full : goal.returns-clause-only_full
 returns-clause-only_full g c = λ told clear fits.
     c.answer.ensures.only_full clear (fits-read (g.F.Folder.file c.args.folder.now) (g.C.Command.says c.args.command.now) (names_of c.inputs.result) (contents_of c.in-Contents.contents) (g.O.Sink.room c.args.out.now)
     c.inputs.ensures (c.in-Contents.ensures.contents told) fits)
+
+pub returns-in-TooLong-clause-files : goal.returns-in-TooLong-clause-files
+returns-in-TooLong-clause-files g c = λ told.
+    reads-tell (g.F.Folder.file c.args.folder.now) (g.F.Folder.file c.read.new.folder) (g.F.Folder.left c.args.folder.now) (g.F.Folder.left c.read.new.folder) _ _ (c.read.ensures.answered told) (c.read.ensures.files told)
+
+pub returns-in-Fault-clause-files : goal.returns-in-Fault-clause-files
+returns-in-Fault-clause-files g c = λ told.
+    reads-tell (g.F.Folder.file c.args.folder.now) (g.F.Folder.file c.read.new.folder) (g.F.Folder.left c.args.folder.now) (g.F.Folder.left c.read.new.folder) _ _ (c.read.ensures.answered told) (c.read.ensures.files told)
+
+pub returns-in-Mem-clause-files : goal.returns-in-Mem-clause-files
+returns-in-Mem-clause-files g c = λ told.
+    reads-tell (g.F.Folder.file c.args.folder.now) (g.F.Folder.file c.read.new.folder) (g.F.Folder.left c.args.folder.now) (g.F.Folder.left c.read.new.folder) _ _ (c.read.ensures.answered told) (c.read.ensures.files told)
+
+pub returns-in_default-clause-files : goal.returns-in_default-clause-files
+returns-in_default-clause-files g c = λ told.
+    reads-tell (g.F.Folder.file c.args.folder.now) (g.F.Folder.file c.read.new.folder) (g.F.Folder.left c.args.folder.now) (g.F.Folder.left c.read.new.folder) _ _ (c.read.ensures.answered told) (c.read.ensures.files told)
+
+pub returns-in-No-clause-files : goal.returns-in-No-clause-files
+returns-in-No-clause-files g c = λ told.
+    reads-tell (g.F.Folder.file c.args.folder.now) (g.F.Folder.file c.read.new.folder) (g.F.Folder.left c.args.folder.now) (g.F.Folder.left c.read.new.folder) _ _ (c.read.ensures.answered told) (c.read.ensures.files told)
+
+pub returns-clause-files : goal.returns-clause-files
+returns-clause-files g c = λ told.
+    reads-tell (g.F.Folder.file c.args.folder.now) (g.F.Folder.file c.read.new.folder) (g.F.Folder.left c.args.folder.now) (g.F.Folder.left c.read.new.folder) _ _ (c.read.ensures.answered told) (c.read.ensures.files told)
+
+pub returns-in_default-put_file-clause-files : goal.returns-in_default-put_file-clause-files
+returns-in_default-put_file-clause-files g c = λ told.
+    put-tells (g.F.Folder.file c.args.folder.now) (g.F.Folder.file c.read.new.folder) (g.F.Folder.file c.put_file.new.folder) (g.F.Folder.left c.args.folder.now) (g.F.Folder.left c.read.new.folder) _ _ _
+    (is_ok c.put_file.result) (name_of c.output.result) (bytes_of c.in-Yes.put) (c.read.ensures.answered told) (c.read.ensures.files told) c.put_file.ensures.log (c.put_file.ensures.files told)
+
+pub returns-in-Yes-clause-files : goal.returns-in-Yes-clause-files
+returns-in-Yes-clause-files g c = λ told.
+    put-tells (g.F.Folder.file c.args.folder.now) (g.F.Folder.file c.read.new.folder) (g.F.Folder.file c.put_file.new.folder) (g.F.Folder.left c.args.folder.now) (g.F.Folder.left c.read.new.folder) _ _ _
+    (is_ok c.put_file.result) (name_of c.output.result) (bytes_of c.in-Yes.put) (c.read.ensures.answered told) (c.read.ensures.files told) c.put_file.ensures.log (c.put_file.ensures.files told)
+
+pub returns-in-TooLong-clause-apart : goal.returns-in-TooLong-clause-apart
+returns-in-TooLong-clause-apart g c = λ none nothing. c.read.ensures.none (c.inputs.ensures ∙ none)
+
+pub returns-in-Fault-clause-apart : goal.returns-in-Fault-clause-apart
+returns-in-Fault-clause-apart g c = λ none nothing. c.read.ensures.none (c.inputs.ensures ∙ none)
+
+pub returns-in-Mem-clause-apart : goal.returns-in-Mem-clause-apart
+returns-in-Mem-clause-apart g c = λ none nothing. c.read.ensures.none (c.inputs.ensures ∙ none)
+
+pub returns-in_default-clause-apart : goal.returns-in_default-clause-apart
+returns-in_default-clause-apart g c = λ none nothing. c.read.ensures.none (c.inputs.ensures ∙ none)
+
+pub returns-in-No-clause-apart : goal.returns-in-No-clause-apart
+returns-in-No-clause-apart g c = λ none nothing. c.read.ensures.none (c.inputs.ensures ∙ none)
+
+pub returns-clause-apart : goal.returns-clause-apart
+returns-clause-apart g c = λ none nothing. c.read.ensures.none (c.inputs.ensures ∙ none)
+
+pub returns-in_default-put_file-clause-apart : goal.returns-in_default-put_file-clause-apart
+returns-in_default-put_file-clause-apart g c = λ none nothing. c.put_file.ensures.none (c.output.ensures ∙ nothing) ∙ c.read.ensures.none (c.inputs.ensures ∙ none)
+
+pub returns-in_default-put_file-clause-put_faults : goal.returns-in_default-put_file-clause-put_faults
+returns-in_default-put_file-clause-put_faults g c = λ nothing. ap (λ folder. g.F.Folder.put_faults folder) (c.put_file.ensures.none (c.output.ensures ∙ nothing)) ∙ c.read.ensures.put_faults
+
+pub returns-in-Yes-clause-apart : goal.returns-in-Yes-clause-apart
+returns-in-Yes-clause-apart g c = λ none nothing. c.put_file.ensures.none (c.output.ensures ∙ nothing) ∙ c.read.ensures.none (c.inputs.ensures ∙ none)
+
+pub returns-in-Yes-clause-put_faults : goal.returns-in-Yes-clause-put_faults
+returns-in-Yes-clause-put_faults g c = λ nothing. ap (λ folder. g.F.Folder.put_faults folder) (c.put_file.ensures.none (c.output.ensures ∙ nothing)) ∙ c.read.ensures.put_faults
+
+pub returns-in-Yes-clause-read_fault : goal.returns-in-Yes-clause-read_fault
+returns-in-Yes-clause-read_fault g c = λ is. absurd (ends-otherwise statuses.Done c.write_answer.result _ _ c.write_answer.ensures.ends statuses.ReadFault done-read fault-read is)
+
+pub returns-in-Yes-clause-write_fault : goal.returns-in-Yes-clause-write_fault
+returns-in-Yes-clause-write_fault g c = λ is. absurd (ends-otherwise statuses.Done c.write_answer.result _ _ c.write_answer.ensures.ends statuses.WriteFault done-write fault-write is)
+
+pub returns-in-Yes-clause-out_fault : goal.returns-in-Yes-clause-out_fault
+returns-in-Yes-clause-out_fault g c = λ is. ends-in_fault statuses.Done c.write_answer.result _ _ c.write_answer.ensures.ends (g.O.Sink.faults c.args.out.now) c.answer.ensures.cause.later done-fault is
+
+pub returns-in-No-clause-read_fault : goal.returns-in-No-clause-read_fault
+returns-in-No-clause-read_fault g c = λ is. absurd (ends-otherwise statuses.Refused c.write_answer-in-No.result _ _ c.write_answer-in-No.ensures.ends statuses.ReadFault refused-read fault-read is)
+
+pub returns-in-No-clause-write_fault : goal.returns-in-No-clause-write_fault
+returns-in-No-clause-write_fault g c = λ is. absurd (ends-otherwise statuses.Refused c.write_answer-in-No.result _ _ c.write_answer-in-No.ensures.ends statuses.WriteFault refused-write fault-write is)
+
+pub returns-in-No-clause-out_fault : goal.returns-in-No-clause-out_fault
+returns-in-No-clause-out_fault g c = λ is. ends-in_fault statuses.Refused c.write_answer-in-No.result _ _ c.write_answer-in-No.ensures.ends (g.O.Sink.faults c.args.out.now) c.answer.ensures.cause.later refused-fault is

@@ -2,7 +2,7 @@ use Rattle.std.proofs.Common.{◌∷◌, [], refl, sym, inl, inr}
 use Rattle.std.proofs.lemmas.List.{append-nil}
 use Rattle.mz_io.specs.Calls.{IsRead, IsUnread, IsOver}
 use Rattle.mz_tool_engine.specs.Run.{AreRead, StopAt, IsPartly}
-use Rattle.mz_io.proofs.Offered.{grows-both}
+use Rattle.mz_io.proofs.Offered.{grows-both, grows-answered}
 use Rattle.mz_tool_engine.proofs.inputs.read_two.Goals as goal
 
 pub returns-in-TooLong-read_bounded-clause-log : goal.returns-in-TooLong-read_bounded-clause-log
@@ -29,3 +29,23 @@ returns-in-Mem-read_bounded-clause-log g c =
     grows-both _ _ _ (IsRead c.args.first.now c.in-Bytes.bytes.items) (IsPartly c.args.second.now) (StopAt IsPartly (c.args.first.now ∷ c.args.second.now ∷ []))
     c.in-Bytes.ensures.log c.in-Mem-read_bounded.ensures.log
     (λ first second one two. inr (c.in-Bytes.bytes.items, first, second, refl, one, inl two))
+
+pub returns-in-TooLong-read_bounded-clause-answered : goal.returns-in-TooLong-read_bounded-clause-answered
+returns-in-TooLong-read_bounded-clause-answered g c = λ told.
+    grows-answered (g.F.Folder.file c.args.folder.now) (g.F.Folder.file c.read_bounded.new.folder) (g.F.Folder.left c.args.folder.now) (g.F.Folder.left c.read_bounded.new.folder) (g.F.Folder.left c.read_bounded-2.new.folder) _ _ _
+    (c.read_bounded.ensures.files told) (c.read_bounded.ensures.answered told) (c.read_bounded-2.ensures.answered told)
+
+pub returns-in-Bytes-read_bounded-clause-answered : goal.returns-in-Bytes-read_bounded-clause-answered
+returns-in-Bytes-read_bounded-clause-answered g c = λ told.
+    grows-answered (g.F.Folder.file c.args.folder.now) (g.F.Folder.file c.read_bounded.new.folder) (g.F.Folder.left c.args.folder.now) (g.F.Folder.left c.read_bounded.new.folder) (g.F.Folder.left c.read_bounded-2.new.folder) _ _ _
+    (c.read_bounded.ensures.files told) (c.read_bounded.ensures.answered told) (c.read_bounded-2.ensures.answered told)
+
+pub returns-in-Fault-read_bounded-clause-answered : goal.returns-in-Fault-read_bounded-clause-answered
+returns-in-Fault-read_bounded-clause-answered g c = λ told.
+    grows-answered (g.F.Folder.file c.args.folder.now) (g.F.Folder.file c.read_bounded.new.folder) (g.F.Folder.left c.args.folder.now) (g.F.Folder.left c.read_bounded.new.folder) (g.F.Folder.left c.read_bounded-2.new.folder) _ _ _
+    (c.read_bounded.ensures.files told) (c.read_bounded.ensures.answered told) (c.read_bounded-2.ensures.answered told)
+
+pub returns-in-Mem-read_bounded-clause-answered : goal.returns-in-Mem-read_bounded-clause-answered
+returns-in-Mem-read_bounded-clause-answered g c = λ told.
+    grows-answered (g.F.Folder.file c.args.folder.now) (g.F.Folder.file c.read_bounded.new.folder) (g.F.Folder.left c.args.folder.now) (g.F.Folder.left c.read_bounded.new.folder) (g.F.Folder.left c.read_bounded-2.new.folder) _ _ _
+    (c.read_bounded.ensures.files told) (c.read_bounded.ensures.answered told) (c.read_bounded-2.ensures.answered told)

@@ -1,4 +1,4 @@
-use Rattle.std.proofs.Common.{◌≡◌, ◌≤◌, ◌+◌, ◌∙◌, [], None, length, refl, sym, inl, inr, arith, rules}
+use Rattle.std.proofs.Common.{refl, inl, inr, rules}
 use Rattle.std.proofs.lemmas.Option.{none-some}
 use Rattle.mz_tool_engine.specs.Inputs.{contents_of}
 use Rattle.mz_tool_verify.proofs.Listed.{listed-affirms, listed-refuses, listed-begun, listing-is_cut, whole-begun, front-begun, room-of_listed, room-of_line}
