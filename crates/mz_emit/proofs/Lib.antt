@@ -17,3 +17,5 @@ mod Finished
 mod Alike
 mod Looping
 mod Deciding
+mod Existing
+mod OneFile

@@ -36,7 +36,7 @@ next_there ready mode ss (nodes, read) within gaps (legal, has_gaps) i e below b
       follows = follows gaps ss legal (statements_there mode nodes ss read) whole (all_stated (no_names mode) nodes ss read) has_gaps (ready gaps ss legal whole within) within i below;
     }
 
-one_more : (ss : List Statement) (i : ℕ) → i < length ss → take i ss ++ statement_at ss i ∷ [] ≡ take (i + 1) ss
+pub one_more : (ss : List Statement) (i : ℕ) → i < length ss → take i ss ++ statement_at ss i ∷ [] ≡ take (i + 1) ss
 one_more ss i below = sym (take_more ss i _ below)
 
 pub emitted_next : (gaps : Bool) (earlier : List Statement) (s : Statement) (e : Emitter) → HasRows gaps (earlier ++ s ∷ []) e

@@ -43,7 +43,7 @@ pub marked_declared : (ss : List Statement) → declarations (marked ss) ≡ dec
 marked_declared [] = refl
 marked_declared (s ∷ ss) = ap (λ ds. s.decl ∷ ds) (marked_declared ss)
 
-words_many : (i : ℕ) (places : List ℕ) (bs : List Binder) → length (words_from i places bs) ≡ length bs
+pub words_many : (i : ℕ) (places : List ℕ) (bs : List Binder) → length (words_from i places bs) ≡ length bs
 words_many i places [] = refl
 words_many i places (b ∷ bs) = ap suc (words_many (suc i) (if b.bound then places ++ i ∷ [] else places) bs)
 

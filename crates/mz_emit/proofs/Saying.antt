@@ -83,7 +83,7 @@ kinds a x is b h = kind_of_code a.is_axiom b h
 -- ---- what is ready
 
 module _ (gaps : Bool) (before : List Statement) (s : Statement) (h : MayFollow gaps before s) where
-  env_short : length (declared before) ≤ 134217725
+  pub env_short : length (declared before) ≤ 134217725
   env_short = omega (arith, few_declared [] before, h.light)
 
   ready : (params dummies : List Binder) → params ≡ params_of s.decl → SortsThere (sorts (declared before)) params → AreParams (sorts (declared before)) params

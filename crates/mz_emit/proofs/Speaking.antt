@@ -29,6 +29,7 @@ use Rattle.mz_emit_theory.specs.StreamWriting.{assertion_written, definition_wri
 use Rattle.mz_emit_theory.proofs.Offered.{assertions-short, definitions-short, assertions-bounded, definitions-bounded, assertions-written, definitions-written, assertions-shared, definitions-shared, reach_of_sort}
 use Rattle.mz_emit_bodies.specs.Instances.{Grows}
 use Rattle.mz_emit_theory.specs.InReach.{InReach, AllInReach, AreSorted}
+use Rattle.mz_emit_bodies.specs.Laws.{AreDummiesBehind}
 use Rattle.mz_emit_bodies.specs.Variables.{IsShared}
 use Rattle.mz_emit_bodies.proofs.Offered.{tree_grown}
 use Rattle.mz_emit.specs.Params.{HasParams}
@@ -75,13 +76,16 @@ module _ (env : List Declaration) (ps ds : List Binder) (ready : AreReady env ps
   pub has_params : (ctx : List Binder) (n : ℕ) → ctx ≡ ps ++ ds → length ps ≡ n → HasParams n ctx
   has_params ctx n is many = (sorts env, ps, ds, is, many, ready.params_are, ready.dummies_are)
 
+  pub dummies_fine : AreDummiesBehind env (length ps) (ps ++ ds)
+  dummies_fine x b at past =
+      let found = behind ps ds x b at past in
+      (dummy_is b (each_from_all IsDummy ds ready.dummies_are found.0 b found.1), ready.dummy_sorts found.0 b found.1)
+
   pub dummies_behind : (s : Sharing) (vars : List Id) (n : ℕ) → s.context ≡ ps ++ ds → length ps ≡ n → IsShared (signatures env) s vars → HasDummiesBehind env n s vars
   dummies_behind s vars n is many shared = record {
     shared = shared;
     many = let e : length s.context ≡ length ps + length ds = ap length is ∙ length-append ps ds in omega arith;
-    dummies = λ x b at past.
-        let found = behind ps ds x b (sym (ap (λ ctx. slice_get ctx x) is) ∙ at) (omega arith) in
-        (dummy_is b (each_from_all IsDummy ds ready.dummies_are found.0 b found.1), ready.dummy_sorts found.0 b found.1);
+    dummies = λ x b at past. dummies_fine x b (sym (ap (λ ctx. slice_get ctx x) is) ∙ at) (omega (arith, many, past));
   }
 
   pub bound_below : (ctx : List Binder) → ctx ≡ ps ++ ds → bound_in ctx ≤ 55

@@ -7,14 +7,15 @@ ghost use Rattle.mz_type.specs.StatedView.{AreRead, statements_of};
 ghost use Rattle.mz_mmu_theory.specs.TextOf.{TextOf};
 ghost use Rattle.mz_mmu_theory.specs.Weight.{IsWithinLimits};
 ghost use Rattle.mz_emit.specs.Emitting.{IsLegalWith, HasEmitted};
-ghost use Rattle.mz_emit_accepted_theory.specs.Compiling.{IsBinaryOf, IsCompilation, IsDecided, ModesCompileAlike};
+ghost use Rattle.mz_emit_accepted_theory.specs.CompiledLaws.{Answers, FileUsesWhatProofsUse, HasFile, HasOneFile};
+ghost use Rattle.mz_emit_accepted_theory.specs.Compiling.{CompilesTo, IsBinaryOf, IsCompilable, IsCompilation, IsDecided, ModesCompileAlike};
 
 use crate::emitter::Emitter;
 use crate::limit::limit_of;
 use mz_base::{Hashing, Mode};
 use mz_cmd::Mem;
-use mz_emit_accepted_theory::{Compiled, Passed};
-use mz_logic_theory::Env;
+use mz_emit_accepted_theory::{Compiled, Passed, stated_proofs_are_sound};
+use mz_logic_theory::{Env, words_are_read_back};
 use mz_mmu::{TextRead, read_text};
 use mz_type::{
     Beside, Typed, TypedRead, check_text, limits_are_decided, statements_can_be_words, take_last,
@@ -72,13 +73,8 @@ fn compile_typed(alloc: Global, typed: Typed) -> Compiled
     }
 }
 
-/// Compiles a text of at most 4,294,967,295 bytes, whose names are hashed by `hashing`: the binary where the text is
-/// well typed and within the limits, else its first fault, or the first limit that it passes. A draft may have gaps;
-/// one that is finished is compiled as a finished text.
-///
-/// The binary's bodies build no application twice, and its streams none once all its dummies are met. So that of a
-/// finished text is accepted by verifiers that compare addresses, too.
-pub fn compile_bytes(alloc: Global, hashing: Hashing, text: &[u8], mode: Mode) -> Compiled
+/// Compiles a text in the mode in which it is read. One that is finished is compiled as a finished text.
+fn compile_read(alloc: Global, hashing: Hashing, text: &[u8], mode: Mode) -> Compiled
     requires { length text.now < 2 ^ 32 }
     ensures answer { IsCompilation (gaps_of mode) text.now result }
     ensures finished { (ss : List Statement) → TextOf false text.now ss → IsCompilation false text.now result }
@@ -96,6 +92,28 @@ pub fn compile_bytes(alloc: Global, hashing: Hashing, text: &[u8], mode: Mode) -
     }
 }
 
+/// Compiles a text of at most 4,294,967,295 bytes, whose names are hashed by `hashing`: the binary where the text is
+/// well typed and within the limits, else its first fault, or the first limit that it passes. A draft may have gaps;
+/// one that is finished is compiled as a finished text.
+///
+/// The binary's bodies build no application twice, and its streams none once all its dummies are met. So that of a
+/// finished text is accepted by verifiers that compare addresses, too.
+///
+/// The bytes are a function of the text's statements, in which neither the mode nor the seed is: where the text can be
+/// compiled, it has its file, and the answer is this file or want of memory; that of a finished text is one in both modes.
+pub fn compile_bytes(alloc: Global, hashing: Hashing, text: &[u8], mode: Mode) -> Compiled
+    requires { length text.now < 2 ^ 32 }
+    ensures answer { IsCompilation (gaps_of mode) text.now result }
+    ensures finished { (ss : List Statement) → TextOf false text.now ss → IsCompilation false text.now result }
+    ensures compilable { IsCompilable (gaps_of mode) text.now → (bytes : List ℕ) × CompilesTo (gaps_of mode) text.now bytes × Answers result bytes }
+    ensures either_mode { (bytes : List ℕ) → CompilesTo false text.now bytes → Answers result bytes }
+{
+    compilation_is_decided();
+    texts_have_one_file();
+    compilable_texts_have_files();
+    compile_read(alloc, hashing, text, mode)
+}
+
 /// Each text can be compiled, or has exactly one first fault, or passes exactly one first limit.
 pub fn compilation_is_decided()
     ensures { (gaps : Bool) (text : List ℕ) → IsDecided gaps text }
@@ -109,4 +127,29 @@ pub fn modes_compile_alike()
     ensures { (text : List ℕ) → ModesCompileAlike text }
 {
     typed_or_faulty();
+}
+
+/// A text compiles to one file at most: neither the mode nor the seed shows in its bytes.
+pub fn texts_have_one_file()
+    ensures { (text : List ℕ) → HasOneFile text }
+{
+    typed_or_faulty();
+}
+
+/// Each text that can be compiled has a file, which is a binary of it.
+pub fn compilable_texts_have_files()
+    ensures { (text : List ℕ) → HasFile text }
+{
+    words_are_read_back();
+    stated_proofs_are_sound();
+    statements_can_be_words();
+}
+
+/// In that file a body uses what its stated proof uses: the same assertions, and a gap where the proof uses one.
+pub fn files_use_what_proofs_use()
+    ensures { (text : List ℕ) → FileUsesWhatProofsUse text }
+{
+    words_are_read_back();
+    stated_proofs_are_sound();
+    statements_can_be_words();
 }

@@ -13,5 +13,8 @@ mod line;
 mod statement;
 mod stream;
 
-pub use compile::{compilation_is_decided, compile_bytes, modes_compile_alike};
+pub use compile::{
+    compilable_texts_have_files, compilation_is_decided, compile_bytes, files_use_what_proofs_use,
+    modes_compile_alike, texts_have_one_file,
+};
 pub use line::compiled_line;

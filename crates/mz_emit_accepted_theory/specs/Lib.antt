@@ -6,3 +6,4 @@ pub mod Lines
 pub mod Gapped
 pub mod Compiling
 pub mod CompiledFile
+pub mod CompiledLaws

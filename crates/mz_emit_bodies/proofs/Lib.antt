@@ -16,6 +16,11 @@ mod Dummies
 mod Beginning
 mod Ends
 mod Running
+mod QuietWriters
+mod UsesOfWriters
+mod WholeBodies
+mod Spending
+mod Operands
 mod WorkedExamples
 pub mod Paying
 mod Shortening

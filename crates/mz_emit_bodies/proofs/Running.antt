@@ -8,7 +8,7 @@ use Rattle.std.proofs.lemmas.List.Elements.{Contains-append_left, Contains-appen
 use Rattle.std.proofs.lemmas.Option.{none-some, get_or_from_slice_get}
 use Rattle.mz_cmd.specs.declared.code.ProofCode.{ProofCode}
 use Rattle.mz_cmd.specs.declared.code.ProofCode.TheVariants as code
-use Rattle.mz_logic_theory.specs.Tree.{Tree, Trees, var, app, none, more, listed, instance, instances, followed_by, variables, size, trees_size}
+use Rattle.mz_logic_theory.specs.Tree.{Tree, Trees, var, app, none, more, listed, instance, followed_by, variables, size, trees_size}
 use Rattle.mz_logic_theory.specs.Declaration.{Assertion, Declaration, sorts, signatures, assertions}
 use Rattle.mz_logic_theory.specs.Legality.{binder_at}
 use Rattle.mz_logic_theory.specs.Modifiers.{MayBeDummySort}
@@ -16,29 +16,23 @@ use Rattle.mz_logic_theory.specs.Sorts.{HasSort, Fits, HasProvable}
 use Rattle.mz_logic_theory.specs.Conversions.{GapsOnly, AllGapsOnly, Conversion, Conversions, refl_conv, sym_conv, cong_conv, unfold_conv, gap_conv, no_convs, more_convs, Between, AllBetween}
 use Rattle.mz_logic_theory.specs.declared.binder.Binder.{Binder}
 use Rattle.mz_logic_theory.proofs.Offered.{extends_append}
-use Rattle.mz_unify_theory.specs.Spells.{trees_of, variables_from, dummy_of}
+use Rattle.mz_unify_theory.specs.Spells.{dummy_of}
 use Rattle.mz_unify_theory.specs.Sorted.{Sorted}
-use Rattle.mz_unify_theory.specs.Profile.{Item, expr, proof, obligation, conversion, plain}
+use Rattle.mz_unify_theory.specs.Profile.{Item, expr, proof, obligation, plain}
 use Rattle.mz_unify_theory.proofs.Offered.{trees_of-listed, same_tree-true, same_tree-refl}
-use Rattle.mz_machine_theory.specs.MachineState.{Kind, is_axiom, is_theorem, is_definition}
-use Rattle.mz_machine_theory.specs.Bodies.{stands_in}
 use Rattle.mz_machine_theory.specs.ProofMachine.{sides}
 use Rattle.mz_mmu_theory.specs.Proof.{Proof, Proofs, by_hyp, by_name, by_citation, by_conv, by_let, by_gap, no_proofs, more_proofs}
-use Rattle.mz_emit_theory.specs.Works.{Work, from_to, work_start}
-use Rattle.mz_emit_theory.specs.Steps.{stacked, kept, above, IsReferred, Step, Steps}
+use Rattle.mz_emit_theory.specs.Works.{Work}
+use Rattle.mz_emit_theory.specs.Steps.{stacked, kept, above, IsReferred, Step}
 use Rattle.mz_emit_theory.specs.SharedBodies.{built, Builds, AreDistinct, IsPlain, ArePlain}
-use Rattle.mz_emit_theory.specs.Endings.{MayStand}
-use Rattle.mz_emit_theory.proofs.Offered.{above-more, proofs-more, has-place as meets, own-below, own-item-at}
-use Rattle.mz_emit_theory.specs.Claims.{claim_at, conclusion_of, proved, all_proved, IsCitable, Goes, AllGo, IsSound, AreSound}
+use Rattle.mz_emit_theory.proofs.Offered.{above-more, proofs-more, has-place as meets}
+use Rattle.mz_emit_theory.specs.Claims.{claim_at, conclusion_of, proved, all_proved, IsCitable, IsSound, AreSound}
 use Rattle.mz_emit_theory.specs.Costs.{body_at}
-use Rattle.mz_emit_bodies.specs.Laws.{TakeFourBytes, DefinitionsAreWritten, AxiomsAreWritten, TheoremsAreWritten}
-use Rattle.mz_emit_theory.specs.BodyWriting.{Kept, expression, hypothesis, first_part, is_same, Writing, place_in, Written, Writer, and_then, nothing, ◌>>◌, command, keeping, unless_kept, meeting, write_expr, write_exprs, write_payment, write_payments, at_name, write_proof, write_proofs, write_hyp, write_hyps, at_first, variables_below, definition_written, axiom_written, theorem_written}
-use Rattle.mz_emit_bodies.proofs.Heaps.{below_long, below_at, below_is, no_hypothesis, no_part, none_or_some, place_new, place_old, some_get, kept_there, not_kept}
+use Rattle.mz_emit_theory.specs.BodyWriting.{Kept, expression, hypothesis, first_part, is_same, Writing, place_in, Written, Writer, and_then, nothing, ◌>>◌, command, keeping, unless_kept, write_expr, write_exprs, write_payment, write_payments, at_name, write_proof, write_proofs, write_hyp, write_hyps}
+use Rattle.mz_emit_bodies.proofs.Heaps.{none_or_some, place_new, place_old, some_get, kept_there, not_kept}
 use Rattle.mz_emit_bodies.proofs.Lists.{slice_last, get_end}
 use Rattle.mz_emit_bodies.proofs.Opening.{strict}
-use Rattle.mz_emit_bodies.proofs.Standing.{in_theorem}
-use Rattle.mz_emit_bodies.proofs.Beginning.{heap_long}
-use Rattle.mz_emit_bodies.proofs.Building.{builds_steps, no_tree}
+use Rattle.mz_emit_bodies.proofs.Building.{no_tree}
 use Rattle.mz_emit_bodies.proofs.Growing.{thm_step}
 use Rattle.mz_emit_bodies.proofs.Paying.{body_is, between_sorted, left_sorted, unfolded_sorted, unfold_step}
 
@@ -103,13 +97,13 @@ cited_sorted env ctx T es hs (a, at, fits, apart, hs-is, reach, sorted) =
 abbrev IsUpTo : ℕ → Tree → Type 0
 IsUpTo m e = size e ≤ m
 
-abbrev Any : Tree → Type 0
+abbrev pub Any : Tree → Type 0
 Any e = ⊤
 
 module _ (gaps : Bool) (env : List Declaration) (ctx : List Binder) (n : ℕ) (hyps : List Tree)
     (dummies-fine : (x : ℕ) (b : Binder) → slice_get ctx x ≡ Some b → n ≤ x → (b ≡ dummy_of b.sort) × MayBeDummySort (sorts env) b.sort) where
   -- the item of the heap, where the lets' first parts prove these
-  abbrev item_of : List Tree → Kept → Item Tree
+  abbrev pub item_of : List Tree → Kept → Item Tree
   item_of claims (expression e) = expr e
   item_of claims (hypothesis i) = proof (claim_at hyps i)
   item_of claims (first_part m) = proof (claim_at claims m)
@@ -148,7 +142,7 @@ module _ (gaps : Bool) (env : List Declaration) (ctx : List Binder) (n : ℕ) (h
 
   -- ---- one after another
 
-  taken_then : (Q : Tree → Type 0) (i j : ℕ) (w : Writing) (k : Work) (claims : List Tree) (r : Written) (g : Writer) (ys zs : List (Item Tree)) (hs hs' : List Tree) → (a : Taken Q i w k claims r ys hs)
+  pub taken_then : (Q : Tree → Type 0) (i j : ℕ) (w : Writing) (k : Work) (claims : List Tree) (r : Written) (g : Writer) (ys zs : List (Item Tree)) (hs hs' : List Tree) → (a : Taken Q i w k claims r ys hs)
       → Taken Q j r.after a.work (claims ++ a.newer) (g r.after) zs hs' → Taken Q j w k claims (and_then r g) zs hs'
   taken_then Q i j w k claims r g ys zs hs hs' a b = record {
     work = b.work;
@@ -418,7 +412,7 @@ module _ (gaps : Bool) (env : List Declaration) (ctx : List Binder) (n : ℕ) (h
         (takes_wider (IsUpTo (trees_size es)) (IsUpTo (trees_size (more e es))) count world (write_exprs ctx es) (expr e ∷ xs) (above (listed es) (expr e ∷ xs)) (λ f le. omega (arith, le)) (exprs_taken count world es ps fits (expr e ∷ xs))))
         (above-more e (listed es) xs)
 
-  any_expr : (count : ℕ) (world : List Tree) (e : Tree) (s : ℕ) → HasSort (signatures env) ctx e s → (xs : List (Item Tree)) → Takes Any count world (write_expr ctx e) xs (expr e ∷ xs)
+  pub any_expr : (count : ℕ) (world : List Tree) (e : Tree) (s : ℕ) → HasSort (signatures env) ctx e s → (xs : List (Item Tree)) → Takes Any count world (write_expr ctx e) xs (expr e ∷ xs)
   any_expr count world e s has xs = takes_wider (IsUpTo (size e)) Any count world (write_expr ctx e) xs (expr e ∷ xs) (λ f le. tt) (expr_taken count world e s has xs)
 
   any_exprs : (count : ℕ) (world : List Tree) (es : Trees) (ps : List Binder) → Fits (signatures env) ctx es ps → (xs : List (Item Tree)) → Takes Any count world (write_exprs ctx es) xs (above (listed es) xs)
@@ -535,7 +529,7 @@ module _ (gaps : Bool) (env : List Declaration) (ctx : List Binder) (n : ℕ) (h
           (λ w k since absent agrees on. absurd (let q = agrees.there i (omega (arith, all-there, lt)) in none-some q.0 (sym absent ∙ q.1)))
 
       mutual
-        proof_taken : (world : List Tree) (lets : List Writer) (claims : List Tree) → Names world lets claims → (p : Proof) → IsSound gaps env ctx hyps claims p → (xs : List (Item Tree))
+        pub proof_taken : (world : List Tree) (lets : List Writer) (claims : List Tree) → Names world lets claims → (p : Proof) → IsSound gaps env ctx hyps claims p → (xs : List (Item Tree))
             → Takes Any count world (write_proof env ctx lets p) xs (proof (proved env hyps claims p) ∷ xs)
         proof_taken world lets claims names (by_hyp i) sound xs = hyp_taken world i sound xs
         proof_taken world lets claims names (by_name i) sound xs = names.each i sound xs
@@ -641,7 +635,7 @@ module _ (gaps : Bool) (env : List Declaration) (ctx : List Binder) (n : ℕ) (h
       subst (Taken Any (suc j) w k claims (write_hyp ctx j h w) []) (ap (λ (z : List Tree). z ++ h ∷ []) a.assumed)
       (taken_then Any j (suc j) w k claims (write_expr ctx h w) (keeping code.Hyp 0 (hypothesis j)) (expr h ∷ []) [] k.hyps (a.work.hyps ++ h ∷ []) a c)
 
-  hyps_assumed : (hs front : List Tree) (j : ℕ) → j ≡ length front → hyps ≡ front ++ hs → ((i : ℕ) (e : Tree) → slice_get hyps i ≡ Some e → HasProvable env ctx e) → (w : Writing) (k : Work) (claims : List Tree)
+  pub hyps_assumed : (hs front : List Tree) (j : ℕ) → j ≡ length front → hyps ≡ front ++ hs → ((i : ℕ) (e : Tree) → slice_get hyps i ≡ Some e → HasProvable env ctx e) → (w : Writing) (k : Work) (claims : List Tree)
       → Agrees j w k claims → k.stack ≡ [] → k.hyps ≡ front → Taken Any (length hyps) w k claims (write_hyps ctx j hs w) [] hyps
   hyps_assumed [] front j j-is is provable w k claims agrees on assumed =
       let front-is : hyps ≡ front = is ∙ append-nil front in
@@ -660,149 +654,3 @@ module _ (gaps : Bool) (env : List Declaration) (ctx : List Binder) (n : ℕ) (h
       slice_here [] y ys (suc i) same = absurd (omega (arith, same))
       slice_here (x ∷ xs) y ys zero same = absurd (omega (arith, same))
       slice_here (x ∷ xs) y ys (suc i) same = slice_here xs y ys i (omega (arith, same))
-
--- ---- whole bodies
-
-at_first_agrees : (gaps : Bool) (env : List Declaration) (ctx params : List Binder) (hyps : List Tree)
-    (dummies-fine : (x : ℕ) (b : Binder) → slice_get ctx x ≡ Some b → length params ≤ x → (b ≡ dummy_of b.sort) × MayBeDummySort (sorts env) b.sort)
-    → Agrees gaps env ctx (length params) hyps dummies-fine 0 (at_first params) (work_start params) []
-at_first_agrees gaps env ctx params hyps dummies-fine = record {
-  items = λ x p at. first x p at;
-  long = heap_long 0 params ∙ sym (below_long (length params));
-  lets = refl;
-  below = λ m p at. absurd (none-some p (sym (no_part (length params) m) ∙ at));
-  met = λ x has. (x, below_at (length params) x (let lt = own-below 0 params x has in omega (arith, lt)));
-  params = λ x lt. subst (Contains (from_to 0 params)) (omega arith) (meets 0 params x lt);
-  there = λ i lt. absurd (omega (arith, lt));
-}
-  where
-    first : (x : Kept) (p : ℕ) → place_in x (variables_below (length params)) ≡ Some p → slice_get (map expr (variables_from 0 params)) p ≡ Some (item_of gaps env ctx (length params) hyps dummies-fine [] x)
-    first (expression e) p at = (let h = below_is (length params) e p at in own-item-at 0 params p h.1 ∙ ap (λ (k : ℕ). Some (expr (var k))) (omega arith) ∙ ap (λ (f : Tree). Some (expr f)) (sym h.0))
-    first (hypothesis i) p at = absurd (none-some p (sym (no_hypothesis (length params) i) ∙ at))
-    first (first_part m) p at = absurd (none-some p (sym (no_part (length params) m) ∙ at))
-
-stands : (gaps : Bool) (cs : List (ProofCode × ℕ)) → TakeFourBytes cs → MayStand (plain gaps) is_theorem cs
-stands gaps [] short = tt
-stands gaps (c ∷ cs) short = (in_theorem gaps c.0, short.0, stands gaps cs short.1)
-
-pub theorems_are_written : TheoremsAreWritten
-theorems_are_written gaps env params dummies hyps p few fine provable sound short =
-    let ctx : List Binder = params ++ dummies in
-    let n : ℕ = length params in
-    let k : Work = work_start params in
-    let w : Writing = at_first params in
-    let hs : Written = write_hyps ctx 0 hyps w in
-    let a = hyps_assumed gaps env ctx n hyps fine hyps [] 0 refl refl provable w k [] (at_first_agrees gaps env ctx params hyps fine) refl refl in
-    let none_yet : Names gaps env ctx n hyps fine (length hyps) a.newer [] [] = record { many = refl; each = λ i lt. absurd (omega (arith, lt)) } in
-    let b = proof_taken gaps env ctx n hyps fine (length hyps) refl a.newer [] [] none_yet p sound [] hs.after a.work []
-    (subst (Agrees gaps env ctx n hyps fine (length hyps) hs.after a.work) (sym (append-nil a.newer)) a.agrees) a.stack in
-    let whole = taken_then gaps env ctx n hyps fine Any (length hyps) (length hyps) w k [] hs (write_proof env ctx [] p) [] (proof (proved env hyps [] p) ∷ []) hyps a.work.hyps a
-    (subst (λ (z : List Tree). Taken gaps env ctx n hyps fine Any (length hyps) hs.after a.work z (write_proof env ctx [] p hs.after) (proof (proved env hyps [] p) ∷ []) a.work.hyps) (append-nil a.newer) b) in
-    record {
-      body = record {
-        few = few;
-        commands = (theorem_written env params dummies hyps p).commands;
-        work = whole.work;
-        spelled = refl;
-        may_stand = stands gaps (theorem_written env params dummies hyps p).commands short;
-        steps = builds_steps gaps env ctx (theorem_written env params dummies hyps p).commands k whole.work whole.built_are whole.builds;
-        stack = whole.stack;
-        assumed = whole.assumed ∙ a.assumed;
-      };
-      built_are = whole.built_are;
-      builds = whole.builds;
-      distinct = whole.distinct;
-      plain = whole.plain;
-    }
-
--- ---- bodies without a proof
-
--- each command may stand in a body of this kind
-abbrev Stand : Bool → Kind → List (ProofCode × ℕ) → Type 0
-Stand gaps kind [] = ⊤
-Stand gaps kind (c ∷ cs) = (stands_in (plain gaps) kind c.0 ≡ true) × Stand gaps kind cs
-
-stand_on : (gaps : Bool) (kind : Kind) (cs ds : List (ProofCode × ℕ)) → Stand gaps kind cs → Stand gaps kind ds → Stand gaps kind (cs ++ ds)
-stand_on gaps kind [] ds a b = b
-stand_on gaps kind (c ∷ cs) ds a b = (a.0, stand_on gaps kind cs ds a.1 b)
-
-may_stand_so : (gaps : Bool) (kind : Kind) (cs : List (ProofCode × ℕ)) → Stand gaps kind cs → TakeFourBytes cs → MayStand (plain gaps) kind cs
-may_stand_so gaps kind [] a b = tt
-may_stand_so gaps kind (c ∷ cs) a b = (a.0, b.0, may_stand_so gaps kind cs a.1 b.1)
-
-module _ (gaps : Bool) (kind : Kind) (ctx : List Binder) (ref : stands_in (plain gaps) kind code.Ref ≡ true) (dummy : stands_in (plain gaps) kind code.Dummy ≡ true)
-    (term : stands_in (plain gaps) kind code.TermSave ≡ true) where
-  kept_stands : (x : Kept) (f : Writer) (w : Writing) → Stand gaps kind (f w).commands → Stand gaps kind (unless_kept x f w).commands
-  kept_stands x f w stand = elim (none_or_some (place_in x w.heap)) [
-    | inl absent ↦ subst (λ (r : Written). Stand gaps kind r.commands) (sym (not_kept x f w absent)) stand
-    | inr (p, at) ↦ subst (λ (r : Written). Stand gaps kind r.commands) (sym (kept_there x f w p at)) (ref, tt)
-  ]
-
-  mutual
-    expr_stands : (e : Tree) (w : Writing) → Stand gaps kind (write_expr ctx e w).commands
-    expr_stands (var x) w = kept_stands (expression (var x)) (keeping code.Dummy (binder_at ctx x).sort (expression (var x))) w (dummy, tt)
-    expr_stands (app t es) w = kept_stands (expression (app t es)) (write_exprs ctx es >> keeping code.TermSave t (expression (app t es))) w
-        (stand_on gaps kind (write_exprs ctx es w).commands ((code.TermSave, t) ∷ []) (exprs_stand es w) (term, tt))
-
-    exprs_stand : (es : Trees) (w : Writing) → Stand gaps kind (write_exprs ctx es w).commands
-    exprs_stand none w = tt
-    exprs_stand (more e es) w = stand_on gaps kind (write_expr ctx e w).commands (write_exprs ctx es (write_expr ctx e w).after).commands (expr_stands e w) (exprs_stand es (write_expr ctx e w).after)
-
-  hyps_stand : stands_in (plain gaps) kind code.Hyp ≡ true → (hs : List Tree) (j : ℕ) (w : Writing) → Stand gaps kind (write_hyps ctx j hs w).commands
-  hyps_stand hyp [] j w = tt
-  hyps_stand hyp (h ∷ hs) j w =
-      let v : Writing = (write_hyp ctx j h w).after in
-      stand_on gaps kind (write_hyp ctx j h w).commands (write_hyps ctx (suc j) hs v).commands
-      (stand_on gaps kind (write_expr ctx h w).commands ((code.Hyp, 0) ∷ []) (expr_stands h w) (hyp, tt)) (hyps_stand hyp hs (suc j) v)
-
-pub definitions_are_written : DefinitionsAreWritten
-definitions_are_written gaps env params dummies e few fine (s, has) short =
-    let ctx : List Binder = params ++ dummies in
-    let w : Writing = at_first params in
-    let k : Work = work_start params in
-    let t = any_expr gaps env ctx (length params) [] fine 0 [] e s has [] w k [] (at_first_agrees gaps env ctx params [] fine) refl in
-    record {
-      body = record {
-        few = few;
-        commands = (definition_written params dummies e).commands;
-        work = t.work;
-        spelled = refl;
-        may_stand = may_stand_so gaps is_definition (definition_written params dummies e).commands (expr_stands gaps is_definition ctx refl refl refl e w) short;
-        steps = builds_steps gaps env ctx (definition_written params dummies e).commands k t.work t.built_are t.builds;
-        stack = t.stack;
-        assumed = t.assumed;
-      };
-      built_are = t.built_are;
-      builds = t.builds;
-      distinct = t.distinct;
-      plain = t.plain;
-    }
-
-pub axioms_are_written : AxiomsAreWritten
-axioms_are_written gaps env params dummies hyps e few fine provable (s, has) short =
-    let ctx : List Binder = params ++ dummies in
-    let n : ℕ = length params in
-    let k : Work = work_start params in
-    let w : Writing = at_first params in
-    let hs : Written = write_hyps ctx 0 hyps w in
-    let a = hyps_assumed gaps env ctx n hyps fine hyps [] 0 refl refl provable w k [] (at_first_agrees gaps env ctx params hyps fine) refl refl in
-    let b = any_expr gaps env ctx n hyps fine (length hyps) a.newer e s has [] hs.after a.work [] (subst (Agrees gaps env ctx n hyps fine (length hyps) hs.after a.work) (sym (append-nil a.newer)) a.agrees) a.stack in
-    let t = taken_then gaps env ctx n hyps fine Any (length hyps) (length hyps) w k [] hs (write_expr ctx e) [] (expr e ∷ []) hyps a.work.hyps a
-    (subst (λ (z : List Tree). Taken gaps env ctx n hyps fine Any (length hyps) hs.after a.work z (write_expr ctx e hs.after) (expr e ∷ []) a.work.hyps) (append-nil a.newer) b) in
-    record {
-      body = record {
-        few = few;
-        commands = (axiom_written params dummies hyps e).commands;
-        work = t.work;
-        spelled = refl;
-        may_stand = may_stand_so gaps is_axiom (axiom_written params dummies hyps e).commands
-            (stand_on gaps is_axiom hs.commands (write_expr ctx e hs.after).commands (hyps_stand gaps is_axiom ctx refl refl refl refl hyps 0 w) (expr_stands gaps is_axiom ctx refl refl refl e hs.after)) short;
-        steps = builds_steps gaps env ctx (axiom_written params dummies hyps e).commands k t.work t.built_are t.builds;
-        stack = t.stack;
-        assumed = t.assumed ∙ a.assumed;
-      };
-      built_are = t.built_are;
-      builds = t.builds;
-      distinct = t.distinct;
-      plain = t.plain;
-    }

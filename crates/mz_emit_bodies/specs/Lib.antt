@@ -9,6 +9,7 @@ pub mod Stages
 pub mod Lengths
 pub mod Making
 pub mod Laws
+pub mod WrittenLaws
 pub mod Instances
 pub mod Places
 pub mod Rows

@@ -1,4 +1,4 @@
-use Rattle.mz_emit_bodies.proofs.Running.{axioms_are_written, definitions_are_written, theorems_are_written}
+use Rattle.mz_emit_bodies.proofs.WholeBodies.{axioms_are_written, definitions_are_written, theorems_are_written}
 use Rattle.mz_emit_bodies.proofs.laws.bodies_are_written.Goals as goal
 
 pub returns : goal.returns

@@ -1,0 +1,247 @@
+-- Each text that can be compiled has its binary: what is written of its statements, without a run.
+use Rattle.std.proofs.Common.{ℕ, zero, suc, ◌≡◌, ◌≤◌, ◌<◌, ◌+◌, ◌*◌, ◌^◌, Bool, true, false, List, [], ◌∷◌, ◌++◌, length, take, All, refl, subst, ap, ◌∙◌, arith}
+use Rattle.std.specs.Prelude.{Option, Some, None, IsTrue}
+use Rattle.std.proofs.lemmas.List.{take_all, length-append}
+use Rattle.std.proofs.lemmas.List.Elements.{All-nil, All-cons, All-append}
+use Rattle.std.proofs.lemmas.Option.{slice_get_within}
+use Rattle.mz_cmd.specs.Codes.{begins_statement}
+use Rattle.mz_logic_theory.specs.Tree.{Tree, listed, size, trees_size}
+use Rattle.mz_logic_theory.specs.Signature.{Signature}
+use Rattle.mz_logic_theory.specs.Declaration.{Form, plain_form, abstract_form, defined, Assertion, Declaration, sort_decl, term_decl, assertion_decl, sorts, assertions}
+use Rattle.mz_logic_theory.specs.Legality.{IsDummy, IsLegalDecl}
+use Rattle.mz_logic_theory.specs.WordsWritten.{words_of, result_word, WordsFit, ResultWordsFit}
+use Rattle.mz_logic_theory.specs.declared.binder.Binder.{Binder}
+use Rattle.mz_logic_theory.specs.declared.word.Word.{Word}
+use Rattle.mz_logic_theory.proofs.Offered.{each_from_all, terms_are_sorted}
+use Rattle.mz_layout_tables.specs.Normal.{Row, Written, Parts, no_parts, row_of_term, row_of_thm, file_of}
+use Rattle.mz_layout_tables.specs.Standing.{HasRoom, HaveRoom, Fit}
+use Rattle.mz_mmu_theory.specs.Proof.{Proof}
+use Rattle.mz_mmu_theory.specs.Name.{no_names}
+use Rattle.mz_mmu_theory.specs.Statements.{Statement}
+use Rattle.mz_mmu_theory.specs.TextOf.{TextOf}
+use Rattle.mz_mmu_theory.specs.Weight.{declaration_weight, stated_weight, IsWithinLimits}
+use Rattle.mz_mmu_theory.proofs.Offered.{are_whole, statements_there}
+use Rattle.mz_type.specs.Ready.{StatementsCanBeWords}
+use Rattle.mz_type.specs.TypedText.{statement_at, declared}
+use Rattle.mz_emit_theory.proofs.Offered.{words-say-params}
+use Rattle.mz_emit_bodies.proofs.Offered.{axioms_are_written, axioms_short, axioms_take, definitions_are_written, definitions_short, definitions_take, theorem_bodies_use, theorems_short, theorems_take}
+use Rattle.mz_emit_accepted_theory.specs.ClaimsLaws.{StatedProofsAreSound}
+use Rattle.mz_emit_accepted_theory.specs.CompiledFile.{with_sort, with_term, with_thm, term_row, thm_row, definition_code, assertion_code, definition_stream_of, definition_body_of, assertion_stream_of, assertion_body_of}
+use Rattle.mz_emit_accepted_theory.specs.CompiledLaws.{HasFile, FileUsesWhatProofsUse}
+use Rattle.mz_emit_accepted_theory.specs.Gapped.{SayTheirUses}
+use Rattle.mz_emit.specs.Emitting.{IsStated, MayFollow, SaysDefinition, SaysAssertion, IsProvedBy, body_weight, MakesBody, HasWritten}
+use Rattle.mz_emit.proofs.Finished.{few_sorts, short, is_binary}
+use Rattle.mz_emit.proofs.Following.{follows}
+use Rattle.mz_emit.proofs.Looping.{legal_with, one_more}
+use Rattle.mz_emit.proofs.OneMore.{sort_next, plain_next, definition_next, assertion_next, words_many}
+use Rattle.mz_emit.proofs.Rows.{proved_by}
+use Rattle.mz_emit.proofs.Saying.{definition_kind, env_short, term_words, same_form, thm_words, sort_unmarked, plain_unmarked, thm_kind, definition_can, assertion_can}
+use Rattle.mz_emit.proofs.Speaking.{dummies_fine, definition_says, conclusion_sorted, hyps_provable, assertion_says}
+use Rattle.mz_emit.proofs.Stated.{all_stated}
+use Rattle.mz_emit.proofs.Weights.{stated_same}
+
+-- ---- counts
+
+assertions_few : (ds : List Declaration) → length (assertions ds) ≤ length ds
+assertions_few [] = omega arith
+assertions_few (sort_decl m ∷ ds) = omega (arith, assertions_few ds)
+assertions_few (term_decl d ∷ ds) = omega (arith, assertions_few ds)
+assertions_few (assertion_decl a ∷ ds) = omega (arith, assertions_few ds)
+
+all_more : (A : Type 0) (P : A → Type 0) (xs : List A) (x : A) → All P xs → P x → All P (xs ++ x ∷ [])
+all_more A P xs x all one = All-append P xs (x ∷ []) all (All-cons P x [] one (All-nil P))
+
+-- ---- codes
+
+definition_begins : (b : Bool) → IsTrue (begins_statement (definition_code b))
+definition_begins true = refl
+definition_begins false = refl
+
+assertion_begins : (x b : Bool) → IsTrue (begins_statement (assertion_code x b))
+assertion_begins true b = refl
+assertion_begins false true = refl
+assertion_begins false false = refl
+
+-- ---- rows
+
+term_room : (ws : List Word) (r : Word) (stream : Option (List ℕ)) → length ws ≤ 65535 → All (λ (w : Word). w.0 < 2 ^ 64) ws → r.0 < 2 ^ 64 → HasRoom 1 (row_of_term ws r stream)
+term_room ws r None few all one = record { few_params = omega (arith, few); count = length-append ws (r ∷ []); words = all_more Word (λ w. w.0 < 2 ^ 64) ws r all one }
+term_room ws r (Some stream) few all one = record { few_params = omega (arith, few); count = length-append ws (r ∷ []); words = all_more Word (λ w. w.0 < 2 ^ 64) ws r all one }
+
+thm_room : (ws : List Word) (stream : List ℕ) → length ws ≤ 65535 → All (λ (w : Word). w.0 < 2 ^ 64) ws → HasRoom 0 (row_of_thm ws stream)
+thm_room ws stream few all = record { few_params = omega (arith, few); count = omega arith; words = all }
+
+module _ (p : Parts) (room : HaveRoom p) (w : Written) (begins : IsTrue (begins_statement w.code)) where
+  codes_more : All (λ (v : Written). IsTrue (begins_statement v.code)) (p.statements ++ w ∷ [])
+  codes_more = all_more Written (λ v. IsTrue (begins_statement v.code)) p.statements w room.codes begins
+
+  term_more : (r : Row) → HasRoom 1 r → HaveRoom (with_term p r w)
+  term_more r one = record { mods = room.mods; terms = all_more Row (HasRoom 1) p.terms r room.terms one; thms = room.thms; codes = codes_more }
+
+  thm_more : (r : Row) → HasRoom 0 r → HaveRoom (with_thm p r w)
+  thm_more r one = record { mods = room.mods; terms = room.terms; thms = all_more Row (HasRoom 0) p.thms r room.thms one; codes = codes_more }
+
+sort_more : (p : Parts) (m : ℕ) → HaveRoom p → m < 16 → HaveRoom (with_sort p m)
+sort_more p m room few = record {
+  mods = all_more ℕ (λ n. n < 16) p.sorts m room.mods few;
+  terms = room.terms;
+  thms = room.thms;
+  codes = codes_more p room (record { code = 0x04; body = [] }) refl;
+}
+
+-- ---- one statement
+
+-- these are written, within the format's bounds
+abbrev AreThere : Bool → List Statement → Type 0
+AreThere gaps ss = (p : Parts) × HasWritten gaps ss p × HaveRoom p
+
+module _ (words_fit : WordsFit) (results_fit : ResultWordsFit) (sound : StatedProofsAreSound) (gaps : Bool) (b : List Statement) (s : Statement) (next : MayFollow gaps b s) where
+  few_assertions : length (assertions (declared b)) ≤ 2 ^ 32
+  few_assertions = (let few = assertions_few (declared b) in let short = env_short gaps b s next in omega (arith, few, short))
+
+  -- ---- a definition
+
+  definition_made : (sg : Signature) (dummies : List Binder) (e : Tree) → s.decl ≡ term_decl (record { signature = sg; form = defined dummies e })
+      → SaysDefinition (declared b) sg.params dummies e (definition_stream_of sg.params dummies e) (definition_body_of sg.params dummies e)
+  definition_made sg dummies e is =
+      let env : List Declaration = declared b in
+      let can = definition_can gaps b s next sg dummies e is in
+      let fine = dummies_fine env sg.params dummies can.ready in
+      let light = next.light in
+      let room : length sg.params + 6 * size e ≤ 2 ^ 32 = omega (arith, light, ap declaration_weight is) in
+      let four = definitions_take env sg.params dummies e can.ready.small few_assertions fine can.sorted room in
+      definition_says env sg.params dummies e e (definition_stream_of sg.params dummies e) (definition_body_of sg.params dummies e) can refl refl
+      (λ g. definitions_are_written g env sg.params dummies e can.ready.few fine can.sorted four) (definitions_short sg.params dummies e) refl
+
+  sg_room : (sg : Signature) (f : Form) → s.decl ≡ term_decl (record { signature = sg; form = f }) → (stream : Option (List ℕ)) → HasRoom 1 (term_row sg stream)
+  sg_room sg f is stream =
+      let env : List Declaration = declared b in
+      let words = term_words gaps b s next sg f is in
+      let legal : IsLegalDecl env (term_decl (record { signature = sg; form = f })) = subst (IsLegalDecl env) is next.legal.0 in
+      let (m, at, may) = ((terms_are_sorted env (record { signature = sg; form = f })).0 legal).3 in
+      let many = words_many 0 [] sg.params in
+      let few = words.few in
+      term_room (words_of sg.params) (result_word sg.params sg.result) stream (omega (arith, many, few)) (words_fit (sorts env) sg.params words.can)
+      (results_fit (sorts env) sg.params sg.result words.can (slice_get_within (sorts env) sg.result.sort m at))
+
+  form_there : (p : Parts) → HasWritten gaps b p → HaveRoom p → (sg : Signature) (f : Form) → s.decl ≡ term_decl (record { signature = sg; form = f }) → AreThere gaps (b ++ s ∷ [])
+  form_there p written room sg plain_form is =
+      let w : Written = record { code = 0x05; body = [] } in
+      let words = term_words gaps b s next sg plain_form is in
+      (with_term p (term_row sg None) w, plain_next gaps b p written s sg is (plain_unmarked gaps b s next sg is) words.say, term_more p room w refl (term_row sg None) (sg_room sg plain_form is None))
+  form_there p written room sg abstract_form is = absurd (let stated : IsStated (term_decl (record { signature = sg; form = abstract_form })) = subst IsStated is next.stated in stated)
+  form_there p written room sg (defined dummies e) is =
+      let words = term_words gaps b s next sg (defined dummies e) is in
+      let code : ℕ = definition_code s.is_local in
+      let stream : List ℕ = definition_stream_of sg.params dummies e in
+      let body : List ℕ = definition_body_of sg.params dummies e in
+      let w : Written = record { code = code; body = body } in (
+        with_term p (term_row sg (Some stream)) w,
+        definition_next gaps b p written s sg dummies e code stream body is (definition_kind s.is_local) words.say
+            (same_form gaps b s next sg dummies e (definition_can gaps b s next sg dummies e is)) (definition_made sg dummies e is) refl,
+        term_more p room w (definition_begins s.is_local) (term_row sg (Some stream)) (sg_room sg (defined dummies e) is (Some stream)),
+      )
+
+  -- ---- an axiom or a theorem
+
+  module _ (a : Assertion) (is : s.decl ≡ assertion_decl a) where
+    body_made : (q : Option Proof) → s.proof ≡ q → IsProvedBy gaps (declared b) (a.params ++ s.dummies) a q
+        → MakesBody gaps (declared b) q a.params s.dummies a.conclusion (listed a.hyps) (assertion_body_of (declared b) a.params s.dummies (listed a.hyps) a.conclusion q)
+    body_made None bare by =
+        let env : List Declaration = declared b in
+        let can = assertion_can gaps b s next a is in
+        let fine = dummies_fine env a.params s.dummies can.ready in
+        let provable = hyps_provable env a s.dummies can (a.params ++ s.dummies) a.hyps refl refl in
+        let sorted = conclusion_sorted env a s.dummies can in
+        let light = next.light in
+        axioms_are_written gaps env a.params s.dummies (listed a.hyps) a.conclusion can.ready.few fine provable sorted
+        (axioms_take env a.params s.dummies a.hyps a.conclusion can.ready.small few_assertions fine provable sorted (omega (arith, light, ap declaration_weight is)))
+    body_made (Some p) some (unmarked, proves, same) =
+        let env : List Declaration = declared b in
+        let can = assertion_can gaps b s next a is in
+        let fine = dummies_fine env a.params s.dummies can.ready in
+        let provable = hyps_provable env a s.dummies can (a.params ++ s.dummies) a.hyps refl refl in
+        let light = next.light in
+        theorem_bodies_use gaps env a.params s.dummies (listed a.hyps) p can.ready.few fine provable proves
+        (theorems_take gaps env a.params s.dummies a.hyps p can.ready.small few_assertions fine provable proves
+        (omega (arith, light, ap declaration_weight is, ap (stated_weight env) some, stated_same env (Some p))))
+
+    body_short : (q : Option Proof) → length (assertion_body_of (declared b) a.params s.dummies (listed a.hyps) a.conclusion q)
+        ≤ 6 * (trees_size a.hyps + size a.conclusion + body_weight (declared b) q) + 1
+    body_short None = (let h = axioms_short a.params s.dummies a.hyps a.conclusion in omega (arith, h))
+    body_short (Some p) = (let h = theorems_short (declared b) a.params s.dummies a.hyps p in omega (arith, h))
+
+    assertion_made : SaysAssertion gaps (declared b) a s.dummies s.proof (assertion_stream_of a) (assertion_body_of (declared b) a.params s.dummies (listed a.hyps) a.conclusion s.proof)
+    assertion_made =
+        let by = proved_by gaps b s next sound a is s.proof refl in
+        assertion_says (declared b) a s.dummies (assertion_can gaps b s next a is) gaps s.proof a.conclusion a.hyps (assertion_stream_of a)
+        (assertion_body_of (declared b) a.params s.dummies (listed a.hyps) a.conclusion s.proof) by refl refl refl (body_made s.proof refl by) (body_short s.proof) refl
+
+    assertion_there : (p : Parts) → HasWritten gaps b p → HaveRoom p → AreThere gaps (b ++ s ∷ [])
+    assertion_there p written room =
+        let env : List Declaration = declared b in
+        let can = assertion_can gaps b s next a is in
+        let code : ℕ = assertion_code a.is_axiom s.is_local in
+        let stream : List ℕ = assertion_stream_of a in
+        let body : List ℕ = assertion_body_of env a.params s.dummies (listed a.hyps) a.conclusion s.proof in
+        let w : Written = record { code = code; body = body } in
+        let words = thm_words gaps b s next a is in
+        let many = words_many 0 [] a.params in
+        let few = can.ready.few_params in (
+          with_thm p (thm_row a stream) w,
+          assertion_next gaps b p written s a s.dummies code stream body is (thm_kind gaps b s next a is) (words-say-params (sorts env) a.params words)
+              (λ i d at. (each_from_all IsDummy s.dummies can.ready.dummies_are i d at).1) assertion_made refl refl,
+          thm_more p room w (assertion_begins a.is_axiom s.is_local) (thm_row a stream) (thm_room (words_of a.params) stream (omega (arith, many, few)) (words_fit (sorts env) a.params words)),
+        )
+
+  statement_there : (p : Parts) → HasWritten gaps b p → HaveRoom p → (d : Declaration) → s.decl ≡ d → AreThere gaps (b ++ s ∷ [])
+  statement_there p written room (sort_decl m) is = (
+    with_sort p m.0,
+    sort_next gaps b p written s m is (sort_unmarked gaps b s next m is),
+    sort_more p m.0 room (subst IsStated is next.stated),
+  )
+  statement_there p written room (term_decl d) is = form_there p written room d.signature d.form is
+  statement_there p written room (assertion_decl a) is = assertion_there a is p written room
+
+-- ---- all of them
+
+module _ (words_fit : WordsFit) (results_fit : ResultWordsFit) (sound : StatedProofsAreSound) (ready : StatementsCanBeWords) where
+  nothing_there : (gaps : Bool) → AreThere gaps []
+  nothing_there gaps = (
+    no_parts,
+    record { says = record { no_sorts = refl; no_terms = refl; no_thms = refl }; uses = tt; short = omega arith; parts = refl },
+    record { mods = All-nil (λ m. m < 16); terms = All-nil (HasRoom 1); thms = All-nil (HasRoom 0); codes = All-nil (λ v. IsTrue (begins_statement v.code)) },
+  )
+
+  module _ (gaps : Bool) (text : List ℕ) (ss : List Statement) (typed : TextOf gaps text ss) (within : IsWithinLimits ss) where
+    next_there : (i : ℕ) → i < length ss → MayFollow gaps (take i ss) (statement_at ss i)
+    next_there i below =
+        let ((nodes, read), legal) = typed in
+        let whole = are_whole (no_names gaps) nodes ss read.1 in
+        let has_gaps = (legal_with gaps text ss typed).1 in
+        follows gaps ss legal (statements_there gaps nodes ss read.1) whole (all_stated (no_names gaps) nodes ss read.1) has_gaps (ready gaps ss legal whole within) within i below
+
+    first_there : (i : ℕ) → i ≤ length ss → AreThere gaps (take i ss)
+    first_there zero le = nothing_there gaps
+    first_there (suc i) le =
+        let (p, written, room) = first_there i (omega (arith, le)) in
+        let below : i < length ss = omega (arith, le) in
+        let same : i + 1 ≡ suc i = omega arith in
+        subst (λ (ts : List Statement). AreThere gaps ts) (one_more ss i below ∙ ap (λ (n : ℕ). take n ss) same)
+        (statement_there words_fit results_fit sound gaps (take i ss) (statement_at ss i) (next_there i below) p written room (statement_at ss i).decl refl)
+
+    all_there : AreThere gaps ss
+    all_there = subst (λ (ts : List Statement). AreThere gaps ts) (take_all (length ss) ss (omega arith)) (first_there (length ss) (omega arith))
+
+  pub has_file : (text : List ℕ) → HasFile text
+  has_file text gaps (ss, typed, within) =
+      let (p, written, room) = all_there gaps text ss typed within in
+      let legal = typed.1 in
+      let fits = short gaps ss p written legal within in
+      let fit : Fit p = record { room = room; few_sorts = few_sorts gaps ss p written legal within; short = omega (arith, fits) } in
+      (file_of p, (ss, typed, within, is_binary gaps ss p written legal within (file_of p) refl fit))
+
+  pub file_uses : (text : List ℕ) → FileUsesWhatProofsUse text
+  file_uses text gaps ss typed within =
+      let (p, written, room) = all_there gaps text ss typed within in
+      subst (λ (q : Parts). SayTheirUses ss q.statements) written.parts written.uses
