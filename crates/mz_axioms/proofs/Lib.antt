@@ -2,7 +2,13 @@ pub mod Citing
 pub mod Supporting
 pub mod Resting
 pub mod Increasing
-pub mod Merging
+pub mod Mapped
+pub mod Bits
+pub mod Joining
+pub mod Halving
+pub mod Writing
+pub mod Counting
+pub mod Noting
 pub mod Placing
 pub mod Telling
 pub mod Numbering

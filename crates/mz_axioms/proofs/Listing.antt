@@ -4,7 +4,7 @@ use Rattle.std.specs.Prelude.{All, Contains, flat_map, if◌then◌else◌, not,
 use Rattle.std.proofs.lemmas.List.{map-append}
 use Rattle.std.proofs.lemmas.List.Elements.{All-nil, All-cons, All-append}
 use Rattle.std.proofs.lemmas.Option.{none-some, slice_get_within}
-use Rattle.mz_base_theory.proofs.Offered.{slice_get-some, slice_get-map_back, slice_get-map_at, place-of as contained-get, contains_at}
+use Rattle.mz_base_theory.proofs.Offered.{slice_get-some, slice_get-map_at}
 use Rattle.mz_logic_theory.specs.Declaration.{Declaration, sort_decl, term_decl, assertion_decl}
 use Rattle.mz_logic_theory.specs.LegalLists.{Statement, declarations, IsProvedBy, Legal, gap_free}
 use Rattle.mz_logic_theory.proofs.Offered.{one_at, legal_at}
@@ -15,7 +15,7 @@ use Rattle.mz_binary_theory.proofs.Offered.{good-legal, one-list, good-spelled}
 use Rattle.mz_spec_proved_theory.specs.Match.{publics, Agrees}
 use Rattle.mz_match_theory.specs.Verdict.{Accepts}
 use Rattle.mz_axioms.specs.declared.rows.Place.{Place}
-use Rattle.mz_axioms.specs.declared.rows.Row.{Row}
+use Rattle.mz_axioms.specs.Rows.{RowTold}
 use Rattle.mz_binary_theory.specs.Gapped.{AssertionBody, body_there, place_after, body_of, bodies_from, bodies_of}
 use Rattle.mz_axioms.specs.Supports.{IsKind, InSupport, within_support}
 use Rattle.mz_axioms.specs.Places.{StandsFor, theorems_of, place_there, places_from, is_listed}
@@ -23,6 +23,7 @@ use Rattle.mz_binary_walk.specs.Walk.{past_public}
 use Rattle.mz_axioms.specs.Lists.{TheoremSupport, IsSupportOf, AreSupports}
 use Rattle.mz_axioms.specs.Rows.{Tells, TellsAll, number_at, number_in, support_of, supports_at, supports_of}
 use Rattle.mz_axioms.proofs.Increasing.{increasing-map}
+use Rattle.mz_axioms.proofs.Mapped.{contains-map, map-contains}
 use Rattle.mz_axioms.proofs.Supporting.{support-axiom, one-kind, kind-within}
 use Rattle.mz_axioms.proofs.Placing.{IsPlaceOf, place-of, numbers-grow, declared-at, publics-count, listed_number, listed_numbers, theorems-listed}
 use Rattle.mz_axioms.proofs.Resting.{rest-on-supports}
@@ -32,22 +33,13 @@ use Rattle.mz_spec_proved_theory.proofs.Offered.{never-local}
 
 -- ---- lists
 
-contains-map : {A B : Type 0} (f : A → B) (xs : List A) (x : A) → Contains xs x → Contains (map f xs) (f x)
-contains-map f xs x has = let (k, at) = contained-get xs x has in contains_at (map f xs) k (f x) (slice_get-map_at f xs k x at)
-
-map-contains : {A B : Type 0} (f : A → B) (xs : List A) (y : B) → Contains (map f xs) y → (x : A) × Contains xs x × (f x ≡ y)
-map-contains f xs y has =
-    let (k, at) = contained-get (map f xs) y has in
-    let (x, there, is) = slice_get-map_back f xs k y at in
-    (x, contains_at xs k x there, is)
-
 all-flat : {A B : Type 0} (P : B → Type 0) (f : A → List B) (xs : List A) → ((k : ℕ) (x : A) → slice_get xs k ≡ Some x → All P (f x)) → All P (flat_map f xs)
 all-flat P f [] each = All-nil P
 all-flat P f (x ∷ xs) each = All-append P (f x) (flat_map f xs) (each 0 x refl) (all-flat P f xs (λ k y at. each (suc k) y at))
 
 -- ---- the theorems
 
-theorem-numbers : (whole rows : List Row) → map (λ (s : TheoremSupport). s.theorem) (flat_map (supports_at whole) rows) ≡ listed_numbers (map (λ (r : Row). r.place) rows)
+theorem-numbers : (whole rows : List RowTold) → map (λ (s : TheoremSupport). s.theorem) (flat_map (supports_at whole) rows) ≡ listed_numbers (map (λ (r : RowTold). r.place) rows)
 theorem-numbers whole [] = refl
 theorem-numbers whole (r ∷ rows) =
     map-append (λ (s : TheoremSupport). s.theorem) (supports_at whole r) (flat_map (supports_at whole) rows)
@@ -84,9 +76,9 @@ listed-is p true y is-x is-y is = absurd (let e : (not true && not y) ≡ true =
 listed-is p false true is-x is-y is = absurd (let e : (not false && not true) ≡ true = ap (λ z. not z && not true) (sym is-x) ∙ ap (λ z. not p.is_axiom && not z) (sym is-y) ∙ is in cc)
 listed-is p false false is-x is-y is = (refl, refl)
 
-module _ (file : List ℕ) (ds : List Declaration) (ss : List Statement) (rows : List Row) (good : Good strict_standard file ss) (agrees : Agrees ds (publics ss)) (told : TellsAll file ss rows) where
-  place-there : (T : ℕ) (r : Row) → slice_get rows T ≡ Some r → slice_get (places_from 0 ss) T ≡ Some r.place
-  place-there T r at = subst (λ (ps : List Place). slice_get ps T ≡ Some r.place) told.places (slice_get-map_at (λ (x : Row). x.place) rows T r at)
+module _ (file : List ℕ) (ds : List Declaration) (ss : List Statement) (rows : List RowTold) (good : Good strict_standard file ss) (agrees : Agrees ds (publics ss)) (told : TellsAll file ss rows) where
+  place-there : (T : ℕ) (r : RowTold) → slice_get rows T ≡ Some r → slice_get (places_from 0 ss) T ≡ Some r.place
+  place-there T r at = subst (λ (ps : List Place). slice_get ps T ≡ Some r.place) told.places (slice_get-map_at (λ (x : RowTold). x.place) rows T r at)
 
   stands-for : (T : ℕ) (p : Place) (h : IsPlaceOf 0 ss T p) → h.statement.is_local ≡ false → StandsFor ds ss p.number T
   stands-for T p h public_ =
@@ -112,7 +104,7 @@ module _ (file : List ℕ) (ds : List Declaration) (ss : List Statement) (rows :
 
   -- an axiom's row
   pub record IsAxiomRow (A : ℕ) : Type 0 where
-    pub row : Row
+    pub row : RowTold
     pub at : slice_get rows A ≡ Some row
     pub stands : StandsFor ds ss row.place.number A
     pub public_ : row.place.is_local ≡ false
@@ -129,10 +121,10 @@ module _ (file : List ℕ) (ds : List Declaration) (ss : List Statement) (rows :
       (legal_at gap_free [] h.before h.after h.statement (subst Legal h.all legal)).1 h.says (sym h.axiom_is ∙ ax) in
       record { row = r; at = at; stands = stands-for A r.place h public_; public_ = h.local_is ∙ public_ }
 
-  number-is : (A : ℕ) (r : Row) → slice_get rows A ≡ Some r → number_at rows A ≡ r.place.number
+  number-is : (A : ℕ) (r : RowTold) → slice_get rows A ≡ Some r → number_at rows A ≡ r.place.number
   number-is A r at = ap number_in at
 
-  theorem-row : (T : ℕ) (r : Row) → slice_get rows T ≡ Some r → is_listed r.place ≡ true → IsSupportOf file ds ss (support_of rows r)
+  theorem-row : (T : ℕ) (r : RowTold) → slice_get rows T ≡ Some r → is_listed r.place ≡ true → IsSupportOf file ds ss (support_of rows r)
   unfolding stands-for
   theorem-row T r at listed =
       record {
@@ -141,7 +133,7 @@ module _ (file : List ℕ) (ds : List Declaration) (ss : List Statement) (rows :
         is_theorem = is_theorem;
         all = all;
         only = only;
-        in_order = increasing-map (number_at rows) r.axioms.items tells.in_order grows;
+        in_order = increasing-map (number_at rows) r.axioms tells.in_order grows;
         proved = subst (λ (n : ℕ). IsProvedBy (within_support (bodies_of file ss) n) (declarations h.before) h.assertion) (sym h.row)
             (rest-on-supports file ss good h.before h.after h.statement h.assertion h.all h.says is_theorem);
       }
@@ -167,28 +159,28 @@ module _ (file : List ℕ) (ds : List Declaration) (ss : List Statement) (rows :
           let (b, there) = slice_get-some (bodies_of file ss) T inside in
           record { body = b; there = there; is = kinds-same file (list_at file) 0 ss T b r.place there (place-there T r at) ∙ both.0 }
 
-      all : (A : ℕ) → InSupport (bodies_of file ss) T A → (a : ℕ) × StandsFor ds ss a A × Contains (map (number_at rows) r.axioms.items) a
+      all : (A : ℕ) → InSupport (bodies_of file ss) T A → (a : ℕ) × StandsFor ds ss a A × Contains (map (number_at rows) r.axioms) a
       all A on =
           let x = axiom-row A (support-axiom (bodies_of file ss) T A on) in (
             x.row.place.number,
             x.stands,
-            subst (Contains (map (number_at rows) r.axioms.items)) (number-is A x.row x.at) (contains-map (number_at rows) r.axioms.items A ((tells.axioms A).1 (inr (kind, on)))),
+            subst (Contains (map (number_at rows) r.axioms)) (number-is A x.row x.at) (contains-map (number_at rows) r.axioms A ((tells.axioms A).1 (inr (kind, on)))),
           )
 
-      comes : (A : ℕ) → Contains r.axioms.items A → InSupport (bodies_of file ss) T A
+      comes : (A : ℕ) → Contains r.axioms A → InSupport (bodies_of file ss) T A
       comes A has = elim ((tells.axioms A).0 has) [
         | inl here ↦ absurd (let e : true ≡ false = one-kind (bodies_of file ss) T true false here.0 kind in cc)
         | inr on ↦ on.1
       ]
 
-      only : (a : ℕ) → Contains (map (number_at rows) r.axioms.items) a → (A : ℕ) × StandsFor ds ss a A × InSupport (bodies_of file ss) T A
+      only : (a : ℕ) → Contains (map (number_at rows) r.axioms) a → (A : ℕ) × StandsFor ds ss a A × InSupport (bodies_of file ss) T A
       only a has =
-          let (A, there, is) = map-contains (number_at rows) r.axioms.items a has in
+          let (A, there, is) = map-contains (number_at rows) r.axioms a has in
           let on = comes A there in
           let x = axiom-row A (support-axiom (bodies_of file ss) T A on) in
           (A, subst (λ (n : ℕ). StandsFor ds ss n A) (sym (number-is A x.row x.at) ∙ is) x.stands, on)
 
-      grows : (x y : ℕ) → Contains r.axioms.items x → Contains r.axioms.items y → x < y → number_at rows x < number_at rows y
+      grows : (x y : ℕ) → Contains r.axioms x → Contains r.axioms y → x < y → number_at rows x < number_at rows y
       grows x y has-x has-y lt =
           let p = axiom-row x (support-axiom (bodies_of file ss) T x (comes x has-x)) in
           let q = axiom-row y (support-axiom (bodies_of file ss) T y (comes y has-y)) in
@@ -203,12 +195,12 @@ module _ (file : List ℕ) (ds : List Declaration) (ss : List Statement) (rows :
   pub lists-each : All (IsSupportOf file ds ss) (supports_of rows)
   lists-each = all-flat (IsSupportOf file ds ss) (supports_at rows) rows (λ T r at. one T r at (is_listed r.place) refl)
     where
-      one : (T : ℕ) (r : Row) → slice_get rows T ≡ Some r → (b : Bool) → is_listed r.place ≡ b → All (IsSupportOf file ds ss) (if b then support_of rows r ∷ [] else [])
+      one : (T : ℕ) (r : RowTold) → slice_get rows T ≡ Some r → (b : Bool) → is_listed r.place ≡ b → All (IsSupportOf file ds ss) (if b then support_of rows r ∷ [] else [])
       one T r at true is = All-cons (IsSupportOf file ds ss) (support_of rows r) [] (theorem-row T r at is) (All-nil (IsSupportOf file ds ss))
       one T r at false is = All-nil (IsSupportOf file ds ss)
 
 -- of a pair that is accepted
-pub are-supports : (spec bin : List ℕ) (accepts : Accepts spec bin) (ss : List Statement) → Good strict_standard bin ss → (rows : List Row) → TellsAll bin ss rows → (lists : List TheoremSupport) → lists ≡ supports_of rows
+pub are-supports : (spec bin : List ℕ) (accepts : Accepts spec bin) (ss : List Statement) → Good strict_standard bin ss → (rows : List RowTold) → TellsAll bin ss rows → (lists : List TheoremSupport) → lists ≡ supports_of rows
     → AreSupports spec bin lists
 are-supports spec bin accepts ss good rows told lists is =
     let same : ss ≡ accepts.statements = one-list bin ss accepts.statements (good-spelled strict_standard bin ss good) (good-spelled strict_standard bin accepts.statements accepts.is_good) in

@@ -1,9 +1,7 @@
 -- What is known of the rows stays true as the list of statements goes on.
-use Rattle.std.proofs.Common.{◌≡◌, ◌∙◌, ◌≤◌, ◌<◌, ◌+◌, ◌⊎◌, ℕ, zero, suc, Bool, true, false, List, [], ◌∷◌, ◌++◌, map, length, get_or, slice_get, Option, Some, None, Result, Ok, Err, refl, sym, ap, subst, inl, inr, arith, length-append, append_assoc, append-nil}
-use Rattle.std.specs.Prelude.{◌↔◌, Contains, MatchBool, IfOk, option_to_list}
-use Rattle.std.specs.List.Sorted.{IsStrictlyIncreasing}
+use Rattle.std.proofs.Common.{◌≡◌, ◌∙◌, ◌≤◌, ◌<◌, ◌+◌, ◌⊎◌, ℕ, zero, suc, Bool, true, false, List, [], ◌∷◌, ◌++◌, map, length, get_or, slice_get, Option, Some, None, refl, sym, ap, subst, inl, inr, arith, length-append, append_assoc, append-nil}
+use Rattle.std.specs.Prelude.{◌↔◌, Contains, MatchBool, option_to_list}
 use Rattle.std.proofs.lemmas.List.{length-map, map_push}
-use Rattle.std.proofs.lemmas.List.Elements.{Contains-push, Contains-push_cases}
 use Rattle.std.proofs.lemmas.Option.{none-some, slice_get_within, slice_get-get_or}
 use Rattle.mz_base_theory.proofs.Offered.{contains_none, slice_get-some, contains_at}
 use Rattle.mz_base_theory.specs.Checks.{AllHold}
@@ -27,7 +25,8 @@ use Rattle.mz_axioms.specs.Commands.{IsCitedIn}
 use Rattle.mz_binary_theory.specs.Gapped.{AssertionBody, body_there, place_after, body_of, bodies_from, bodies_of}
 use Rattle.mz_axioms.specs.Supports.{InSupport}
 use Rattle.mz_axioms.specs.Places.{place_there, places_from, publics_past, place_by}
-use Rattle.mz_axioms.specs.Rows.{ComesTo, Tells, TellsAll, TellsFile, Gives, Reaches, IsNew, IsNoted, AreInOrder, AreWithin, AreFew}
+use Rattle.mz_axioms.specs.Rows.{ComesTo, Tells, TellsAll, TellsFile, Reaches, IsNew, IsNoted, RowTold, AreWithin, AreFew}
+use Rattle.mz_axioms.specs.Kept.{CitesSet, HasSet}
 use Rattle.mz_axioms.proofs.Citing.{CitedBetween}
 use Rattle.mz_axioms.proofs.Increasing.{increasing-few}
 use Rattle.mz_axioms.proofs.Placing.{places-more, publics-more, places-many, by-code}
@@ -35,89 +34,40 @@ use Rattle.mz_axioms.proofs.Resting.{at-seam}
 use Rattle.mz_axioms.proofs.Supporting.{support-step, support-inverts, comes-on, comes-low, one-kind}
 use Rattle.mz_binary_theory.specs.Standards.{strict_standard}
 
--- ---- answers
-
-pub if-more : {A E : Type 0} (P Q : A → Type 0) (r : Result A E) → ((x : A) → P x → Q x) → IfOk r P → IfOk r Q
-if-more P Q (Ok x) m h = m x h
-if-more P Q (Err e) m h = h
-
 -- ---- citations of a body, one after another
 
 module _ (file : List ℕ) (rows : List Row) (pos end : ℕ) where
-  abbrev Whole : ℕ → Type 0
-  Whole A = Reaches rows (body_bytes file pos end) A
+  -- these sets and those that are cited from a place on are all that are cited
+  abbrev pub SetsCited : ℕ → List ℕ → Type 0
+  SetsCited at ids = (id : ℕ) → (Contains ids id ⊎ CitesSet rows (body_bytes file at end) id) ↔ CitesSet rows (body_bytes file pos end) id
 
-  -- these axioms and those that are reached from a place on are all that are reached
-  abbrev pub Reached : ℕ → List ℕ → Type 0
-  Reached at axioms = (A : ℕ) → (Contains axioms A ⊎ Reaches rows (body_bytes file at end) A) ↔ Reaches rows (body_bytes file pos end) A
+  pub cited-first : SetsCited pos []
+  cited-first id = (λ h. elim h [ inl no_ ↦ absurd (contains_none id no_) | inr on ↦ on ], λ on. inr on)
 
-  pub reached-first : Reached pos []
-  reached-first A = (λ h. elim h [ inl no_ ↦ absurd (contains_none A no_) | inr on ↦ on ], λ on. inr on)
-
-  pub reached-more : (at U after : ℕ) (old new : List ℕ) → CitedBetween file at end (Some (U, after)) → ((A : ℕ) → Contains new A ↔ (Contains old A ⊎ Gives rows U A)) → Reached at old → Reached after new
-  reached-more at U after old new (lt, le, said) union h A = (
+  pub cited-more : (at U after : ℕ) (old new : List ℕ) → CitedBetween file at end (Some (U, after)) → ((id : ℕ) → Contains new id ↔ (Contains old id ⊎ HasSet rows U id)) → SetsCited at old → SetsCited after new
+  cited-more at U after old new (lt, le, said) put h id = (
     λ r. elim r [
-      | inl has ↦ elim ((union A).0 has) [ inl was ↦ (h A).0 (inl was) | inr gives ↦ (h A).0 (inr (U, (said U).1 (inl refl), gives)) ]
-      | inr (V, cited, gives) ↦ (h A).0 (inr (V, (said V).1 (inr cited), gives))
+      | inl has ↦ elim ((put id).0 has) [ inl was ↦ (h id).0 (inl was) | inr here ↦ (h id).0 (inr (U, (said U).1 (inl refl), here)) ]
+      | inr (V, cited, there) ↦ (h id).0 (inr (V, (said V).1 (inr cited), there))
     ],
-    λ w. elim ((h A).1 w) [
-      | inl was ↦ inl ((union A).1 (inl was))
-      | inr (V, cited, gives) ↦ elim ((said V).0 cited) [
-        | inl same ↦ inl ((union A).1 (inr (subst (λ n. Gives rows n A) same gives)))
-        | inr on ↦ inr (V, on, gives)
+    λ w. elim ((h id).1 w) [
+      | inl was ↦ inl ((put id).1 (inl was))
+      | inr (V, cited, there) ↦ elim ((said V).0 cited) [
+        | inl same ↦ inl ((put id).1 (inr (subst (λ n. HasSet rows n id) same there)))
+        | inr on ↦ inr (V, on, there)
       ]
     ],
   )
 
-  pub reached-last : (at : ℕ) (axioms : List ℕ) → CitedBetween file at end None → Reached at axioms → (A : ℕ) → Contains axioms A ↔ Reaches rows (body_bytes file pos end) A
-  reached-last at axioms said h A = (
-    λ has. (h A).0 (inl has),
-    λ w. elim ((h A).1 w) [ inl has ↦ has | inr (V, cited, gives) ↦ absurd (said V cited) ],
+  pub cited-last : (at : ℕ) (ids : List ℕ) → CitedBetween file at end None → SetsCited at ids → (id : ℕ) → Contains ids id ↔ CitesSet rows (body_bytes file pos end) id
+  cited-last at ids said h id = (
+    λ has. (h id).0 (inl has),
+    λ w. elim ((h id).1 w) [ inl has ↦ has | inr (V, cited, there) ↦ absurd (said V cited) ],
   )
-
-pub gives-this : (rows : List Row) (U A : ℕ) (row : Row) → slice_get rows U ≡ Some row → Gives rows U A ↔ Contains row.axioms.items A
-gives-this rows U A row at = (λ (r, is, has). subst (λ (x : Row). Contains x.axioms.items A) (one_at is at) has, λ has. (row, at, has))
-
-pub gives-past : (rows : List Row) (U A : ℕ) → length rows ≤ U → Gives rows U A → ⊥
-gives-past rows U A past (row, at, has) = let lt = slice_get_within rows U row at in omega (arith, lt, past)
-
--- what a row that was read gives
-pub with-read : (rows : List Row) (U : ℕ) (row : Row) (axioms new : List ℕ) → U < length rows → row ≡ get_or rows U row
-    → ((A : ℕ) → Contains new A ↔ (Contains axioms A ⊎ Contains row.axioms.items A)) → (A : ℕ) → Contains new A ↔ (Contains axioms A ⊎ Gives rows U A)
-with-read rows U row axioms new lt is union A =
-    let at : slice_get rows U ≡ Some row = slice_get-get_or rows U row lt ∙ ap (λ (r : Row). Some r) (sym is) in
-    let gives = gives-this rows U A row at in (
-      λ has. elim ((union A).0 has) [ inl was ↦ inl was | inr more_ ↦ inr (gives.1 more_) ],
-      λ h. elim h [ inl was ↦ (union A).1 (inl was) | inr g ↦ (union A).1 (inr (gives.0 g)) ],
-    )
-
--- ---- the axioms of a new row
-
-contains-one : (row A : ℕ) → Contains (row ∷ []) A ↔ (A ≡ row)
-contains-one row A = (
-  λ has. elim (Contains-push_cases [] row A has) [ inl no_ ↦ absurd (contains_none A no_) | inr same ↦ sym same ],
-  λ same. subst (Contains (row ∷ [])) (sym same) (Contains-push [] row),
-)
-
--- an axiom's are itself
-pub alone : (xs : List ℕ) (row n A : ℕ) (b : Bool) (Q : Type 0) → xs ≡ row ∷ [] → row ≡ n → b ≡ true → Contains xs A ↔ MatchBool b (A ≡ n) Q
-alone xs row n A b Q is same kind =
-    subst (λ (k : Bool). Contains xs A ↔ MatchBool k (A ≡ n) Q) (sym kind)
-    (λ has. ((contains-one row A).0 (subst (λ (ys : List ℕ). Contains ys A) is has)) ∙ same, λ e. subst (λ (ys : List ℕ). Contains ys A) (sym is) ((contains-one row A).1 (e ∙ sym same)))
-
-pub alone-ascends : (xs : List ℕ) (row : ℕ) → xs ≡ row ∷ [] → IsStrictlyIncreasing xs
-alone-ascends xs row is = subst IsStrictlyIncreasing (sym is) (λ k lt. absurd (omega (arith, lt)))
-
--- a theorem's are those that its body reaches
-pub not-alone : (P Q R : Type 0) (b : Bool) → b ≡ false → P ↔ R → P ↔ MatchBool b Q R
-not-alone P Q R b kind h = subst (λ (k : Bool). P ↔ MatchBool k Q R) (sym kind) h
-
-pub noted-new : (o : Option Place) (place : Place) (bytes : List ℕ) (old new : List Row) (row : Row) → o ≡ Some place → new ≡ old ++ row ∷ [] → IsNew old place bytes row → IsNoted o bytes old new
-noted-new o place bytes old new row is pushed h = subst (λ (x : Option Place). IsNoted x bytes old new) (sym is) (row, pushed, h)
 
 -- ---- one row more
 
-module _ (bodies : List AssertionBody) (rows : List Row) (many : length rows ≡ length bodies) (each : (U : ℕ) (row : Row) → slice_get rows U ≡ Some row → Tells bodies U row) (body : AssertionBody) where
+module _ (bodies : List AssertionBody) (rows : List RowTold) (many : length rows ≡ length bodies) (each : (U : ℕ) (row : RowTold) → slice_get rows U ≡ Some row → Tells bodies U row) (body : AssertionBody) where
   last-there : slice_get (bodies ++ body ∷ []) (length bodies) ≡ Some body
   last-there = at-seam bodies body [] (length bodies) refl
 
@@ -156,8 +106,8 @@ module _ (bodies : List AssertionBody) (rows : List Row) (many : length rows ≡
     ],
   )
 
-  pub each-more : (place : Place) (new : Row) → place.is_axiom ≡ body.is_axiom → IsNew rows place body.bytes new
-      → (U : ℕ) (row : Row) → slice_get (rows ++ new ∷ []) U ≡ Some row → Tells (bodies ++ body ∷ []) U row
+  pub each-more : (place : Place) (new : RowTold) → place.is_axiom ≡ body.is_axiom → IsNew rows place body.bytes new
+      → (U : ℕ) (row : RowTold) → slice_get (rows ++ new ∷ []) U ≡ Some row → Tells (bodies ++ body ∷ []) U row
   each-more place new kind is U row at = elim (split_at rows (new ∷ []) U row at) [
     | inl old ↦ (
         let told = each U row old in
@@ -207,32 +157,32 @@ module _ (file : List ℕ) where
       ∙ ap (λ n. body_of file from t.decl ++ (bodies_from file n ts ++ body_of file to s.decl)) (sym goes)
       ∙ sym (append_assoc (body_of file from t.decl) (bodies_from file (place_after (statement_at file from)) ts) (body_of file to s.decl))
 
-  pub rows-many : (ss : List Statement) (rows : List Row) → TellsAll file ss rows → length rows ≡ length (bodies_of file ss)
+  pub rows-many : (ss : List Statement) (rows : List RowTold) → TellsAll file ss rows → length rows ≡ length (bodies_of file ss)
   rows-many ss rows t =
-      let a : length (map (λ (r : Row). r.place) rows) ≡ length rows = length-map rows (λ (r : Row). r.place) in
-      let b : length (map (λ (r : Row). r.place) rows) ≡ length (places_from 0 ss) = ap (λ (xs : List Place). length xs) t.places in
+      let a : length (map (λ (r : RowTold). r.place) rows) ≡ length rows = length-map rows (λ (r : RowTold). r.place) in
+      let b : length (map (λ (r : RowTold). r.place) rows) ≡ length (places_from 0 ss) = ap (λ (xs : List Place). length xs) t.places in
       let c = places-many 0 ss in
       let d = bodies-many (list_at file) ss in
       omega (arith, a, b, c, d)
 
   -- a statement more, of this code, whose body stands there
-  told-more : (ss : List Statement) (old new : List Row) (d : Declaration) (local : Bool) (at : ℕ) (o : Option Place) → TellsAll file ss old
+  told-more : (ss : List Statement) (old new : List RowTold) (d : Declaration) (local : Bool) (at : ℕ) (o : Option Place) → TellsAll file ss old
       → option_to_list o ≡ place_there (publics_past 0 ss) local d → IsNoted o (body_there file (statement_at file at)) old new
-      → (map (λ (r : Row). r.place) new ≡ places_from 0 ss ++ place_there (publics_past 0 ss) local d)
-      × ((U : ℕ) (row : Row) → slice_get new U ≡ Some row → Tells (bodies_of file ss ++ body_of file at d) U row)
+      → (map (λ (r : RowTold). r.place) new ≡ places_from 0 ss ++ place_there (publics_past 0 ss) local d)
+      × ((U : ℕ) (row : RowTold) → slice_get new U ≡ Some row → Tells (bodies_of file ss ++ body_of file at d) U row)
   told-more ss old new d local at o t place noted = go d o place noted
     where
       same : (d : Declaration) → place_there (publics_past 0 ss) local d ≡ [] → body_of file at d ≡ [] → new ≡ old
-          → (map (λ (r : Row). r.place) new ≡ places_from 0 ss ++ place_there (publics_past 0 ss) local d)
-          × ((U : ℕ) (row : Row) → slice_get new U ≡ Some row → Tells (bodies_of file ss ++ body_of file at d) U row)
+          → (map (λ (r : RowTold). r.place) new ≡ places_from 0 ss ++ place_there (publics_past 0 ss) local d)
+          × ((U : ℕ) (row : RowTold) → slice_get new U ≡ Some row → Tells (bodies_of file ss ++ body_of file at d) U row)
       same d no-place no-body is = (
-        ap (λ (rs : List Row). map (λ (r : Row). r.place) rs) is ∙ t.places ∙ sym (append-nil (places_from 0 ss)) ∙ ap (λ ps. places_from 0 ss ++ ps) (sym no-place),
-        λ U row has. subst (λ bs. Tells bs U row) (sym (append-nil (bodies_of file ss)) ∙ ap (λ bs. bodies_of file ss ++ bs) (sym no-body)) (t.each U row (subst (λ (rs : List Row). slice_get rs U ≡ Some row) is has)),
+        ap (λ (rs : List RowTold). map (λ (r : RowTold). r.place) rs) is ∙ t.places ∙ sym (append-nil (places_from 0 ss)) ∙ ap (λ ps. places_from 0 ss ++ ps) (sym no-place),
+        λ U row has. subst (λ bs. Tells bs U row) (sym (append-nil (bodies_of file ss)) ∙ ap (λ bs. bodies_of file ss ++ bs) (sym no-body)) (t.each U row (subst (λ (rs : List RowTold). slice_get rs U ≡ Some row) is has)),
       )
 
       go : (d : Declaration) (o : Option Place) → option_to_list o ≡ place_there (publics_past 0 ss) local d → IsNoted o (body_there file (statement_at file at)) old new
-          → (map (λ (r : Row). r.place) new ≡ places_from 0 ss ++ place_there (publics_past 0 ss) local d)
-          × ((U : ℕ) (row : Row) → slice_get new U ≡ Some row → Tells (bodies_of file ss ++ body_of file at d) U row)
+          → (map (λ (r : RowTold). r.place) new ≡ places_from 0 ss ++ place_there (publics_past 0 ss) local d)
+          × ((U : ℕ) (row : RowTold) → slice_get new U ≡ Some row → Tells (bodies_of file ss ++ body_of file at d) U row)
       go (sort_decl m) None place noted = same (sort_decl m) refl refl noted
       go (sort_decl m) (Some p) place noted = absurd cc
       go (term_decl m) None place noted = same (term_decl m) refl refl noted
@@ -241,14 +191,14 @@ module _ (file : List ℕ) where
       go (assertion_decl a) (Some p) place (row, pushed, is) =
           let p-is : p ≡ record { number = publics_past 0 ss; is_axiom = a.is_axiom; is_local = local } = (let e : p ∷ [] ≡ record { number = publics_past 0 ss; is_axiom = a.is_axiom; is_local = local } ∷ [] = place in cc) in
           let body : AssertionBody = record { is_axiom = a.is_axiom; bytes = body_there file (statement_at file at) } in (
-            ap (λ (rs : List Row). map (λ (r : Row). r.place) rs) pushed ∙ map_push (λ (r : Row). r.place) old row ∙ ap (λ (ps : List Place). ps ++ row.place ∷ []) t.places
+            ap (λ (rs : List RowTold). map (λ (r : RowTold). r.place) rs) pushed ∙ map_push (λ (r : RowTold). r.place) old row ∙ ap (λ (ps : List Place). ps ++ row.place ∷ []) t.places
                 ∙ ap (λ (q : Place). places_from 0 ss ++ q ∷ []) (is.place_is ∙ p-is),
-            λ U r has. each-more (bodies_of file ss) old (rows-many ss old t) t.each body p row (ap (λ (q : Place). q.is_axiom) p-is) is U r (subst (λ (rs : List Row). slice_get rs U ≡ Some r) pushed has),
+            λ U r has. each-more (bodies_of file ss) old (rows-many ss old t) t.each body p row (ap (λ (q : Place). q.is_axiom) p-is) is U r (subst (λ (rs : List RowTold). slice_get rs U ≡ Some r) pushed has),
           )
 
   -- ---- how far the list has been gone over
 
-  pub record Walked (p : Passed) (rows : List Row) : Type 0 where
+  pub record Walked (p : Passed) (rows : List RowTold) : Type 0 where
     pub whole : List Statement
     pub before : List Statement
     pub after : List Statement
@@ -270,14 +220,14 @@ module _ (file : List ℕ) where
     rows_low = omega arith;
   }
 
-  pub walked-asks : (p : Passed) (rows : List Row) → Walked p rows → AllHold (head_checks file p.rows p.at)
+  pub walked-asks : (p : Passed) (rows : List RowTold) → Walked p rows → AllHold (head_checks file p.rows p.at)
   walked-asks p rows w = way-asks file p w.whole w.before w.after w.env w.way
 
-  noted-most : (o : Option Place) (bytes : List ℕ) (old new : List Row) → IsNoted o bytes old new → length new ≤ length old + 1
-  noted-most None bytes old new is = (let e : length new ≡ length old = ap (λ (rs : List Row). length rs) is in omega (arith, e))
-  noted-most (Some p) bytes old new (row, is, _) = (let e : length new ≡ length (old ++ row ∷ []) = ap (λ (rs : List Row). length rs) is in omega (arith, e, length-append old (row ∷ [])))
+  noted-most : (o : Option Place) (bytes : List ℕ) (old new : List RowTold) → IsNoted o bytes old new → length new ≤ length old + 1
+  noted-most None bytes old new is = (let e : length new ≡ length old = ap (λ (rs : List RowTold). length rs) is in omega (arith, e))
+  noted-most (Some p) bytes old new (row, is, _) = (let e : length new ≡ length (old ++ row ∷ []) = ap (λ (rs : List RowTold). length rs) is in omega (arith, e, length-append old (row ∷ [])))
 
-  pub walked-more : (p : Passed) (head : Head) (after : Passed) (old new : List Row) → Walked p old → GoesOn file p head after
+  pub walked-more : (p : Passed) (head : Head) (after : Passed) (old new : List RowTold) → Walked p old → GoesOn file p head after
       → IsNoted (place_by p.publics head.code) (body_bytes file head.body head.next) old new → Walked after new
   walked-more p head after old new w on noted = subst (λ (q : Passed). Walked q new) (sym on.passed) (record {
     whole = w.whole;
@@ -307,32 +257,29 @@ module _ (file : List ℕ) where
       bytes : body_bytes file head.body head.next ≡ body_there file (statement_at file p.at)
       bytes = sym (ap (body_there file) (head-here file p.at head on.next.head_is))
 
-      told : (map (λ (r : Row). r.place) new ≡ places_from 0 w.before ++ place_there (publics_past 0 w.before) s.is_local s.decl)
-          × ((U : ℕ) (row : Row) → slice_get new U ≡ Some row → Tells (bodies_of file w.before ++ body_of file p.at s.decl) U row)
+      told : (map (λ (r : RowTold). r.place) new ≡ places_from 0 w.before ++ place_there (publics_past 0 w.before) s.is_local s.decl)
+          × ((U : ℕ) (row : RowTold) → slice_get new U ≡ Some row → Tells (bodies_of file w.before ++ body_of file p.at s.decl) U row)
       told = told-more w.before old new s.decl s.is_local p.at (place_by p.publics head.code) w.tells place (subst (λ (bs : List ℕ). IsNoted (place_by p.publics head.code) bs old new) bytes noted)
 
-  pub walked-last : (p : Passed) (rows : List Row) → Walked p rows → IsListEnd file p.at → TellsFile file rows
+  pub walked-last : (p : Passed) (rows : List RowTold) → Walked p rows → IsListEnd file p.at → TellsFile file rows
   walked-last p rows w end =
       (w.whole, w.way.good, subst (λ (ss : List Statement). TellsAll file ss rows) (sym same) w.tells)
     where
       same : w.whole ≡ w.before
       same = w.way.all ∙ ap (λ (ss : List Statement). w.before ++ ss) (way-last file p w.whole w.before w.after w.env w.way end) ∙ append-nil w.before
 
-  pub walked-order : (p : Passed) (rows : List Row) → Walked p rows → AreInOrder rows
-  walked-order p rows w U row is = (w.tells.each U row is).in_order
-
   -- ---- what the rows of a whole file are
 
-  pub told-within : (rows : List Row) → TellsFile file rows → AreWithin rows
+  pub told-within : (rows : List RowTold) → TellsFile file rows → AreWithin rows
   told-within rows (ss, good, t) U row at k d lt =
-      let A = get_or row.axioms.items k d in
-      let has = contains_at row.axioms.items k A (slice_get-get_or row.axioms.items k d lt) in
+      let A = get_or row.axioms k d in
+      let has = contains_at row.axioms k A (slice_get-get_or row.axioms k d lt) in
       let low = comes-low (bodies_of file ss) U A (((t.each U row at).axioms A).0 has) in
       let w = slice_get_within rows U row at in
       omega (arith, low, w)
 
-  pub told-few : (rows : List Row) → TellsFile file rows → AreFew rows
+  pub told-few : (rows : List RowTold) → TellsFile file rows → AreFew rows
   told-few rows told k d lt =
       let row = get_or rows k d in
       let at = slice_get-get_or rows k d lt in
-      increasing-few row.axioms.items (length rows) ((told.2.each k row at).in_order) (told-within rows told k row at)
+      increasing-few row.axioms (length rows) ((told.2.each k row at).in_order) (told-within rows told k row at)

@@ -1,8 +1,10 @@
 pub mod Commands
+pub mod Members
 pub mod Supports
 pub mod Citations
 pub mod Places
 pub mod Rows
+pub mod Kept
 pub mod Lists
 pub mod Reading
 pub mod Text

@@ -2,10 +2,9 @@
 ghost use Rattle.std.specs.Prelude.{◌≡◌, ◌≤◌, ◌<◌, ◌⊎◌, ◌+◌, ◌*◌, ◌^◌, List, length, IfOk};
 ghost use Rattle.mz_match_theory.specs.declared.verdict.Verdict.{Verdict as TheVerdict};
 ghost use Rattle.mz_match_theory.specs.Verdict.{Accepts, FirstRefusal};
-ghost use Rattle.mz_axioms.specs.declared.rows.Row.{Row};
 ghost use Rattle.mz_axioms.specs.Reading.{IsAxiomsRead, IsLists, TicksAs};
 ghost use Rattle.mz_binary_theory.specs.Good.{IsGood};
-ghost use Rattle.mz_axioms.specs.Rows.{TellsFile, supports_of};
+ghost use Rattle.mz_axioms.specs.Rows.{RowTold, TellsFile, supports_of};
 
 use crate::lists::{Lists, lists_of};
 use crate::walk::rows_of;
@@ -13,6 +12,7 @@ use mz_cmd::Steps;
 use mz_layout_tables::Mmb;
 use mz_match::verify_bytes;
 use mz_match_theory::Verdict;
+use mz_spec::Hashing;
 use mz_store::Seed;
 use std::alloc::{AllocError, Global};
 use std::sync::ledger::Ledger;
@@ -48,7 +48,7 @@ pub fn axioms_of<L: Ledger>(
     ensures bound { steps.new ≤ steps.old + (length bin.now * length bin.now + length bin.now) }
 {
     match verify_bytes(alloc, seed, spec, bin, steps) {
-        Verdict::Accepted(_) => match lists_in(alloc, bin) {
+        Verdict::Accepted(_) => match lists_in(alloc, seed, bin) {
             Ok(lists) => AxiomsRead::Lists(lists),
             Err(_) => AxiomsRead::Mem,
         },
@@ -58,14 +58,14 @@ pub fn axioms_of<L: Ledger>(
 }
 
 /// The lists of the public theorems of a good binary.
-fn lists_in(alloc: Global, bin: &[u8]) -> Result<Lists, AllocError>
+fn lists_in(alloc: Global, seed: Seed, bin: &[u8]) -> Result<Lists, AllocError>
     requires small { length bin.now < 2 ^ 32 }
     requires good { IsGood bin.now }
-    ensures { IfOk result (λ lists. (rows : List Row) × TellsFile bin.now rows × (lists ≡ supports_of rows)) }
+    ensures { IfOk result (λ lists. (rows : List RowTold) × TellsFile bin.now rows × (lists ≡ supports_of rows)) }
 {
     let Ok(mmb) = Mmb::read(bin) else {
         unreachable!()
     };
-    let rows = rows_of(alloc, &mmb)?;
-    lists_of(alloc, &rows)
+    let table = rows_of(alloc, Hashing::from(seed), &mmb)?;
+    lists_of(alloc, table)
 }

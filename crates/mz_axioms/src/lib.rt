@@ -8,12 +8,14 @@
 
 mod axioms;
 mod citations;
+mod counts;
 mod gaps;
 mod lists;
+mod numbers;
 mod places;
 mod rows;
+mod sets;
 mod text;
-mod union;
 mod walk;
 
 pub use axioms::{AxiomsRead, axioms_of};

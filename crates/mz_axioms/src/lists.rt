@@ -1,44 +1,40 @@
 // The axioms on which each theorem rests, by the numbers of their declarations.
-ghost use Rattle.std.specs.Prelude.{◌≡◌, ◌≤◌, ◌<◌, ◌^◌, length, map, All, IfOk, Some, option_map, slice_get};
+ghost use Rattle.std.specs.Prelude.{◌≡◌, ◌≤◌, ◌<◌, ◌^◌, length, IfOk, Some, option_map, slice_get};
+ghost use Rattle.mz_axioms.specs.Kept.{IsKept, supports_kept, told};
 ghost use Rattle.mz_axioms.specs.Lists.{axioms_at};
 ghost use Rattle.mz_axioms.specs.Places.{is_listed};
-ghost use Rattle.mz_axioms.specs.Rows.{AreFew, AreWithin, number_at, support_of, supports_of};
+ghost use Rattle.mz_axioms.specs.Rows.{AreFew, AreWithin, supports_of};
 
-use crate::rows::{Place, Row};
+use crate::counts::{count, nth_number};
+use crate::rows::{Place, Table};
 use std::alloc::{AllocError, Global};
 use std::marker::Model;
 
-/// A theorem and the axioms of its support.
-#[derive(Drop)]
+/// A theorem and the axioms of its support, as a set of their rows.
+#[derive(Clone, Copy)]
 pub struct Support {
     pub theorem: u32,
-    pub axioms: Vec<u32>,
-}
-
-impl Model for Support {
-    ghost use Rattle.mz_axioms.specs.Lists.{TheoremSupport};
-
-    ghost Value = { TheoremSupport };
-
-    ghost view = { λ s. record { theorem = s.theorem; axioms = s.axioms.items } };
+    pub set: u64,
 }
 
 /// What each theorem of a specification rests on, in the order of the theorems. Theorems and axioms
 /// are told by the numbers of their declarations, from 0.
 #[derive(Drop)]
 pub struct Lists {
+    pub(crate) table: Table,
     pub(crate) supports: Vec<Support>,
 }
 
 impl Model for Lists {
     ghost use Rattle.std.specs.Prelude.{List};
-    ghost use Rattle.mz_axioms.specs.Lists.{TheoremSupport, AreSmall};
+    ghost use Rattle.mz_axioms.specs.Kept.{IsListed, supports_told};
+    ghost use Rattle.mz_axioms.specs.Lists.{TheoremSupport};
 
     ghost Value = { List TheoremSupport };
 
-    ghost view = { λ l. l.supports.items };
+    ghost view = { λ l. supports_told l.table l.supports.items };
 
-    ghost invariant = { λ l. AreSmall l.supports.items };
+    ghost invariant = { λ l. IsListed l.table l.supports.items };
 }
 
 impl Lists {
@@ -62,7 +58,8 @@ impl Lists {
         requires { i < length self.now }
         ensures { result ≡ length (axioms_at self.now i) }
     {
-        self.supports[i as usize].axioms.len() as u32
+        let support = self.supports[i as usize];
+        count(&self.table.sets.nodes, self.table.size, support.set) as u32
     }
 
     /// The number of the j-th one's declaration; they ascend.
@@ -70,42 +67,41 @@ impl Lists {
         requires { j < length (axioms_at self.now i) }
         ensures { slice_get (axioms_at self.now i) j ≡ Some result }
     {
-        self.supports[i as usize].axioms[j as usize]
+        let support = self.supports[i as usize];
+        nth_number(&self.table, support.set, u64::from(j))
     }
 }
 
 /// The lists of the theorems that are public.
-pub fn lists_of(alloc: Global, rows: &Vec<Row>) -> Result<Lists, AllocError>
-    requires many { length rows.now.items < 2 ^ 32 }
-    requires within { AreWithin rows.now.items }
-    requires few { AreFew rows.now.items }
-    ensures { IfOk result (λ lists. lists ≡ supports_of rows.now.items) }
+pub fn lists_of(alloc: Global, table: Table) -> Result<Lists, AllocError>
+    requires many { length table.rows.items < 2 ^ 32 }
+    requires kept { IsKept table }
+    requires within { AreWithin (told table) }
+    requires few { AreFew (told table) }
+    ensures { IfOk result (λ lists. lists ≡ supports_of (told table)) }
+{
+    let supports = supports_in(alloc, &table)?;
+    Ok(Lists { table, supports })
+}
+
+/// Of each public theorem its declaration's number and its set.
+fn supports_in(alloc: Global, table: &Table) -> Result<Vec<Support>, AllocError>
+    ensures { IfOk result (λ supports. supports.items ≡ supports_kept table.now.rows.items) }
 {
     let mut supports = Vec::new(alloc);
-    'rows: for row in rows {
+    'rows: for row in &table.rows {
         if is_public_theorem(row.place) {
-            supports.push(row_support(alloc, rows, row)?)?;
+            supports.push(Support {
+                theorem: row.place.number,
+                set: row.set,
+            })?;
         }
     }
-    Ok(Lists { supports })
+    Ok(supports)
 }
 
 fn is_public_theorem(place: Place) -> bool
     ensures { result ≡ is_listed place }
 {
     !place.is_axiom && !place.is_local
-}
-
-fn row_support(alloc: Global, rows: &Vec<Row>, row: &Row) -> Result<Support, AllocError>
-    requires { All (λ A. A < length rows.now.items) row.now.axioms.items }
-    ensures { IfOk result (λ s. s ≡ support_of rows.now.items row.now) }
-{
-    let mut axioms = Vec::new(alloc);
-    'axioms: for &axiom in &row.axioms {
-        axioms.push(rows[axiom as usize].place.number)?;
-    }
-    Ok(Support {
-        theorem: row.place.number,
-        axioms,
-    })
 }

@@ -1,32 +1,40 @@
 // The axioms and theorems of a good binary, in order.
-ghost use Rattle.std.specs.Prelude.{◌≡◌, ◌⊎◌, ◌↔◌, ◌≤◌, ◌<◌, ◌∷◌, [], ◌^◌, ℕ, length, Contains, MatchBool, IfOk, OnOk};
-ghost use Rattle.std.specs.List.Sorted.{IsStrictlyIncreasing};
+ghost use Rattle.std.specs.Prelude.{◌≡◌, ◌⊎◌, ◌≤◌, ◌<◌, ◌↔◌, ◌^◌, ℕ, length, All, Contains, IfOk, IfSome, OnOk, slice_get};
 ghost use Rattle.mz_layout_tables.specs.Heads.{body_bytes};
+ghost use Rattle.mz_layout_tables.specs.Tables.{thm_count};
+ghost use Rattle.mz_axioms.specs.Kept.{CitesSet, HasSet, IsKept, IsSetOf, told};
+ghost use Rattle.mz_axioms.specs.Members.{IsSet, IsStore, span};
 ghost use Rattle.mz_axioms.specs.Places.{place_by};
-ghost use Rattle.mz_axioms.specs.Rows.{AreInOrder, Gives, IsNoted, Reaches, TellsFile};
+ghost use Rattle.mz_axioms.specs.Rows.{IsNoted, TellsFile};
 ghost use Rattle.mz_binary_theory.specs.Good.{IsGood};
 
 use crate::citations::citation_in;
 use crate::places::place_of;
-use crate::rows::{Place, Row};
-use crate::union::union;
+use crate::rows::{Place, Row, Table};
+use crate::sets::{Sets, Size};
 use mz_binary_walk::Passed;
 use mz_layout_tables::{Head, Mmb};
+use mz_spec::Hashing;
 use std::alloc::{AllocError, Global};
 
 /// The rows of a good binary. No body is run.
-pub fn rows_of(alloc: Global, mmb: &Mmb) -> Result<Vec<Row>, AllocError>
+pub fn rows_of(alloc: Global, hashing: Hashing, mmb: &Mmb) -> Result<Table, AllocError>
     requires { IsGood mmb.now }
-    ensures told { IfOk result (λ rows. TellsFile mmb.now rows.items) }
-    ensures few { IfOk result (λ rows. length rows.items < 2 ^ 32) }
+    ensures told { IfOk result (λ table. TellsFile mmb.now (told table)) }
+    ensures few { IfOk result (λ table. length table.rows.items < 2 ^ 32) }
+    ensures kept { IfOk result IsKept }
 {
-    let mut rows = Vec::new(alloc);
+    let mut table = Table {
+        size: Size::for_numbers_below(mmb.thms()),
+        sets: Sets::new(alloc, hashing)?,
+        rows: Vec::new(alloc),
+    };
     let mut passed = Passed::nothing(mmb);
     'statements: while let Some((head, after)) = passed.next(mmb) {
-        note(alloc, mmb, head, passed.publics, &mut rows)?;
+        note(alloc, mmb, head, passed.publics, &mut table)?;
         passed = after;
     }
-    Ok(rows)
+    Ok(table)
 }
 
 /// Adds the row of the statement, if it is an axiom or a theorem.
@@ -35,89 +43,85 @@ fn note(
     mmb: &Mmb,
     head: Head,
     publics: u32,
-    rows: &mut Vec<Row>,
+    table: &mut Table,
 ) -> Result<(), AllocError>
     requires order { head.body ≤ head.next }
     requires within { head.next ≤ length mmb.now }
-    requires few { length rows.old.items < 2 ^ 32 }
-    requires ascend { AreInOrder rows.old.items }
-    ensures { OnOk result (IsNoted (place_by publics head.code) (body_bytes mmb.now head.body head.next) rows.old.items rows.new.items) }
+    requires room { IfSome (place_by publics head.code) (λ place. length table.old.rows.items < table.old.size.span) }
+    requires kept { IsKept table.old }
+    ensures noted { OnOk result (IsNoted (place_by publics head.code) (body_bytes mmb.now head.body head.next) (told table.old) (told table.new)) }
+    ensures kept { OnOk result (IsKept table.new) }
+    ensures size { table.new.size ≡ table.old.size }
 {
     let Some(place) = place_of(head.code, publics) else {
         return Ok(());
     };
-    let axioms = axioms_of_row(alloc, mmb, head, place, rows)?;
-    rows.push(Row { place, axioms })?;
+    let set = set_of(
+        alloc,
+        mmb,
+        head,
+        place,
+        table.size,
+        &mut table.sets,
+        &table.rows,
+    )?;
+    table.rows.push(Row { place, set })?;
     Ok(())
 }
 
-/// The axioms to which a citation of the next row comes.
-fn axioms_of_row(
+/// The set of the axioms to which a citation of the next row comes.
+fn set_of(
     alloc: Global,
     mmb: &Mmb,
     head: Head,
     place: Place,
+    size: Size,
+    sets: &mut Sets,
     rows: &Vec<Row>,
-) -> Result<Vec<u32>, AllocError>
+) -> Result<u64, AllocError>
     requires order { head.body ≤ head.next }
     requires within { head.next ≤ length mmb.now }
-    requires few { length rows.now.items < 2 ^ 32 }
-    requires ascend { AreInOrder rows.now.items }
-    ensures in_order { IfOk result (λ axioms. IsStrictlyIncreasing axioms.items) }
-    ensures axioms { IfOk result (λ axioms. (A : ℕ) → Contains axioms.items A
-        ↔ MatchBool place.is_axiom (A ≡ length rows.now.items) (Reaches rows.now.items (body_bytes mmb.now head.body head.next) A)) }
+    requires room { length rows.now.items < size.span }
+    requires power { size.span ≡ span size.height }
+    requires starts { IsStore sets.old.nodes.items }
+    requires sets { All (λ r. IsSet sets.old.nodes.items size.height r.set) rows.now.items }
+    ensures { IfOk result (λ id. IsSetOf sets.old.nodes.items sets.new.nodes.items size.height rows.now.items place (body_bytes mmb.now head.body head.next) id) }
 {
     if place.is_axiom {
-        return itself(alloc, rows.len() as u32);
+        return sets.single(size, rows.len() as u64);
     }
-    axioms_cited(alloc, mmb, head, rows)
+    let cited = sets_cited(alloc, mmb, head, rows)?;
+    sets.union(alloc, size.height, cited)
 }
 
-/// The row alone.
-fn itself(alloc: Global, row: u32) -> Result<Vec<u32>, AllocError>
-    ensures { IfOk result (λ rows. rows.items ≡ row ∷ []) }
-{
-    let mut rows = Vec::new(alloc);
-    rows.push(row)?;
-    Ok(rows)
-}
-
-/// The axioms to which the citations of the body come.
-fn axioms_cited(
-    alloc: Global,
-    mmb: &Mmb,
-    head: Head,
-    rows: &Vec<Row>,
-) -> Result<Vec<u32>, AllocError>
+/// The sets of the rows that the body cites, one for each citation.
+fn sets_cited(alloc: Global, mmb: &Mmb, head: Head, rows: &[Row]) -> Result<Vec<u64>, AllocError>
     requires order { head.body ≤ head.next }
     requires within { head.next ≤ length mmb.now }
-    requires ascend { AreInOrder rows.now.items }
-    ensures in_order { IfOk result (λ axioms. IsStrictlyIncreasing axioms.items) }
-    ensures reached { IfOk result (λ axioms. (A : ℕ) → Contains axioms.items A ↔ Reaches rows.now.items (body_bytes mmb.now head.body head.next) A) }
+    ensures { IfOk result (λ ids. (id : ℕ) → Contains ids.items id ↔ CitesSet rows.now (body_bytes mmb.now head.body head.next) id) }
 {
-    let mut axioms = Vec::new(alloc);
+    let mut ids = Vec::new(alloc);
     let mut pos = head.body;
     'citations: while let Some((row, after)) = citation_in(mmb, pos, head.next) {
-        axioms = with_cited(alloc, axioms, rows, row)?;
+        put_set(&mut ids, rows, row)?;
         pos = after;
     }
-    Ok(axioms)
+    Ok(ids)
 }
 
-/// These axioms, and those to which a citation of the row comes.
-fn with_cited(
-    alloc: Global,
-    axioms: Vec<u32>,
-    rows: &Vec<Row>,
-    row: u32,
-) -> Result<Vec<u32>, AllocError>
-    requires axioms { IsStrictlyIncreasing axioms.items }
-    requires ascend { AreInOrder rows.now.items }
-    ensures in_order { IfOk result (λ union. IsStrictlyIncreasing union.items) }
-    ensures all { IfOk result (λ union. (A : ℕ) → Contains union.items A ↔ (Contains axioms.items A ⊎ Gives rows.now.items row A)) }
+/// Appends the set of the row, if there is one.
+fn put_set(ids: &mut Vec<u64>, rows: &[Row], row: u32) -> Result<(), AllocError>
+    ensures { OnOk result ((id : ℕ) → Contains ids.new.items id ↔ (Contains ids.old.items id ⊎ HasSet rows.now row id)) }
 {
-    match rows.get(row as usize) {
-        Some(cited) => union(alloc, &axioms, &cited.axioms),
-        None => Ok(axioms),
-    }
+    let Some(cited) = row_at(rows, row) else {
+        return Ok(());
+    };
+    ids.push(cited.set)?;
+    Ok(())
+}
+
+fn row_at(rows: &[Row], row: u32) -> Option<Row>
+    ensures { result ≡ slice_get rows.now row }
+{
+    rows.get(row as usize).copied()
 }

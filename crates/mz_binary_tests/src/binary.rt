@@ -16,7 +16,7 @@ use std::marker::Brand;
 use std::sync::ledger::{Blank, Ledger};
 
 /// Negation, the definition of a double negation, and a theorem that folds it.
-const FOLD: &[u8] = &[
+pub const FOLD: &[u8] = &[
     0x4D, 0x4D, 0x30, 0x42, 1, 1, 0, 0, 2, 0, 0, 0, 1, 0, 0, 0, 0x30, 0, 0, 0, 0x40, 0, 0, 0, 0x80,
     0, 0, 0, 0, 0, 0, 0, 0, 0, 0, 0, 0, 0, 0, 0, 4, 0, 0, 0, 0, 0, 0, 0, 1, 0, 0, 0, 0x48, 0, 0, 0,
     1, 0, 0x80, 0, 0x58, 0, 0, 0, 1, 0, 0, 0, 0x70, 0, 0, 0, 0, 0, 0, 0, 0, 0, 0, 0, 0, 0, 0, 0, 0,
@@ -27,7 +27,7 @@ const FOLD: &[u8] = &[
 ];
 
 /// The file with one byte in place of another.
-fn with_byte(alloc: Global, at: usize, byte: u8) -> Result<Vec<u8>, Mem> {
+pub fn with_byte(alloc: Global, at: usize, byte: u8) -> Result<Vec<u8>, Mem> {
     let mut file = FOLD.to_vec(alloc)?;
     if let Some(place) = file.get_mut(at) {
         *place = byte;

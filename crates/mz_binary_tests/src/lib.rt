@@ -10,7 +10,11 @@ mod expect;
 #[cfg(test)]
 mod layout;
 #[cfg(test)]
+mod machine;
+#[cfg(test)]
 mod store;
+#[cfg(test)]
+mod trace;
 #[cfg(test)]
 mod unify;
 #[cfg(test)]

@@ -1,5 +1,5 @@
 -- The calls on a folder or a sink, each with its answer, and what rows of them say (this project's own).
-use Rattle.std.specs.Prelude.{◌≡◌, ◌<◌, ◌++◌, ◌⊎◌, ⊤, ℕ, Bool, true, false, List, [], ◌∷◌, length, take, map, Option, Some, None, Result, Ok, Err}
+use Rattle.std.specs.Prelude.{◌≡◌, ◌<◌, ◌++◌, ◌⊎◌, ⊤, ℕ, Bool, true, false, List, [], ◌∷◌, length, take, map, Option, Some, Result, Ok, Err}
 use Rattle.std.specs.List.{concat, All}
 
 -- one call, with its answer
@@ -107,44 +107,6 @@ pub record IsCut (text : List ℕ) (calls : List Call) : Type 0 where
 abbrev pub IsWriting : {T E : Type 0} → Result T E → List ℕ → List Call → Type 0
 IsWriting (Ok u) text calls = IsWritten text calls
 IsWriting (Err e) text calls = IsCut text calls
-
--- ---- a run: files are read, one may be put, and a text is written
-
--- files of these names were read one after another, each to its end, and these are their bytes
-abbrev pub AreRead : List (List ℕ) → List (List ℕ) → List Call → Type 0
-AreRead [] [] calls = calls ≡ []
-AreRead [] (bytes ∷ rest) calls = ⊥
-AreRead (name ∷ names) [] calls = ⊥
-AreRead (name ∷ names) (bytes ∷ rest) calls = (first : List Call) × (later : List Call) × (calls ≡ first ++ later) × IsRead name bytes first × AreRead names rest later
-
--- the files before one of these were read, and of the calls for that one P holds; no further one was looked for
-abbrev pub StopAt : (List ℕ → List Call → Type 0) → List (List ℕ) → List Call → Type 0
-StopAt P [] calls = ⊥
-StopAt P (name ∷ names) calls = P name calls
-    ⊎ ((bytes : List ℕ) × (first : List Call) × (later : List Call) × (calls ≡ first ++ later) × IsRead name bytes first × StopAt P names later)
-
--- a file was read in part
-abbrev pub IsPartly : List ℕ → List Call → Type 0
-IsPartly name calls = (bytes : List ℕ) × IsBegun name bytes calls
-
--- the files were read, or only a front of them
-abbrev pub AreReadOrLeft : List (List ℕ) → List Call → Type 0
-AreReadOrLeft names calls = ((contents : List (List ℕ)) × AreRead names contents calls) ⊎ StopAt IsPartly names calls
-
--- where there are a name and bytes, the file was put once: whether it was; and else none was
-abbrev pub IsPutting : Bool → Option (List ℕ) → Option (List ℕ) → List Call → Type 0
-IsPutting done None put calls = calls ≡ []
-IsPutting done (Some name) None calls = calls ≡ []
-IsPutting done (Some name) (Some bytes) calls = calls ≡ puts name bytes done ∷ []
-
--- files were read whole, and then one was put, where one is
-abbrev pub AreReadAndPut : List (List ℕ) → List (List ℕ) → Option (List ℕ) → Option (List ℕ) → List Call → Type 0
-AreReadAndPut names contents name put calls = (reads : List Call) × (puts : List Call) × (calls ≡ reads ++ puts) × AreRead names contents reads × IsPutting true name put puts
-
--- files were read whole, and then one was to be put, and this failed
-abbrev pub AreReadNotPut : List (List ℕ) → List (List ℕ) → Option (List ℕ) → Option (List ℕ) → List Call → Type 0
-AreReadNotPut names contents name put calls = (out : List ℕ) × (bytes : List ℕ) × (reads : List Call) × (name ≡ Some out) × (put ≡ Some bytes)
-    × (calls ≡ reads ++ puts out bytes false ∷ []) × AreRead names contents reads
 
 -- ---- what the calls tell of files
 

@@ -2,7 +2,7 @@
 #![tactic(auto)]
 
 ghost use Rattle.std.specs.Prelude.{map, string_bytes};
-ghost use Rattle.mz_tool_engine.specs.Follows.{Follows};
+ghost use Rattle.mz_tool_engine.specs.Consequences.{Consequences};
 ghost use Rattle.mz_tool_engine.specs.Given.{Gives};
 ghost use Rattle.mz_tool_engine.specs.Run.{IsRun};
 ghost use Rattle.mz_tool_engine.specs.Said.{Files};
@@ -48,7 +48,7 @@ fn run_on_system<R: Files + Alloc, W: Write>(
 
     // What follows of them, for whatever files the folder's calls gave.
     ensures follows { (file : Files) → Gives file (⟦<DiskFolder<R> as Folder>⟧.calls result.1)
-        → Follows said_of (map string_bytes words.now) file result.0 (⟦<DiskFolder<R> as Folder>⟧.calls result.1) (⟦<StdSink<W> as Sink>⟧.calls result.2) }
+        → Consequences said_of (map string_bytes words.now) file result.0 (⟦<DiskFolder<R> as Folder>⟧.calls result.1) (⟦<StdSink<W> as Sink>⟧.calls result.2) }
 {
     let mut folder = DiskFolder::new(rt);
     let mut out = StdSink::new(stream);

@@ -1,4 +1,5 @@
 pub mod Arranging
+pub mod Claiming
 pub mod Picking
 pub mod Waiting
 pub mod Example

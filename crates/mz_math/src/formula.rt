@@ -1,5 +1,5 @@
 // What a math string stands for.
-ghost use Rattle.std.specs.Prelude.{◌≡◌, ◌≢◌, ◌↔◌, ◌≤◌, ◌<◌, ◌^◌, ℕ, List, All, IsTrue, MatchOption, Some, length};
+ghost use Rattle.std.specs.Prelude.{◌≡◌, ◌≢◌, ◌↔◌, ◌≤◌, ◌<◌, ◌⊎◌, ◌^◌, ℕ, List, All, IsTrue, IfOk, MatchOption, Some, length};
 ghost use Rattle.mz_logic_theory.specs.Declaration.{sorts};
 ghost use Rattle.mz_logic_theory.specs.Modifiers.{MayBeClaimSort};
 ghost use Rattle.mz_logic_theory.specs.View.{tree};
@@ -10,6 +10,7 @@ ghost use Rattle.mz_math_theory.specs.Meaning.{IsGoal};
 ghost use Rattle.mz_math_theory.specs.declared.wanted.Wanted.{Wanted};
 ghost use Rattle.mz_math_theory.specs.Readable.{IsReadable};
 ghost use Rattle.mz_math_theory.specs.Kept.{AreVariables};
+ghost use Rattle.mz_math.specs.Claims.{IsOnlyClaim};
 ghost use Rattle.mz_math_tokens.specs.Pieces.{Pieces, piece_texts};
 
 use crate::meaning::{coerced, sort_of};
@@ -17,11 +18,11 @@ use crate::parser::parse;
 use crate::words::Vocabulary;
 use mz_lex::S;
 use mz_logic_theory::{Context, Env, Expr};
-use mz_math_coercions::{Coercions, distance, reaches, wrap};
+use mz_math_coercions::{Coercions, Reached, distance, reached_from, wrap};
 use mz_math_notation::{Notations, Scope};
 use mz_math_theory::{Built, Parsed, Syntax, Wanted};
 use mz_math_tokens::{Piece, Tokens};
-use std::alloc::Global;
+use std::alloc::{AllocError, Global};
 
 /// At most so many tokens, and at most so high a tree.
 const MOST: usize = 4096;
@@ -168,11 +169,14 @@ fn claimed(
 {
     match wanted {
         Wanted::Sort(_) => Parsed::Tree(expr),
-        Wanted::Provable => match goal_of(env, coercions, sort) {
-            None => refused(S::NotProvable),
-            Some(goal) => match wrap(alloc, coercions, sort, goal, expr) {
-                Err(_) => Parsed::Mem,
-                Ok(expr) => Parsed::Tree(expr),
+        Wanted::Provable => match goal_of(alloc, env, coercions, sort) {
+            Err(_) => Parsed::Mem,
+            Ok(found) => match found {
+                None => refused(S::NotProvable),
+                Some(goal) => match wrap(alloc, coercions, sort, goal, expr) {
+                    Err(_) => Parsed::Mem,
+                    Ok(expr) => Parsed::Tree(expr),
+                },
             },
         },
     }
@@ -188,24 +192,60 @@ fn is_provable(env: &Env, sort: u32) -> bool
 }
 
 /// The provable sort for which an expression of a sort stands, if there is one.
-fn goal_of(env: &Env, coercions: &Coercions, sort: u32) -> Option<u32>
+///
+/// # Errors
+///
+/// Where there is no memory.
+fn goal_of(
+    alloc: Global,
+    env: &Env,
+    coercions: &Coercions,
+    sort: u32,
+) -> Result<Option<u32>, AllocError>
     requires { OnePath coercions.now }
-    ensures { MatchOption result ((goal : ℕ) (path : List ℕ) → IsGoal env.now coercions.now sort goal → IsPath coercions.now sort path goal → ⊥)
-        (λ goal. IsGoal env.now coercions.now sort goal × Reaches coercions.now (length coercions.now) sort goal) }
+    ensures { IfOk result (λ found. MatchOption found ((goal : ℕ) (path : List ℕ) → IsGoal env.now coercions.now sort goal → IsPath coercions.now sort path goal → ⊥)
+        (λ goal. IsGoal env.now coercions.now sort goal × Reaches coercions.now (length coercions.now) sort goal)) }
+{
+    if is_provable(env, sort) {
+        return Ok(Some(sort));
+    }
+    let reached = reached_from(alloc, coercions, sort)?;
+    Ok(only_provable(env, &reached))
+}
+
+/// The provable sort among those that are reached, where there is just one.
+fn only_provable(env: &Env, reached: &Reached) -> Option<u32>
+    ensures { MatchOption result ((goal : ℕ) → IsOnlyClaim env.now reached.now goal → ⊥) (λ goal. IsOnlyClaim env.now reached.now goal) }
+{
+    let mut found = None;
+    'sorts: for i in 0..reached.len() {
+        let Some(to) = reached.sort_at(i) else {
+            unreachable!()
+        };
+        if is_second(env, found, to) {
+            return None;
+        }
+        found = found_with(env, found, to);
+    }
+    found
+}
+
+/// Whether a sort is provable where another has been found.
+fn is_second(env: &Env, found: Option<u32>, sort: u32) -> bool
+    ensures { IsTrue result ↔ (MayBeClaimSort (sorts env.now) sort × (other : ℕ) × (found ≡ Some other) × (other ≢ sort)) }
+{
+    if is_provable(env, sort) {
+        return is_other(found, sort);
+    }
+    false
+}
+
+/// What is found with one more sort: the sort, where it is provable.
+fn found_with(env: &Env, found: Option<u32>, sort: u32) -> Option<u32>
+    ensures { (MayBeClaimSort (sorts env.now) sort × (result ≡ Some sort)) ⊎ ((MayBeClaimSort (sorts env.now) sort → ⊥) × (result ≡ found)) }
 {
     if is_provable(env, sort) {
         return Some(sort);
-    }
-    let mut found = None;
-    let items = coercions.as_slice();
-    'coercions: for i in 0..items.len() {
-        let to = items[i].to;
-        if is_provable(env, to) && reaches(coercions, sort, to) {
-            if is_other(found, to) {
-                return None;
-            }
-            found = Some(to);
-        }
     }
     found
 }

@@ -1,3 +1,4 @@
 mod Cells
 mod Leading
 mod Noting
+mod Walks

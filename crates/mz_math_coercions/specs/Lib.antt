@@ -1,2 +1,4 @@
 pub mod Firsts
+pub mod Graph
+pub mod Reached
 pub mod Sorts

@@ -4,12 +4,16 @@ ghost use Rattle.mz_logic_theory.specs.Tree.{app, more, none};
 ghost use Rattle.mz_logic_theory.specs.View.{tree};
 ghost use Rattle.mz_math_theory.specs.Coercions.{IsPath, OnePath, Reaches, wrapped};
 ghost use Rattle.mz_math_theory.specs.declared.coercion.Coercion.{Coercion};
-ghost use Rattle.mz_math_theory.specs.CoercionAnswers.{AreEnds, AreStarts, HasLength};
+ghost use Rattle.mz_math_theory.specs.CoercionAnswers.{AreEnds, AreStarts, HasLength, HasPath};
 ghost use Rattle.mz_math_coercions.specs.Firsts.{AreLed};
+ghost use Rattle.mz_math_coercions.specs.Reached.{Has};
 
 use crate::firsts::{
-    are_joined, find_ends, find_starts, is_reached, lead_all, next_coercion, steps_between,
+    are_joined, find_ends, find_starts, forget_all, is_reached, lead_all, next_coercion,
+    steps_between,
 };
+use crate::graph::Graph;
+use crate::reached::Reached;
 use crate::sorts::{Sorts, is_marked};
 use crate::steps::FirstSteps;
 use mz_logic_theory::{Expr, Exprs};
@@ -21,7 +25,7 @@ use std::marker::Model;
 /// steps as it has coercions.
 #[derive(Drop)]
 pub struct Coercions {
-    items: Vec<Coercion>,
+    graph: Graph,
     // the sorts between which they lead
     sorts: Sorts,
     // for two sorts the place of the first coercion of the path
@@ -37,9 +41,9 @@ impl Model for Coercions {
 
     ghost Value = { List Coercion };
 
-    ghost view = { λ a. a.items.items };
+    ghost view = { λ a. a.graph };
 
-    ghost invariant = { λ a. OnePath a.items.items × AreNoted a.items.items a.sorts × AreLed a.items.items a.firsts };
+    ghost invariant = { λ a. OnePath a.graph × AreNoted a.graph a.sorts × AreLed a.graph a.firsts };
 }
 
 impl Coercions {
@@ -48,7 +52,7 @@ impl Coercions {
         ensures { result ≡ [] }
     {
         Coercions {
-            items: Vec::new(alloc),
+            graph: Graph::new(alloc),
             sorts: Sorts::new(alloc),
             firsts: FirstSteps::new(alloc),
         }
@@ -59,7 +63,7 @@ impl Coercions {
         ensures items { result.now ≡ self.now }
         ensures one_path { OnePath result.now }
     {
-        &self.items
+        self.graph.as_slice()
     }
 
     /// Adds a coercion, where there is at most one path between two sorts with it, too, and says
@@ -76,52 +80,40 @@ impl Coercions {
         let is_reached = is_marked(&self.sorts.ends, coercion.from);
         let leads_on = is_marked(&self.sorts.begins, coercion.to);
         self.sorts.note(coercion)?;
+        let items = self.graph.as_slice();
         let sorts = &self.sorts.list;
-        let starts = find_starts(
-            alloc,
-            &self.items,
-            sorts,
-            &self.firsts,
-            coercion,
-            is_reached,
-        )?;
-        let ends = find_ends(alloc, &self.items, sorts, &self.firsts, coercion, leads_on)?;
-        if are_joined(&self.items, &self.firsts, &starts, &ends) {
+        let starts = find_starts(alloc, items, sorts, &self.firsts, coercion, is_reached)?;
+        let ends = find_ends(alloc, items, sorts, &self.firsts, coercion, leads_on)?;
+        if are_joined(items, &self.firsts, &starts, &ends) {
             return Ok(false);
         }
-        push(&mut self.items, &mut self.firsts, coercion, &starts, &ends)?;
+        push(&mut self.graph, &mut self.firsts, coercion, &starts, &ends)?;
         Ok(true)
     }
 }
 
 /// Adds a coercion, and keeps the first coercions of the paths that go by it.
 fn push(
-    items: &mut Vec<Coercion>,
+    graph: &mut Graph,
     firsts: &mut FirstSteps,
     coercion: Coercion,
     starts: &[Start],
     ends: &[u32],
 ) -> Result<(), AllocError>
-    requires led { AreLed items.old.items firsts.old }
-    requires one { OnePath (items.old.items ++ coercion ∷ []) }
-    requires starts { AreStarts items.old.items coercion starts.now }
-    requires ends { AreEnds items.old.items coercion ends.now }
-    ensures led { AreLed items.new.items firsts.new }
-    ensures ok { OnOk result (items.new.items ≡ items.old.items ++ coercion ∷ []) }
-    ensures err { OnErr result (items.new.items ≡ items.old.items) }
+    requires led { AreLed graph.old firsts.old }
+    requires one { OnePath (graph.old ++ coercion ∷ []) }
+    requires starts { AreStarts graph.old coercion starts.now }
+    requires ends { AreEnds graph.old coercion ends.now }
+    ensures led { AreLed graph.new firsts.new }
+    ensures ok { OnOk result (graph.new ≡ graph.old ++ coercion ∷ []) }
+    ensures err { OnErr result (graph.new ≡ graph.old) }
 {
-    items.push(coercion)?;
-    let Ok(()) = lead_all(firsts, starts, ends) else {
-        drop_last(items);
+    lead_all(firsts, starts, ends)?;
+    let Ok(()) = graph.add(coercion) else {
+        forget_all(firsts, starts, ends);
         return Err(AllocError);
     };
     Ok(())
-}
-
-fn drop_last(items: &mut Vec<Coercion>)
-    ensures { (front : List Coercion) (last : Coercion) → items.old.items ≡ front ++ last ∷ [] → items.new.items ≡ front }
-{
-    items.pop();
 }
 
 /// The length of the path from a sort to another, if there is one.
@@ -136,7 +128,20 @@ pub fn distance(coercions: &Coercions, from: u32, to: u32) -> Option<usize>
 pub fn reaches(coercions: &Coercions, from: u32, to: u32) -> bool
     ensures { IsTrue result ↔ ((path : List ℕ) × IsPath coercions.now from path to) }
 {
-    is_reached(&coercions.items, &coercions.firsts, from, to)
+    is_reached(coercions.graph.as_slice(), &coercions.firsts, from, to)
+}
+
+/// The sorts to which a path leads from a sort.
+///
+/// # Errors
+///
+/// Where there is no memory.
+pub fn reached_from(alloc: Global, coercions: &Coercions, from: u32) -> Result<Reached, AllocError>
+    ensures { IfOk result (λ reached. (t : ℕ) → Has reached t ↔ HasPath coercions.now from t) }
+{
+    let mut reached = Reached::of(alloc, from)?;
+    coercions.graph.walk(&mut reached)?;
+    Ok(reached)
 }
 
 /// An expression of a sort, wrapped in the path to another.
@@ -157,9 +162,10 @@ pub fn wrap(
     let mut sort = from;
     let mut built = expr;
     // so many coercions are left at most
-    let mut most = coercions.items.len();
+    let items = coercions.graph.as_slice();
+    let mut most = items.len();
     'steps: while sort != to {
-        let Some(coercion) = next_coercion(&coercions.items, &coercions.firsts, sort, to) else {
+        let Some(coercion) = next_coercion(items, &coercions.firsts, sort, to) else {
             unreachable!()
         };
         built = applied(alloc, coercion.term, built)?;

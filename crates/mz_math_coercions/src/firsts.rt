@@ -10,7 +10,8 @@ use crate::steps::FirstSteps;
 use mz_math_theory::{Coercion, Start};
 use std::alloc::{AllocError, Global};
 
-fn coercion_at(items: &[Coercion], place: usize) -> Option<Coercion>
+/// The coercion at a place, if there is one.
+pub fn coercion_at(items: &[Coercion], place: usize) -> Option<Coercion>
     ensures { result ≡ slice_get items.now place }
 {
     items.get(place).copied()
@@ -249,7 +250,7 @@ fn forget_from(firsts: &mut FirstSteps, from: u32, ends: &[u32])
 }
 
 /// Forgets what is kept between the starts and the ends.
-fn forget_all(firsts: &mut FirstSteps, starts: &[Start], ends: &[u32])
+pub fn forget_all(firsts: &mut FirstSteps, starts: &[Start], ends: &[u32])
     ensures others { IsChanged firsts.old firsts.new (AreForgotten starts.now ends.now) }
     ensures gone { (f : Start) (t : ℕ) → Contains starts.now f → Contains ends.now t → first_of firsts.new f.sort t ≡ None }
 {

@@ -1,12 +1,16 @@
 //! Coercions and their paths (mm0.md, section on coercions).
 //!
 //! What a path is, and that there is one at most between two sorts, is said in `mz_math_theory`.
-//! `specs/Firsts.antt` says what is kept so that a path is found step by step.
+//! `specs/Firsts.antt` says what is kept so that a path is found step by step, `specs/Reached.antt`
+//! what a walk along coercions reaches.
 #![tactic(auto)]
 
 mod coercions;
 mod firsts;
+mod graph;
+mod reached;
 mod sorts;
 mod steps;
 
-pub use coercions::{Coercions, distance, reaches, wrap};
+pub use coercions::{Coercions, distance, reached_from, reaches, wrap};
+pub use reached::Reached;

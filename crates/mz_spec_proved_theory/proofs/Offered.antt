@@ -4,4 +4,4 @@ pub use Rattle.mz_spec_proved_theory.proofs.Lists.{drop-entry, drop-further, dro
 pub use Rattle.mz_spec_proved_theory.proofs.OwnBodies.{own_pairs, paired-own, pairs-own}
 pub use Rattle.mz_spec_proved_theory.proofs.ProvingTheorems.{follows-where, never-local, theorems-proved}
 pub use Rattle.mz_spec_proved_theory.proofs.Renaming.{SaysNothing, complete, no-dummy, no-pairs, says-nothing, sound, weaker}
-pub use Rattle.mz_spec_proved_theory.proofs.SameDecided.{row-decided, same-body-decided, same-tree-decided, same-trees-decided}
+pub use Rattle.mz_spec_proved_theory.proofs.SameDecided.{same-body-decided, same-tree-decided, same-trees-decided}

@@ -8,7 +8,7 @@ use Rattle.mz_spec_proved_theory.specs.Trees.{SameTree, SameTrees, SameBody}
 use Rattle.mz_spec_proved_theory.specs.Comparing.{Beside, compared}
 use Rattle.mz_spec_proved_theory.proofs.Renaming.{SaysNothing, no-pairs, sound, complete}
 
-pub row-decided : (o : Option ℕ) (t : ℕ) → (o ≡ Some t) ⊎ (o ≡ Some t → ⊥)
+row-decided : (o : Option ℕ) (t : ℕ) → (o ≡ Some t) ⊎ (o ≡ Some t → ⊥)
 row-decided None t = inr (λ e. absurd cc)
 row-decided (Some r) t = elim (cases_eq r t) [
   | inl same ↦ inl (ap Some same)

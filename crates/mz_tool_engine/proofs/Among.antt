@@ -6,7 +6,7 @@ use Rattle.std.specs.List.{concat}
 use Rattle.mz_io.specs.Calls.{Call, starts, pulls, pull_fails, puts, writes, write_fails, pulls_of, taken, IsBegun, IsRead, IsUnread, IsOver, IsWritten, IsCut}
 use Rattle.mz_io.proofs.Offered.{taken-append}
 use Rattle.mz_tool_engine.specs.Given.{puts_among, names_started, has_failed, failures}
-use Rattle.mz_tool_engine.specs.Follows.{IsFront, EndsWith, IsReadFailure}
+use Rattle.mz_tool_engine.specs.Consequences.{IsFront, EndsWith, IsReadFailure}
 use Rattle.mz_tool_engine.specs.Run.{AreRead, AreReadAndPut, StopAt, IsPartly, IsPutting}
 
 -- ---- rows of calls, one after another

@@ -1,7 +1,7 @@
 pub mod Among
 pub mod Endings
 pub mod Faults
-pub mod Follows
+pub mod Following
 pub mod Given
 pub mod Offered
 pub mod Rooms

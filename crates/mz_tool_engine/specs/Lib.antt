@@ -1,7 +1,7 @@
 pub mod Said
 pub mod Run
 pub mod Given
-pub mod Follows
+pub mod Consequences
 pub mod Files
 pub mod Inputs
 pub mod Outcomes

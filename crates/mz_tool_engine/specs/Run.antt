@@ -34,7 +34,7 @@ IsPartly name calls = (bytes : List ℕ) × IsBegun name bytes calls
 abbrev pub AreReadOrLeft : List (List ℕ) → List Call → Type 0
 AreReadOrLeft names calls = ((contents : List (List ℕ)) × AreRead names contents calls) ⊎ StopAt IsPartly names calls
 
--- where there are a name and bytes, the file was put once: whether it was; and else none was
+-- where there are a name and bytes, the file was put once, and `done` is whether this succeeded; else none was put
 abbrev pub IsPutting : Bool → Option (List ℕ) → Option (List ℕ) → List Call → Type 0
 IsPutting done None put calls = calls ≡ []
 IsPutting done (Some name) None calls = calls ≡ []
@@ -81,14 +81,15 @@ IsRunOf limit said statuses.Done calls written = (contents : List (List ℕ)) ×
 -- the files were read, none was put, and the refusal was written; no call failed
 IsRunOf limit said statuses.Refused calls written = (contents : List (List ℕ)) × (text : List ℕ)
     × Refuses said contents text × AreRead said.reads contents calls × IsWritten text written
--- a command is asked for
+-- this can't be, since here a command is asked for
 IsRunOf limit said statuses.Usage calls written = ⊥
 -- the last call failed, and no other; nothing was put or written
 IsRunOf limit said statuses.ReadFault calls written = StopAt IsUnread said.reads calls × (written ≡ [])
 -- the same, of the call that was to put the answer's file: the answer is yes
 IsRunOf limit said statuses.WriteFault calls written = (contents : List (List ℕ)) × (put : Option (List ℕ)) × (text : List ℕ)
     × Affirms said contents put text × AreReadNotPut said.reads contents said.puts put calls × (written ≡ [])
--- the same, of a call that handed over a part of the answer's text, all before which was taken
+-- a write failed, the last call on the sink: before it the file of the answer was put, where one is put, and the text up to
+-- there was taken
 IsRunOf limit said statuses.OutFault calls written = (contents : List (List ℕ)) × (put : Option (List ℕ)) × (text : List ℕ)
     × IsAnswer said contents put text × AreReadAndPut said.reads contents said.puts put calls × IsCut text written
 -- one of the files gave more bytes than the limit; nothing was put or written
@@ -104,7 +105,7 @@ IsRunOf limit said statuses.Memory calls written =
 abbrev pub Asks : Said → List (List ℕ) → Type 0
 Asks said words = (words ≡ said.words) × said.is_in_range
 
--- something of the request that the words ask for; something of each that they ask for, and they ask for one at the most
+-- something of a request that the words ask for; something of each that they ask for
 abbrev pub SomeAsked : {R : Type 0} → (R → Said) → List (List ℕ) → (Said → Type 0) → Type 0
 SomeAsked {R} said_of words P = (asked : R) × Asks (said_of asked) words × P (said_of asked)
 
@@ -138,7 +139,7 @@ IsBegunOver file said text = (contents : List (List ℕ)) × Hold file said.read
 
 -- ---- what is said of a command is said of the request that it answers
 
--- the files that it reads and puts are the same, and a run and an answer by the one are so by the other
+-- the files that it reads and puts are the same; a run as the one has it is a run as the other has it, and so are answers
 pub record IsSaidOf (said other : Said) : Type 0 where
   pub reads : said.reads ≡ other.reads
   pub puts : said.puts ≡ other.puts

@@ -3,7 +3,7 @@ ghost use Rattle.std.specs.Prelude.{◌≡◌, ◌≤◌, ◌++◌, ℕ, List, [
 ghost use Rattle.mz_io.specs.Calls.{Call, Since, taken};
 ghost use Rattle.mz_io.specs.Outside.{HasRoom, Rose};
 ghost use Rattle.mz_tool_engine.specs.Files.{AreThere, BeginsLonger};
-ghost use Rattle.mz_tool_engine.specs.Follows.{Follows};
+ghost use Rattle.mz_tool_engine.specs.Consequences.{Consequences};
 ghost use Rattle.mz_tool_engine.specs.Given.{Gives, Tells};
 ghost use Rattle.mz_tool_engine.specs.Run.{EachAsked, IsAnswerOver, IsRun, longest};
 ghost use Rattle.mz_tool_engine.specs.Said.{Files};
@@ -62,7 +62,7 @@ pub fn run<F: Folder, O: Sink>(
 
     // What follows of them, for whatever files the folder's calls gave. What is accepted is proved.
     ensures follows { (file : Files) (calls written : List Call) → F.calls folder.new ≡ F.calls folder.old ++ calls → O.calls out.new ≡ O.calls out.old ++ written
-        → Gives file calls → Follows said_of (map string_bytes words.now) file result calls written }
+        → Gives file calls → Consequences said_of (map string_bytes words.now) file result calls written }
 
     // A folder that tells its files gave what they held at first, and holds afterwards what was put; a sink that tells
     // what was written holds what its calls took.

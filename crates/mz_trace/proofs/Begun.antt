@@ -1,5 +1,5 @@
 -- Before the first command, and behind the last one.
-use Rattle.std.proofs.Common.{◌≡◌, ℕ, zero, suc, ◌+◌, List, [], ◌∷◌, ◌++◌, Ok, length, map, refl, sym, ap, ◌∙◌, subst, arith}
+use Rattle.std.proofs.Common.{◌≡◌, ◌≤◌, ℕ, zero, suc, ◌+◌, List, [], ◌∷◌, ◌++◌, Ok, length, map, refl, sym, ap, ◌∙◌, subst, arith}
 use Rattle.std.proofs.lemmas.List.{append-nil, map-append}
 use Rattle.mz_base_theory.proofs.Offered.{one-further}
 use Rattle.mz_logic_theory.specs.Tree.{Tree, var}
@@ -20,7 +20,8 @@ use Rattle.mz_trace_theory.specs.Parts.{Part, expression, proved}
 use Rattle.mz_trace_theory.specs.Traces.{Trace, trace_start, trace_from, trace_body}
 use Rattle.mz_trace.specs.Nodes.{Value, values, proof_at, HaveParts, AreProofs, IsProof}
 use Rattle.mz_trace.specs.Entries.{item_at, part_at, items_at, parts_at, IsStack}
-use Rattle.mz_trace.specs.Commands.{Stage, begun, values_in, context_of, state_of, trace_of, IsHeld, IsMade, IsRead}
+use Rattle.mz_trace.specs.Commands.{Stage, begun, values_in, context_of, state_of, trace_of, IsHeld, IsMade, IsRead, size_of}
+use Rattle.mz_trace.specs.Sharing.{nodes_in}
 use Rattle.mz_trace.specs.Runs.{IsRunOf, RunsFrom, LeadsToEnd, HasRoot, IsFinished}
 use Rattle.mz_trace.specs.declared.run.Run.{Run}
 use Rattle.mz_trace.specs.declared.node.RunNode.{RunNode}
@@ -31,6 +32,7 @@ use Rattle.mz_trace.specs.declared.entry.Entry.TheVariants.{Held, Owed, ForProof
 use Rattle.mz_trace.proofs.Stages.{alike, alike-trace, state, expression-added, held-still}
 use Rattle.mz_trace.proofs.Growth.{heap-more, heap_parts-more, kept-more}
 use Rattle.mz_trace.proofs.Known.{known-start}
+use Rattle.mz_trace.proofs.FewNodes.{size-begun}
 
 -- ---- parameters
 
@@ -171,8 +173,8 @@ module _ (tables : RowsBefore) (h : Heading) (bytes : List ℕ) (s : Stage) (r :
   root-there : IsProof vs r.root
   root-there = let there = subst (λ (xs : List Entry). IsStack tables vs xs) fin.root.1 made.1 in there.0.1
 
-  pub run-is : trace_body tables h bytes ≡ Ok (state_of h.params s, trace_of s) → IsRunOf tables h bytes r
-  run-is runs = record {
+  pub run-is : trace_body tables h bytes ≡ Ok (state_of h.params s, trace_of s) → length s.nodes ≤ length h.params + nodes_in bytes → IsRunOf tables h bytes r
+  run-is runs few = record {
     nodes = subst (λ (ns : List RunNode). HaveParts tables ns) (sym fin.nodes) made.0.nodes;
     lets = subst (λ (ns : List RunNode). AreProofs (values ns) r.lets.items) (sym fin.nodes) (subst (λ (ns : List ℕ). AreProofs vs ns) (sym fin.lets) made.0.lets);
     root = subst (λ (ns : List RunNode). IsProof (values ns) r.root) (sym fin.nodes) root-there;
@@ -183,6 +185,7 @@ module _ (tables : RowsBefore) (h : Heading) (bytes : List ℕ) (s : Stage) (r :
       names = ap (λ (ns : List ℕ). map (proof_at vs) ns) (sym fin.lets) ∙ ap (λ (ns : List RunNode). map (proof_at (values ns)) r.lets.items) (sym fin.nodes);
       dummies_are = ap (λ (ds : List ℕ). h.params ++ map dummy_of ds) (sym fin.dummies);
     };
+    few = subst (λ (ns : List RunNode). length ns ≤ length h.params + nodes_in bytes) (sym fin.nodes) few;
   }
 
 -- ---- a theorem's body
@@ -211,6 +214,7 @@ module _ (file bytes : List ℕ) (row : ℕ) (before : Rows) (may : MayRun file 
   module _ (last : Stage) (leads : LeadsToEnd file bytes start last) where
     ended : IsMade rows own.params last × (proof_end strict rows own (state_of own.params last) ≡ Ok runs.1.0)
         × (trace_from rows own (length bytes) bytes (state_of own.params (begun arity), trace_of (begun arity)) ≡ Ok (state_of own.params last, trace_of last))
+        × (size_of last ≤ size_of (begun arity) + nodes_in bytes)
     ended =
         subst (λ (s : Stage). LeadsToEnd file bytes s last) is leads rows own (length bytes) runs.0 runs.1.0 read-begun refl (begun-made rows own arity many) run-begun
 
@@ -219,8 +223,11 @@ module _ (file bytes : List ℕ) (row : ℕ) (before : Rows) (may : MayRun file 
         sym (ap (λ (st : State Tree). trace_from rows own (length bytes) bytes (st, trace_of (begun arity))) (begun-state rows own arity many)
         ∙ ap (λ (tr : Trace). trace_from rows own (length bytes) bytes (body_start strict own, tr)) (begun-trace rows own arity many)) ∙ ended.2
 
+    few-nodes : length last.nodes ≤ length own.params + nodes_in bytes
+    few-nodes = omega (arith, ended.3, size-begun arity, many)
+
     pub root-of : HasRoot last
     root-of = has-root rows own last runs.1.0 refl ended.0 ended.1
 
     pub run-of : (r : Run) → IsFinished last r → IsRunOf rows own bytes r
-    run-of r fin = run-is rows own bytes last r ended.0 fin traced-whole
+    run-of r fin = run-is rows own bytes last r ended.0 fin traced-whole few-nodes

@@ -1,5 +1,5 @@
 -- What is left of a body, command by command.
-use Rattle.std.proofs.Common.{Result, Option, ◌≡◌, ◌⊎◌, inl, inr, ℕ, zero, suc, ◌+◌, Bool, true, false, List, drop, Some, None, Ok, Err, refl, sym, ap, ◌∙◌, subst}
+use Rattle.std.proofs.Common.{Result, Option, ◌≡◌, ◌⊎◌, inl, inr, ℕ, zero, suc, ◌+◌, Bool, true, false, List, drop, Some, None, Ok, Err, refl, sym, ap, ◌∙◌, subst, arith, ◌≤◌}
 use Rattle.std.specs.Prelude.{◌==◌}
 use Rattle.std.proofs.lemmas.Bool.{eqb-true}
 use Rattle.std.proofs.lemmas.List.{drop-drop}
@@ -18,7 +18,8 @@ use Rattle.mz_unify_theory.specs.UnifyMachine.{is_empty}
 use Rattle.mz_machine_theory.specs.MachineState.{RowsBefore, State, is_theorem, Heading}
 use Rattle.mz_machine_theory.specs.ProofMachine.{proof_row, built, proof_end}
 use Rattle.mz_machine_theory.specs.Bodies.{BodyCommand, ends, proves, if_allowed, body_command, body_turn_by, body_turn, body_from}
-use Rattle.mz_trace.specs.Commands.{Stage, IsRead, IsMade, state_of, trace_of, Goes, Leads}
+use Rattle.mz_trace.specs.Commands.{Stage, IsRead, IsMade, state_of, trace_of, Goes, Leads, size_of}
+use Rattle.mz_trace.specs.Sharing.{nodes_by, nodes_for, nodes_from}
 use Rattle.mz_trace.specs.Runs.{RunsFrom, LeadsToEnd}
 use Rattle.mz_trace_theory.specs.Traces.{Trace, traced, trace_from}
 use Rattle.mz_trace.proofs.Known.{known-kept}
@@ -42,11 +43,12 @@ module _ (tables : RowsBefore) (h : Heading) (at : ℕ) (st end : State Tree) wh
   GoesOn c n bytes = (pc : ProofCode) × (value m : ℕ) × (st' : State Tree) × (body_command strict h.kind c.code c.value ≡ Some (proves pc value)) × (proof_row strict tables at pc value st ≡ Ok st')
       × (body_from strict tables h m (at + c.len) (drop c.len bytes) st' ≡ Ok end)
       × ((tr tr' : Trace) → proof_row strict tables 0 pc value st ≡ Ok st' → traced tables pc value st tr ≡ Ok tr' → trace_from tables h n bytes (st, tr) ≡ trace_from tables h m (drop c.len bytes) (st', tr'))
+      × (nodes_from n bytes ≡ nodes_by (proof_code c.code) + nodes_from m (drop c.len bytes))
 
   by-command : (c : Cmd) (n : ℕ) (bytes : List ℕ) (o : Option BodyCommand) → first_command bytes ≡ Ok c → body_command strict h.kind c.code c.value ≡ o
       → follow (at_place at (body_turn_by strict tables h at c.len (drop c.len bytes) st o)) (λ len s. body_from strict tables h n (at + len) (drop len bytes) s) ≡ Ok end
       → EndsHere c (suc n) bytes ⊎ GoesOn c (suc n) bytes
-  unfolding trace_from
+  unfolding trace_from nodes_from
   by-command c n bytes None read is run = absurd cc
   by-command c n bytes (Some ends) read is run = go (is_empty (drop c.len bytes)) (proof_end strict tables h st) refl run
     where
@@ -62,7 +64,7 @@ module _ (tables : RowsBefore) (h : Heading) (at : ℕ) (st end : State Tree) wh
           → follow (at_place at (r >>= λ s. Ok (goes_on c.len s))) (λ len s. body_from strict tables h n (at + len) (drop len bytes) s) ≡ Ok end
           → EndsHere c (suc n) bytes ⊎ GoesOn c (suc n) bytes
       go (Err f) row run = absurd cc
-      go (Ok s) row run = inr (pc, value, n, s, is, row, run, λ tr tr' row0 made. rw (read, is, row0, made) refl)
+      go (Ok s) row run = inr (pc, value, n, s, is, row, run, λ tr tr' row0 made. rw (read, is, row0, made) refl, rw read refl)
 
   pub next-command : (n : ℕ) (bytes : List ℕ) → body_from strict tables h n at bytes st ≡ Ok end → (c : Cmd) × (first_command bytes ≡ Ok c) × (EndsHere c n bytes ⊎ GoesOn c n bytes)
   unfolding body_from
@@ -150,6 +152,7 @@ abbrev pub GoesOnBy : RowsBefore → Heading → ℕ → State Tree → State Tr
 GoesOnBy tables h at st end c n bytes pc = (m : ℕ) × (st' : State Tree) × (proof_row strict tables 0 pc c.value st ≡ Ok st')
     × (body_from strict tables h m (at + c.len) (drop c.len bytes) st' ≡ Ok end)
     × ((tr tr' : Trace) → proof_row strict tables 0 pc c.value st ≡ Ok st' → traced tables pc c.value st tr ≡ Ok tr' → trace_from tables h n bytes (st, tr) ≡ trace_from tables h m (drop c.len bytes) (st', tr'))
+    × (nodes_from n bytes ≡ nodes_for pc + nodes_from m (drop c.len bytes))
 
 -- ---- a body that is underway
 
@@ -158,14 +161,15 @@ module _ (file bytes : List ℕ) (s0 : Stage) where
   IsUnderway at s = (tables : RowsBefore) (h : Heading) (n p : ℕ) (end : State Tree)
       → IsRead file tables h.params s0 → h.kind ≡ is_theorem → IsMade tables h.params s0 → body_from strict tables h n p bytes (state_of h.params s0) ≡ Ok end
       → IsRead file tables h.params s × IsMade tables h.params s × ((m q : ℕ) × (body_from strict tables h m q (drop at bytes) (state_of h.params s) ≡ Ok end)
-      × (trace_from tables h n bytes (state_of h.params s0, trace_of s0) ≡ trace_from tables h m (drop at bytes) (state_of h.params s, trace_of s)))
+      × (trace_from tables h n bytes (state_of h.params s0, trace_of s0) ≡ trace_from tables h m (drop at bytes) (state_of h.params s, trace_of s))
+      × (size_of s + nodes_from m (drop at bytes) ≤ size_of s0 + nodes_from n bytes))
 
   pub at-first : IsUnderway 0 s0
-  at-first tables h n p end q kind made run = (q, made, (n, p, run, refl))
+  at-first tables h n p end q kind made run = (q, made, (n, p, run, refl, omega arith))
 
   pub runs-on : (at : ℕ) (s : Stage) → RunsFrom file bytes s0 → IsUnderway at s → RunsFrom file (drop at bytes) s
   runs-on at s (tables, h, n, p, end, q, kind, made, run) on =
-      let (q1, made1, (m, p1, run1, same)) = on tables h n p end q kind made run in (tables, h, m, p1, end, q1, kind, made1, run1)
+      let (q1, made1, (m, p1, run1, same, few)) = on tables h n p end q kind made run in (tables, h, m, p1, end, q1, kind, made1, run1)
 
   module _ (at : ℕ) (s : Stage) (on : IsUnderway at s) (c : Cmd) (read : first_command (drop at bytes) ≡ Ok c) where
     -- what the next command is
@@ -188,40 +192,42 @@ module _ (file bytes : List ℕ) (s0 : Stage) where
           by-same : (pc1 : ProofCode) (value : ℕ) → pc1 ≡ pc → value ≡ c.value → (n1 : ℕ) (st' : State Tree) → proof_row strict tables p pc1 value here ≡ Ok st'
               → body_from strict tables h n1 (p + c.len) (drop c.len (drop at bytes)) st' ≡ Ok end
               → ((tr tr' : Trace) → proof_row strict tables 0 pc1 value here ≡ Ok st' → traced tables pc1 value here tr ≡ Ok tr' → trace_from tables h m (drop at bytes) (here, tr) ≡ trace_from tables h n1 (drop c.len (drop at bytes)) (st', tr'))
+              → nodes_from m (drop at bytes) ≡ nodes_by (proof_code c.code) + nodes_from n1 (drop c.len (drop at bytes))
               → GoesOnBy tables h p here end c m (drop at bytes) pc
-          by-same pc1 value pc-is value-is n1 st' row run1 same = (
+          by-same pc1 value pc-is value-is n1 st' row run1 same count = (
             n1,
             st',
             sym (any-place tables p pc c.value here) ∙ subst (λ z. proof_row strict tables p z c.value here ≡ Ok st') pc-is (subst (λ z. proof_row strict tables p pc1 z here ≡ Ok st') value-is row),
             run1,
             λ tr tr' row0 made. same tr tr' (subst (λ z. proof_row strict tables 0 z value here ≡ Ok st') (sym pc-is) (subst (λ z. proof_row strict tables 0 pc z here ≡ Ok st') (sym value-is) row0))
                 (subst (λ z. traced tables z value here tr ≡ Ok tr') (sym pc-is) (subst (λ z. traced tables pc z here tr ≡ Ok tr') (sym value-is) made)),
+            subst (λ (o : Option ProofCode). nodes_from m (drop at bytes) ≡ nodes_by o + nodes_from n1 (drop c.len (drop at bytes))) has count,
           )
 
           go : EndsHere tables h p here end c m (drop at bytes) ⊎ GoesOn tables h p here end c m (drop at bytes) → GoesOnBy tables h p here end c m (drop at bytes) pc
           go (inl e) = absurd (let no : Some ends ≡ Some (proves pc c.value) = sym e.0 ∙ coded in cc)
-          go (inr (pc1, value, n1, st', is, row, run1, same)) =
+          go (inr (pc1, value, n1, st', is, row, run1, same, count)) =
               let (pc-is, value-is) = some-proves pc1 pc value c.value _ is coded in
-              by-same pc1 value pc-is value-is n1 st' row run1 same
+              by-same pc1 value pc-is value-is n1 st' row run1 same count
 
       pub an-end : proof_code c.code ≡ None → body_from strict tables h m p (drop at bytes) here ≡ Ok end → EndsHere tables h p here end c m (drop at bytes)
       an-end none run = go (next run)
         where
           go : EndsHere tables h p here end c m (drop at bytes) ⊎ GoesOn tables h p here end c m (drop at bytes) → EndsHere tables h p here end c m (drop at bytes)
           go (inl e) = e
-          go (inr (pc, value, n1, st', is, row, run1, same)) = absurd (no-proof c.code c.value pc value none (ap (λ z. body_command strict z c.code c.value) (sym kind) ∙ is))
+          go (inr (pc, value, n1, st', is, row, run1, same, count)) = absurd (no-proof c.code c.value pc value none (ap (λ z. body_command strict z c.code c.value) (sym kind) ∙ is))
 
     pub goes-over : (pc : ProofCode) → proof_code c.code ≡ Some pc → RunsFrom file bytes s0 → Goes (IsRead file) pc c.value s
     goes-over pc has (tables, h, n, p, end, q, kind, made, run) =
-        let (q1, made1, (m, p1, run1, same)) = on tables h n p end q kind made run in
-        let (n1, st', row, run2, more) = a-row tables h kind p1 end m pc has run1 in
+        let (q1, made1, (m, p1, run1, same, few)) = on tables h n p end q kind made run in
+        let (n1, st', row, run2, more, count) = a-row tables h kind p1 end m pc has run1 in
         (tables, h.params, st', q1, made1, row)
 
     pub goes-further : (pc : ProofCode) (s' : Stage) → proof_code c.code ≡ Some pc → Leads (IsRead file) pc c.value s s' → IsUnderway (at + c.len) s'
     goes-further pc s' has leads tables h n p end q kind made run =
-        let (q1, made1, (m, p1, run1, same)) = on tables h n p end q kind made run in
-        let (n1, st', row, run2, more) = a-row tables h kind p1 end m pc has run1 in
-        let (made2, state-is, trace-is) = leads tables h.params st' q1 made1 row in
+        let (q1, made1, (m, p1, run1, same, few)) = on tables h n p end q kind made run in
+        let (n1, st', row, run2, more, count) = a-row tables h kind p1 end m pc has run1 in
+        let (made2, state-is, trace-is, fewer) = leads tables h.params st' q1 made1 row in
         let there : drop c.len (drop at bytes) ≡ drop (at + c.len) bytes = drop-drop c.len at bytes in (
           (q1.0, known-kept tables h.params pc c.value s s' q1.1 (row ∙ ap (λ z. finished z) state-is)),
           made2,
@@ -231,14 +237,15 @@ module _ (file bytes : List ℕ) (s0 : Stage) where
             subst (λ bs. body_from strict tables h n1 (p1 + c.len) bs (state_of h.params s') ≡ Ok end) there (subst (λ z. body_from strict tables h n1 (p1 + c.len) (drop c.len (drop at bytes)) z ≡ Ok end) state-is run2),
             same ∙ more (trace_of s) (trace_of s') row trace-is ∙ ap (λ z. trace_from tables h n1 (drop c.len (drop at bytes)) (z, trace_of s')) state-is
                 ∙ ap (λ bs. trace_from tables h n1 bs (state_of h.params s', trace_of s')) there,
+            omega (arith, few, count, fewer, ap (nodes_from n1) there),
           ),
         )
 
     pub ends-there : proof_code c.code ≡ None → LeadsToEnd file bytes s0 s
     ends-there none tables h n p end q kind made run =
-        let (q1, made1, (m, p1, run1, same)) = on tables h n p end q kind made run in
+        let (q1, made1, (m, p1, run1, same, few)) = on tables h n p end q kind made run in
         let (is, done, last) = an-end tables h kind p1 end m none run1 in
-        (made1, done, same ∙ last (trace_of s))
+        (made1, done, same ∙ last (trace_of s), omega (arith, few))
 
 -- a command stands there
 pub reads : (file bytes : List ℕ) (s : Stage) → RunsFrom file bytes s → (c : Cmd) × (first_command bytes ≡ Ok c)

@@ -1,5 +1,5 @@
 -- What citing an assertion leads to.
-use Rattle.std.proofs.Common.{Result, ◌≡◌, ◌<◌, ℕ, suc, ◌+◌, ◌-◌, List, [], ◌∷◌, ◌++◌, Some, Ok, length, map, refl, sym, ap, ◌∙◌, subst, arith}
+use Rattle.std.proofs.Common.{Result, ◌≡◌, ◌<◌, ◌≤◌, ℕ, suc, ◌+◌, ◌-◌, List, [], ◌∷◌, ◌++◌, Some, Ok, length, map, refl, sym, ap, ◌∙◌, subst, arith}
 use Rattle.std.specs.Prelude.{reverse, slice_get, drop, nat_le}
 use Rattle.std.proofs.lemmas.List.{length-reverse, reverse-reverse, length-map}
 use Rattle.std.specs.List.{range_with_len}
@@ -27,7 +27,7 @@ use Rattle.mz_trace_theory.specs.Parts.{Part, proved, proofs_above}
 use Rattle.mz_trace_theory.specs.Traces.{Trace, stacked, named, traced, cited as cited-beside}
 use Rattle.mz_trace.specs.Nodes.{Value, a_proof, expression_at, expressions_at, proof_at, proofs_at, value_of, HasParts, IsExpression, AreExpressions, IsProof, AreProofs, Uses, IsClaim, conclusion_under}
 use Rattle.mz_trace.specs.Entries.{item_at, items_at, parts_at, IsStack, exprs_onto, proofs_onto, HasProofs}
-use Rattle.mz_trace.specs.Commands.{Stage, with_node, with_stack, with_name, on_stack, values_in, context_of, state_of, trace_of, IsHeld, IsMade, IsOfFile, IsRead, Goes, Leads, IsCited, MayCite, TakesHyps}
+use Rattle.mz_trace.specs.Commands.{Stage, with_node, with_stack, with_name, on_stack, values_in, context_of, state_of, trace_of, IsHeld, IsMade, IsOfFile, IsRead, Goes, Leads, IsCited, MayCite, TakesHyps, size_of, unmade}
 use Rattle.mz_trace.specs.declared.node.RunNode.{RunNode}
 use Rattle.mz_trace.specs.declared.node.RunNode.TheVariants as node
 use Rattle.mz_trace.specs.declared.entry.Item.TheVariants.{Expr, Proof as ProofItem, Conversion as ConversionItem}
@@ -37,6 +37,7 @@ use Rattle.mz_trace.proofs.Stages.{held-of, held-still, stack-still, proof-added
 use Rattle.mz_trace.proofs.Tops.{expr-top, has-exprs, exprs-below, pop-operands, drop-exprs, unturned, proofs-below, drop-proofs, proofs-are, unturned-proofs}
 use Rattle.mz_trace.proofs.Having.{rest-is}
 use Rattle.mz_trace.proofs.Moves.{taken-trace}
+use Rattle.mz_trace.proofs.FewNodes.{one-node, unmade-exprs, unmade-proofs}
 use Rattle.mz_trace.proofs.Keeping.{named-made, named-state, named-trace}
 use Rattle.mz_trace.proofs.CitingTaken.{many-taken, unify-takes}
 use Rattle.mz_trace.proofs.Cited.{cited-claim}
@@ -388,6 +389,10 @@ module _ (file : List ℕ) (t : ℕ) (s s' : Stage) (claim made-at : ℕ) (c : I
   abbrev pub names : Stage
   names = with_name noded claim new
 
+  -- one node more
+  fewer : size_of noded ≤ size_of s + 1
+  fewer = omega (arith, one-node s.nodes c.node, ap unmade c.taken, unmade-exprs (reverse c.operands) (proofs_onto c.proofs s'.stack), unmade-proofs c.proofs s'.stack)
+
   pub thm-leads : Leads (IsRead file) code.Thm t s cites
   unfolding proof_row traced
   thm-leads tables params st q made row =
@@ -400,6 +405,7 @@ module _ (file : List ℕ) (t : ℕ) (s s' : Stage) (claim made-at : ℕ) (c : I
         ),
         sym (taken-is (pushed r) st e1) ∙ ap pushed r-is ∙ sym (cited-state tables params q made claims),
         rw beside refl ∙ ap taken-trace (sym (cited-trace tables params q made claims)),
+        omega (arith, fewer),
       )
 
   pub thm_save-leads : Leads (IsRead file) code.ThmSave t s names
@@ -411,6 +417,7 @@ module _ (file : List ℕ) (t : ℕ) (s s' : Stage) (claim made-at : ℕ) (c : I
         named-made tables params noded claim new (noded-made tables params q made claims) (claim-still tables params q made claims) (new-proof tables params q made claims).0,
         sym (taken-is (pushed r) st e1) ∙ ap pushed r-is ∙ sym (saved-state tables params q made claims),
         rw beside refl ∙ ap taken-trace (sym (saved-trace tables params q made claims)),
+        omega (arith, fewer, one-node noded.nodes (node.Let (length s.lets))),
       )
 
   pub cites-is : on_stack s' (Held (ProofItem claim made-at)) ≡ cites

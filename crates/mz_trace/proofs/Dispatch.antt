@@ -1,5 +1,5 @@
 -- Each command has its clause, whatever its operand where none is looked at.
-use Rattle.std.proofs.Common.{Result, ◌≡◌, ℕ, refl, sym, ◌∙◌, subst, List, Ok, Option, Some, None, Bool, true, false}
+use Rattle.std.proofs.Common.{Result, ◌≡◌, arith, ℕ, refl, sym, ◌∙◌, subst, List, Ok, Option, Some, None, Bool, true, false}
 use Rattle.std.specs.Prelude.{slice_get}
 use Rattle.mz_cmd.specs.declared.rule.K.{K}
 use Rattle.mz_cmd.specs.declared.rule.K.TheVariants as k
@@ -14,11 +14,13 @@ use Rattle.mz_machine_theory.specs.Premises.{is_conversion}
 use Rattle.mz_machine_theory.specs.ProofMachine.{proof_row, referred}
 use Rattle.mz_trace_theory.specs.Traces.{Trace, traced}
 use Rattle.mz_trace.specs.Commands.{Stage, Known, IsRead, state_of, trace_of, Goes, Leads}
+use Rattle.mz_trace.specs.Sharing.{nodes_for}
 
 -- c over n does what d over m does, wherever c goes through
 abbrev pub DoesAs : (c : ProofCode) (n : ℕ) (d : ProofCode) (m : ℕ) → Type 0
 DoesAs c n d m = ((tables : RowsBefore) (st st' : State Tree) → proof_row strict tables 0 c n st ≡ Ok st' → proof_row strict tables 0 d m st ≡ Ok st')
     × ((tables : RowsBefore) (st : State Tree) (tr : Trace) → traced tables d m st tr ≡ traced tables c n st tr)
+    × (nodes_for d ≡ nodes_for c)
 
 -- what is known carries over to Q
 abbrev pub Lifts : List ℕ → Known → Type 0
@@ -32,15 +34,15 @@ module _ (file : List ℕ) (Q : Known) (lift : Lifts file Q) (b c d : ProofCode)
 
   leads-c : (s' : Stage) → Leads Q d m s s' → Leads (IsRead file) c n s s'
   leads-c s' leads tables params st q made row =
-      let (made1, state-is, trace-is) = leads tables params st (lift tables params s q) made (as_d.0 tables (state_of params s) st row) in
-      (made1, state-is, sym (as_d.1 tables (state_of params s) (trace_of s)) ∙ trace-is)
+      let (made1, state-is, trace-is, few) = leads tables params st (lift tables params s q) made (as_d.0 tables (state_of params s) st row) in
+      (made1, state-is, sym (as_d.1 tables (state_of params s) (trace_of s)) ∙ trace-is, omega (arith, few, as_d.2))
 
   pub leads-as : (s' : Stage) → Leads Q d m s s' → Leads (IsRead file) b n s s'
   leads-as s' leads = subst (λ z. Leads (IsRead file) z n s s') (sym is) (leads-c s' leads)
 
 -- the same command
 pub itself : (c : ProofCode) (n : ℕ) → DoesAs c n c n
-itself c n = (λ tables st st' row. row, λ tables st tr. refl)
+itself c n = (λ tables st st' row. row, λ tables st tr. refl, refl)
 
 if-conversion : (b : Bool) (r : Result (State Tree) K) (st' : State Tree) → (need b k.Kind >> r) ≡ Ok st' → r ≡ Ok st'
 if-conversion true r st' e = e
@@ -55,7 +57,7 @@ conv-ref tables st st' n (Some x) at row =
 
 pub conv-ref-as : (n : ℕ) → DoesAs code.ConvRef n code.Ref n
 unfolding traced
-conv-ref-as n = (λ tables st st' row. conv-ref tables st st' n (slice_get st.heap n) refl row, λ tables st tr. refl)
+conv-ref-as n = (λ tables st st' row. conv-ref tables st st' n (slice_get st.heap n) refl row, λ tables st tr. refl, refl)
 
 no-sorry : (tables : RowsBefore) (st st' : State Tree) (n : ℕ) → proof_row strict tables 0 code.Sorry n st ≡ Ok st' → ⊥
 unfolding proof_row
@@ -69,36 +71,36 @@ never-sorry file b n s is goes =
 
 pub hyp-as : (n : ℕ) → DoesAs code.Hyp n code.Hyp 0
 unfolding proof_row traced
-hyp-as n = (λ tables st st' row. row, λ tables st tr. refl)
+hyp-as n = (λ tables st st' row. row, λ tables st tr. refl, refl)
 
 pub conv-as : (n : ℕ) → DoesAs code.Conv n code.Conv 0
 unfolding proof_row traced
-conv-as n = (λ tables st st' row. row, λ tables st tr. refl)
+conv-as n = (λ tables st st' row. row, λ tables st tr. refl, refl)
 
 pub refl-as : (n : ℕ) → DoesAs code.Refl n code.Refl 0
 unfolding proof_row traced
-refl-as n = (λ tables st st' row. row, λ tables st tr. refl)
+refl-as n = (λ tables st st' row. row, λ tables st tr. refl, refl)
 
 pub symm-as : (n : ℕ) → DoesAs code.Symm n code.Symm 0
 unfolding proof_row traced
-symm-as n = (λ tables st st' row. row, λ tables st tr. refl)
+symm-as n = (λ tables st st' row. row, λ tables st tr. refl, refl)
 
 pub cong-as : (n : ℕ) → DoesAs code.Cong n code.Cong 0
 unfolding proof_row traced
-cong-as n = (λ tables st st' row. row, λ tables st tr. refl)
+cong-as n = (λ tables st st' row. row, λ tables st tr. refl, refl)
 
 pub unfold-as : (n : ℕ) → DoesAs code.Unfold n code.Unfold 0
 unfolding proof_row traced
-unfold-as n = (λ tables st st' row. row, λ tables st tr. refl)
+unfold-as n = (λ tables st st' row. row, λ tables st tr. refl, refl)
 
 pub conv_cut-as : (n : ℕ) → DoesAs code.ConvCut n code.ConvCut 0
 unfolding proof_row traced
-conv_cut-as n = (λ tables st st' row. row, λ tables st tr. refl)
+conv_cut-as n = (λ tables st st' row. row, λ tables st tr. refl, refl)
 
 pub conv_save-as : (n : ℕ) → DoesAs code.ConvSave n code.ConvSave 0
 unfolding proof_row traced
-conv_save-as n = (λ tables st st' row. row, λ tables st tr. refl)
+conv_save-as n = (λ tables st st' row. row, λ tables st tr. refl, refl)
 
 pub save-as : (n : ℕ) → DoesAs code.Save n code.Save 0
 unfolding proof_row traced
-save-as n = (λ tables st st' row. row, λ tables st tr. refl)
+save-as n = (λ tables st st' row. row, λ tables st tr. refl, refl)

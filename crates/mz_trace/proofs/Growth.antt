@@ -1,5 +1,5 @@
 -- What commands lead to that make an expression or a proof, or keep one.
-use Rattle.std.proofs.Common.{Result, Option, ◌≡◌, ◌<◌, ℕ, List, [], ◌∷◌, ◌++◌, Some, Ok, length, map, refl, sym, ap, ◌∙◌, subst, arith}
+use Rattle.std.proofs.Common.{Result, Option, ◌≡◌, ◌<◌, ◌≤◌, ◌+◌, ℕ, List, [], ◌∷◌, ◌++◌, Some, Ok, length, map, refl, sym, ap, ◌∙◌, subst, arith}
 use Rattle.std.specs.Prelude.{reverse, slice_get, drop, nat_le}
 use Rattle.std.proofs.lemmas.List.{map-append, length-reverse}
 use Rattle.std.specs.List.{range_with_len}
@@ -25,7 +25,7 @@ use Rattle.mz_trace_theory.specs.Parts.{Part, expression}
 use Rattle.mz_trace_theory.specs.Traces.{Trace, stacked, kept, traced}
 use Rattle.mz_trace.specs.Nodes.{Value, an_expression, expression_at, expressions_at, value_of, HasParts, HasArity, IsExpression, AreExpressions, Applies}
 use Rattle.mz_trace.specs.Entries.{item_at, part_at, items_at, parts_at, AreItems, IsItem, IsStack, HasExprs}
-use Rattle.mz_trace.specs.Commands.{Stage, with_node, with_stack, on_stack, values_in, context_of, state_of, trace_of, IsHeld, IsMade, IsOfFile, IsRead, Goes, Leads, IsBuilt, MayBuild}
+use Rattle.mz_trace.specs.Commands.{Stage, with_node, with_stack, on_stack, values_in, context_of, state_of, trace_of, IsHeld, IsMade, IsOfFile, IsRead, Goes, Leads, IsBuilt, MayBuild, size_of, unmade}
 use Rattle.mz_trace.specs.declared.node.RunNode.{RunNode}
 use Rattle.mz_trace.specs.declared.node.RunNode.TheVariants as node
 use Rattle.mz_trace.specs.declared.entry.Item.{Item}
@@ -34,6 +34,7 @@ use Rattle.mz_trace.specs.declared.entry.Entry.TheVariants.{Held}
 use Rattle.mz_trace.proofs.Stages.{alike, alike-trace, held-of, held-still, stack-still, expression-added, heap-still, heap_parts-still, hyps-still, lets-still, items-still, parts-still}
 use Rattle.mz_trace.proofs.Tops.{has-exprs, exprs-below, pop-operands, drop-exprs, unturned}
 use Rattle.mz_trace.proofs.Moves.{items-both}
+use Rattle.mz_trace.proofs.FewNodes.{one-node, unmade-exprs}
 
 -- ---- rows of the file
 
@@ -191,6 +192,10 @@ module _ (file : List ℕ) (t : ℕ) (s s' : Stage) (made-at : ℕ) (b : IsBuilt
   want-is : {A B : Type 0} (o : Option A) (rule : K) (f : A → Result B K) (x : A) → o ≡ Some x → (want o rule >>= f) ≡ f x
   want-is o rule f x is = rw is refl
 
+  -- one node more
+  few : size_of whole ≤ size_of s + 1
+  few = omega (arith, one-node s.nodes b.node, ap unmade b.taken, unmade-exprs (reverse b.operands) s'.stack)
+
   pub term-leads : Leads (IsRead file) code.Term t s whole
   unfolding proof_row traced
   term-leads tables params st q made row =
@@ -202,6 +207,7 @@ module _ (file : List ℕ) (t : ℕ) (s s' : Stage) (made-at : ℕ) (b : IsBuilt
         sym (taken-is (pushed r) st e1) ∙ ap pushed r-is ∙ sym (term-state tables params q.0 made h),
         want-is (slice_get tables.terms t) k.TermIndex _ row1 at
             ∙ ap (λ ps. kept-trace (stacked (trace_of s) (expression ∷ ps))) (dropped tables params q.0 made row1 at) ∙ ap kept-trace (sym (term-trace tables params q.0 made h)),
+        few,
       )
 
   abbrev pub whole_saved : Stage
@@ -230,6 +236,7 @@ module _ (file : List ℕ) (t : ℕ) (s s' : Stage) (made-at : ℕ) (b : IsBuilt
         want-is (slice_get tables.terms t) k.TermIndex _ row1 at
             ∙ ap (λ ps. kept-trace (kept (stacked (trace_of s) (expression ∷ ps)) expression)) (dropped tables params q.0 made row1 at)
             ∙ ap kept-trace (sym (alike-trace (heap_parts-more tables params bare b.node below.0 h.4 (Expr new) expression refl) (parts-are tables params q.0 made h) (lets-still tables params bare b.node below.0 h.4))),
+        few,
       )
 
   pub whole-is : on_stack s' (Held (Expr made-at)) ≡ whole

@@ -20,9 +20,10 @@ use Rattle.mz_trace_theory.specs.Parts.{expression, proved, paid}
 use Rattle.mz_trace_theory.specs.Traces.{stacked, kept, named, traced, referred as referred-part}
 use Rattle.mz_trace_theory.proofs.Offered.{to_want}
 use Rattle.mz_trace.proofs.StreamsApart.{expressions-both}
+use Rattle.mz_trace.proofs.FewNodes.{one-node}
 use Rattle.mz_trace.specs.Nodes.{Value, expression_at, expressions_at, conversion_at, proof_at, IsExpression, IsProof, AreProofs, IsConversion}
 use Rattle.mz_trace.specs.Entries.{item_at, part_at, items_at, parts_at, AreItems, IsItem, IsStack, HasHeld, HasOwed}
-use Rattle.mz_trace.specs.Commands.{Stage, with_node, with_stack, with_variable, with_kept, with_name, on_stack, values_in, context_of, state_of, trace_of, IsHeld, IsMade, IsMadeBelow, Known, IsAny, Goes, Leads, MayPay, Pays}
+use Rattle.mz_trace.specs.Commands.{Stage, with_node, with_stack, with_variable, with_kept, with_name, on_stack, values_in, context_of, state_of, trace_of, IsHeld, IsMade, IsMadeBelow, Known, IsAny, Goes, Leads, MayPay, Pays, unmade}
 use Rattle.mz_trace.specs.declared.node.RunNode.{RunNode}
 use Rattle.mz_trace.specs.declared.node.RunNode.TheVariants as node
 use Rattle.mz_trace.specs.declared.entry.Item.{Item}
@@ -76,6 +77,7 @@ module _ (n : ℕ) (s : Stage) where
             ∙ sym (alike (context_of params dummied) (heap-more tables params s v made.0 tt (Expr new) (expr x) (ap expr e)) xs-is (hyps-still tables params s v made.0 tt)
             ∙ ap (λ ctx. state ctx (map (item_at (values_in s)) s.heap ++ expr x ∷ []) (expr x ∷ items_at (values_in s) s.stack) (expressions_at (values_in s) s.hyps)) (longer params)),
         ap taken-trace (sym (alike-trace (heap_parts-more tables params s v made.0 tt (Expr new) expression refl) (ap (λ ps. expression ∷ ps) (parts-still tables params s v made.0 tt s.stack made.1)) (lets-still tables params s v made.0 tt))),
+        omega (arith, one-node s.nodes v),
       )
 
   pub dummied-is : (s' t : Stage) (ds : List ℕ) (made-at : ℕ) → s' ≡ with_variable s → ds ≡ s'.dummies ++ n ∷ [] → made-at ≡ length s.nodes → t ≡ on_stack (record s' { dummies = ds }) (Held (Expr made-at)) → t ≡ dummied
@@ -117,6 +119,7 @@ module _ (n : ℕ) (s : Stage) (xs : List Entry) (e : ℕ) where
             (map-append (expression_at (values_in (with_node t v))) s.hyps (e ∷ []) ∙ rw (hyps-still tables params t v held tt, same) refl)),
         ap (λ i. taken-trace (kept (stacked (trace_of s) (parts_at vs xs)) (proved (by_hyp i)))) (length-map-hyps vs s.hyps)
             ∙ ap taken-trace (sym (alike-trace (heap_parts-more tables params t v held tt (ProofItem e (length s.nodes)) (proved (by_hyp (length s.hyps))) (ap proved at)) (parts-still tables params t v held tt xs made.1.1) (lets-still tables params t v held tt))),
+        omega (arith, one-node s.nodes v),
       )
 
   pub assumed-is : (ns : List RunNode) (hs : List Item) (is : List ℕ) (i p : ℕ) → ns ≡ s.nodes ++ node.Hyp i ∷ [] → hs ≡ s.heap ++ ProofItem e p ∷ [] → is ≡ s.hyps ++ e ∷ [] → i ≡ length s.hyps → p ≡ length s.nodes
@@ -178,6 +181,7 @@ module _ (n : ℕ) (s : Stage) (xs : List Entry) where
         sym (taken-is (record (state_of params t) { heap = map (item_at vs) s.heap ++ proof (expression_at vs e) ∷ []; stack = proof (expression_at vs e) ∷ items_at vs xs }) st row)
             ∙ sym (named-state tables params t e p below made.1.0.0 made.1.0.1),
         ap taken-trace (sym (named-trace tables params t e p below made.1.0.0 made.1.0.1)),
+        omega (arith, one-node s.nodes (node.Let (length s.lets))),
       )
 
   abbrev pub saved_item : Item → Stage
@@ -199,6 +203,7 @@ module _ (n : ℕ) (s : Stage) (xs : List Entry) where
     (saved-held tables params (Expr e) made.0 made.1.0, made.1),
     sym (taken-is (record (state_of params (with_stack s (Held (Expr e) ∷ xs))) { heap = map (item_at (values_in s)) s.heap ++ item_at (values_in s) (Expr e) ∷ [] }) st row) ∙ saved-state params (Expr e),
     ap taken-trace (saved-trace (Expr e)),
+    omega arith,
   )
 
   pub save_conversion-leads : (l r c : ℕ) → Leads IsAny code.Save n (with_stack s (Held (ConversionItem l r c) ∷ xs)) (saved_item (ConversionItem l r c))
@@ -208,6 +213,7 @@ module _ (n : ℕ) (s : Stage) (xs : List Entry) where
     sym (taken-is (record (state_of params (with_stack s (Held (ConversionItem l r c) ∷ xs))) { heap = map (item_at (values_in s)) s.heap ++ item_at (values_in s) (ConversionItem l r c) ∷ [] }) st row)
         ∙ saved-state params (ConversionItem l r c),
     ap taken-trace (saved-trace (ConversionItem l r c)),
+    omega arith,
   )
 
 -- an item stands on top
@@ -262,6 +268,7 @@ module _ (n : ℕ) (s : Stage) where
     (held-of tables params s s.stack (Held (Expr e) ∷ s.stack) made.0, (item-in (values_in s) s.heap n (Expr e) made.0.heap at, made.1)),
     sym (taken-is (state_of params (on_stack s (Held (Expr e)))) st (sym (item-row (Expr e) at tables params) ∙ row)),
     part-row (Expr e) at tables params,
+    omega arith,
   )
 
   pub ref_proof-leads : (e p : ℕ) → slice_get s.heap n ≡ Some (ProofItem e p) → Leads IsAny code.Ref n s (on_stack s (Held (ProofItem e p)))
@@ -269,6 +276,7 @@ module _ (n : ℕ) (s : Stage) where
     (held-of tables params s s.stack (Held (ProofItem e p) ∷ s.stack) made.0, (item-in (values_in s) s.heap n (ProofItem e p) made.0.heap at, made.1)),
     sym (taken-is (state_of params (on_stack s (Held (ProofItem e p)))) st (sym (item-row (ProofItem e p) at tables params) ∙ row)),
     part-row (ProofItem e p) at tables params,
+    omega arith,
   )
 
   module _ (a b c : ℕ) (at : slice_get s.heap n ≡ Some (ConversionItem a b c)) where
@@ -297,6 +305,7 @@ module _ (n : ℕ) (s : Stage) where
             is,
             sym (taken-is (record (state_of params s) { stack = o.2 }) st e2) ∙ ap (λ (z : Tree × Tree × List (MachineItem Tree)). record (state_of params s) { stack = z.2 }) (sym o-is),
             part-row (ConversionItem a b c) at tables params ∙ ap (λ zs. taken-trace (stacked (trace_of s) (paid (conversion_at (values_in s) c) (drop 1 (parts_at (values_in s) zs))))) top,
+            omega (arith, ap unmade top),
           )
 
 -- ---- any item that isn't a proof

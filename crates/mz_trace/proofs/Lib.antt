@@ -3,6 +3,7 @@ pub mod Adding
 pub mod Popping
 pub mod Stages
 pub mod Tops
+pub mod FewNodes
 pub mod Paying
 pub mod Moves
 pub mod Having

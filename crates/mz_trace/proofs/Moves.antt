@@ -1,5 +1,5 @@
 -- What commands lead to that only move what stands on the stack, or pay.
-use Rattle.std.proofs.Common.{Result, ◌≡◌, ℕ, List, [], ◌∷◌, ◌++◌, Ok, length, map, refl, sym, ap, ◌∙◌, subst}
+use Rattle.std.proofs.Common.{Result, ◌≡◌, ◌≤◌, ◌+◌, ℕ, List, [], ◌∷◌, ◌++◌, Ok, length, map, refl, sym, ap, ◌∙◌, subst, arith}
 use Rattle.std.proofs.lemmas.List.{map-append}
 use Rattle.mz_cmd.specs.declared.rule.K.{K}
 use Rattle.mz_cmd.specs.declared.rule.K.TheVariants as k
@@ -17,13 +17,15 @@ use Rattle.mz_trace_theory.specs.Parts.{paid}
 use Rattle.mz_trace_theory.specs.Traces.{Trace, stacked, traced}
 use Rattle.mz_trace.specs.Nodes.{Value, a_conversion, expression_at, conversion_at, value_of, HasParts, IsConversion}
 use Rattle.mz_trace.specs.Entries.{item_at, part_at, AreItems, parts_at, IsWaiting}
-use Rattle.mz_trace.specs.Commands.{Stage, with_node, with_stack, with_kept, values_in, state_of, trace_of, IsHeld, IsMade, IsMadeBelow, Known, IsAny, Goes, Leads, MayPay, Pays}
+use Rattle.mz_trace.specs.Commands.{Stage, with_node, with_stack, with_kept, values_in, state_of, trace_of, IsHeld, IsMade, IsMadeBelow, Known, IsAny, Goes, Leads, MayPay, Pays, size_of}
+use Rattle.mz_trace.specs.Sharing.{nodes_for}
 use Rattle.mz_trace.specs.declared.node.RunNode.{RunNode}
 use Rattle.mz_trace.specs.declared.node.RunNode.TheVariants as node
 use Rattle.mz_trace.specs.declared.entry.Item.{Item}
 use Rattle.mz_trace.specs.declared.entry.Item.TheVariants.{Expr, Proof, Conversion as ConversionItem}
 use Rattle.mz_trace.specs.declared.entry.Entry.{Entry}
 use Rattle.mz_trace.specs.declared.entry.Entry.TheVariants.{Held, Owed, ForProof, ForTurned, ForCut}
+use Rattle.mz_trace.proofs.FewNodes.{one-node}
 use Rattle.mz_trace.proofs.Stages.{held-of, state-below, trace-below, held-still, waiting-still, conversion-added}
 
 -- a stage whose stack is known
@@ -40,6 +42,7 @@ module _ (n : ℕ) (s : Stage) (xs : List Entry) where
         (held-of tables params s _ (Owed f e ∷ ForProof f p ∷ xs) made.0, (hf, ep.0, (hf, ep.1, below))),
         sym (taken-is (state_of params (with_stack s (Owed f e ∷ ForProof f p ∷ xs))) st row),
         refl,
+        omega arith,
       )
 
   pub symm-leads : (l r : ℕ) → Leads IsAny code.Symm n (with_stack s (Owed l r ∷ xs)) (with_stack s (Owed r l ∷ ForTurned ∷ xs))
@@ -48,6 +51,7 @@ module _ (n : ℕ) (s : Stage) (xs : List Entry) where
     (held-of tables params s _ (Owed r l ∷ ForTurned ∷ xs) made.0, (made.1.1, made.1.0, made.1.2)),
     sym (taken-is (state_of params (with_stack s (Owed r l ∷ ForTurned ∷ xs))) st row),
     refl,
+    omega arith,
   )
 
   pub conv_cut-leads : (l r : ℕ) → Leads IsAny code.ConvCut n (with_stack s (Owed l r ∷ xs)) (with_stack s (Owed l r ∷ ForCut l r ∷ xs))
@@ -56,6 +60,7 @@ module _ (n : ℕ) (s : Stage) (xs : List Entry) where
     (held-of tables params s _ (Owed l r ∷ ForCut l r ∷ xs) made.0, (made.1.0, made.1.1, (made.1.0, made.1.1, made.1.2))),
     sym (taken-is (state_of params (with_stack s (Owed l r ∷ ForCut l r ∷ xs))) st row),
     refl,
+    omega arith,
   )
 
 abbrev pub taken-trace : Trace → Result Trace K
@@ -71,12 +76,13 @@ items-both vs (x ∷ xs) ys h h' = (h.0, items-both vs xs ys h.1 h')
 pub paying : (c : ProofCode) (n : ℕ) (s t : Stage) (k : ℕ) (s' : Stage) → Pays t k s'
     → ((tables : RowsBefore) (params : List Binder) (st : State Tree) → IsMade tables params s → proof_row strict tables 0 c n (state_of params s) ≡ Ok st
     → IsMadeBelow tables params t × IsConversion (values_in t) k × (st ≡ state_of params t)
-    × (traced tables c n (state_of params s) (trace_of s) ≡ taken-trace (stacked (trace_of t) (paid (conversion_at (values_in t) k) (trace_of t).stack))))
+    × (traced tables c n (state_of params s) (trace_of s) ≡ taken-trace (stacked (trace_of t) (paid (conversion_at (values_in t) k) (trace_of t).stack)))
+    × (size_of t ≤ size_of s + nodes_for c))
     → Leads IsAny c n s s'
 paying c n s t k s' pays first tables params st q made row =
-    let (below, is, state, trace) = first tables params st made row in
+    let (below, is, state, trace, few) = first tables params st made row in
     let done = pays tables params below is in
-    (done.made, state ∙ sym done.state, trace ∙ ap taken-trace (sym done.trace))
+    (done.made, state ∙ sym done.state, trace ∙ ap taken-trace (sym done.trace), omega (arith, few, done.few))
 
 -- a node for the conversion
 module _ (tables : RowsBefore) (params : List Binder) (s : Stage) (n : RunNode) (d : Conversion) where
@@ -106,7 +112,7 @@ module _ (n : ℕ) (s : Stage) (xs : List Entry) (l r : ℕ) where
   refl-leads s' pays = paying code.Refl n (with_stack s (Owed l r ∷ xs)) reflected (length s.nodes) s' pays λ tables params st made row.
       let (below, is, state, trace) = with-conversion tables params (with_stack s xs) (node.Refl l) (refl_conv (expression_at (values_in s) l)) (held-of tables params s (Owed l r ∷ xs) xs made.0) made.1.0 made.1.2 refl in
       from_need (same_tree (expression_at (values_in s) l) (expression_at (values_in s) r)) k.Refl _ st row λ same e.
-      (below, is, sym (taken-is (state_of params (with_stack s xs)) st e) ∙ sym state, ap taken-trace (sym trace))
+      (below, is, sym (taken-is (state_of params (with_stack s xs)) st e) ∙ sym state, ap taken-trace (sym trace), omega (arith, one-node s.nodes (node.Refl l)))
 
 module _ (n : ℕ) (s : Stage) (xs : List Entry) (l r c : ℕ) where
   abbrev pub saving : Stage
@@ -136,4 +142,5 @@ module _ (n : ℕ) (s : Stage) (xs : List Entry) (l r c : ℕ) where
         sym (taken-is (record (state_of params (with_stack s xs)) { heap = map (item_at vs) s.heap ++ item_at vs (ConversionItem l r c) ∷ [] }) st row)
             ∙ ap (λ h. record (state_of params (with_stack s xs)) { heap = h }) (sym (map-append (item_at vs) s.heap (ConversionItem l r c ∷ []))),
         ap (λ h. taken-trace (record (stacked (trace_of s) (paid (conversion_at vs c) (parts_at vs xs))) { heap = h })) (sym (map-append (part_at vs) s.heap (ConversionItem l r c ∷ []))),
+        omega arith,
       )

@@ -11,12 +11,13 @@ use Rattle.mz_trace_theory.specs.Parts.{Part, then_conv, paid, for_operand, owed
 use Rattle.mz_trace_theory.specs.Traces.{Trace, stacked}
 use Rattle.mz_trace.specs.Nodes.{Value, a_conversion, expression_at, expressions_at, conversion_at, conversions_at, proof_at, value_of, HasParts, IsConversion, AreConversions}
 use Rattle.mz_trace.specs.Entries.{owed_at, items_at, parts_at, ArePairs, IsStack, IsWaiting}
-use Rattle.mz_trace.specs.Commands.{Stage, with_node, with_stack, values_in, context_of, state_of, trace_of, IsHeld, IsMadeBelow, MayPay, IsPaid, Pays, IsPassedOn, PassesOn}
+use Rattle.mz_trace.specs.Commands.{Stage, with_node, with_stack, values_in, context_of, state_of, trace_of, IsHeld, IsMadeBelow, MayPay, IsPaid, Pays, IsPassedOn, PassesOn, unmade}
 use Rattle.mz_trace.specs.declared.node.RunNode.{RunNode}
 use Rattle.mz_trace.specs.declared.node.RunNode.TheVariants as node
 use Rattle.mz_trace.specs.declared.entry.Item.TheVariants.{Proof, Conversion as ConversionItem}
 use Rattle.mz_trace.specs.declared.entry.Entry.{Entry}
 use Rattle.mz_trace.specs.declared.entry.Entry.TheVariants.{Held, Owed, ForProof, ForTurned, ForOperand, ForUnfolded, ForCut}
+use Rattle.mz_trace.proofs.FewNodes.{one-node}
 use Rattle.mz_trace.proofs.Stages.{same-expression-still, alike, alike-trace, held-of, state-below, trace-below, held-still, waiting-still, stack-still, expression-still, conversion-added, proof-added, heap-still, heap_parts-still, items-still, hyps-still, parts-still, lets-still}
 
 abbrev atop : Trace → Part → List Part → Trace
@@ -28,9 +29,9 @@ module _ (tables : RowsBefore) (params : List Binder) (s : Stage) (xs : List Ent
   -- the entry stands for no items, and the node's conversion is what is paid below it
   pub passed : IsHeld tables params (with_stack s xs) → HasParts tables (values_in s) n → IsWaiting tables (values_in s) xs
       → items_at (values_in s) (x ∷ xs) ≡ items_at (values_in s) xs
-      → (d : Conversion) → value_of (values_in s) n ≡ a_conversion d → paid (conversion_at (values_in s) c) (parts_at (values_in s) (x ∷ xs)) ≡ paid d (parts_at (values_in s) xs)
+      → unmade (x ∷ xs) ≡ suc (unmade xs) → (d : Conversion) → value_of (values_in s) n ≡ a_conversion d → paid (conversion_at (values_in s) c) (parts_at (values_in s) (x ∷ xs)) ≡ paid d (parts_at (values_in s) xs)
       → IsPassedOn tables params (with_stack s (x ∷ xs)) c (with_node (with_stack s xs) n) (length s.nodes)
-  passed held parts w none d value pays =
+  passed held parts w none waits d value pays =
       let below = with_stack s xs in
       let (is, at) = conversion-added tables params below n held parts d value in
       let later = trace-below tables params below n held parts w in
@@ -41,6 +42,7 @@ module _ (tables : RowsBefore) (params : List Binder) (s : Stage) (xs : List Ent
         trace = ap (λ (tr : Trace). stacked tr (paid (conversion_at (values_in (with_node below n)) (length s.nodes)) tr.stack)) later
             ∙ ap (λ e. stacked (trace_of below) (paid e (parts_at (values_in s) xs))) at
             ∙ ap (stacked (trace_of below)) (sym pays);
+        few = omega (arith, one-node s.nodes n, waits);
       }
 
 pub passed-on : (s : Stage) (b : List Entry) (c : ℕ) (s' t : Stage) (k : ℕ) → s.stack ≡ b → s' ≡ t → PassesOn (with_stack s b) c t k → PassesOn s c s' k
@@ -52,7 +54,7 @@ paid-by s b c s' t h h' go = subst (λ z. Pays (with_stack s z) c s') (sym h) (s
 module _ (s : Stage) (xs : List Entry) (c : ℕ) where
   pub through-turned : PassesOn (with_stack s (ForTurned ∷ xs)) c (with_node (with_stack s xs) (node.Sym c)) (length s.nodes)
   through-turned tables params made is =
-      passed tables params s xs ForTurned c (node.Sym c) (held-of tables params s (ForTurned ∷ xs) xs made.0) is made.1 refl
+      passed tables params s xs ForTurned c (node.Sym c) (held-of tables params s (ForTurned ∷ xs) xs made.0) is made.1 refl refl
       (sym_conv (conversion_at (values_in s) c)) refl refl
 
 conversions-then : (vs : List Value) (ns : List ℕ) (n : ℕ) → conversions_at vs (ns ++ n ∷ []) ≡ then_conv (conversions_at vs ns) (conversion_at vs n)
@@ -86,6 +88,7 @@ module _ (tables : RowsBefore) (params : List Binder) (s : Stage) (xs : List Ent
         state = alike (context_of params s) (heap-still tables params below n held parts)
             (rw (same-expression-still tables params below n held parts e made.1.0, items-still tables params below n held parts xs w) refl) (hyps-still tables params below n held parts);
         trace = alike-trace (heap_parts-still tables params below n held parts) (rw (at, parts-still tables params below n held parts xs w) refl) (lets-still tables params below n held parts);
+        few = omega (arith, one-node s.nodes n);
       }
 
   pub into-cut : (l r c : ℕ) → IsMadeBelow tables params (with_stack s (ForCut l r ∷ xs)) → IsConversion (values_in s) c
@@ -94,6 +97,7 @@ module _ (tables : RowsBefore) (params : List Binder) (s : Stage) (xs : List Ent
     made = (held-of tables params s (ForCut l r ∷ xs) (Held (ConversionItem l r c) ∷ xs) made.0, ((made.1.0, made.1.1, is), made.1.2));
     state = refl;
     trace = refl;
+    few = omega arith;
   }
 
 -- ---- definitions and operands
@@ -101,7 +105,7 @@ module _ (tables : RowsBefore) (params : List Binder) (s : Stage) (xs : List Ent
 module _ (s : Stage) (xs : List Entry) (c t : ℕ) where
   pub through-unfolded : (e : ℕ) (es ys : Vec ℕ Global) → PassesOn (with_stack s (ForUnfolded t e es ys ∷ xs)) c (with_node (with_stack s xs) (node.Unfold t e es ys c)) (length s.nodes)
   through-unfolded e es ys tables params made is =
-      passed tables params s xs (ForUnfolded t e es ys) c (node.Unfold t e es ys c) (held-of tables params s (ForUnfolded t e es ys ∷ xs) xs made.0) (made.1.0, made.1.1, is, made.1.2) made.1.3 refl
+      passed tables params s xs (ForUnfolded t e es ys) c (node.Unfold t e es ys c) (held-of tables params s (ForUnfolded t e es ys ∷ xs) xs made.0) (made.1.0, made.1.1, is, made.1.2) made.1.3 refl refl
       (unfold_conv t (trees_of (expressions_at (values_in s) es.items)) ys.items (conversion_at (values_in s) c)) refl refl
 
   module _ (done more : Vec ℕ Global) (longer : more.items ≡ done.items ++ c ∷ []) where
@@ -122,7 +126,7 @@ module _ (s : Stage) (xs : List Entry) (c t : ℕ) where
     through-operands left none tables params made is =
         let vs = values_in s in
         passed tables params s xs (ForOperand t done left) c (node.Cong t more) (held-of tables params s (ForOperand t done left ∷ xs) xs made.0) (all-more vs made.1.0 is) made.1.2
-        (ap (λ (ps : List (ℕ × ℕ)). map (owed_at vs) (reverse ps) ++ items_at vs xs) none)
+        (ap (λ (ps : List (ℕ × ℕ)). map (owed_at vs) (reverse ps) ++ items_at vs xs) none) refl
         (cong_conv t (conversions_at vs more.items)) refl (paid-last vs (parts_at vs xs) (length left.items) (ap length none))
 
     pub next-operand : (left fewer : Vec (ℕ × ℕ) Global) (f o : ℕ) → left.items ≡ fewer.items ++ (f, o) ∷ []
@@ -139,6 +143,7 @@ module _ (s : Stage) (xs : List Entry) (c t : ℕ) where
           );
           state = ap (λ (ps : List (ℕ × ℕ)). record (state_of params s) { stack = map (owed_at vs) ps ++ items_at vs xs }) (sym turned);
           trace = ap (stacked (trace_of s)) (paid-next vs (parts_at vs xs) (length left.items) (length fewer.items) many);
+          few = omega arith;
         }
 
 -- ---- what was taken from a list, top last
@@ -156,7 +161,7 @@ with_both-is s nodes xs n is = ap (λ ns. record s { nodes = ns; stack = xs }) i
 -- ---- one after another
 
 pub itself : (s : Stage) (c : ℕ) → PassesOn s c s c
-itself s c tables params made is = record { made = made; conversion = is; state = refl; trace = refl }
+itself s c tables params made is = record { made = made; conversion = is; state = refl; trace = refl; few = omega arith }
 
 pub may-pay : (s : Stage) (c : ℕ) (s' : Stage) (c' : ℕ) → MayPay s c → PassesOn s c s' c' → MayPay s' c'
 may-pay s c s' c' (tables, params, made, is) go = let on = go tables params made is in (tables, params, on.made, on.conversion)
@@ -165,10 +170,10 @@ pub then-passed : (s : Stage) (c : ℕ) (s' : Stage) (c' : ℕ) (s'' : Stage) (c
 then-passed s c s' c' s'' c'' go more tables params made is =
     let on = go tables params made is in
     let two = more tables params on.made on.conversion in
-    record { made = two.made; conversion = two.conversion; state = two.state ∙ on.state; trace = two.trace ∙ on.trace }
+    record { made = two.made; conversion = two.conversion; state = two.state ∙ on.state; trace = two.trace ∙ on.trace; few = omega (arith, two.few, on.few) }
 
 pub then-paid : (s : Stage) (c : ℕ) (s' : Stage) (c' : ℕ) (s'' : Stage) → PassesOn s c s' c' → Pays s' c' s'' → Pays s c s''
 then-paid s c s' c' s'' go more tables params made is =
     let on = go tables params made is in
     let two = more tables params on.made on.conversion in
-    record { made = two.made; state = two.state ∙ on.state; trace = two.trace ∙ on.trace }
+    record { made = two.made; state = two.state ∙ on.state; trace = two.trace ∙ on.trace; few = omega (arith, two.few, on.few) }

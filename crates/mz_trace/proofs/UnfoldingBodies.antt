@@ -1,5 +1,5 @@
 -- What Unfold leads to: the definition's stream is run on the body that stands on top.
-use Rattle.std.proofs.Common.{Vec, Global, Result, Bool, true, false, ◌≡◌, ◌<◌, ℕ, List, ◌∷◌, Some, None, Ok, length, refl, sym, ap, ◌∙◌, subst, inl, inr}
+use Rattle.std.proofs.Common.{Vec, Global, Result, Bool, true, false, ◌≡◌, ◌<◌, ℕ, List, ◌∷◌, Some, None, Ok, length, refl, sym, ap, ◌∙◌, subst, inl, inr, arith}
 use Rattle.std.specs.Prelude.{drop, slice_get, if◌then◌else◌}
 use Rattle.mz_cmd.specs.declared.rule.K.{K}
 use Rattle.mz_cmd.specs.declared.rule.K.TheVariants as k
@@ -26,7 +26,7 @@ use Rattle.mz_trace_theory.specs.Traces.{stacked, traced, below_sides, variables
 use Rattle.mz_trace_theory.proofs.Offered.{to_want, to_bind}
 use Rattle.mz_trace.specs.Nodes.{Value, an_expression, expression_of, expression_at, expressions_at, IsExpression, body_under, IsBody, IsApplication, Applies}
 use Rattle.mz_trace.specs.Entries.{items_at, parts_at, IsStack, IsWaiting, HasSides, TookSides}
-use Rattle.mz_trace.specs.Commands.{Stage, with_stack, values_in, context_of, state_of, trace_of, IsMade, Known, IsRead, Goes, Leads, in_body, MayMeet, Meets}
+use Rattle.mz_trace.specs.Commands.{Stage, with_stack, values_in, context_of, state_of, trace_of, IsMade, Known, IsRead, Goes, Leads, in_body, MayMeet, Meets, unmade}
 use Rattle.mz_trace.specs.declared.entry.Item.TheVariants.{Expr}
 use Rattle.mz_trace.specs.declared.entry.Entry.{Entry}
 use Rattle.mz_trace.specs.declared.entry.Entry.TheVariants.{Held, Owed, ForUnfolded}
@@ -106,6 +106,10 @@ module _ (vs : List Value) (ys : List Entry) (l r : ℕ) (zs : List Entry) where
   took-stack : (tables : RowsBefore) → TookSides ys l r zs → IsStack tables vs ys → IsExpression vs l × IsExpression vs r × IsWaiting tables vs zs
   took-stack tables (inl is) h = subst (IsStack tables vs) is h
   took-stack tables (inr (n, is)) h = (subst (IsStack tables vs) is h).1
+
+  took-unmade : TookSides ys l r zs → unmade ys ≡ unmade zs
+  took-unmade (inl is) = ap unmade is
+  took-unmade (inr (n, is)) = ap unmade is
 
   took-sorted : (sigs : List Signature) (ctx : List Binder) → TookSides ys l r zs → ItemsSorted sigs ctx (items_at vs ys) → Sorted sigs ctx (expression_at vs l)
   took-sorted sigs ctx (inl is) h = let (sides, rest) = subst (λ (z : List Entry). ItemsSorted sigs ctx (items_at vs z)) is h in sides.0
@@ -239,4 +243,5 @@ module _ (n : ℕ) (s : Stage) (ys zs : List Entry) (e l r : ℕ) (took : TookSi
         x.state ∙ ap (λ (m : Unfolding). state-with params (obligation m.0.target m.1 ∷ m.2)) x.unfolds.4,
         unfold-trace tables params st x ∙ ap (λ p. taken-trace (stacked (trace_of s) (owed ∷ p ∷ parts_at vs zs)))
             (alike x.unfolds.0 t (trees_of (listed x.unfolds.1)) (trees_of (expressions_at vs os.items)) _ met.items (sym t-is) (trees_of-listed x.unfolds.1 ∙ es-are) met-is),
+        omega (arith, took-unmade vs ys l r zs took),
       )

@@ -170,6 +170,7 @@ module _ (n : ℕ) (s : Stage) (xs : List Entry) (l r t : ℕ) (ps : List (ℕ �
             ∙ ap (λ (zs : List (ℕ × ℕ)). map (owed_at vs) zs ++ items_at vs xs) order),
         cong-trace tables params (expressions_at vs os) el-is
             ∙ ap (λ z. taken-trace (stacked (trace_of s) z)) (ap (λ m. by_operands t m (parts_at vs xs)) count ∙ ap (λ (zs : List ℕ). owed ∷ for_operand t (conversions_at vs zs) (length left.items) ∷ parts_at vs xs) (sym none-done)),
+        omega arith,
       )
 
   -- where there are none, it is Refl
@@ -215,8 +216,8 @@ module _ (n : ℕ) (s : Stage) (xs : List Entry) (l r t : ℕ) (ps : List (ℕ �
     pub cong-none-leads : (s' : Stage) → Leads IsAny code.Refl n owing s' → Leads IsAny code.Cong n owing s'
     cong-none-leads s' leads tables params st q made row =
         let (p, st-is, both) = cong-row tables params st made row in
-        let (there, state-is, trace-is) = leads tables params st q made (as-refl tables params st made row) in
-        (there, state-is, traced-same tables params (bare tables params made p both).1 ∙ trace-is)
+        let (there, state-is, trace-is, few) = leads tables params st q made (as-refl tables params st made row) in
+        (there, state-is, traced-same tables params (bare tables params made p both).1 ∙ trace-is, few)
 
 -- the left side and the right one are applications
 pub cong-may : (n : ℕ) (s : Stage) (xs : List Entry) (l r : ℕ) → Goes IsAny code.Cong n (with_stack s (Owed l r ∷ xs)) → AreApplications s.nodes l r

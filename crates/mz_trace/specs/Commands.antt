@@ -1,5 +1,5 @@
 -- What a command makes of what is made so far: the machine's next state, and the parts beside it.
-use Rattle.std.specs.Prelude.{◌≡◌, ◌<◌, ◌+◌, ℕ, zero, suc, ⊤, List, ◌++◌, ◌∷◌, [], length, map, reverse, drop, Option, Some, None, Ok}
+use Rattle.std.specs.Prelude.{◌≡◌, ◌<◌, ◌≤◌, ◌+◌, ℕ, zero, suc, ⊤, List, ◌++◌, ◌∷◌, [], length, map, reverse, drop, Option, Some, None, Ok}
 use Rattle.mz_cmd.specs.declared.code.ProofCode.{ProofCode}
 use Rattle.mz_logic_theory.specs.Tree.{Tree}
 use Rattle.mz_logic_theory.specs.Declaration.{Declaration}
@@ -19,11 +19,12 @@ use Rattle.mz_trace_theory.specs.Parts.{paid}
 use Rattle.mz_trace_theory.specs.Traces.{Trace, stacked, traced, variables_in}
 use Rattle.mz_trace.specs.Nodes.{Value, values, expressions_at, expression_at, conversion_at, proof_at, HaveParts, IsExpression, AreExpressions, AreProofs, IsConversion, Applies, Uses}
 use Rattle.mz_trace.specs.Entries.{item_at, part_at, items_at, parts_at, AreItems, IsStack, IsWaiting, exprs_onto, proofs_onto, HasExprs, HasProofs}
+use Rattle.mz_trace.specs.Sharing.{nodes_for}
 use Rattle.mz_trace.specs.declared.node.RunNode.{RunNode}
 use Rattle.mz_trace.specs.declared.node.RunNode.TheVariants as node
 use Rattle.mz_trace.specs.declared.entry.Item.{Item}
 use Rattle.mz_trace.specs.declared.entry.Item.TheVariants.{Expr, Proof}
-use Rattle.mz_trace.specs.declared.entry.Entry.TheVariants.{Held}
+use Rattle.mz_trace.specs.declared.entry.Entry.TheVariants.{Held, Owed, ForProof, ForTurned, ForOperand, ForUnfolded, ForCut}
 use Rattle.mz_trace.specs.declared.entry.Entry.{Entry}
 use Rattle.mz_trace.specs.declared.making.Making.{Making}
 
@@ -101,6 +102,23 @@ IsMade tables params s = IsHeld tables params s × IsStack tables (values_in s) 
 abbrev pub IsMadeBelow : RowsBefore → List Binder → Stage → Type 0
 IsMadeBelow tables params s = IsHeld tables params s × IsWaiting tables (values_in s) s.stack
 
+-- ---- how many nodes there are
+
+-- what waits on the stack makes a node each when it is paid, but for a cut
+abbrev pub unmade : List Entry → ℕ
+unmade [] = 0
+unmade (Held x ∷ xs) = unmade xs
+unmade (Owed l r ∷ xs) = unmade xs
+unmade (ForProof e p ∷ xs) = suc (unmade xs)
+unmade (ForTurned ∷ xs) = suc (unmade xs)
+unmade (ForOperand t done left ∷ xs) = suc (unmade xs)
+unmade (ForUnfolded t e es ys ∷ xs) = suc (unmade xs)
+unmade (ForCut l r ∷ xs) = unmade xs
+
+-- the nodes that are made, and those that will be of what waits
+abbrev pub size_of : Stage → ℕ
+size_of s = length s.nodes + unmade s.stack
+
 -- ---- one command
 
 -- nothing is asked of derivations here
@@ -136,6 +154,7 @@ abbrev pub Leads : Known → ProofCode → ℕ → Stage → Stage → Type 0
 Leads Q c n s s' = (tables : RowsBefore) (params : List Binder) (st : State Tree)
     → Q tables params s → IsMade tables params s → proof_row strict tables 0 c n (state_of params s) ≡ Ok st
     → IsMade tables params s' × (st ≡ state_of params s') × (traced tables c n (state_of params s) (trace_of s) ≡ Ok (trace_of s'))
+    × (size_of s' ≤ size_of s + nodes_for c)
 
 -- ---- parts of commands
 
@@ -204,6 +223,7 @@ pub record IsPaid (tables : RowsBefore) (params : List Binder) (s : Stage) (c : 
   pub made : IsMade tables params s'
   pub state : state_of params s' ≡ state_of params s
   pub trace : trace_of s' ≡ stacked (trace_of s) (paid (conversion_at (values_in s) c) (trace_of s).stack)
+  pub few : size_of s' ≤ size_of s
 
 abbrev pub Pays : Stage → ℕ → Stage → Type 0
 Pays s c s' = (tables : RowsBefore) (params : List Binder) → IsMadeBelow tables params s → IsConversion (values_in s) c → IsPaid tables params s c s'
@@ -214,6 +234,7 @@ pub record IsPassedOn (tables : RowsBefore) (params : List Binder) (s : Stage) (
   pub conversion : IsConversion (values_in s') c'
   pub state : state_of params s' ≡ state_of params s
   pub trace : stacked (trace_of s') (paid (conversion_at (values_in s') c') (trace_of s').stack) ≡ stacked (trace_of s) (paid (conversion_at (values_in s) c) (trace_of s).stack)
+  pub few : size_of s' ≤ size_of s
 
 abbrev pub PassesOn : Stage → ℕ → Stage → ℕ → Type 0
 PassesOn s c s' c' = (tables : RowsBefore) (params : List Binder) → IsMadeBelow tables params s → IsConversion (values_in s) c → IsPassedOn tables params s c s' c'

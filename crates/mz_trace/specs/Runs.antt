@@ -1,5 +1,5 @@
 -- The proof that a run has.
-use Rattle.std.specs.Prelude.{◌≡◌, ⊤, ℕ, List, [], ◌∷◌, map, Ok}
+use Rattle.std.specs.Prelude.{◌≡◌, ◌≤◌, ◌+◌, ⊤, ℕ, length, List, [], ◌∷◌, map, Ok}
 use Rattle.mz_logic_theory.specs.Declaration.{Declaration}
 use Rattle.mz_logic_theory.specs.declared.binder.Binder.{Binder}
 use Rattle.mz_mmu_theory.specs.Proof.{Proof}
@@ -17,7 +17,8 @@ use Rattle.mz_layout_tables.specs.declared.taken.Rows.{Rows}
 use Rattle.mz_cmd.specs.declared.statement.StmtAt.TheVariants.{Head}
 use Rattle.mz_cmd.specs.StatementList.{statement_at}
 use Rattle.mz_trace_theory.specs.Traces.{Made, trace_from}
-use Rattle.mz_trace.specs.Commands.{Stage, IsRead, IsMade, state_of, trace_of}
+use Rattle.mz_trace.specs.Commands.{Stage, IsRead, IsMade, state_of, trace_of, size_of}
+use Rattle.mz_trace.specs.Sharing.{nodes_from, nodes_in}
 use Rattle.mz_trace.specs.Claims.{HasClaims}
 use Rattle.mz_trace.specs.Nodes.{Value, values, proof_at, HaveParts, AreProofs, IsProof}
 use Rattle.mz_trace.specs.declared.entry.Item.TheVariants.{Proof as ProofItem}
@@ -38,12 +39,14 @@ lets_in r = map (proof_at (values_in r)) r.lets.items
 abbrev pub root_in : Run → Proof
 root_in r = proof_at (values_in r) r.root
 
--- the body makes what the nodes stand for, and each part of a node is an earlier one of its kind
+-- The body makes what the nodes stand for, and each part of a node is an earlier one of its kind. There are no more of them
+-- than parameters and what the commands make, however large what they stand for is.
 pub record IsRunOf (tables : RowsBefore) (h : Heading) (bytes : List ℕ) (r : Run) : Type 0 where
   pub nodes : HaveParts tables r.nodes.items
   pub lets : AreProofs (values_in r) r.lets.items
   pub root : IsProof (values_in r) r.root
   pub made : Made tables h bytes (dummies_in r) (lets_in r) (root_in r)
+  pub few : length r.nodes.items ≤ length h.params + nodes_in bytes
 
 -- want of memory says nothing
 abbrev pub IsTraced : RowsBefore → Heading → List ℕ → Traced → Type 0
@@ -82,6 +85,7 @@ LeadsToEnd file bytes s s' = (tables : RowsBefore) (h : Heading) (n at : ℕ) (e
     → IsRead file tables h.params s → h.kind ≡ is_theorem → IsMade tables h.params s → body_from strict tables h n at bytes (state_of h.params s) ≡ Ok end
     → IsMade tables h.params s' × (proof_end strict tables h (state_of h.params s') ≡ Ok end)
     × (trace_from tables h n bytes (state_of h.params s, trace_of s) ≡ Ok (state_of h.params s', trace_of s'))
+    × (size_of s' ≤ size_of s + nodes_from n bytes)
 
 -- one proof is left
 abbrev pub HasRoot : Stage → Type 0

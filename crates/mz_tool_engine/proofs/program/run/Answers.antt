@@ -4,7 +4,7 @@ use Rattle.std.proofs.lemmas.List.{append-nil, append_cancel_left}
 use Rattle.mz_io.specs.Calls.{Call, Hold}
 use Rattle.mz_tool_engine.specs.Files.{AreThere, BeginsLonger}
 use Rattle.mz_tool_engine.specs.Run.{IsRun, IsSaidOf, longest}
-use Rattle.mz_tool_engine.proofs.Follows.{follows}
+use Rattle.mz_tool_engine.proofs.Following.{follows}
 use Rattle.mz_tool_engine.proofs.Telling.{none-tells, taken-since}
 use Rattle.mz_tool_engine.proofs.program.run.Goals as goal
 

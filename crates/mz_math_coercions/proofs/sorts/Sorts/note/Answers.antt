@@ -1,6 +1,4 @@
-use Rattle.std.proofs.Common.{◌≡◌, ℕ, List, Contains, true, subst, sym, inl, inr}
-use Rattle.mz_math_theory.specs.declared.coercion.Coercion.{Coercion}
-use Rattle.mz_math_coercions.specs.Sorts.{AreNoted, is_marked}
+use Rattle.std.proofs.Common.{Contains, subst, sym, inl, inr}
 use Rattle.mz_math_coercions.proofs.Noting.{noted-more, noted-on}
 use Rattle.mz_math_coercions.proofs.sorts.Sorts.note.Goals as goal
 

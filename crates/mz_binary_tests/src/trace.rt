@@ -1,0 +1,241 @@
+// The proofs that worked bodies make, node by node.
+
+ghost use Rattle.std.specs.Prelude.{◌≡◌, ◌<◌, length};
+ghost use Rattle.mz_machine_env.specs.OwnRow.{MayRun};
+
+use crate::binary::FOLD;
+use crate::machine::{CITE, CITES, FOLDS, Theorem, may_run};
+use mz_base::Mode;
+use mz_binary_theory::Statement;
+use mz_cmd::{Mem, Steps, StmtAt, stmt_at};
+use mz_layout_tables::Mmb;
+use mz_machine::{BodyChecked, check_body};
+use mz_trace::{Run, RunNode, Traced, trace};
+use std::alloc::{AllocError, Global};
+use std::marker::Brand;
+use std::sync::ledger::{Blank, Ledger};
+
+/// The proof that the body makes of the theorem whose statement stands at a place, where the body runs.
+fn traced<L: Ledger>(
+    alloc: Global,
+    blank: Blank,
+    mmb: &Mmb,
+    theorem: Theorem,
+    at: u32,
+) -> Result<Run, Mem>
+    requires name { blank.name ≡ L.name }
+    requires parts { blank.parts ≡ L.parts }
+    requires some { 0 < blank.parts }
+    requires may_run { MayRun mmb.now 0x06 theorem.row theorem.before }
+{
+    let mut steps = Steps::<L>::start(blank);
+    let Ok(StmtAt::Head { body, next, .. }) = stmt_at(mmb.file(), at) else {
+        return Err(AllocError);
+    };
+    if body > next || next as usize > mmb.file().len() {
+        return Err(AllocError);
+    }
+    let Theorem { row, before, .. } = theorem;
+    let places = (body, next);
+    let strict = Mode::Strict;
+    let BodyChecked::Good(_) = check_body(alloc, mmb, strict, 0x06, row, before, places, &mut steps)
+    else {
+        return Err(AllocError);
+    };
+    let statement = Statement {
+        number: 1,
+        at,
+        kind: 6,
+        row,
+        local: false,
+        gap: false,
+    };
+    match trace(alloc, mmb, &statement, &mut steps) {
+        Traced::Run(run) => Ok(run),
+        Traced::Mem => Err(AllocError),
+    }
+}
+
+/// The same of a file whose theorem may run.
+fn proof_of(alloc: Global, file: &[u8], theorem: Theorem, at: u32) -> Result<Run, Mem> {
+    if file.len() >= 200 {
+        return Err(AllocError);
+    }
+    let Ok(mmb) = Mmb::read(file) else {
+        return Err(AllocError);
+    };
+    if !may_run(&mmb, theorem.row, theorem.before) {
+        return Err(AllocError);
+    }
+    traced::<Brand>(alloc, Blank::new(1), &mmb, theorem, at)
+}
+
+/// A node as numbers: 0 for a variable, 1 an application, 2 a hypothesis, 3 a let, 4 a citation, 5 a
+/// conversion of a proof, 6 a reflexivity, 7 a turned conversion, 8 a congruence, 9 an unfolding; then
+/// its own numbers in order.
+fn numbers(alloc: Global, node: &RunNode) -> Result<Vec<u32>, Mem> {
+    let mut all = Vec::new(alloc);
+    match node {
+        RunNode::Var(place) => all.extend_from_slice(&[0, *place])?,
+        RunNode::App(term, es) => {
+            all.extend_from_slice(&[1, *term])?;
+            all.extend_from_slice(es)?;
+        }
+        RunNode::Hyp(i) => all.extend_from_slice(&[2, *i])?,
+        RunNode::Let(i) => all.extend_from_slice(&[3, *i])?,
+        RunNode::Use(row, claim, es, proofs) => {
+            all.extend_from_slice(&[4, *row, *claim])?;
+            all.extend_from_slice(es)?;
+            all.extend_from_slice(proofs)?;
+        }
+        RunNode::Conv(claim, conv, proof) => all.extend_from_slice(&[5, *claim, *conv, *proof])?,
+        RunNode::Refl(e) => all.extend_from_slice(&[6, *e])?,
+        RunNode::Sym(conv) => all.extend_from_slice(&[7, *conv])?,
+        RunNode::Cong(term, convs) => {
+            all.extend_from_slice(&[8, *term])?;
+            all.extend_from_slice(convs)?;
+        }
+        RunNode::Unfold(term, body, es, met, conv) => {
+            all.extend_from_slice(&[9, *term, *body])?;
+            all.extend_from_slice(es)?;
+            all.extend_from_slice(met)?;
+            all.push(*conv)?;
+        }
+    }
+    Ok(all)
+}
+
+/// What stands before the theorem's body and what comes then, the theorem and where its statement
+/// stands; the nodes, the lets, and the proof behind them.
+type Case = (
+    (&'static [u8], usize),
+    &'static [u8],
+    (Theorem, u32),
+    &'static [&'static [u32]],
+    &'static [u32],
+    u32,
+);
+
+const CASES: &[Case] = &[
+    // Each application is made again, so each has a node of its own.
+    (
+        (FOLD, 139),
+        &[
+            0x15, 0x12, 0x10, 0x10, 0x16, 0x12, 0x50, 1, 0x52, 1, 0x17, 0x12, 0x50, 1, 0x12, 0x10,
+            0x10, 0x1B, 0x18, 0, 0,
+        ],
+        (FOLDS, 138),
+        &[
+            &[0, 0],
+            &[1, 0, 0],
+            &[1, 0, 1],
+            &[2, 0],
+            &[1, 1, 0],
+            &[1, 1, 0],
+            &[1, 0, 0],
+            &[1, 0, 6],
+            &[6, 7],
+            &[9, 1, 7, 0, 8],
+            &[5, 4, 9, 3],
+        ],
+        &[],
+        10,
+    ),
+    // The same, with both sides saved: what is referred to makes no node.
+    (
+        (FOLD, 139),
+        &[
+            0x13, 0x12, 0x10, 0x11, 0x16, 0x12, 0x51, 1, 0x52, 2, 0x17, 0x52, 3, 0x52, 1, 0x1B,
+            0x18, 0, 0,
+        ],
+        (FOLDS, 138),
+        &[
+            &[0, 0],
+            &[1, 0, 0],
+            &[1, 0, 1],
+            &[2, 0],
+            &[1, 1, 0],
+            &[6, 2],
+            &[9, 1, 2, 0, 5],
+            &[5, 4, 6, 3],
+        ],
+        &[],
+        7,
+    ),
+    // A conversion that is saved, and used three times, once turned.
+    (
+        (FOLD, 139),
+        &[
+            0x20, 0x12, 0x10, 0x11, 0x16, 0x12, 0x51, 1, 0x52, 1, 0x52, 3, 0x52, 2, 0x17, 0x1C,
+            0x52, 3, 0x52, 1, 0x1B, 0x18, 0x1E, 0x17, 0x19, 0x52, 4, 0x17, 0x52, 4, 0, 0,
+        ],
+        (FOLDS, 138),
+        &[
+            &[0, 0],
+            &[1, 0, 0],
+            &[1, 0, 1],
+            &[2, 0],
+            &[1, 1, 0],
+            &[6, 2],
+            &[9, 1, 2, 0, 5],
+            &[5, 4, 6, 3],
+            &[7, 6],
+            &[5, 2, 8, 7],
+            &[5, 4, 6, 9],
+        ],
+        &[],
+        10,
+    ),
+    // A citation, and one that gets a name.
+    (
+        (CITE, 106),
+        &[0x54, 0, 0, 0],
+        (CITES, 102),
+        &[&[0, 0], &[4, 0, 0, 0]],
+        &[],
+        1,
+    ),
+    (
+        (CITE, 106),
+        &[0x55, 0, 0, 0],
+        (CITES, 102),
+        &[&[0, 0], &[4, 0, 0, 0], &[3, 0]],
+        &[1],
+        2,
+    ),
+];
+
+fn file_of(alloc: Global, front: &[u8], cut: usize, then: &[u8]) -> Result<Vec<u8>, Mem> {
+    let mut file = Vec::new(alloc);
+    file.extend_from_slice(front.get(..cut).unwrap_or(front))?;
+    file.extend_from_slice(then)?;
+    Ok(file)
+}
+
+/// The nodes, each as numbers.
+fn all_numbers(alloc: Global, run: &Run) -> Result<Vec<Vec<u32>>, Mem> {
+    let mut all = Vec::new(alloc);
+    for node in run.nodes.iter() {
+        all.push(numbers(alloc, node)?)?;
+    }
+    Ok(all)
+}
+
+#[test]
+fn proofs_of_bodies(rt: HostRuntime) {
+    for ((front, cut), then, (theorem, at), nodes, lets, root) in CASES {
+        let file = file_of(rt.alloc(), front, *cut, then).expect(&rt, "memory");
+        let run = proof_of(rt.alloc(), &file, *theorem, *at).expect(&rt, "memory");
+        let found = all_numbers(rt.alloc(), &run).expect(&rt, "memory");
+        assert_eq!(rt; found.len(), nodes.len(), "{then:?}");
+        for (i, node) in found.iter().enumerate() {
+            assert!(rt;
+                nodes.get(i) == Some(&node.as_slice()),
+                "node {i} of {then:?}"
+            );
+        }
+        assert!(rt; run.lets.as_slice() == *lets, "lets of {then:?}");
+        assert_eq!(rt; run.root(), *root, "{then:?}");
+        assert!(rt; run.dummies().is_empty(), "dummies of {then:?}");
+    }
+}
