@@ -1,0 +1,133 @@
+"""Measures a program over the shapes; bench/measure PROGRAM WORK hostile."""
+import math
+import os
+import resource
+import subprocess
+import sys
+
+from .command import make
+from .expected import IN_PROPORTION, ROWS, sizes
+
+SECONDS = 10
+KILOBYTES = 2_000_000  # of address space
+# What is called in proportion: an exponent, and bytes of memory for each byte beyond what is there for any file.
+EXPONENT, EACH, BASE = 1.15, 64, 8_000_000
+FILES = ("s.mm0", "b.mmb", "s.mmu")
+USAGE, MEMORY = 2, 4  # exit numbers
+MARKS = ("<!-- The table of bench/measure PROGRAM WORK hostile begins. -->\n", "<!-- It ends. -->\n")
+
+
+def words_of(command, folder):
+    """The program's words for the files of a folder."""
+    spec, binary, text = (os.path.join(folder, name) for name in FILES)
+    if command in ("compile", "spec"):
+        return [command, text, os.path.join(folder, "out")]
+    if command == "show":
+        return [command, binary]
+    return [command, spec, binary, *([os.path.join(folder, "out")] if command == "decompile" else [])]
+
+
+def once(timed, words):
+    """The exit number (below 0 for a signal), seconds and bytes of memory of a run under the limits."""
+    limit = lambda: resource.setrlimit(resource.RLIMIT_AS, (KILOBYTES * 1024,) * 2)
+    ran = subprocess.run([timed, str(SECONDS), *words], stdout=subprocess.PIPE, check=True, preexec_fn=limit)
+    status, user, system, kilobytes = map(int, ran.stdout.split())
+    return status, (user + system) / 1e6, kilobytes * 1024
+
+
+def measure(program, work, timed, shape, command, size):
+    """One cell of each column: bytes, the exit number, seconds, memory."""
+    folder = os.path.join(work, "hostile.%s.%d" % (shape.replace(":", "."), size))
+    if not any(os.path.exists(os.path.join(folder, name)) for name in FILES[1:]):
+        make(shape, size, folder)
+    words = words_of(command, folder)
+    runs = [once(timed, [program, *words])]
+    while len(runs) < 3 and runs[0][1] < 1:
+        runs.append(once(timed, [program, *words]))
+    read = sum(os.path.getsize(path) for path in words[1:] if os.path.basename(path) in FILES)
+    return {"bytes": read, "status": runs[0][0], "seconds": min(it[1] for it in runs), "memory": max(it[2] for it in runs)}
+
+
+def has_ended(cell):
+    """Whether the run ended under its limits."""
+    return cell["status"] >= 0 and cell["status"] != MEMORY
+
+
+def row_of(program, work, timed, shape, command, largest, expected):
+    """The cells of a row; none where the program doesn't have the command, which it says before it looks for files."""
+    cells = []
+    has_command = once(timed, [program, *words_of(command, work)])[0] != USAGE
+    for size in sizes(largest) if has_command else ():
+        cells.append(measure(program, work, timed, shape, command, size))
+        print(shape, command, cells[-1], file=sys.stderr, flush=True)
+    return {"shape": shape, "command": command, "expected": expected, "cells": cells}
+
+
+def exponent(row):
+    """Of seconds over bytes, from the smallest to the largest file for which the run ended."""
+    ended = [it for it in row["cells"] if has_ended(it) and it["seconds"]]
+    if len(ended) < 2 or row["shape"] == "dag":
+        return None
+    return math.log(ended[-1]["seconds"] / ended[0]["seconds"]) / math.log(ended[-1]["bytes"] / ended[0]["bytes"])
+
+
+def each(row):
+    """Bytes of memory for each byte of the largest file, beyond those that are there for any."""
+    last = row["cells"][-1]
+    return max(0, last["memory"] - BASE) / last["bytes"]
+
+
+def is_more(row):
+    """Whether it took more than in proportion, or did not end."""
+    found = exponent(row)
+    return not all(map(has_ended, row["cells"])) or (found or 0) > EXPONENT or each(row) > EACH
+
+
+def seconds(cell):
+    if cell["status"] == MEMORY:
+        return "no memory"
+    return "%.3f" % cell["seconds"] if has_ended(cell) else "stopped"
+
+
+def line(row):
+    cells, found = row["cells"], exponent(row)
+    joined = lambda form: " / ".join(map(form, cells)) or "-"
+    memory = "%.0f" % each(row) if cells else "-"
+    columns = [
+        row["shape"], row["command"], joined(lambda it: "%d" % it["bytes"]), joined(seconds),
+        joined(lambda it: "%.0f" % (it["memory"] / 1e6)), memory, "-" if found is None else "%.2f" % found, row["expected"],
+    ]
+    return "| %s |" % " | ".join(columns)
+
+
+def table(rows):
+    yield "| Shape | Command | Bytes | Seconds | Memory, MB | Memory, bytes each byte | Exponent | Expected |"
+    yield "|---|---|---|---|---|---|---|---|"
+    yield from map(line, rows)
+
+
+def summary(rows):
+    """Which rows took more than is expected of them."""
+    asked = [row for row in rows if row["cells"] and row["expected"] == IN_PROPORTION]
+    more = ["%s (%s)" % (row["shape"], row["command"]) for row in asked if is_more(row)]
+    bounds = "an exponent over %.2f, over %d bytes a byte and %d MB, or a limit" % (EXPONENT, EACH, BASE // 10 ** 6)
+    return "More than in proportion (%s): %s." % (bounds, ", ".join(more) if more else "none")
+
+
+def written(text, page):
+    """Puts the table between the marks of a page."""
+    with open(page) as file:
+        before, rest = file.read().split(MARKS[0])
+    behind = rest.split(MARKS[1])[1]
+    with open(page, "w") as file:
+        file.write(before + MARKS[0] + text + "\n" + MARKS[1] + behind)
+
+
+def hostile(program, work, timed, page, wanted=None):
+    """Measures all rows, or those of the shapes that are wanted, and prints the table; that of all goes into the page."""
+    chosen = [it for it in ROWS if wanted is None or it[0] in wanted]
+    rows = [row_of(program, work, timed, *it) for it in chosen]
+    text = "\n".join(table(rows))
+    print(text, "", summary(rows), sep="\n")
+    if wanted is None:
+        written(text, page)
