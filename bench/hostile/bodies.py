@@ -44,7 +44,7 @@ def longstack(size):
 @shape
 def congbomb(size):
     """a local definition of many parameters (half the bytes); a body opens one equation between two of its applications again and
-    again, and pays none of the operands' (refused at its end, or for want of memory): an obligation for each operand, each time"""
+    again, and pays none of the operands' (refused at its end, or out of memory): an obligation for each operand, each time"""
     wide = max(2, min(WORDS, size // 2 // 10))
     binary, top = with_top()
     definition = binary.define([0] * wide, 0, command(U_TERM, top), command(TERM, top), local=True)

@@ -11,7 +11,7 @@ use Rattle.mz_asm.specs.Assembling.{Says, Breaks}
 use Rattle.mz_asm.specs.Making.{Made}
 use Rattle.mz_asm.specs.Statements.{Statement, parts_of}
 
--- a fault, told of a line
+-- a fault, reported of a line
 abbrev pub told_at : ℕ → Fault → Stop
 told_at line (faults.Rule rule) = stops.Refused line rule
 told_at line faults.Mem = stops.Mem

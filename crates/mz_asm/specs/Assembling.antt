@@ -104,7 +104,7 @@ pub record IsNormal (file : List ℕ) : Type 0 where
 abbrev pub IsTooLong : List ℕ → ℕ → Type 0
 IsTooLong text count = (ss : List Statement) × Says text ss × (count ≡ file_length (parts_of ss)) × (2 ^ 32 ≤ count)
 
--- want of memory says nothing
+-- out of memory says nothing
 abbrev pub IsAssembly : List ℕ → Assembled → Type 0
 IsAssembly text (answers.Bytes bytes) = IsBinaryOf text bytes.items
 IsAssembly text (answers.Refused line rule) = Breaks text line rule
@@ -118,7 +118,7 @@ IsListedBack text (answers.Refused line rule) = ⊤
 IsListedBack text (answers.Limit count) = ⊤
 IsListedBack text answers.Mem = ⊤
 
--- this file is what comes, but for want of memory
+-- this file is what comes, but where memory runs out
 abbrev pub GivesBack : List ℕ → Assembled → Type 0
 GivesBack file (answers.Bytes bytes) = bytes.items ≡ file
 GivesBack file (answers.Refused line rule) = ⊥

@@ -19,7 +19,7 @@ refusal_line line rule = codes "refused: listing line " ++ decimal line ++ codes
 abbrev pub limit_line : ℕ → List ℕ
 limit_line count = codes "limit: L5 bytes " ++ decimal count ++ codes "\n"
 
--- want of memory has none
+-- out of memory has none
 abbrev pub line_of : Assembled → List ℕ
 line_of (answers.Bytes bytes) = bytes_line (length bytes.items)
 line_of (answers.Refused line rule) = refusal_line line rule

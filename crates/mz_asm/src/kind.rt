@@ -1,4 +1,4 @@
-// The kinds of statements that a listing tells apart.
+// The kinds of statements that a listing says apart.
 ghost use Rattle.std.specs.Prelude.{◌≡◌};
 ghost use Rattle.mz_asm.specs.Reading.{kind_of_word, local_kind_of_word};
 ghost use Rattle.mz_asm.specs.Statements.{code_of, has_result, has_streams};

@@ -1,4 +1,4 @@
-// The line that tells what assembling answered.
+// The line that prints what assembling answered.
 ghost use Rattle.std.specs.Prelude.{◌≡◌, IfOk};
 ghost use Rattle.mz_asm.specs.Spoken.{line_of, bytes_line as bytes_lem, refusal_line as refusal_lem, limit_line as limit_lem};
 
@@ -7,7 +7,7 @@ use crate::rule::A;
 use mz_cmd::Mem;
 use std::alloc::Global;
 
-/// The line that tells an answer other than want of memory, with its newline.
+/// The line that prints an answer other than out of memory, with its newline.
 pub fn assembled_line(alloc: Global, assembled: &Assembled) -> Result<Vec<u8>, Mem>
     requires { assembled.now ≡ Assembled.Mem → ⊥ }
     ensures { IfOk result (λ line. line.items ≡ line_of assembled.now) }

@@ -10,7 +10,7 @@ use mz_cmd::Mem;
 pub enum Stop {
     /// A line, from 1, breaks a rule.
     Refused { line: u32, rule: A },
-    /// Want of memory.
+    /// Out of memory.
     Mem,
 }
 
@@ -19,12 +19,12 @@ pub enum Stop {
 pub enum Fault {
     /// It breaks a rule.
     Rule(A),
-    /// Want of memory.
+    /// Out of memory.
     Mem,
 }
 
 impl Fault {
-    /// The same, told of a line.
+    /// The same, reported of a line.
     pub fn at(self, line: u32) -> Stop
         ensures { result ≡ told_at line self }
     {

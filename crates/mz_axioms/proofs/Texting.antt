@@ -1,4 +1,4 @@
--- The numbers that are told are those of declarations, however often the specification is read.
+-- The numbers that are reported are those of declarations, however often the specification is read.
 use Rattle.std.proofs.Common.{◌≡◌, ◌∙◌, ◌<◌, ℕ, List, All, map, length, get_or, ap, subst, arith}
 use Rattle.std.proofs.lemmas.List.{get_or-map, length-map}
 use Rattle.std.proofs.lemmas.List.Elements.{Contains-get_or}

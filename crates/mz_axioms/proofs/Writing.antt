@@ -20,7 +20,7 @@ all-front P xs ys all k d lt = subst P (get_or_append_left xs ys d k lt) (all k 
 pub all-back : (P : ℕ → Type 0) (xs ys : List ℕ) → All P (xs ++ ys) → All P ys
 all-back P xs ys all k d lt = subst P (get_or-append-add xs ys k d) (all (length xs + k) d (let e = length-append xs ys in omega (arith, e, lt)))
 
--- ---- numbers of rows, kept or told
+-- ---- numbers of rows, kept or reported
 
 number-same : (nodes : List Node) (height : ℕ) (o : Option Row) → number_in_row o ≡ number_in (option_map (told_row nodes height) o)
 number-same nodes height None = refl

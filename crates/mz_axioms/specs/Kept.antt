@@ -1,4 +1,4 @@
--- What a table of rows tells, whose axioms are kept as sets (this project's own).
+-- What a table of rows says, whose axioms are kept as sets (this project's own).
 use Rattle.std.specs.Prelude.{◌≡◌, ◌≤◌, ◌<◌, ◌↔◌, ◌^◌, ℕ, MatchBool, if◌then◌else◌, List, [], ◌∷◌, map, flat_map, length, All, Contains, slice_get, Option, Some, None}
 use Rattle.mz_axioms.specs.declared.rows.Place.{Place}
 use Rattle.mz_axioms.specs.declared.rows.Row.{Row}
@@ -68,7 +68,7 @@ supports_kept rows = flat_map support_kept rows
 abbrev pub support_told : Table → Support → TheoremSupport
 support_told table s = record { theorem = s.theorem; axioms = map (number_at (told table)) (members_of table s.set) }
 
--- what is told of each theorem
+-- what is said of each theorem
 abbrev pub supports_told : Table → List Support → List TheoremSupport
 supports_told table supports = map (support_told table) supports
 

@@ -1,5 +1,5 @@
 -- What the theorems of a specification rest on, where a binary proves them (mm0.md, section on theorems: a theorem follows
--- from the axioms before it; that a tool tells which is this project's own).
+-- from the axioms before it; that a tool says which is this project's own).
 use Rattle.std.specs.Prelude.{◌≡◌, ◌<◌, ◌^◌, ℕ, false, List, [], map, length, All, Contains, slice_get, Option, Some, None}
 use Rattle.std.specs.List.Sorted.{IsStrictlyIncreasing}
 use Rattle.mz_logic_theory.specs.Declaration.{Declaration}
@@ -15,7 +15,7 @@ pub record TheoremSupport : Type 0 where
   pub axioms : List ℕ
 
 -- The axioms are those of the theorem's support: each axiom in the support stands for one of them, and each of them for one
--- in the support. They stand in declared order. And the theorem has a closed derivation over the statements before it that
+-- in the support. They stand in declared order. And the theorem has a derivation from axioms alone over the statements before it that
 -- cites no axiom outside its support.
 pub record IsSupportOf (bin : List ℕ) (ds : List Declaration) (ss : List Statement) (support : TheoremSupport) : Type 0 where
   pub row : ℕ

@@ -24,7 +24,7 @@ pub enum AxiomsRead {
     Lists(Lists),
     /// Its first refusal.
     Refused(Verdict),
-    /// Want of memory.
+    /// Out of memory.
     Mem,
 }
 

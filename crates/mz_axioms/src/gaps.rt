@@ -1,4 +1,4 @@
-// The text that tells which theorems rest on a gap.
+// The text that says which theorems rest on a gap.
 ghost use Rattle.std.specs.Prelude.{◌≡◌, ◌<◌, ◌++◌, ◌^◌, length, All, IfOk, OnOk};
 ghost use Rattle.mz_axioms.specs.Gaps.{AreGapsOf, IsGapsTextOf, count_line, gap_line, gap_lines};
 

@@ -1,8 +1,8 @@
 //! What each theorem of a specification rests on, where a binary proves it.
 //!
 //! The support of a theorem is the axioms that its proof cites, and the supports of the theorems that
-//! it cites. `specs/Supports.antt` says so of the bodies of a binary, `specs/Lists.antt` what is told
-//! of a specification's theorems. Where proofs may have gaps, which theorems rest on one is told by
+//! it cites. `specs/Supports.antt` says so of the bodies of a binary, `specs/Lists.antt` what is reported
+//! of a specification's theorems. Where proofs may have gaps, which theorems rest on one is reported by
 //! `mz_match`; `specs/Gaps.antt` has the text.
 #![tactic(auto)]
 

@@ -18,7 +18,7 @@ pub struct Support {
 }
 
 /// What each theorem of a specification rests on, in the order of the theorems. Theorems and axioms
-/// are told by the numbers of their declarations, from 0.
+/// are reported by the numbers of their declarations, from 0.
 #[derive(Drop)]
 pub struct Lists {
     pub(crate) table: Table,

@@ -1,4 +1,4 @@
-// The text that tells on what theorems rest.
+// The text that says on what theorems rest.
 ghost use Rattle.std.specs.Prelude.{◌≡◌, ◌<◌, ◌++◌, ◌^◌, length, All, IfOk, OnOk};
 ghost use Rattle.mz_axioms.specs.Kept.{IsKept, IsSupport, support_told, supports_told};
 ghost use Rattle.mz_axioms.specs.Text.{AreOfSome, IsNamed, IsTextOf, axiom_names, support_line, supports_text};

@@ -15,7 +15,7 @@ later-zero None = refl
 later-zero (Some k) = let e : 0 + k ≡ k = omega arith in ap Some e
 
 module _ {K : Type 0} (f : K → List ℕ) (w : List ℕ) (p : K → Bool) where
-  -- of each the test tells whether it has this name
+  -- of each the test says whether it has this name
   abbrev pub Tells : List K → Type 0
   Tells [] = ⊤
   Tells (k ∷ ks) = (p k ≡ bytes_eq w (f k)) × Tells ks

@@ -1,4 +1,4 @@
--- Checks whose refusals are told otherwise hold, fail and are decided as they themselves do.
+-- Checks whose refusals are reported otherwise hold, fail and are decided as they themselves do.
 use Rattle.std.proofs.Common.{inl, inr, ap}
 use Rattle.mz_base_theory.specs.Checks.{Checks, nothing, ask, retold, AllHold, FailsFirst, AreDecided}
 

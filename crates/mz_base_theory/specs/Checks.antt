@@ -23,7 +23,7 @@ abbrev pub each_in_order : {A R : Type 0} → (A → Checks R) → List A → Ch
 each_in_order f [] = nothing
 each_in_order f (x ∷ xs) = f x >> each_in_order f xs
 
--- the same checks, each refusal told otherwise
+-- the same checks, each refusal reported otherwise
 abbrev pub retold : {Q R : Type 0} → (Q → R) → Checks Q → Checks R
 retold f nothing = nothing
 retold f (ask q P cs) = ask (f q) P (retold f cs)

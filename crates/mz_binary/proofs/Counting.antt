@@ -16,7 +16,7 @@ use Rattle.mz_binary.specs.Judging.{IfTold}
 use Rattle.mz_binary_theory.proofs.Offered.{layout-judged, bound-never-ends}
 use Rattle.mz_binary_theory.specs.declared.standard.Standard.{Standard}
 
--- of any answer, and so of one that is told
+-- of any answer, and so of one that is reported
 pub if-told : {B : Type 0} (r : Next B) (P : Type 0) → P → IfTold r P
 if-told (next.Statement after told) P h = h
 if-told (next.End rows) P h = h

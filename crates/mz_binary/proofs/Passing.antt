@@ -48,7 +48,7 @@ mark-of codes.Theorem = refl
 mark-of codes.LocalDefinition = refl
 mark-of codes.LocalTheorem = refl
 
--- the kind that is told, and the row
+-- the kind that is reported, and the row
 pub record IsTold (rows : Rows) (env : List Declaration) (k : StatementCode) (d : Declaration) : Type 0 where
   pub kind : kind_byte k ≡ kind_code d
   pub row : next_row rows k ≡ row_after env d
@@ -221,7 +221,7 @@ module _ (p : Progress) (ss : List Statement) (env : List Declaration) (before :
         let (legal, declares) = well-chain p.standard p.file [] (list_at p.file) ss env p.at before.statements tt (record { sorts_are = refl; terms_are = tt; thms_are = tt }) in
         followed p.standard p.file env p.at (statement_byte head.code) head.body head.next stands-there head.code (code-of head.code) legal declares kind-holds
 
--- the checker and what it tells, past a statement
+-- the checker and what it says, past a statement
 pub record IsPast (p after : Progress) (told : Told) (head : Head) : Type 0 where
   pub same_file : after.file ≡ p.file
   pub same_standard : after.standard ≡ p.standard

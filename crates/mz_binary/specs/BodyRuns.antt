@@ -8,8 +8,8 @@ use Rattle.mz_machine.specs.declared.body.BodyChecked.TheVariants as bodies
 use Rattle.mz_binary_theory.specs.declared.standard.Standard.{Standard}
 use Rattle.mz_binary_theory.specs.Standards.{lets_gaps}
 
--- The answer is what the run of these bytes comes to, and where gaps are let through it tells whether they leave one.
--- Want of memory says nothing.
+-- The answer is what the run of these bytes comes to, and where gaps are let through it says whether they leave one.
+-- Out of memory says nothing.
 abbrev pub IsBodyRun : {T : Type 0} → Standard → List ℕ → Result (State T) (ℕ × K) → BodyChecked → Type 0
 IsBodyRun {T} standard bytes r (bodies.Good end) = (last : State T) × (r ≡ Ok last) × (lets_gaps standard ≡ true → (end.sorry ≡ true) ↔ HasGap bytes)
 IsBodyRun standard bytes r (bodies.Refused at rule) = r ≡ Err (at, rule)

@@ -19,7 +19,7 @@ use Rattle.mz_binary.specs.Progress.{Progress, HasPassed, CountsRows, Tells, nex
 use Rattle.mz_binary_theory.specs.declared.standard.Standard.{Standard}
 use Rattle.mz_binary_theory.specs.Standards.{lets_gaps}
 
--- the next statement is good, it is what is told, and the checker has passed it; in a draft it is told where it is a gapped
+-- the next statement is good, it is what is reported, and the checker has passed it; in a draft it is reported where it is a gapped
 -- theorem
 pub record Passes (p : Progress) (ss : List Statement) (env : List Declaration) (after : Progress) (told : Told) : Type 0 where
   pub statement : Statement
@@ -32,14 +32,14 @@ pub record Passes (p : Progress) (ss : List Statement) (env : List Declaration) 
   pub further : p.at < after.at
   pub within : after.at ≤ length p.file
 
--- after good statements, which declare env, what comes next; want of memory only where a body runs
+-- after good statements, which declare env, what comes next; out of memory only where a body runs
 abbrev pub IsNext : {B : Type 0} → Progress → List Statement → List Declaration → Next B → Type 0
 IsNext p ss env (next.Statement after told) = Passes p ss env after told
 IsNext p ss env (next.End rows) = Good p.standard p.file ss × CountsRows rows env
 IsNext p ss env (next.Refused refusal) = FailsAfter p.standard p.file ss env p.at refusal
 IsNext p ss env next.Mem = RunsBody p.file (taken_by env) p.at
 
--- the answer is another than want of memory
+-- the answer is another than out of memory
 abbrev pub IfTold : {B : Type 0} → Next B → Type 0 → Type 0
 IfTold (next.Statement after told) P = P
 IfTold (next.End rows) P = P
@@ -53,7 +53,7 @@ IsLeft p (next.End rows) = steps_left p ≡ next_steps p
 IsLeft p (next.Refused refusal) = steps_left p ≡ next_steps p
 IsLeft p next.Mem = ⊤
 
--- the most that may be counted, want of memory or not: where the list goes on, what may be counted after is kept
+-- the most that may be counted, out of memory or not: where the list goes on, what may be counted after is kept
 abbrev pub IsMost : {B : Type 0} → Progress → (old new : ℕ) → Next B → Type 0
 IsMost p old new (next.Statement after told) = new + most_left after ≤ old + most_left p
 IsMost p old new (next.End rows) = new ≤ old + most_left p
@@ -69,7 +69,7 @@ pub record RunsSomeBody (standard : Standard) (file : List ℕ) : Type 0 where
   pub statements : GoodTo standard file [] (list_at file) before env at
   pub runs : RunsBody file (taken_by env) at
 
--- What good statements are: a legal list, with closed derivations of all theorems. In a draft a legal draft, of which each
+-- What good statements are: a legal list, with derivations from axioms alone of all theorems. In a draft a legal draft, of which each
 -- theorem that isn't gapped has a derivation without gaps that cites no gapped theorem.
 abbrev pub AreSound : Bool → List ℕ → List Statement → Type 0
 AreSound false file ss = Legal ss × TheoremsClosed ss
@@ -82,7 +82,7 @@ IsChecked standard file (checked.Good rows) = (ss : List Statement) × Good stan
 IsChecked standard file (checked.Refused refusal) = BinaryFault standard file refusal
 IsChecked standard file checked.Mem = RunsSomeBody standard file
 
--- what is said is other than want of memory
+-- what is said is other than out of memory
 abbrev pub IfJudged : Checked → Type 0 → Type 0
 IfJudged (checked.Good rows) P = P
 IfJudged (checked.Refused refusal) P = P

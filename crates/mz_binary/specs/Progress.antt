@@ -31,7 +31,7 @@ pub record CountsRows (rows : Rows) (env : List Declaration) : Type 0 where
 
 -- ---- what is found at a place
 
--- the code of the kind without the mark
+-- the code of the kind without the visibility
 abbrev pub kind_byte : StatementCode → ℕ
 kind_byte codes.LocalDefinition = 0x05
 kind_byte codes.LocalTheorem = 0x06
@@ -87,7 +87,7 @@ StandsAt file at (seen.WithBody head) = IsHeadAt file at head
 -- ---- how far the checker has come
 
 -- to what bodies are held, the file, the place of the next statement, how many stand before it, the rows that these
--- have taken, and in a draft the marks of the gapped theorems
+-- have taken, and in a draft the flags of the gapped theorems
 pub record Progress : Type 0 where
   pub standard : Standard
   pub file : List ℕ
@@ -115,12 +115,12 @@ pub record IsReached (p : Progress) : Type 0 where
 
 -- ---- gaps
 
--- the next statement is a theorem of a draft, and its body leaves a gap or cites a marked theorem
+-- the next statement is a theorem of a draft, and its body leaves a gap or cites a tainted theorem
 abbrev pub RestsOnGap : Progress → Head → Type 0
 RestsOnGap p head = (lets_gaps p.standard ≡ true) × (is_theorem_kind head.code ≡ true)
     × (HasGap (body_bytes p.file head.body head.next) ⊎ CitesMarked (body_bytes p.file head.body head.next) p.marks)
 
--- the marks with one more, where the statement is an axiom or theorem of a draft
+-- the flags with one more, where the statement is an axiom or theorem of a draft
 abbrev pub marks_past : Bool → StatementCode → Bool → List Bool → List Bool
 marks_past gaps k gap marks = if gaps && is_assertion_kind k then marks ++ gap ∷ [] else marks
 
@@ -138,7 +138,7 @@ steps_left p = list_steps p.standard p.file (length p.file + 1) (taken_before p.
 abbrev pub most_left : Progress → ℕ
 most_left p = (length p.file - p.at) * (length p.file + 1)
 
--- ---- what is told of a statement
+-- ---- what is said of a statement
 
 abbrev pub kind_code : Declaration → ℕ
 kind_code (sort_decl _) = 0x04

@@ -51,7 +51,7 @@ pub trait Bodies: Drop {
         ensures steps { UnlessMem result (steps.new ≡ steps.old + body_steps (profile_of STANDARD) (tables_before mmb.now before) (heading_of mmb.now (byte_of kind) row) body.0 (body_bytes mmb.now body.0 body.1)) };
 }
 
-/// Finished proofs by the published table: the machine over trees, which lets no gap through.
+/// Finished proofs by the standard machine: the machine over trees, which lets no gap through.
 #[derive(Drop)]
 pub struct StrictBodies {
     room: Room,
@@ -93,7 +93,7 @@ impl Bodies for StrictBodies {
     }
 }
 
-/// Drafts by the published table: the machine over trees, which lets gaps through.
+/// Drafts by the standard machine: the machine over trees, which lets gaps through.
 #[derive(Drop)]
 pub struct DraftBodies {
     room: Room,

@@ -57,7 +57,7 @@ pub enum Next<'a, B: Bodies> {
     End(Rows),
     /// The first rule that fails.
     Refused(Refusal),
-    /// Want of memory, which only a body that runs may find, and in a draft the mark of its row.
+    /// Out of memory, which only a body that runs may find, and in a draft the flag of its row.
     Mem,
 }
 
@@ -144,7 +144,7 @@ impl<'a, B: Bodies> Checker<'a, B> {
         sorry || cites_marked(bytes, marks)
     }
 
-    /// Past a statement, whose body runs if it has one: whether it rests on a gap is told, and marked.
+    /// Past a statement, whose body runs if it has one: whether it rests on a gap is reported, and kept as a flag.
     fn past(self, head: Head, gap: bool) -> Next<'a, B>
         requires head { IsHead self.file head }
         requires at { head.at ≡ self.at }
@@ -202,7 +202,7 @@ impl<'a, B: Bodies> Checker<'a, B> {
     }
 }
 
-/// In a draft an axiom or theorem gets its mark.
+/// In a draft an axiom or theorem gets its flag.
 fn mark(
     standard: Standard,
     code: StatementCode,
@@ -254,7 +254,7 @@ fn body_kind(code: StatementCode) -> BodyKind
     }
 }
 
-/// What is told of the kind: the code of it without the mark.
+/// What is reported of the kind: its code without the visibility.
 fn kind_of(code: StatementCode) -> u8
     ensures { result ≡ kind_byte code }
 {

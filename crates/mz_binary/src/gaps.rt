@@ -5,7 +5,7 @@ ghost use Rattle.mz_binary_theory.specs.Gapped.{CitesMarked, cites_mark, is_citi
 
 use mz_cmd::{Cmd, ProofCode, cmd_at};
 
-/// Whether a command of these bytes cites a marked axiom or theorem.
+/// Whether a command of these bytes cites a tainted axiom or theorem.
 pub(crate) fn cites_marked(bytes: &[u8], marks: &[bool]) -> bool
     requires { length bytes.now < 2 ^ 32 }
     ensures { (result ≡ true) ↔ CitesMarked bytes.now marks.now }
@@ -22,7 +22,7 @@ pub(crate) fn cites_marked(bytes: &[u8], marks: &[bool]) -> bool
     }
 }
 
-/// Whether the command cites a marked one.
+/// Whether the command cites a tainted one.
 fn is_marked(cmd: Cmd, marks: &[bool]) -> bool
     ensures { result ≡ cites_mark cmd marks.now }
 {

@@ -2,7 +2,7 @@
 //!
 //! After header and tables a binary is a list of statements. Each names, by its command, a kind, and
 //! takes the next row of that kind's table, which says what is declared. A checker goes through the
-//! list, statement by statement, and tells each one or the first rule that fails, at its place.
+//! list, statement by statement, and reports each one or the first rule that fails, at its place.
 #![tactic(auto)]
 
 mod bodies;

@@ -1,11 +1,11 @@
-// The line that tells a refusal.
+// The line that prints a refusal.
 ghost use Rattle.std.specs.Prelude.{◌≡◌, IfOk};
 ghost use Rattle.mz_binary_theory.specs.RefusalLine.{refusal_line as line_of};
 
 use mz_cmd::{Mem, Refusal};
 use std::alloc::Global;
 
-/// The line that tells a refusal, with its newline, as
+/// The line that prints a refusal, with its newline, as
 /// `refused: binary statement 5 at byte 234: K21 unify reference`.
 pub fn refusal_line(alloc: Global, refusal: &Refusal) -> Result<Vec<u8>, Mem>
     ensures { IfOk result (λ line. line.items ≡ line_of refusal.now) }

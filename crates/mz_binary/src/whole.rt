@@ -20,7 +20,7 @@ pub enum Checked {
     Good(Rows),
     /// Its first fault.
     Refused(Refusal),
-    /// Want of memory, which only a body that runs may find, and in a draft the mark of its row.
+    /// Out of memory, which only a body that runs may find, and in a draft the flag of its row.
     Mem,
 }
 

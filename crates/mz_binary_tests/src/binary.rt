@@ -57,7 +57,7 @@ fn told(alloc: Global, checked: Checked) -> Result<Vec<u8>, Mem> {
     }
 }
 
-/// What is told of the file with one byte in place of another.
+/// What is said of the file with one byte in place of another.
 fn line_of<B: Bodies>(alloc: Global, at: usize, byte: u8) -> Result<Vec<u8>, Mem> {
     let file = with_byte(alloc, at, byte)?;
     if file.len() >= 200 {
@@ -74,7 +74,7 @@ fn line_by(alloc: Global, mode: Mode, at: usize, byte: u8) -> Result<Vec<u8>, Me
     }
 }
 
-/// A byte and its place, and what is told of the file then.
+/// A byte and its place, and what is said of the file then.
 const WHOLE: &[(usize, u8, Mode, &str)] = &[
     (132, 0x4D, Mode::Strict, "good: 1 2 1\n"),
     (
@@ -94,7 +94,7 @@ fn whole_files(rt: HostRuntime) {
     }
 }
 
-/// Adds the good statements of a file, and tells what comes after them.
+/// Adds the good statements of a file, and says what comes after them.
 fn end_of<B: Bodies, L: Ledger>(
     alloc: Global,
     blank: Blank,

@@ -144,7 +144,7 @@ const ENDS: &[(&[u8], u32)] = &[
 ];
 
 /// Bytes, a place, and why no statement stands there: commands that are cut or unknown, distances past
-/// the end or into the command, and codes that begin no statement, told before the distance.
+/// the end or into the command, and codes that begin no statement, reported before the distance.
 const NO_STATEMENTS: &[(&[u8], u32, StmtFault)] = &[
     (&[0x44], 0, StmtFault::Command),
     (&[0x44, 0, 0], 0, StmtFault::Length),

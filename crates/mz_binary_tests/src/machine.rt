@@ -100,7 +100,7 @@ pub fn may_run(mmb: &Mmb, row: u32, before: Rows) -> bool
     are_thms_right(mmb, before.sorts, row + 1)
 }
 
-/// What becomes of the theorem's body, by the published table or by address.
+/// What becomes of the theorem's body, by the standard machine or by identity.
 fn check_alone<L: Ledger>(
     alloc: Global,
     blank: Blank,
@@ -167,7 +167,7 @@ const CITED_ALONE: BodyChecked = BodyChecked::Good(BodyEnd {
 });
 
 /// Of the file with a double negation a byte in place of that at 157, a reflexivity; a mode of the
-/// published table, or none for comparison by address; and what becomes of the body. By address the
+/// standard machine, or none for comparison by identity; and what becomes of the body. By identity the
 /// left side of the unfolding isn't that of the conversion, since another command has built it.
 const FOLDED: &[(u8, Option<Mode>, BodyChecked)] = &[
     (0x18, Some(Mode::Strict), GOOD),

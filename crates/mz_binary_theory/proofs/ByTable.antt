@@ -1,4 +1,4 @@
--- What is good by address is good by the published table.
+-- What is good by identity is good by the standard machine.
 use Rattle.std.proofs.Common.{◌≡◌, ℕ, Bool, true, false, List, [], Option, None, Some, Result, Ok, Err, refl}
 use Rattle.mz_base_theory.specs.Checks.{Checks, AllHold}
 use Rattle.mz_base_theory.proofs.Offered.{all_hold-both, all_hold-first, all_hold-rest}
@@ -36,7 +36,7 @@ pub runs-by-table : (standard : Standard) (tables : RowsBefore) (h : Heading) (a
 runs-by-table (Published mode) tables h at bytes runs = runs
 runs-by-table Portable tables h at bytes runs = bodies-strict tables h at bytes runs
 
--- the published table with gaps, or without
+-- the standard machine with gaps, or without
 pub runs-with : (gaps : Bool) (tables : RowsBefore) (h : Heading) (at : ℕ) (bytes : List ℕ) → Runs (plain gaps) tables h at bytes → Runs (profile_of (by_table gaps)) tables h at bytes
 runs-with false tables h at bytes runs = runs
 runs-with true tables h at bytes runs = runs

@@ -67,18 +67,18 @@ abbrev pub AreFreeUnlessGapped : List ℕ → List Statement → Type 0
 AreFreeUnlessGapped file ss = (before after : List Statement) (s : Statement) (a : Assertion) → ss ≡ before ++ s ∷ after → s.decl ≡ assertion_decl a → a.is_axiom ≡ false
     → (GappedIn file ss (length (assertions (declarations before))) → ⊥) → IsProvedBy (free_of (GappedIn file ss)) (declarations before) a
 
--- ---- marks of them
+-- ---- flags of them
 
--- the U-th is marked
+-- the U-th is tainted
 abbrev pub IsMarked : List Bool → ℕ → Type 0
 IsMarked marks U = slice_get marks U ≡ Some true
 
--- the marks, one for each axiom and theorem, are on the gapped theorems
+-- the flags, one for each axiom and theorem, are set for the gapped theorems
 pub record AreMarks (file : List ℕ) (ss : List Statement) (marks : List Bool) : Type 0 where
   pub many : length marks ≡ length (bodies_of file ss)
   pub each : (T : ℕ) → IsMarked marks T ↔ GappedIn file ss T
 
--- a command of these bytes cites a marked one
+-- a command of these bytes cites a tainted one
 abbrev pub CitesMarked : List ℕ → List Bool → Type 0
 CitesMarked bytes marks = (U : ℕ) × CitesWithin (length bytes) bytes U × IsMarked marks U
 
@@ -93,6 +93,6 @@ abbrev pub mark_in : Option Bool → Bool
 mark_in None = false
 mark_in (Some b) = b
 
--- the command cites a marked one
+-- the command cites a tainted one
 abbrev pub cites_mark : Cmd → List Bool → Bool
 cites_mark c marks = is_citing (proof_code c.code) && mark_in (slice_get marks c.value)

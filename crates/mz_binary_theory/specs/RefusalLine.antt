@@ -1,4 +1,4 @@
--- The line that tells a refusal (this project's own).
+-- The line that prints a refusal (this project's own).
 use Rattle.std.specs.Prelude.{ℕ, List, ◌++◌, codes, decimal}
 use Rattle.mz_cmd.specs.declared.rule.Refusal.{Refusal}
 use Rattle.mz_cmd.specs.RuleText.{rule_text}

@@ -1,4 +1,4 @@
--- What a statement of the list declares: its command's code says its kind and its mark, and its row, the next of its
+-- What a statement of the list declares: its command's code says its kind and its visibility, and its row, the next of its
 -- kind, spells its declaration (the .mmb format, its list of statements).
 use Rattle.std.specs.Prelude.{◌≡◌, ◌<◌, ◌⊎◌, ℕ, Bool, ◌==◌, ◌||◌, List, length, slice_get, Some, Ok, MatchBool}
 use Rattle.mz_cmd.specs.declared.statement.StmtAt.TheVariants.{Head}

@@ -8,7 +8,7 @@ use Rattle.mz_pmachine_theory.specs.Numbered.{portable}
 use Rattle.mz_binary_theory.specs.declared.standard.Standard.{Standard}
 use Rattle.mz_binary_theory.specs.declared.standard.Standard.TheVariants.{Published, Portable}
 
--- the machine on which the bodies run: over trees by the published table, or over expressions that carry the commands
+-- the machine on which the bodies run: over trees by the standard machine, or over expressions that carry the commands
 -- which made them
 abbrev pub profile_of : Standard → Profile
 profile_of (Published mode) = plain (gaps_of mode)
@@ -23,7 +23,7 @@ mode_of Portable = Strict
 abbrev pub lets_gaps : Standard → Bool
 lets_gaps standard = gaps_of (mode_of standard)
 
--- the published table, without gaps and with them
+-- the standard machine, without gaps and with them
 abbrev pub strict_standard : Standard
 strict_standard = Published Strict
 

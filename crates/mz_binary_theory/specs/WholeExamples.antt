@@ -23,18 +23,18 @@ first_fault file = fault_of (run_file strict_standard file)
 abbrev pub first_fault_of_draft : List ℕ → Option Refusal
 first_fault_of_draft file = fault_of (run_file draft_standard file)
 
-abbrev pub first_fault_by_address : List ℕ → Option Refusal
-first_fault_by_address file = fault_of (run_file Portable file)
+abbrev pub first_fault_by_identity : List ℕ → Option Refusal
+first_fault_by_identity file = fault_of (run_file Portable file)
 
--- files that are good by address; and some that are good by the published table alone, for they make twice what is asked
+-- files that are good by identity; and some that are good by the standard machine alone, for they make twice what is asked
 -- to be the same
 abbrev pub ByAddress : Type 0
 ByAddress =
-    (first_fault_by_address one ≡ None)
-    × (first_fault_by_address (with_byte 104 0x01 gen) ≡ None)
-    × (first_fault_by_address imp ≡ refused 5 234 k.UnifyReference)
-    × (first_fault_by_address fold ≡ refused 4 156 k.Unfold)
-    × (first_fault_by_address saved ≡ refused 4 163 k.Unfold)
+    (first_fault_by_identity one ≡ None)
+    × (first_fault_by_identity (with_byte 104 0x01 gen) ≡ None)
+    × (first_fault_by_identity imp ≡ refused 5 234 k.UnifyReference)
+    × (first_fault_by_identity fold ≡ refused 4 156 k.Unfold)
+    × (first_fault_by_identity saved ≡ refused 4 163 k.Unfold)
 
 -- a gap is refused, and let through in a draft
 abbrev pub Gaps : Type 0

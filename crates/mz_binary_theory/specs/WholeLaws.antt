@@ -22,11 +22,11 @@ use Rattle.mz_binary_theory.specs.Standards.{lets_gaps, strict_standard}
 abbrev pub GoodFilesAreLegal : Type 0
 GoodFilesAreLegal = (standard : Standard) (file : List ℕ) (ss : List Statement) → Good standard file ss → LegalBy (allowed_with (lets_gaps standard)) ss
 
--- what is good by address is good by the published table
+-- what is good by identity is good by the standard machine
 abbrev pub PortableFilesAreGood : Type 0
 PortableFilesAreGood = (file : List ℕ) (ss : List Statement) → Good Portable file ss → Good strict_standard file ss
 
--- without gaps each theorem has a closed derivation over the statements before it
+-- without gaps each theorem has a derivation from axioms alone over the statements before it
 abbrev pub GoodFilesAreClosed : Type 0
 GoodFilesAreClosed = (file : List ℕ) (ss : List Statement) → Good strict_standard file ss → TheoremsClosed ss
 

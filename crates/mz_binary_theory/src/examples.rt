@@ -10,6 +10,6 @@ pub fn worked_files()
     ensures rows { RowsChanged }
     ensures bodies { BodiesChanged }
     ensures gaps { Gaps }
-    ensures by_address { ByAddress }
+    ensures by_identity { ByAddress }
     ensures steps { StepsOfFiles }
 {}

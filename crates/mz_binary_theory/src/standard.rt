@@ -8,7 +8,7 @@ use mz_base::Mode;
 /// To what the bodies of a binary are held.
 #[derive(Clone, Copy, PartialEq, Eq, Debug)]
 pub enum Standard {
-    /// The published table, under which expressions are the same where their trees are. The bodies of a
+    /// The standard machine, under which expressions are the same where their trees are. The bodies of a
     /// draft may leave gaps.
     Published(Mode),
     /// What verifiers ask that compare addresses: expressions are the same where the same commands made

@@ -1,4 +1,4 @@
-// What is told of a statement.
+// What is said of a statement.
 
 /// A good statement.
 #[derive(Clone, Copy, Debug, PartialEq, Eq)]

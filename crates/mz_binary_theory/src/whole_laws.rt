@@ -1,8 +1,8 @@
 // Laws of whole files, of all kinds of statements.
 ghost use Rattle.mz_binary_theory.specs.WholeLaws.{BoundNeverEndsAList, GoodFilesAreClosed, GoodFilesAreLegal, GoodFilesSpell, GoodOrFault, NotBoth, OneFault, OneListOfStatements, PortableFilesAreGood, RunsAreExact, StepsOfAFile, TheoremsCiteAsTheirBodies, UngappedAreFree};
 
-/// What is good by address is good by the published table. The statements of a good file are a legal
-/// list, with closed derivations; and a theorem's derivation cites what its body cites.
+/// What is good by identity is good by the standard machine. The statements of a good file are a legal
+/// list, with derivations from axioms alone; and a theorem's derivation cites what its body cites.
 pub fn whole_files_are_legal()
     ensures portable { PortableFilesAreGood }
     ensures legal { GoodFilesAreLegal }

@@ -10,7 +10,7 @@ use byteorder::{ByteOrder, LittleEndian};
 use std::alloc::AllocError;
 use thiserror::Error;
 
-/// Want of memory.
+/// Out of memory.
 pub type Mem = AllocError;
 
 /// A command: its code (below 64), its operand (0 where none is spelled), and how many bytes its

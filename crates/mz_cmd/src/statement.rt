@@ -16,7 +16,7 @@ pub enum StmtAt {
     Head { kind: u8, body: u32, next: u32 },
 }
 
-/// Why neither a statement nor the list's end stands at a place, in the order in which it is told.
+/// Why neither a statement nor the list's end stands at a place, in the order in which it is reported.
 #[derive(Clone, Copy, Debug, PartialEq, Eq, Error)]
 pub enum StmtFault {
     /// No command stands there.

@@ -1,4 +1,4 @@
--- What is told of a statement that stands at its place, by its kind.
+-- What is said of a statement that stands at its place, by its kind.
 use Rattle.std.proofs.Common.{◌≡◌, ◌∙◌, ◌⊎◌, ◌<◌, ◌+◌, ℕ, Bool, true, false, inl, inr, List, [], length, Option, Some, None, refl, sym, ap, subst, arith}
 use Rattle.std.specs.Prelude.{MatchBool, slice_get}
 use Rattle.std.proofs.lemmas.Option.{slice_get_within}
@@ -80,7 +80,7 @@ module _ (k : StatementCode) where
   not-both e (inl f) = let both : codes.Axiom ≡ codes.Theorem = sym e ∙ f in cc
   not-both e (inr f) = let both : codes.Axiom ≡ codes.LocalTheorem = sym e ∙ f in cc
 
--- ---- what is told, by parts
+-- ---- what is reported, by parts
 
 record ArePartsOf (v : Vocabulary) (env : List Declaration) (a b : List Phrase) (l m : List ℕ) (w : ℕ) (name : List ℕ) (d : Declaration) (dummies : List Binder) (p : Option Proof) : Type 0 where
   adds : Adds a b l m (declared_parts v name d dummies p)
@@ -126,7 +126,7 @@ module _ (file : List ℕ) (names : Naming) (before : Rows) (env : List Declarat
     term-told (sort_decl mods) is kind named row nothing arities told = absurd (let e : 1 ≡ 0 = in-terms k (sort_decl mods) kind is in omega (arith, e))
     term-told (assertion_decl t) is kind named row nothing arities told = absurd (let e : 1 ≡ 2 = in-terms k (assertion_decl t) kind is in omega (arith, e))
 
-    -- an assertion is told as its code says
+    -- an assertion is reported as its code says
     assertion-told : (d : Declaration) → (k ≡ codes.Axiom) ⊎ IsTheoremCode k → IsKindOf (statement_byte k) d → name ≡ next_name v env d → SpellsRow file env d
         → HasProof file before env body next d dummies p
         → ((t : Assertion) → SpellsThm (signatures env) (thm_of_file file before.thms) t → k ≡ codes.Axiom → (dummies ≡ []) × (p ≡ None) → IsAxiom v a b l m w (v.assertion before.thms) t)

@@ -212,7 +212,7 @@ module _ (file : List ℕ) (names : Naming) (v : Vocabulary) where
         let end = at-end file names p m.env m.left m.standing list-end in
         sym (append-nil out) ∙ ap (λ (ts : List Statement). out ++ text_of v ts) (sym end) ∙ m.text
 
--- ---- what is told of a line
+-- ---- what is said of a line
 
 pub deep-if : (v : Vocabulary) (env : List Declaration) (t : Statement) (line : Line) → IsLine v env t line → line.deep ≡ true → depth_limit < depth (statement v t)
 deep-if v env t line is set = is.deep.0 set

@@ -11,7 +11,7 @@ use Rattle.mz_decompile_theory.specs.Texts.{IsPlainText, IsUnstated}
 use Rattle.mz_decompile.specs.declared.decompiled.Decompiled.{Decompiled}
 use Rattle.mz_decompile.specs.declared.decompiled.Decompiled.TheVariants as answers
 
--- the text of a pair that is accepted, or the pair's first refusal, or what stands first against the text; want of memory
+-- the text of a pair that is accepted, or the pair's first refusal, or what stands first against the text; out of memory
 -- says nothing
 abbrev pub IsDecompilation : List ℕ → List ℕ → Decompiled → Type 0
 IsDecompilation spec bin (answers.Text text) = IsPlainText spec bin text.items

@@ -1,4 +1,4 @@
--- What is known of a statement that is told, and what is told of it.
+-- What is known of a statement that is reported, and what is said of it.
 use Rattle.std.specs.Prelude.{◌≡◌, ◌≤◌, ◌+◌, ℕ, true, false, List, [], length, map, Option, Some, None, MatchBool}
 use Rattle.mz_cmd.specs.Codes.{statement_byte}
 use Rattle.mz_logic_theory.specs.Signature.{Signature}
@@ -69,14 +69,14 @@ pub record Stands (file : List ℕ) (names : Naming) (before : Rows) (env : List
 abbrev pub SomeStands : List ℕ → Naming → Rows → Head → Type 0
 SomeStands file names before head = (env : List Declaration) × (t : Statement) × Stands file names before env head t
 
--- ---- what is told
+-- ---- what is reported
 
 -- the statement's phrase, by its number, and its weight
 pub record IsTold (v : Vocabulary) (env : List Declaration) (ps : List Phrase) (told : Told) (t : Statement) : Type 0 where
   pub phrase : IsPhrase ps told.phrase (statement v t)
   pub weight : told.weight ≡ capped (statement_weight env t)
 
--- its parts but for the mark, and its weight
+-- its parts but for the visibility, and its weight
 pub record AreParts (v : Vocabulary) (env : List Declaration) (old new : List Phrase) (before after : List ℕ) (weight : ℕ) (t : Statement) : Type 0 where
   pub adds : Adds old new before after (declared_parts v t.name t.decl t.dummies t.proof)
   pub weight_is : weight ≡ capped (statement_weight env t)

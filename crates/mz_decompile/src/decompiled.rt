@@ -28,9 +28,9 @@ pub enum Decompiled {
     /// The number of the first statement in whose text more than 4,096 lists stand in one another.
     Deep(u32),
     /// The text's length, or the bound on that of what it would compile to, is more than 4,294,967,295 bytes: the
-    /// greater of both, or the greatest number that can be told.
+    /// greater of both, or the greatest number that can be reported.
     Limit { count: u128 },
-    /// Want of memory.
+    /// Out of memory.
     Mem,
 }
 

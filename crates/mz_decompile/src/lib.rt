@@ -2,7 +2,7 @@
 //!
 //! `specs/Decompiling.antt` says what is answered; the text itself is defined in `mz_decompile_theory`. A statement's row, its
 //! stream and its body are read in place, and what they say is put together part by part (`specs/Adding.antt`);
-//! `specs/Telling.antt` says what is known of a statement, and what is told of it.
+//! `specs/Telling.antt` says what is known of a statement, and what is said of it.
 #![tactic(auto)]
 
 mod answering;

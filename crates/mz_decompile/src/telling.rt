@@ -43,7 +43,7 @@ pub fn statement(
     Ok(Told { phrase, weight })
 }
 
-/// Adds the parts of a statement but for its mark. The result is its weight.
+/// Adds the parts of a statement but for its visibility. The result is its weight.
 fn put_parts(
     alloc: Global,
     mmb: &Mmb,

@@ -1,4 +1,4 @@
-/// A statement that is told: the number of its phrase, and its weight, or the largest number where it weighs more.
+/// A statement that is reported: the number of its phrase, and its weight, or the largest number where it weighs more.
 #[derive(Clone, Copy)]
 pub struct Told {
     pub phrase: usize,

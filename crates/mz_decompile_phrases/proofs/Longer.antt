@@ -38,6 +38,6 @@ kept-longer b w p v ps (n ∷ ns) h =
       subst (λ x. AreKept (b ++ w) (p ++ v) (ps ++ x ∷ []) ns) (sym same) (kept-longer b w p v (ps ++ phrase_with b p ps n.form ∷ []) ns h.2),
     )
 
--- at the places that were told before and after
+-- at the places that were reported before and after
 pub range-added : (xs ys : List ℕ) (from to : ℕ) → from ≡ length xs → to ≡ length (xs ++ ys) → slice_range (xs ++ ys) from to ≡ ys
 range-added xs ys from to begin end = ap (λ a. slice_range (xs ++ ys) a to) begin ∙ ap (slice_range (xs ++ ys) (length xs)) end ∙ slice_range-end xs ys

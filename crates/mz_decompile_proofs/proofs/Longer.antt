@@ -80,7 +80,7 @@ adds-on a b c ns ms ls ps qs g h = record {
 pub adds-none : (a : List Phrase) (ns : List ℕ) → AreThere a ns → Adds a a ns ns []
 adds-none a ns there = record { grows = grows-same a; there = there; are = sym (append-nil (those_at a ns)) }
 
--- the number of one that is told
+-- the number of one that is reported
 pub adds-one : (a b : List Phrase) (ns ms : List ℕ) (p : Phrase) (n : ℕ) → Tells a b p n → ms ≡ ns ++ n ∷ [] → AreThere a ns → Adds a b ns ms (p ∷ [])
 adds-one a b ns ms p n t is there = record {
   grows = t.grows;
@@ -92,7 +92,7 @@ adds-one a b ns ms p n t is there = record {
       ∙ ap (λ p. those_at a ns ++ p ∷ []) t.is;
 }
 
--- the numbers that stand at places of those that are told
+-- the numbers that stand at places of those that are reported
 pub adds-chosen : (a : List Phrase) (told ns ms nodes : List ℕ) → ms ≡ ns ++ chosen told nodes → AreThere a ns → AreThere a told → All (λ n. n < length told) nodes
     → Adds a a ns ms (those_at (those_at a told) nodes)
 adds-chosen a told ns ms nodes is there all low = record {
@@ -110,7 +110,7 @@ tells-list a b c ms ps n g t = record {
   is = t.is ∙ ap a_list (sym (as-parts b ms) ∙ ap of_parts g.are);
 }
 
--- what was told stays so
+-- what was asked stays so
 pub tells-as : (a b : List Phrase) (p q : Phrase) (n : ℕ) → Tells a b p n → p ≡ q → Tells a b q n
 tells-as a b p q n t is = subst (λ x. Tells a b x n) is t
 
@@ -126,7 +126,7 @@ all-right k xs ys h = λ i d less.
     let more : length xs + i < length (xs ++ ys) = omega (arith, length-append xs ys) in
     subst (λ m. m < k) (get_or-append-add xs ys i d) (h (length xs + i) d more)
 
--- ---- what a list of parts tells
+-- ---- what a list of parts says
 
 pub empty-there : (ps : List Phrase) (ns : List ℕ) → ns ≡ [] → AreThere ps ns
 empty-there ps ns none = subst (AreThere ps) (sym none) (no-numbers (length ps))
@@ -134,7 +134,7 @@ empty-there ps ns none = subst (AreThere ps) (sym none) (no-numbers (length ps))
 pub from-none : (a b : List Phrase) (ns ms : List ℕ) (ps : List Phrase) → ns ≡ [] → Adds a b ns ms ps → Adds a b [] ms ps
 from-none a b ns ms ps none h = subst (λ x. Adds a b x ms ps) none h
 
--- the phrases of nodes, which were told before the first part
+-- the phrases of nodes, which were reported before the first part
 pub then-chosen : (a b : List Phrase) (told ns ms ls nodes : List ℕ) (ps : List Phrase) → Adds a b ns ms ps → AreThere a told → All (λ n. n < length told) nodes
     → ls ≡ ms ++ chosen told nodes → Adds a b ns ls (ps ++ those_at (those_at a told) nodes)
 then-chosen a b told ns ms ls nodes ps g there low is =
@@ -155,7 +155,7 @@ pub chosen-alone : (a : List Phrase) (told none ms nodes : List ℕ) → none �
 chosen-alone a told none ms nodes empty is there low =
     adds-chosen a told [] ms nodes (is ∙ ap (λ xs. xs ++ chosen told nodes) empty) (no-numbers (length a)) there low
 
--- the list that is told of them
+-- the list that is reported of them
 pub told-whole : {E : Type 0} (a b c : List Phrase) (ls : List ℕ) (ps : List Phrase) (p : Phrase) (r : Result ℕ E) → Adds a b [] ls ps → a_list (of_parts ps) ≡ p
     → IfOk r (λ n. Tells b c (a_list (phrases_at b ls)) n) → IfOk r (λ n. Tells a c p n)
 told-whole a b c ls ps p r g is h =

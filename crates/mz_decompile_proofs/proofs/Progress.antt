@@ -1,4 +1,4 @@
--- How far the nodes are told.
+-- How far the nodes are reported.
 use Rattle.std.proofs.Common.{◌≡◌, ◌∙◌, ℕ, suc, ◌+◌, List, [], ◌∷◌, ◌++◌, length, map, sym, ap, subst, refl, arith}
 use Rattle.std.proofs.lemmas.List.{length-append, length-map, map-append}
 use Rattle.std.proofs.Math.ListN.{get_or-map}
@@ -67,7 +67,7 @@ capped-weighed ws (node.Unfold t e es ys c) =
 
 -- ---- the nodes so far
 
--- what is told so far, and these nodes are left
+-- what is reported so far, and these nodes are left
 pub record IsSoFar (v : Vocabulary) (first ps : List Phrase) (ns left : List RunNode) (t : Told) : Type 0 where
   pub grows : Grows first ps
   pub there : AreTold ps t

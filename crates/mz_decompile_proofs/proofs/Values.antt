@@ -1,4 +1,4 @@
--- What is told of nodes is the phrase of what they stand for.
+-- What is said of nodes is the phrase of what they stand for.
 use Rattle.std.proofs.Common.{◌≡◌, ◌∙◌, ℕ, List, [], ◌∷◌, ◌++◌, map, Some, slice_get, codes, sym, ap, refl, arith}
 use Rattle.std.proofs.lemmas.List.{map-append, get_or-map}
 use Rattle.std.proofs.lemmas.Option.{get_or_from_slice_get, slice_get_within}

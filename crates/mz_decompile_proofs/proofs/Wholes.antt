@@ -1,4 +1,4 @@
--- What is told of a whole run is its proof's phrase and weight.
+-- What is said of a whole run is its proof's phrase and weight.
 use Rattle.std.proofs.Common.{◌≡◌, ◌∙◌, ℕ, suc, ◌+◌, ◌<◌, All, List, [], ◌∷◌, length, map, codes, sym, ap, subst, refl, arith}
 use Rattle.std.proofs.lemmas.List.{length-map}
 use Rattle.mz_logic_theory.specs.Declaration.{Declaration}
@@ -50,7 +50,7 @@ capped-behind ws (n ∷ lets) root =
 run-phrases : (v : Vocabulary) (r : Run) (ps : List Phrase) (t : Told) (k : ℕ) → IsWhole r → AreGathered v ps r.nodes.items t → phrases_in ps t ≡ value_phrases v k (values_in r)
 run-phrases v r ps t k h g = g.phrases ∙ nodes-phrases v k h.0 [] r.nodes.items h.1
 
--- as many are told as there are values
+-- as many are reported as there are values
 many-told : (v : Vocabulary) (r : Run) (ps : List Phrase) (t : Told) → IsWhole r → AreGathered v ps r.nodes.items t → length t.phrases.items ≡ length (values_in r)
 many-told v r ps t h g =
     sym (length-map t.phrases.items (phrase_at ps)) ∙ ap length (run-phrases v r ps t 0 h g) ∙ length-map (values_in r) _

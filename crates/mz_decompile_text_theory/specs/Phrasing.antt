@@ -145,7 +145,7 @@ declared_parts v name (sort_decl m) dummies p = a_word (codes "sort") ∷ a_word
 declared_parts v name (term_decl d) dummies p = term_parts v name d.signature d.form
 declared_parts v name (assertion_decl a) dummies p = assertion_parts v name a.is_axiom a.params a.hyps a.conclusion dummies p
 
--- with its mark
+-- with its visibility
 abbrev pub marked_parts : Bool → List Phrase → List Phrase
 marked_parts true ps = a_word (codes "local") ∷ ps
 marked_parts false ps = ps

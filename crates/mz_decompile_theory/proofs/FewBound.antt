@@ -27,7 +27,7 @@ use Rattle.mz_unify_theory.proofs.Offered.{from_bind, from_need, from_want, take
 use Rattle.mz_machine_theory.specs.MachineState.{RowsBefore, signatures_in, State, Kind, is_definition, Heading, Declares}
 use Rattle.mz_machine_theory.specs.FreeVars.{free_within}
 use Rattle.mz_machine_theory.specs.Premises.{bound_count, pop, pop_expr, pop_proof, pop_obligation, pop_conversion, is_conversion, is_obligation, may_be_dummy_sort}
-use Rattle.mz_machine_theory.specs.ProofMachine.{ends_with, matched_by, built, cited, referred, same_term, unfolding_of, has_provable_sort, proof_row, proof_end, last_item, ending, own_stream}
+use Rattle.mz_machine_theory.specs.ProofMachine.{ends_with, matched_by, built, cited, referred, same_term, unfolding_of, has_provable_sort, proof_step, proof_end, last_item, ending, own_stream}
 use Rattle.mz_machine_theory.specs.Bodies.{BodyCommand, ends, proves, body_command, body_turn, body_turn_by, body_from, body_start, Runs}
 use Rattle.mz_machine_theory.proofs.Offered.{body-fact, end-ran, own-run, last-expr, from_follow}
 use Rattle.mz_trace_theory.specs.Traces.{Trace, traced, trace_turn, trace_command, trace_from, trace_start, Made}
@@ -58,8 +58,8 @@ referred-few (conversion l r) st st' is few =
     from_bind (pop_obligation st.stack) _ st' is λ o popped e1.
     from_need (strict.same l o.0 && strict.same r o.1) k.ConversionReference _ st' e1 λ t e2. few-same _ st' e2 few
 
-row-few : (tables : RowsBefore) (at : ℕ) (c : ProofCode) (n : ℕ) (st st' : State Tree) → proof_row strict tables at c n st ≡ Ok st' → Few st → Few st'
-unfolding proof_row
+row-few : (tables : RowsBefore) (at : ℕ) (c : ProofCode) (n : ℕ) (st st' : State Tree) → proof_step strict tables at c n st ≡ Ok st' → Few st → Few st'
+unfolding proof_step
 row-few tables at code.Term n st st' e few = from_bind (built strict tables at n st) _ st' e λ r made e1. few-same _ st' e1 few
 row-few tables at code.TermSave n st st' e few = from_bind (built strict tables at n st) _ st' e λ r made e1. few-same _ st' e1 few
 row-few tables at code.Ref n st st' e few = from_want (slice_get st.heap n) k.HeapIndex _ st' e λ x there e1. referred-few x st st' e1 few
@@ -101,7 +101,7 @@ module _ (tables : RowsBefore) (h : Heading) where
   turn-few len s None t e few = absurd cc
   turn-few len s (Some ends) t e few = let same : over s ≡ t = cc in subst (Left state) same few
   turn-few len s (Some (proves c value)) t e few =
-      from_bind (proof_row strict tables 0 c value s.0) _ t e λ st row e1.
+      from_bind (proof_step strict tables 0 c value s.0) _ t e λ st row e1.
       from_bind (traced tables c value s.0 s.1) _ t e1 λ tr is e2.
       let same : goes_on len (st, tr) ≡ t = cc in subst (Left state) same (row-few tables 0 c value s.0 st row few)
 
@@ -136,7 +136,7 @@ module _ (tables : RowsBefore) (h : Heading) where
       from_need (is_empty rest) k.StatementLength _ s both λ p done.
       let same : over s ≡ t = cc in subst (Left itself) same (end-few st s done few)
   run-turn-few at len rest st t (Some (proves c n)) e few =
-      from_bind (proof_row strict tables at c n st) _ t e λ s row e1.
+      from_bind (proof_step strict tables at c n st) _ t e λ s row e1.
       let same : goes_on len s ≡ t = cc in subst (Left itself) same (row-few tables at c n st s row few)
 
   run-command-few : (at : ℕ) (bytes : List ℕ) (st : State Tree) (r : Result Cmd CmdFault) (t : Turn (State Tree)) → body_turn strict tables h at bytes st r ≡ Ok t → Few st → Left itself t

@@ -17,7 +17,7 @@ use Rattle.mz_unify_theory.specs.Profile.{strict, tree_parts}
 use Rattle.mz_unify_theory.proofs.Offered.{from_bind, from_want, taken, taken-is}
 use Rattle.mz_machine_theory.specs.MachineState.{RowsBefore, State, Heading}
 use Rattle.mz_machine_theory.specs.Premises.{pop_expr, pop_proof, pop_obligation, pop_sides}
-use Rattle.mz_machine_theory.specs.ProofMachine.{citation, matched_by, unfolding_of, proof_row}
+use Rattle.mz_machine_theory.specs.ProofMachine.{citation, matched_by, unfolding_of, proof_step}
 use Rattle.mz_machine_theory.specs.Bodies.{BodyCommand, ends, proves, body_command}
 use Rattle.mz_machine_theory.proofs.Offered.{from_follow}
 use Rattle.mz_trace_theory.specs.Parts.{Part, expression, proved, owed, converted, for_proof, for_turned, for_operand, for_unfolded, for_cut, then_conv, paid, by_operands, proofs_above}
@@ -314,7 +314,7 @@ module _ (tables : RowsBefore) (h : Heading) where
   turn-steps len s None t e = absurd cc
   turn-steps len s (Some ends) t e = let same : over s ≡ t = cc in subst (Turns s.1) same refl
   turn-steps len s (Some (proves c value)) t e =
-      from_bind (proof_row strict tables 0 c value s.0) _ t e λ st row e1.
+      from_bind (proof_step strict tables 0 c value s.0) _ t e λ st row e1.
       from_bind (traced tables c value s.0 s.1) _ t e1 λ tr is e2.
       let same : goes_on len (st, tr) ≡ t = cc in subst (Turns s.1) same (traced-step tables c value s.0 s.1 tr is)
 

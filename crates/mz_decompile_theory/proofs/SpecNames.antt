@@ -9,7 +9,7 @@ use Rattle.mz_logic_theory.specs.Declaration.{Declaration}
 use Rattle.mz_math_theory.specs.Notation.{Table}
 use Rattle.mz_spec_theory.specs.Statement.{Statement, sort_statement, term_statement, assert_statement, definition_statement, operator_statement, coercion_statement, delimiter_statement, notation_statement, Spells, Sign, keyword, symbol, name, name_or_blank, formula, number, only_if, IsSign, AreSigns, end_signs, modifier_signs, statement_signs}
 use Rattle.mz_spec_theory.specs.Reading.{place_of_first}
-use Rattle.mz_spec_theory.specs.declared.spec.Mark.{Mark}
+use Rattle.mz_spec_theory.specs.declared.spec.NameSpan.{NameSpan}
 use Rattle.mz_base.specs.Names.{IsNew}
 use Rattle.mz_base.proofs.Offered.{new-first}
 use Rattle.mz_spec_theory.specs.Dependencies.{Every}
@@ -74,13 +74,13 @@ module _ (text : List ℕ) where
   abbrev seen : State → Seen
   seen σ = record { sorts = σ.sort_names; terms = σ.term_names; assertions = σ.assertion_names }
 
-  abbrev mark_name : Mark → List ℕ
+  abbrev mark_name : NameSpan → List ℕ
   mark_name m = slice_range text m.from m.to
 
   -- one declaration more, under a new name
   record Adds (σ ρ : State) : Type 0 where
     decl : Declaration
-    mark : Mark
+    mark : NameSpan
     env_is : ρ.env ≡ σ.env ++ decl ∷ []
     marks_are : ρ.marks ≡ σ.marks ++ mark ∷ []
     seen_is : seen ρ ≡ seen_with (seen σ) (mark_name mark) decl
@@ -143,7 +143,7 @@ module _ (text : List ℕ) where
   -- what stands behind σ in τ, under new names
   record Further (σ τ : State) : Type 0 where
     decls : List Declaration
-    marks : List Mark
+    marks : List NameSpan
     env_is : τ.env ≡ σ.env ++ decls
     marks_are : τ.marks ≡ σ.marks ++ marks
     new : AreNew (seen σ) decls (map mark_name marks)
@@ -153,7 +153,7 @@ module _ (text : List ℕ) where
     decls = a.decl ∷ f.decls;
     marks = a.mark ∷ f.marks;
     env_is = f.env_is ∙ ap (λ (xs : List Declaration). xs ++ f.decls) a.env_is ∙ append_assoc σ.env (a.decl ∷ []) f.decls;
-    marks_are = f.marks_are ∙ ap (λ (xs : List Mark). xs ++ f.marks) a.marks_are ∙ append_assoc σ.marks (a.mark ∷ []) f.marks;
+    marks_are = f.marks_are ∙ ap (λ (xs : List NameSpan). xs ++ f.marks) a.marks_are ∙ append_assoc σ.marks (a.mark ∷ []) f.marks;
     new = (a.is_named, a.other, subst (λ (x : Seen). AreNew x f.decls (map mark_name f.marks)) a.seen_is f.new);
   }
 
@@ -162,7 +162,7 @@ module _ (text : List ℕ) where
     decls = f.decls;
     marks = f.marks;
     env_is = f.env_is ∙ ap (λ (xs : List Declaration). xs ++ f.decls) a.env_is;
-    marks_are = f.marks_are ∙ ap (λ (xs : List Mark). xs ++ f.marks) a.marks_are;
+    marks_are = f.marks_are ∙ ap (λ (xs : List NameSpan). xs ++ f.marks) a.marks_are;
     new = subst (λ (x : Seen). AreNew x f.decls (map mark_name f.marks)) a.seen_is f.new;
   }
 

@@ -65,7 +65,7 @@ pub record Restates (spec bin : List ℕ) (prefix : List ℕ) (ts : List Stateme
 -- ---- what stands against the text
 
 -- a statement, by its number, in whose text too many lists stand in one another; or the greater of the text's length and the
--- bound on its binary's, as it is told
+-- bound on its binary's, as it is reported
 pub data Unstated : Type 0 where
   deep : ℕ → Unstated
   too_long : ℕ → Unstated
@@ -79,7 +79,7 @@ depth_checks v k (s ∷ ss) = demand (deep k) (depth (statement v s) ≤ depth_l
 abbrev pub greater_length : Vocabulary → List Statement → ℕ
 greater_length v ss = max (length (text_of v ss)) (byte_bound ss)
 
--- a length as it is told: the greatest that is
+-- a length as it is reported: the greatest that is
 abbrev pub told_length : ℕ → ℕ
 told_length n = min n (2 ^ 128 - 1)
 

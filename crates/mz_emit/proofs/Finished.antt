@@ -46,7 +46,7 @@ binary_of gaps ss p made fit legal says gapped short compiled = record {
     gapped = gapped;
   };
   accepted = λ spec ds is_spec agrees. files-accepted gaps p (marked ss) made fit legal says spec ds is_spec agrees;
-  by_address = λ finished spec ds is_spec agrees.
+  by_identity = λ finished spec ds is_spec agrees.
       accepted-by-address p (marked ss) made fit (subst (λ (g : Bool). LegalBy (allowed_with g) (marked ss)) finished legal) (subst (λ (g : Bool). IsWrittenAs g p (marked ss) made) finished says) spec ds is_spec agrees;
   compiled = compiled;
 }

@@ -100,7 +100,7 @@ fn compile_read(alloc: Global, hashing: Hashing, text: &[u8], mode: Mode) -> Com
 /// finished text is accepted by verifiers that compare addresses, too.
 ///
 /// The bytes are a function of the text's statements, in which neither the mode nor the seed is: where the text can be
-/// compiled, it has its file, and the answer is this file or want of memory; that of a finished text is one in both modes.
+/// compiled, it has its file, and the answer is this file or out of memory; that of a finished text is one in both modes.
 pub fn compile_bytes(alloc: Global, hashing: Hashing, text: &[u8], mode: Mode) -> Compiled
     requires { length text.now < 2 ^ 32 }
     ensures answer { IsCompilation (gaps_of mode) text.now result }

@@ -1,4 +1,4 @@
-// The line that tells what compiling answered.
+// The line that prints what compiling answered.
 ghost use Rattle.std.specs.Prelude.{◌≡◌, IfOk};
 ghost use Rattle.mz_emit_accepted_theory.specs.Lines.{line_of, bytes_line as bytes_lem, refusal_line as refusal_lem, limit_line as limit_lem};
 
@@ -7,7 +7,7 @@ use mz_emit_accepted_theory::{Compiled, L};
 use mz_sexpr::TextRefusal;
 use std::alloc::Global;
 
-/// The line that tells an answer other than want of memory, with its newline.
+/// The line that prints an answer other than out of memory, with its newline.
 pub fn compiled_line(alloc: Global, compiled: &Compiled) -> Result<Vec<u8>, Mem>
     requires { compiled.now ≡ Compiled.Mem → ⊥ }
     ensures { IfOk result (λ line. line.items ≡ line_of compiled.now) }

@@ -1,4 +1,4 @@
--- A written file is accepted by address where the text's public statements agree with the specification.
+-- A written file is accepted by identity where the text's public statements agree with the specification.
 use Rattle.std.proofs.Common.{false}
 use Rattle.mz_emit_theory.proofs.Offered.{written-same}
 use Rattle.mz_emit_accepted_theory.proofs.Agreeing.{same-lists-agree}

@@ -1,4 +1,4 @@
--- What is asked of a statement by the published table holds by address too, where its body runs there.
+-- What is asked of a statement by the standard machine holds by identity too, where its body runs there.
 use Rattle.std.proofs.Common.{◌≡◌, ◌⊎◌, ℕ, Bool, true, false, List, Option, None, Some, refl, sym, subst, inl, inr}
 use Rattle.std.specs.Prelude.{MatchBool, ⊤}
 use Rattle.mz_base_theory.specs.Checks.{Checks, AllHold}
@@ -21,7 +21,7 @@ use Rattle.mz_binary_theory.specs.Standards.{strict_standard}
 use Rattle.mz_binary_theory.specs.Checking.{term_body_checks, term_checks, thm_checks, kind_checks}
 use Rattle.mz_binary_theory.specs.Spelling.{IsKindOf}
 
--- the bytes of a body run by address where they run by the published table
+-- the bytes of a body run by identity where they run by the standard machine
 abbrev pub RunsToo : RowsBefore → Heading → ℕ → List ℕ → Type 0
 RunsToo tables h at bytes = Runs strict tables h at bytes → Runs portable tables h at bytes
 

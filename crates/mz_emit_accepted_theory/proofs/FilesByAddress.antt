@@ -1,4 +1,4 @@
--- A file whose parts say a finished legal text is good by address.
+-- A file whose parts say a finished legal text is good by identity.
 use Rattle.std.proofs.Common.{◌≡◌, ◌∙◌, ℕ, false, List, [], ◌∷◌, ◌++◌, Result, Ok, refl, sym, ap, subst}
 use Rattle.mz_base_theory.specs.Checks.{AllHold}
 use Rattle.mz_cmd.specs.declared.statement.StmtAt.{StmtAt}

@@ -1,4 +1,4 @@
--- The body of a written statement runs by address where it runs by the published table, and the rows after it share.
+-- The body of a written statement runs by identity where it runs by the standard machine, and the rows after it share.
 use Rattle.std.proofs.Common.{◌≡◌, ◌+◌, ◌∙◌, ℕ, Bool, false, List, [], ◌∷◌, ◌++◌, length, map, slice_get, Option, Some, None, refl, sym, ap, subst, arith}
 use Rattle.std.specs.List.{range_with_len}
 use Rattle.mz_cmd.specs.declared.code.StatementCode.TheVariants as codes
@@ -47,7 +47,7 @@ module _ (p : Parts) (fit : Fit p) (env env' : List Declaration) (same : IsSameE
   abbrev thm-row : SpelledThm
   thm-row = thm_of_file file (length (assertions env'))
 
-  -- the declaration's body runs by address too, and the rows after it share
+  -- the declaration's body runs by identity too, and the rows after it share
   pub record GoesOn (d : Declaration) : Type 0 where
     pub runs : BodyRunsToo file (taken_by env') body next d
     pub shares : AreSharedRows (rows_taken file (taken_by (env' ++ d ∷ []))).terms

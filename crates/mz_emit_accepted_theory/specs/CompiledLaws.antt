@@ -26,7 +26,7 @@ FileUsesWhatProofsUse text = (gaps : Bool) (ss : List Statement) → TextOf gaps
 
 -- ---- answers
 
--- the answer is this file, or want of memory
+-- the answer is this file, or out of memory
 abbrev pub Answers : Compiled → List ℕ → Type 0
 Answers (answers.Bytes bytes) file = bytes.items ≡ file
 Answers (answers.Refused refusal) file = ⊥

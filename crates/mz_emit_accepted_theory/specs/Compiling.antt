@@ -52,13 +52,13 @@ pub record IsGoodFor (gaps : Bool) (ss : List Statement) (bytes : List ℕ) : Ty
 abbrev pub IsAccepted : Standard → List Statement → List ℕ → Type 0
 IsAccepted standard ss bytes = (spec : List ℕ) (ds : List Declaration) → SpecOf spec ds → Agrees ds (publics (marked ss)) → AcceptsBy standard spec bytes
 
--- It is accepted by the published table, with gaps as a draft; and that of a finished text by address too. It is the file
+-- It is accepted by the standard machine, with gaps as a draft; and that of a finished text by identity too. It is the file
 -- that is a function of the statements.
 pub record IsBinaryOf (gaps : Bool) (ss : List Statement) (bytes : List ℕ) : Type 0 where
   pub written : IsWritten gaps ss bytes
   pub good : IsGoodFor gaps ss bytes
   pub accepted : IsAccepted (by_table gaps) ss bytes
-  pub by_address : gaps ≡ false → IsAccepted Portable ss bytes
+  pub by_identity : gaps ≡ false → IsAccepted Portable ss bytes
   pub compiled : bytes ≡ compiled_file ss
 
 -- ---- the answers
@@ -75,7 +75,7 @@ CompilesTo gaps text bytes = (ss : List Statement) × TextOf gaps text ss × IsW
 abbrev pub PassesLimit : Bool → List ℕ → Passed → Type 0
 PassesLimit gaps text p = (ss : List Statement) × TextOf gaps text ss × Passes ss p
 
--- want of memory says nothing
+-- out of memory says nothing
 abbrev pub IsCompilation : Bool → List ℕ → Compiled → Type 0
 IsCompilation gaps text (answers.Bytes bytes) = CompilesTo gaps text bytes.items
 IsCompilation gaps text (answers.Refused refusal) = TextFault gaps text refusal

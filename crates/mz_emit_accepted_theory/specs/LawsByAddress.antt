@@ -12,7 +12,7 @@ use Rattle.mz_spec_theory.specs.Spec.{SpecOf}
 use Rattle.mz_spec_proved_theory.specs.Match.{publics, Agrees}
 use Rattle.mz_match_theory.specs.Verdict.{AcceptsBy}
 
--- a finished legal text, written within the format's bounds, is by address too a good binary of the made statements
+-- a finished legal text, written within the format's bounds, is by identity too a good binary of the made statements
 abbrev pub WrittenFilesAreGoodByAddress : Type 0
 WrittenFilesAreGoodByAddress = (p : Parts) (text made : List Statement) → Fit p → Legal text → IsWrittenAs false p text made → Good Portable (file_of p) made
 

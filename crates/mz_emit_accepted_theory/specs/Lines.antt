@@ -23,7 +23,7 @@ refusal_line r =
 abbrev pub limit_line : L → ℕ → List ℕ
 limit_line rule count = codes "limit: " ++ limit_text rule ++ codes " " ++ decimal count ++ codes "\n"
 
--- want of memory has none
+-- out of memory has none
 abbrev pub line_of : Compiled → List ℕ
 line_of (answers.Bytes bytes) = bytes_line (length bytes.items)
 line_of (answers.Refused refusal) = refusal_line refusal

@@ -12,7 +12,7 @@
 mod accepted_laws;
 mod claims_laws;
 mod compiled;
-mod laws_by_address;
+mod laws_by_identity;
 mod passed;
 mod rule;
 
@@ -21,8 +21,8 @@ pub use claims_laws::{
     stated_proofs_are_sound, stated_proofs_use_what_they_mean, weights_are_the_texts,
 };
 pub use compiled::Compiled;
-pub use laws_by_address::{
-    written_files_are_accepted_by_address, written_files_are_good_by_address,
+pub use laws_by_identity::{
+    written_files_are_accepted_by_identity, written_files_are_good_by_identity,
 };
 pub use passed::Passed;
 pub use rule::L;

@@ -9,7 +9,7 @@ use Rattle.mz_cmd.proofs.Offered.{Spells-again, shortest-spells}
 use Rattle.mz_unify_theory.specs.Profile.{Profile}
 use Rattle.mz_unify_theory.proofs.Offered.{from_bind}
 use Rattle.mz_machine_theory.specs.MachineState.{RowsBefore, State, Kind, is_axiom, is_theorem, is_definition, Heading}
-use Rattle.mz_machine_theory.specs.ProofMachine.{proof_row, proof_end}
+use Rattle.mz_machine_theory.specs.ProofMachine.{proof_step, proof_end}
 use Rattle.mz_machine_theory.specs.Bodies.{stands_in, proves, body_command, body_from, body_start, body_run}
 use Rattle.mz_emit_theory.specs.Steps.{command_bytes, run_commands}
 use Rattle.mz_emit_theory.specs.Endings.{spelled_body, MayStand}
@@ -72,7 +72,7 @@ module _ (P : Profile) (tables : RowsBefore) (h : Heading) where
       let many = length-append (command_bytes c) (spelled_body cs) in
       absurd (omega (arith, many))
   from-commands (suc n) at (c ∷ cs) st last le (stands, short, stand) ran ended =
-      from_bind (proof_row P tables at c.0 c.1 st) _ last ran λ s row later.
+      from_bind (proof_step P tables at c.0 c.1 st) _ last ran λ s row later.
       let rest : List ℕ = spelled_body cs in
       let read : first_command (command_bytes c ++ rest) ≡ Ok (record { code = proof_byte c.0; value = c.1; len = length (command_bytes c) }) = Spells-again (command_bytes c) rest (proof_byte c.0) c.1 (shortest-spells (proof_byte c.0) c.1 (known-code c.0) short) in
       let fits : length rest ≤ n = (let many = length-append (command_bytes c) rest in omega (arith, many)) in

@@ -17,7 +17,7 @@ use Rattle.mz_unify_theory.specs.Steps.{◌>>=◌, Turn, over}
 use Rattle.mz_unify_theory.specs.Profile.{Item, expr, proof, obligation, conversion}
 use Rattle.mz_unify_theory.proofs.Offered.{from_bind, some_is, taken-is}
 use Rattle.mz_machine_theory.specs.MachineState.{RowsBefore, State, Heading}
-use Rattle.mz_machine_theory.specs.ProofMachine.{push, saved, built as application, proof_row, proof_end}
+use Rattle.mz_machine_theory.specs.ProofMachine.{push, saved, built as application, proof_step, proof_end}
 use Rattle.mz_machine_theory.specs.Bodies.{body_turn}
 use Rattle.mz_emit_theory.specs.Works.{renamed, item_renamed, name_in, Work, machine}
 use Rattle.mz_emit_theory.specs.Steps.{Step, command_bytes}
@@ -43,9 +43,9 @@ top-renamed g (obligation l r ∷ xs) = refl
 top-renamed g (conversion l r ∷ xs) = refl
 
 module _ (tables : RowsBefore) (ctx : List Binder) where
-  row-builds : (at : ℕ) (c : ProofCode) (n : ℕ) (st : State Tree) (w : Work) → proof_row portable_trees tables at c n st ≡ Ok (machine ctx w)
+  row-builds : (at : ℕ) (c : ProofCode) (n : ℕ) (st : State Tree) (w : Work) → proof_step portable_trees tables at c n st ≡ Ok (machine ctx w)
       → trees_made (row_makes portable_trees tables at c n st) ≡ map (renamed (name_in w.met)) (built c w)
-  unfolding proof_row
+  unfolding proof_step
   row-builds at code.Term n st w ran =
       from_bind (application portable_trees tables at n st) _ (machine ctx w) ran λ x x-is e1.
       ap (λ (z : Result (Tree × List (Item Tree)) K). trees_made (made_of at z)) x-is
@@ -61,7 +61,7 @@ module _ (tables : RowsBefore) (ctx : List Binder) where
 -- commands that go through one after another over trees, to states that are right
 abbrev pub GoThrough : RowsBefore → (env : List Declaration) → ℕ → (ctx : List Binder) → Type 0
 GoThrough tables env n ctx = (at : ℕ) (c : ProofCode × ℕ) (w w' : Work) → IsRight (signatures env) n ctx w → Step false env ctx w c.0 c.1 w'
-    → (proof_row portable_trees tables at c.0 c.1 (machine ctx w) ≡ Ok (machine ctx w')) × IsRight (signatures env) n ctx w'
+    → (proof_step portable_trees tables at c.0 c.1 (machine ctx w) ≡ Ok (machine ctx w')) × IsRight (signatures env) n ctx w'
 
 module _ (tables : RowsBefore) (env : List Declaration) (n : ℕ) (ctx : List Binder) (go : GoThrough tables env n ctx) (h : Heading) where
   -- what is made is what is built, and right

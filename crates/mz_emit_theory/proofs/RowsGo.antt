@@ -1,4 +1,4 @@
--- What runs by the published table runs with what is asked beside numbers, where Unfold has its three items and the
+-- What runs by the standard machine runs with what is asked beside numbers, where Unfold has its three items and the
 -- streams of definitions share.
 use Rattle.std.proofs.Common.{◌≡◌, ℕ, suc, Bool, List, [], ◌∷◌, length, Some, Result, Ok, refl, sym, ap, subst, ◌∙◌, ◌⊎◌, inl, inr}
 use Rattle.std.specs.Prelude.{slice_get, ◌==◌}
@@ -19,7 +19,7 @@ use Rattle.mz_unify_theory.specs.Laws.{unfolding_by}
 use Rattle.mz_unify_theory.proofs.Offered.{length-params, from_bind, from_need, rule_of-ok, taken-is, same_tree-refl, listed-trees_of}
 use Rattle.mz_machine_theory.specs.MachineState.{RowsBefore, signatures_in, State, Kind, is_axiom, is_theorem, is_definition, Heading}
 use Rattle.mz_machine_theory.specs.FreeVars.{free_within}
-use Rattle.mz_machine_theory.specs.ProofMachine.{push, matched_by, unfolding_of, proof_row, own_variables, ends_with, proof_end}
+use Rattle.mz_machine_theory.specs.ProofMachine.{push, matched_by, unfolding_of, proof_step, own_variables, ends_with, proof_end}
 use Rattle.mz_machine_theory.proofs.Offered.{own-are}
 use Rattle.mz_pmachine_theory.specs.Making.{portable_trees}
 use Rattle.mz_pmachine_theory.proofs.Offered.{ends-too}
@@ -43,16 +43,16 @@ module _ (tables : RowsBefore) where
 
   module _ (at n t : ℕ) (st : State Tree) (es : List Tree) (e r : Tree) (rest : List (Item Tree)) (row : SpelledTerm) (stream : List ℕ) (row-at : slice_get tables.terms t ≡ Some row) (stream-is : row.stream ≡ Some stream)
       (on : st.stack ≡ expr e ∷ expr (app t (trees_of es)) ∷ obligation (app t (trees_of es)) r ∷ rest) where
-    by-table : proof_row strict tables at code.Unfold n st ≡ (rule_of (unify strict sigs st.ctx (unfolding_by stream es e)) >>= λ u. Ok (push (obligation e r) rest st))
-    unfolding proof_row unfolding_of
+    by-table : proof_step strict tables at code.Unfold n st ≡ (rule_of (unify strict sigs st.ctx (unfolding_by stream es e)) >>= λ u. Ok (push (obligation e r) rest st))
+    unfolding proof_step unfolding_of
     by-table = rw (on, same_tree-refl (app t (trees_of es)), row-at, stream-is, listed-trees_of es) refl
 
-    beside-numbers : proof_row portable_trees tables at code.Unfold n st ≡ (rule_of (unify portable_trees sigs st.ctx (unfolding_by stream es e)) >>= λ u. Ok (push (obligation e r) rest st))
-    unfolding proof_row unfolding_of
+    beside-numbers : proof_step portable_trees tables at code.Unfold n st ≡ (rule_of (unify portable_trees sigs st.ctx (unfolding_by stream es e)) >>= λ u. Ok (push (obligation e r) rest st))
+    unfolding proof_step unfolding_of
     beside-numbers = rw (on, same_tree-refl (app t (trees_of es)), row-at, stream-is, listed-trees_of es) refl
 
     pub unfold-too : SharesBody sigs row.signature.params stream → length es ≡ length row.signature.params → Sorted sigs st.ctx e → (s : State Tree)
-        → proof_row strict tables at code.Unfold n st ≡ Ok s → proof_row portable_trees tables at code.Unfold n st ≡ Ok s
+        → proof_step strict tables at code.Unfold n st ≡ Ok s → proof_step portable_trees tables at code.Unfold n st ≡ Ok s
     unfold-too shares len sorted s ran =
         from_bind (rule_of (unify strict sigs st.ctx (unfolding_by stream es e))) _ s (sym by-table ∙ ran) λ u matched e1.
         let (v, run) = shared-stream sigs st.ctx row.signature.params stream shares es e u len sorted (rule_of-ok (unify strict sigs st.ctx (unfolding_by stream es e)) u matched) in

@@ -26,7 +26,7 @@ use Rattle.mz_unify_theory.specs.Laws.{citing, unfolding_by, instances_of}
 use Rattle.mz_unify_theory.proofs.Offered.{taken, fits-length, citations-exact, unfoldings-exact, unify-plain}
 use Rattle.mz_machine_theory.specs.MachineState.{RowsBefore, signatures_in, State, Declares}
 use Rattle.mz_machine_theory.specs.Premises.{is_obligation, may_be_dummy_sort, is_provable_sort, bound_count, operands_fit, are_apart}
-use Rattle.mz_machine_theory.specs.ProofMachine.{built, cited, sides, proof_row}
+use Rattle.mz_machine_theory.specs.ProofMachine.{built, cited, sides, proof_step}
 use Rattle.mz_emit_theory.specs.Works.{renamed, all_renamed, item_renamed, name_in, Work, met_binders, machine}
 use Rattle.mz_emit_theory.specs.Steps.{stacked, kept, above, IsBuilt, IsCited, Step, Steps, command_bytes, run_commands}
 use Rattle.mz_emit_theory.specs.Sameness.{IsSameEnv}
@@ -54,7 +54,7 @@ module _ (gaps : Bool) (tables : RowsBefore) (env env' : List Declaration) (decl
 
   -- the row goes through to what is made, which is right
   abbrev Goes : ℕ → ProofCode → ℕ → Work → Work → Type 0
-  Goes at c v w w' = (proof_row (plain gaps) tables at c v (machine ctx w) ≡ Ok (machine ctx w')) × IsRight Sigs n ctx w'
+  Goes at c v w w' = (proof_step (plain gaps) tables at c v (machine ctx w) ≡ Ok (machine ctx w')) × IsRight Sigs n ctx w'
 
   goes-to : (at : ℕ) (c : ProofCode) (v : ℕ) (w w' made : Work) → w' ≡ made → Goes at c v w made → Goes at c v w w'
   goes-to at c v w w' made is h = subst (Goes at c v w) (sym is) h
@@ -89,7 +89,7 @@ module _ (gaps : Bool) (tables : RowsBefore) (env env' : List Declaration) (decl
     heap-push : (x : Item Tree) → st.heap ++ item_renamed g x ∷ [] ≡ named (w.heap ++ x ∷ [])
     heap-push x = sym (map-append (item_renamed g) w.heap (x ∷ []))
 
-    -- the row's end, where the stack is told in another way
+    -- the row's end, where the stack is reported in another way
     on-stack : (r : Result (State Tree) K) (xs ys : List (Item Tree)) → r ≡ Ok (record st { stack = xs }) → xs ≡ ys → r ≡ Ok (record st { stack = ys })
     on-stack r xs ys ran is = ran ∙ ap (λ (z : List (Item Tree)). Ok (record st { stack = z })) is
 

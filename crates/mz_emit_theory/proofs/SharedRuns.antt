@@ -1,4 +1,4 @@
--- A shared body that runs by the published table runs by address.
+-- A shared body that runs by the standard machine runs by identity.
 use Rattle.std.proofs.Common.{◌≡◌, ℕ, ◌+◌, ◌≤◌, false, List, [], ◌∷◌, ◌++◌, length, map, Result, Ok, refl, sym, ap, subst, ◌∙◌, inl, inr, arith}
 use Rattle.std.proofs.lemmas.List.{length-map}
 use Rattle.mz_cmd.specs.declared.rule.K.{K}
@@ -15,7 +15,7 @@ use Rattle.mz_unify_theory.specs.Profile.{strict, expr, obligation}
 use Rattle.mz_unify_theory.proofs.Offered.{from_bind, fits-length}
 use Rattle.mz_machine_theory.specs.MachineState.{RowsBefore, signatures_in, State, Heading, Declares}
 use Rattle.mz_machine_theory.specs.Premises.{bound_count}
-use Rattle.mz_machine_theory.specs.ProofMachine.{proof_row, proof_end}
+use Rattle.mz_machine_theory.specs.ProofMachine.{proof_step, proof_end}
 use Rattle.mz_machine_theory.specs.Bodies.{body_start, body_run, Runs}
 use Rattle.mz_machine_theory.proofs.Offered.{own-are}
 use Rattle.mz_emit_theory.specs.Works.{renamed, item_renamed, name_in, Work, work_start, machine}
@@ -54,7 +54,7 @@ module _ (tables : RowsBefore) (env env' : List Declaration) (declares : Declare
       (sorted-forward Sigs ctx w.met (deps-kept n ctx w.met first right.own) e e-right)
 
   goes-unfold : (at v : ℕ) (w w' : Work) (s : State Tree) → IsRight Sigs n ctx w → Step false env ctx w code.Unfold v w'
-      → proof_row strict tables at code.Unfold v (machine ctx w) ≡ Ok s → proof_row portable_trees tables at code.Unfold v (machine ctx w) ≡ Ok s
+      → proof_step strict tables at code.Unfold v (machine ctx w) ≡ Ok s → proof_step portable_trees tables at code.Unfold v (machine ctx w) ≡ Ok s
   goes-unfold at v w w' s right (t, es, e, r, rest, unfolding-is, on, _) ran =
       let g : ℕ → ℕ = name_in w.met in
       let (e-right, below) = subst (AreRightItems Sigs ctx w.met) on right.stack in
@@ -68,9 +68,9 @@ module _ (tables : RowsBefore) (env env' : List Declaration) (declares : Declare
   go-through : GoThrough tables env n ctx
   go-through at c w w' right step =
       let (ran, right') = steps-run false tables env env' declares same n ctx first few at (c ∷ []) w w' right (w', step, refl) in
-      let row : proof_row strict tables at c.0 c.1 (machine ctx w) ≡ Ok (machine ctx w') = from_bind (proof_row strict tables at c.0 c.1 (machine ctx w)) _ (machine ctx w') ran λ s went is. went ∙ is in (
+      let row : proof_step strict tables at c.0 c.1 (machine ctx w) ≡ Ok (machine ctx w') = from_bind (proof_step strict tables at c.0 c.1 (machine ctx w)) _ (machine ctx w') ran λ s went is. went ∙ is in (
         elim (is-unfold c.0) [
-          | inl is ↦ subst (λ (z : ProofCode). Step false env ctx w z c.1 w' → proof_row strict tables at z c.1 (machine ctx w) ≡ Ok (machine ctx w') → proof_row portable_trees tables at z c.1 (machine ctx w) ≡ Ok (machine ctx w')) (sym is)
+          | inl is ↦ subst (λ (z : ProofCode). Step false env ctx w z c.1 w' → proof_step strict tables at z c.1 (machine ctx w) ≡ Ok (machine ctx w') → proof_step portable_trees tables at z c.1 (machine ctx w) ≡ Ok (machine ctx w')) (sym is)
               (λ h went. goes-unfold at c.1 w w' (machine ctx w') right h went) step row
           | inr other ↦ rows-too tables at c.0 c.1 (machine ctx w) (machine ctx w') other row
         ],

@@ -1,4 +1,4 @@
--- Statements whose texts and bodies share run by address.
+-- Statements whose texts and bodies share run by identity.
 use Rattle.std.proofs.Common.{◌≡◌, Bool, true, false, List, [], ◌∷◌, ◌++◌, Some, refl, sym, subst}
 use Rattle.mz_logic_theory.specs.Tree.{listed}
 use Rattle.mz_logic_theory.specs.Signature.{Signature}

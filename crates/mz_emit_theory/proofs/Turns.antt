@@ -11,7 +11,7 @@ use Rattle.mz_unify_theory.specs.Steps.{◌>>=◌, at_place, Turn, over, goes_on
 use Rattle.mz_unify_theory.specs.Profile.{Profile, strict}
 use Rattle.mz_unify_theory.proofs.Offered.{from_bind, taken, taken-is}
 use Rattle.mz_machine_theory.specs.MachineState.{RowsBefore, State, Kind, Heading}
-use Rattle.mz_machine_theory.specs.ProofMachine.{matched_by, proof_row, ends_with, proof_end}
+use Rattle.mz_machine_theory.specs.ProofMachine.{matched_by, proof_step, ends_with, proof_end}
 use Rattle.mz_machine_theory.specs.Bodies.{stands_in, proves, if_allowed, body_command, body_turn, body_from, body_start, body_run}
 use Rattle.mz_emit_theory.specs.Steps.{command_bytes, run_commands}
 use Rattle.mz_emit_theory.specs.Endings.{spelled_body, MayStand}
@@ -63,7 +63,7 @@ module _ (P : Profile) (tables : RowsBefore) (h : Heading) where
   is-proof : (c : ProofCode × ℕ) → stands_in P h.kind c.0 ≡ true → body_command P h.kind (proof_byte c.0) c.1 ≡ Some (proves c.0 c.1)
   is-proof c stands = (read-again P h.kind c.1 c.0).1 ∙ ap (λ (b : Bool). cond b (Some (proves c.0 c.1)) None) stands
 
-  pub turn-is : (at : ℕ) (c : ProofCode × ℕ) (rest : List ℕ) (st s : State P.T) → stands_in P h.kind c.0 ≡ true → c.1 < 2 ^ 32 → proof_row P tables at c.0 c.1 st ≡ Ok s
+  pub turn-is : (at : ℕ) (c : ProofCode × ℕ) (rest : List ℕ) (st s : State P.T) → stands_in P h.kind c.0 ≡ true → c.1 < 2 ^ 32 → proof_step P tables at c.0 c.1 st ≡ Ok s
       → body_turn P tables h at (command_bytes c ++ rest) st (first_command (command_bytes c ++ rest)) ≡ Ok (goes_on (length (command_bytes c)) s)
   turn-is at c rest st s stands short row = rw (is-read c rest short, is-proof c stands, row) refl
 
@@ -86,7 +86,7 @@ module _ (P : Profile) (tables : RowsBefore) (h : Heading) where
       let many = length-append (command_bytes c) (spelled_body cs) in
       absurd (omega (arith, many))
   ends-from (suc n) at (c ∷ cs) st s last le (stands, short, stand) ran ended =
-      from_bind (proof_row P tables at c.0 c.1 st) _ s ran λ next row later.
+      from_bind (proof_step P tables at c.0 c.1 st) _ s ran λ next row later.
       let rest : List ℕ = spelled_body cs in
       let fits : length rest ≤ n = (let many = length-append (command_bytes c) rest in omega (arith, many)) in
       let goes : body_from P tables h n (at + length (command_bytes c)) (drop (length (command_bytes c)) (command_bytes c ++ rest)) next ≡ Ok last =

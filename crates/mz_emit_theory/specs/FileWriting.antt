@@ -72,7 +72,7 @@ IsWrittenDeclaration gaps p env is_local (term_decl d) (term_decl d') bytes = Is
 IsWrittenDeclaration gaps p env is_local (assertion_decl a) (assertion_decl a') bytes = (a ≡ a') × IsWrittenAssertion gaps p env a bytes
 IsWrittenDeclaration gaps p env is_local d d' bytes = ⊥
 
--- the text's statement and the made one have one mark, which the code says with the kind
+-- the text's statement and the made one have one visibility, which the code says with the kind
 pub record IsWrittenStatement (gaps : Bool) (p : Parts) (env : List Declaration) (t s : Statement) (w : Written) : Type 0 where
   pub mark : t.is_local ≡ s.is_local
   pub code : HasKind w.code s

@@ -23,8 +23,8 @@ use Rattle.mz_emit_theory.specs.SharedRows.{SharesBody, IsSharedRow, AreSharedRo
 
 -- ---- bodies
 
--- Over rows whose definitions' streams share, a body that is shared and has no gaps (`IsSharedBody`) runs by address:
--- where it runs by the published table, and where its steps have made what its row spells.
+-- Over rows whose definitions' streams share, a body that is shared and has no gaps (`IsSharedBody`) runs by identity:
+-- where it runs by the standard machine, and where its steps have made what its row spells.
 abbrev pub SharedBodiesRunByAddress : Type 0
 SharedBodiesRunByAddress = (tables : RowsBefore) (env env' : List Declaration) → Declares tables env' → IsSameEnv env env' → AreSharedRows tables.terms
     → (h : Heading) (dummies : List Binder) → IsSharedHeading (signatures_in tables) h → DependOnFirst (length h.params) (h.params ++ dummies)
@@ -34,7 +34,7 @@ SharedBodiesRunByAddress = (tables : RowsBefore) (env env' : List Declaration) �
 -- ---- statements
 
 -- The body of an axiom or a theorem whose parameters are right, which shares over dummies without dependencies, runs by
--- address where it runs by the published table, whatever stream the row has.
+-- address where it runs by the standard machine, whatever stream the row has.
 abbrev pub AssertionsRunByAddress : Type 0
 AssertionsRunByAddress = (tables : RowsBefore) (env env' : List Declaration) → Declares tables env' → IsSameEnv env env' → AreSharedRows tables.terms
     → (a : Assertion) (dummies : List Binder) (stream : List ℕ) (at : ℕ) (bytes : List ℕ) → AreParams (sorts env) a.params → Each dummies (λ _ b. b.deps ≡ [])

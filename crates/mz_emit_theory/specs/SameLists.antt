@@ -17,7 +17,7 @@ IsSameDeclaration (assertion_decl a) (sort_decl n) = ⊥
 IsSameDeclaration (assertion_decl a) (term_decl e) = ⊥
 IsSameDeclaration (assertion_decl a) (assertion_decl b) = a ≡ b
 
--- the same mark, and the same declaration
+-- the same visibility, and the same declaration
 abbrev pub IsSameStatement : Statement → Statement → Type 0
 IsSameStatement t s = (t.is_local ≡ s.is_local) × IsSameDeclaration t.decl s.decl
 

@@ -20,7 +20,7 @@ use Rattle.mz_unify_theory.specs.Profile.{Profile, Item, expr, proof, obligation
 use Rattle.mz_unify_theory.specs.Laws.{IsCitedAs}
 use Rattle.mz_machine_theory.specs.MachineState.{RowsBefore, State}
 use Rattle.mz_machine_theory.specs.Premises.{is_obligation}
-use Rattle.mz_machine_theory.specs.ProofMachine.{sides, proof_row}
+use Rattle.mz_machine_theory.specs.ProofMachine.{sides, proof_step}
 use Rattle.mz_emit_theory.specs.Works.{Work}
 
 -- ---- a new stack, and one more item in the heap
@@ -112,4 +112,4 @@ command_bytes c = shortest (proof_byte c.0) c.1
 -- commands in their shortest spellings, the first of which stands at a place
 abbrev pub run_commands : (P : Profile) → RowsBefore → ℕ → List (ProofCode × ℕ) → State P.T → Result (State P.T) K
 run_commands P tables at [] st = Ok st
-run_commands P tables at (c ∷ cs) st = proof_row P tables at c.0 c.1 st >>= run_commands P tables (at + length (command_bytes c)) cs
+run_commands P tables at (c ∷ cs) st = proof_step P tables at c.0 c.1 st >>= run_commands P tables (at + length (command_bytes c)) cs

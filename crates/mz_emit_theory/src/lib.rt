@@ -12,10 +12,10 @@
 //! `specs/Writing.antt` says it statement by statement, of rows, codes and bodies. Nothing there speaks of places in
 //! the file.
 //!
-//! Bodies that share what they build run by address.
+//! Bodies that share what they build run by identity.
 //!
 //! `specs/SharedRows.antt` has rows whose definitions' streams share. Over these a body that builds no
-//! application twice runs by address where it runs by the published table (`specs/Laws.antt`).
+//! application twice runs by identity where it runs by the standard machine (`specs/Laws.antt`).
 //!
 //! The unify streams that a compiler writes, as a function, and that they spell what they are written for and build
 //! no application twice once all its dummies are met.
@@ -35,7 +35,7 @@ pub use file_laws::{
     words_say_what_is_written, writing_grows, written_files_are_good,
 };
 pub use portable_laws::{
-    shared_rows_grow, shared_runs_are_portable_runs, shared_statements_run_by_address,
+    shared_rows_grow, shared_runs_are_portable_runs, shared_statements_run_by_identity,
 };
 pub use stream_laws::{
     spelled_lists_are_same, streams_are_short, streams_build, streams_share, streams_spell,

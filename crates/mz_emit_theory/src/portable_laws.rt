@@ -1,8 +1,8 @@
 // Laws on the definitions: the contract of each function is one, and its body is empty.
 ghost use Rattle.mz_emit_theory.specs.PortableLaws.{AssertionsRunByAddress, DefinitionsRunByAddress, SharedAtFirst, SharedBodiesRunByAddress, SharedTextsShare, SharedWithTerm, WrittenDefinitionsShare};
 
-/// A body that is shared runs by address, over rows whose definitions' streams save no application before
-/// its dummies are met: where it runs by the published table, and where its steps have made what its row
+/// A body that is shared runs by identity, over rows whose definitions' streams save no application before
+/// its dummies are met: where it runs by the standard machine, and where its steps have made what its row
 /// spells. Shared are bodies that build no application twice, with each Unfold's middle item, and without
 /// ConvRef.
 pub fn shared_runs_are_portable_runs()
@@ -11,7 +11,7 @@ pub fn shared_runs_are_portable_runs()
 
 /// So do the bodies of statements whose texts and bodies share, as those of a compiled file do; and the
 /// table shares after each definition.
-pub fn shared_statements_run_by_address()
+pub fn shared_statements_run_by_identity()
     ensures assertions { AssertionsRunByAddress }
     ensures definitions { DefinitionsRunByAddress }
 {}

@@ -42,7 +42,7 @@ row_checks file =
     each_in_order (term_check file) (range_with_len 0 (term_count file))
     >> each_in_order (thm_check file) (range_with_len 0 (thm_count file))
 
--- each with the place and the rule that are told where it is the first that fails
+-- each with the place and the rule that are reported where it is the first that fails
 abbrev pub layout_checks : List ℕ → Checks (ℕ × K)
 layout_checks file = header_checks file >> table_checks file >> row_checks file
 

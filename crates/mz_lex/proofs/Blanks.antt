@@ -31,6 +31,6 @@ via-forward text from to (stop ∷ stops) via = omega (arith, gap-forward text f
 pub blank-forward : (text : List ℕ) (from to : ℕ) → IsBlank text from to → from ≤ to
 blank-forward text from to (stops, via) = via-forward text from to stops via
 
--- the same lexeme, told of an equal token
+-- the same lexeme, reported of an equal token
 pub retold : (text : List ℕ) (from : ℕ) (t u : Token) → t ≡ u → IsNext text from (lexeme text u) → IsNext text from (lexeme text t)
 retold text from t u same next = let P : Token → Type 0 = λ v. IsNext text from (lexeme text v) in subst P (sym same) next

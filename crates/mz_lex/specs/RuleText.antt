@@ -1,4 +1,4 @@
--- The rules of a specification: their printed words, and those that the lexer tells (this project's own).
+-- The rules of a specification: their printed words, and those that the lexer says (this project's own).
 use Rattle.std.specs.Prelude.{ℕ, List, codes}
 use Rattle.mz_lex.specs.declared.rule.S.{S}
 use Rattle.mz_lex.specs.declared.rule.S.TheVariants as rules
@@ -31,7 +31,7 @@ abbrev pub rule_of : LexFault → S
 rule_of (faults.Char at) = rules.Character
 rule_of (faults.Token at) = rules.Token
 
--- where it is told
+-- where it is reported
 abbrev pub place_of : LexFault → ℕ
 place_of (faults.Char at) = at
 place_of (faults.Token at) = at

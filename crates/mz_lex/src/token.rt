@@ -48,7 +48,7 @@ impl LexFault {
         }
     }
 
-    /// The byte at which it is told.
+    /// The byte at which it is reported.
     pub fn place(self) -> u32
         ensures { result ≡ place_of self }
     {

@@ -133,7 +133,7 @@ module _ (params : List Binder) (es : Trees) where
     abbrev pub NamesOwn : ℕ → Type 0
     NamesOwn i = (x : ℕ) (p : Binder) → slice_get params i ≡ Some p → InV ctx x (operand es i) → Contains owned x → IsOwn p i x
 
-    -- told by a set of its own
+    -- reported by a set of its own
     module _ (i : ℕ) (p : Binder) (at : slice_get params i ≡ Some p) (its : List ℕ) (own : (x : ℕ) → Contains its x ↔ IsOwn p i x) where
       pub own-by : (b : Bool) → IsTrue b ↔ ((x : ℕ) × IsOther owned its x × InV ctx x (operand es i)) → IsTrue (not b) ↔ NamesOwn i
       own-by true (to, from) = (

@@ -1,4 +1,4 @@
-//! Which variables an expression names, told in one walk over it whatever their number (Carneiro, the
+//! Which variables an expression names, reported in one walk over it whatever their number (Carneiro, the
 //! section on variables and dependencies). What V and FV are is said in `mz_logic_theory`.
 #![tactic(auto)]
 

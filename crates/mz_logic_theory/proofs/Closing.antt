@@ -65,7 +65,7 @@ module _ (env : List Declaration) (right : RightEnv env) (P Q : ℕ → Type 0) 
   abbrev AllClose : List Binder → Trees → Type 0
   AllClose ctx es = (new : List Binder) × AreDummies (sorts env) new × ((ds : Derivations) × AllCiteOnly (without_gaps Q) ds × AllDerive env (ctx ++ new) hyps ds es)
 
-  -- a cited theorem's closed derivation takes the place of the citation
+  -- a cited theorem's derivation from axioms alone takes the place of the citation
   cite_closed : (ctx new : List Binder) → IsScoped ctx → AreDummies (sorts env) new → (T : ℕ) (a : Assertion) → slice_get (assertions env) T ≡ Some a
       → (es : Trees) → Fits (signatures env) ctx es a.params → Apart ctx es a.params
       → (ds : Derivations) → AllCiteOnly (without_gaps Q) ds → AllDerive env (ctx ++ new) hyps ds (instances es a.hyps)

@@ -16,11 +16,11 @@ IsAxiomIn env T = (a : Assertion) × (slice_get (assertions env) T ≡ Some a) �
 abbrev pub CitesAxioms : List Declaration → Derivation → Type 0
 CitesAxioms env d = CitesOnly (without_gaps (IsAxiomIn env)) d
 
--- the conclusion has a closed derivation over env from the hypotheses, with finitely many dummies
+-- the conclusion has a derivation from axioms alone over env from the hypotheses, with finitely many dummies
 abbrev pub IsClosed : List Declaration → Assertion → Type 0
 IsClosed env a = IsProvedBy CitesAxioms env a
 
--- each theorem has a closed derivation over the statements before it: it rests on no axiom that is
+-- each theorem has a derivation from axioms alone over the statements before it: it rests on no axiom that is
 -- declared after it
 abbrev pub TheoremsClosed : List Statement → Type 0
 TheoremsClosed list = (before after : List Statement) (s : Statement) (a : Assertion)

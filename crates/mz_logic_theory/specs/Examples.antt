@@ -74,7 +74,7 @@ four = public wff_sort ∷ public im_term ∷ public (assertion_decl ax_1) ∷ p
 abbrev pub FourAreLegal : Type 0
 FourAreLegal = Legal four
 
--- with ax_1 marked local, or not there, they aren't
+-- with ax_1 declared local, or not there, they aren't
 abbrev pub LocalAxiomFails : Type 0
 LocalAxiomFails = Legal (public wff_sort ∷ public im_term ∷ record { is_local = true; decl = assertion_decl ax_1 } ∷ []) → ⊥
 

@@ -126,7 +126,7 @@ LegalBySupports = (list : List Statement) (cited support : ℕ → ℕ → Bool)
     → AreSupports (declarations list) (λ T U. cited T U ≡ true) (λ T A. support T A ≡ true)
     → LegalBy (by_number (λ T U. cited T U ≡ true)) list → LegalBy (on_support (λ T A. support T A ≡ true)) list
 
--- each theorem of a legal list has a closed derivation over the statements before it
+-- each theorem of a legal list has a derivation from axioms alone over the statements before it
 abbrev pub LegalListsAreClosed : Type 0
 LegalListsAreClosed = (list : List Statement) → Legal list → TheoremsClosed list
 

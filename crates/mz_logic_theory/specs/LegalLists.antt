@@ -9,7 +9,7 @@ use Rattle.mz_logic_theory.specs.Derivations.{Derivation, Derives, IsGapFree}
 use Rattle.mz_logic_theory.specs.declared.binder.Binder.{Binder}
 use Rattle.mz_logic_theory.specs.declared.binder.SortMods.{SortMods}
 
--- a declaration with its mark: local, or public
+-- a declaration with its visibility: local, or public
 pub record Statement : Type 0 where
   pub is_local : Bool
   pub decl : Declaration

@@ -9,7 +9,7 @@ pub fn implication_is_derived()
     ensures turned { A1iTurnedFails }
 {}
 
-/// A sort, a term, an axiom and a theorem are a legal list; with the axiom marked local they aren't.
+/// A sort, a term, an axiom and a theorem are a legal list; with the axiom declared local they aren't.
 pub fn four_statements_are_legal()
     ensures holds { FourAreLegal }
     ensures local { LocalAxiomFails }

@@ -121,7 +121,7 @@ impl Hyps {
     }
 
     /// Whether the i-th hypothesis and the one before it are of one formula, kept once for both. No
-    /// clause says that it is told where it is so, since how formulas are kept isn't to be seen.
+    /// clause says that it is reported where it is so, since how formulas are kept isn't to be seen.
     pub fn shares_with_previous(&self, i: usize) -> bool
         requires { 0 < i }
         ensures { IsTrue result → slice_get (listed self.now) (i - 1) ≡ slice_get (listed self.now) i }

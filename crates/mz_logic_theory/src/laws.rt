@@ -55,7 +55,7 @@ pub fn legal_lists_are_legal_envs()
     ensures { LegalListsAreLegalEnvs }
 {}
 
-/// Each theorem of a legal list has a closed derivation over the statements before it: it follows
+/// Each theorem of a legal list has a derivation from axioms alone over the statements before it: it follows
 /// from its hypotheses and the axioms before it alone, and among these from those of its support.
 pub fn legal_lists_are_closed()
     ensures by_axioms { LegalByAxioms }

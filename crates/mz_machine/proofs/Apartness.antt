@@ -1,4 +1,4 @@
--- The words of a store that tells all variables.
+-- The words of a store that names all variables.
 use Rattle.std.proofs.Common.{◌≡◌, ℕ, List, subst}
 use Rattle.mz_logic_theory.specs.Signature.{Signature}
 use Rattle.mz_store.specs.Bits.{Tells, bound_vars}

@@ -13,7 +13,7 @@ use Rattle.mz_unify_theory.specs.Profile.{Profile, Item, proof}
 use Rattle.mz_unify_theory.specs.UnifyMachine.{in_citation, Matching, UnifyState, unify, unify_steps}
 use Rattle.mz_machine_theory.specs.MachineState.{RowsBefore, State, signatures_in}
 use Rattle.mz_machine_theory.specs.Premises.{pop_expr, pop_operands, operands_fit, are_apart}
-use Rattle.mz_machine_theory.specs.ProofMachine.{proof_row, citation, cited}
+use Rattle.mz_machine_theory.specs.ProofMachine.{proof_step, citation, cited}
 use Rattle.mz_machine_theory.specs.Bodies.{row_steps}
 use Rattle.mz_machine_env.specs.Before.{Before, tables_of, signatures_of}
 use Rattle.mz_machine_theory.specs.FileRows.{thm_of_file}
@@ -110,31 +110,31 @@ module _ (P : Profile) (trees : List P.T → List Tree) (trees-are : (es : List 
 
 module _ (P : Profile) (tables : RowsBefore) (at t : ℕ) (st : State P.T) where
   module _ (rule : K) (stopped : citation P tables t st ≡ Err rule) where
-    pub thm-stopped : proof_row P tables at code.Thm t st ≡ Err rule
-    unfolding proof_row cited
+    pub thm-stopped : proof_step P tables at code.Thm t st ≡ Err rule
+    unfolding proof_step cited
     thm-stopped = rw stopped refl
 
-    pub thm-save-stopped : proof_row P tables at code.ThmSave t st ≡ Err rule
-    unfolding proof_row cited
+    pub thm-save-stopped : proof_step P tables at code.ThmSave t st ≡ Err rule
+    unfolding proof_step cited
     thm-save-stopped = rw stopped refl
 
   module _ (m : Matching P.T) (asked : citation P tables t st ≡ Ok m) where
     module _ (place : ℕ) (rule : K) (refused : unify P (signatures_in tables) st.ctx m ≡ Err (place, rule)) where
-      pub thm-refused : proof_row P tables at code.Thm t st ≡ Err rule
-      unfolding proof_row cited
+      pub thm-refused : proof_step P tables at code.Thm t st ≡ Err rule
+      unfolding proof_step cited
       thm-refused = rw (asked, refused) refl
 
-      pub thm-save-refused : proof_row P tables at code.ThmSave t st ≡ Err rule
-      unfolding proof_row cited
+      pub thm-save-refused : proof_step P tables at code.ThmSave t st ≡ Err rule
+      unfolding proof_step cited
       thm-save-refused = rw (asked, refused) refl
 
     module _ (u : UnifyState P.T) (done : unify P (signatures_in tables) st.ctx m ≡ Ok u) where
-      pub thm-row : proof_row P tables at code.Thm t st ≡ Ok (record st { stack = proof m.target ∷ u.items })
-      unfolding proof_row cited
+      pub thm-row : proof_step P tables at code.Thm t st ≡ Ok (record st { stack = proof m.target ∷ u.items })
+      unfolding proof_step cited
       thm-row = rw (asked, done) refl
 
-      pub thm-save-row : proof_row P tables at code.ThmSave t st ≡ Ok (record (record st { stack = proof m.target ∷ u.items }) { heap = st.heap ++ proof m.target ∷ [] })
-      unfolding proof_row cited
+      pub thm-save-row : proof_step P tables at code.ThmSave t st ≡ Ok (record (record st { stack = proof m.target ∷ u.items }) { heap = st.heap ++ proof m.target ∷ [] })
+      unfolding proof_step cited
       thm-save-row = rw (asked, done) refl
 
 pub thm-stopped-steps : (P : Profile) (tables : RowsBefore) (t : ℕ) (st : State P.T) (rule : K) → citation P tables t st ≡ Err rule → row_steps P tables code.Thm t st ≡ 0

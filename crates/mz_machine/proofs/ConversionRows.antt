@@ -16,7 +16,7 @@ use Rattle.mz_unify.specs.declared.stop.Stop.TheVariants.{Rule, Mem}
 use Rattle.mz_unify.proofs.Offered.{Parts, differ}
 use Rattle.mz_machine_theory.specs.MachineState.{RowsBefore, State, signatures_in}
 use Rattle.mz_machine_theory.specs.Premises.{pop_expr, pop_obligation, pop_proof, pop_sides}
-use Rattle.mz_machine_theory.specs.ProofMachine.{proof_row, sides, same_term, stream_of, unfolding_of}
+use Rattle.mz_machine_theory.specs.ProofMachine.{proof_step, sides, same_term, stream_of, unfolding_of}
 use Rattle.mz_machine_theory.specs.Bodies.{row_steps}
 use Rattle.mz_machine_env.proofs.Offered.{next-at}
 use Rattle.mz_machine.specs.OverStore.{Gives}
@@ -42,56 +42,56 @@ module _ {P : Profile} {head : P.T → Option ℕ} {operands : P.T → List P.T}
   one-term t l r h i = rw (parts.of_some t l h, parts.of_some t r i, eq-eqb t t refl) refl
 
   module _ (tables : RowsBefore) (at n : ℕ) (st : State P.T) (l r : P.T) (xs : List (Item P.T)) (taken : pop_obligation st.stack ≡ Ok (l, r, xs)) where
-    pub refl-row : l ≡ r → proof_row P tables at code.Refl n st ≡ Ok (record st { stack = xs })
-    unfolding proof_row
+    pub refl-row : l ≡ r → proof_step P tables at code.Refl n st ≡ Ok (record st { stack = xs })
+    unfolding proof_step
     refl-row e = rw (taken, same l r e) refl
 
-    pub refl-other : (l ≡ r → ⊥) → proof_row P tables at code.Refl n st ≡ Err k.Refl
-    unfolding proof_row
+    pub refl-other : (l ≡ r → ⊥) → proof_step P tables at code.Refl n st ≡ Err k.Refl
+    unfolding proof_step
     refl-other h = rw (taken, differ parts l r h) refl
 
-    pub cong-variable : head l ≡ None → proof_row P tables at code.Cong n st ≡ Err k.Cong
-    unfolding proof_row
+    pub cong-variable : head l ≡ None → proof_step P tables at code.Cong n st ≡ Err k.Cong
+    unfolding proof_step
     cong-variable h = rw (taken, parts.of_none l h) refl
 
-    pub cong-other : (t : ℕ) → head l ≡ Some t → (head r ≡ Some t → ⊥) → proof_row P tables at code.Cong n st ≡ Err k.Cong
-    unfolding proof_row
+    pub cong-other : (t : ℕ) → head l ≡ Some t → (head r ≡ Some t → ⊥) → proof_step P tables at code.Cong n st ≡ Err k.Cong
+    unfolding proof_step
     cong-other t h other = rw (taken, two-terms t l r h other) refl
 
-    pub cong-row : (t : ℕ) → head l ≡ Some t → head r ≡ Some t → proof_row P tables at code.Cong n st ≡ Ok (record st { stack = sides (operands l) (operands r) xs })
-    unfolding proof_row
+    pub cong-row : (t : ℕ) → head l ≡ Some t → head r ≡ Some t → proof_step P tables at code.Cong n st ≡ Ok (record st { stack = sides (operands l) (operands r) xs })
+    unfolding proof_step
     cong-row t h i = rw (taken, one-term t l r h i) refl
 
 -- ---- Conv and Symm, and obligations that aren't there
 
 module _ (P : Profile) (tables : RowsBefore) (at n : ℕ) (st : State P.T) where
-  pub conv-unproved : (d : K) → pop_proof st.stack ≡ Err d → proof_row P tables at code.Conv n st ≡ Err d
-  unfolding proof_row
+  pub conv-unproved : (d : K) → pop_proof st.stack ≡ Err d → proof_step P tables at code.Conv n st ≡ Err d
+  unfolding proof_step
   conv-unproved d none = rw none refl
 
-  pub symm-unowed : (d : K) → pop_obligation st.stack ≡ Err d → proof_row P tables at code.Symm n st ≡ Err d
-  unfolding proof_row
+  pub symm-unowed : (d : K) → pop_obligation st.stack ≡ Err d → proof_step P tables at code.Symm n st ≡ Err d
+  unfolding proof_step
   symm-unowed d none = rw none refl
 
-  pub refl-unowed : (d : K) → pop_obligation st.stack ≡ Err d → proof_row P tables at code.Refl n st ≡ Err d
-  unfolding proof_row
+  pub refl-unowed : (d : K) → pop_obligation st.stack ≡ Err d → proof_step P tables at code.Refl n st ≡ Err d
+  unfolding proof_step
   refl-unowed d none = rw none refl
 
-  pub cong-unowed : (d : K) → pop_obligation st.stack ≡ Err d → proof_row P tables at code.Cong n st ≡ Err d
-  unfolding proof_row
+  pub cong-unowed : (d : K) → pop_obligation st.stack ≡ Err d → proof_step P tables at code.Cong n st ≡ Err d
+  unfolding proof_step
   cong-unowed d none = rw none refl
 
   module _ (p : P.T) (xs : List (Item P.T)) (proved : pop_proof st.stack ≡ Ok (p, xs)) where
-    pub conv-unclaimed : (d : K) → pop_expr xs ≡ Err d → proof_row P tables at code.Conv n st ≡ Err d
-    unfolding proof_row
+    pub conv-unclaimed : (d : K) → pop_expr xs ≡ Err d → proof_step P tables at code.Conv n st ≡ Err d
+    unfolding proof_step
     conv-unclaimed d none = rw (proved, none) refl
 
-    pub conv-row : (e : P.T) (ys : List (Item P.T)) → pop_expr xs ≡ Ok (e, ys) → proof_row P tables at code.Conv n st ≡ Ok (record st { stack = obligation e p ∷ proof e ∷ ys })
-    unfolding proof_row
+    pub conv-row : (e : P.T) (ys : List (Item P.T)) → pop_expr xs ≡ Ok (e, ys) → proof_step P tables at code.Conv n st ≡ Ok (record st { stack = obligation e p ∷ proof e ∷ ys })
+    unfolding proof_step
     conv-row e ys claimed = rw (proved, claimed) refl
 
-  pub symm-row : (l r : P.T) (xs : List (Item P.T)) → pop_obligation st.stack ≡ Ok (l, r, xs) → proof_row P tables at code.Symm n st ≡ Ok (record st { stack = obligation r l ∷ xs })
-  unfolding proof_row
+  pub symm-row : (l r : P.T) (xs : List (Item P.T)) → pop_obligation st.stack ≡ Ok (l, r, xs) → proof_step P tables at code.Symm n st ≡ Ok (record st { stack = obligation r l ∷ xs })
+  unfolding proof_step
   symm-row l r xs owed = rw owed refl
 
 -- ---- the sides of operands
@@ -159,26 +159,26 @@ module _ (P : Profile) (tables : RowsBefore) (st : State P.T) where
 
   -- ---- Unfold
 
-  pub unfold-stopped : (at n : ℕ) (d : K) → unfolding_of P tables st ≡ Err d → proof_row P tables at code.Unfold n st ≡ Err d
-  unfolding proof_row
+  pub unfold-stopped : (at n : ℕ) (d : K) → unfolding_of P tables st ≡ Err d → proof_step P tables at code.Unfold n st ≡ Err d
+  unfolding proof_step
   unfold-stopped at n d e = rw e refl
 
   pub stopped-steps : (n : ℕ) (d : K) → unfolding_of P tables st ≡ Err d → row_steps P tables code.Unfold n st ≡ 0
   stopped-steps n d e = rw e refl
 
   module _ (m : Matching P.T) (r : P.T) (xs : List (Item P.T)) (is : unfolding_of P tables st ≡ Ok (m, r, xs)) where
-    pub unfold-refused : (at n place : ℕ) (d : K) → unify P (signatures_in tables) st.ctx m ≡ Err (place, d) → proof_row P tables at code.Unfold n st ≡ Err d
-    unfolding proof_row
+    pub unfold-refused : (at n place : ℕ) (d : K) → unify P (signatures_in tables) st.ctx m ≡ Err (place, d) → proof_step P tables at code.Unfold n st ≡ Err d
+    unfolding proof_step
     unfold-refused at n place d e = rw (is, e) refl
 
-    pub unfold-row : (at n : ℕ) (u : UnifyState P.T) → unify P (signatures_in tables) st.ctx m ≡ Ok u → proof_row P tables at code.Unfold n st ≡ Ok (record st { stack = obligation m.target r ∷ xs })
-    unfolding proof_row
+    pub unfold-row : (at n : ℕ) (u : UnifyState P.T) → unify P (signatures_in tables) st.ctx m ≡ Ok u → proof_step P tables at code.Unfold n st ≡ Ok (record st { stack = obligation m.target r ∷ xs })
+    unfolding proof_step
     unfold-row at n u e = rw (is, e) refl
 
     pub unfold-steps : (n : ℕ) → row_steps P tables code.Unfold n st ≡ unify_steps P (signatures_in tables) st.ctx m
     unfold-steps n = rw is refl
 
--- what is put on the stack, or want of memory
+-- what is put on the stack, or out of memory
 pub gives-stack : {A T : Type 0} (st : State T) (row : Result (State T) K) (ys zs : List (Item T)) (result : Result A Stop)
     → row ≡ Ok (record st { stack = ys }) → OnOk result (zs ≡ ys) → MatchResult result (λ _. ⊤) (λ stop. StopsBy stop (λ _. ⊥)) → Gives row result (λ _. record st { stack = zs })
 gives-stack st row ys zs (Ok x) is ok err = rw ok is

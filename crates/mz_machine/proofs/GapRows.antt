@@ -13,7 +13,7 @@ use Rattle.mz_unify_theory.specs.UnifyMachine.{Matching}
 use Rattle.mz_unify_theory.proofs.Offered.{unify_steps-plain}
 use Rattle.mz_machine_theory.specs.MachineState.{RowsBefore, State, signatures_in, Kind, Heading}
 use Rattle.mz_machine_theory.specs.Premises.{pop, is_provable_sort}
-use Rattle.mz_machine_theory.specs.ProofMachine.{proof_row, citation, unfolding_of, ends_with}
+use Rattle.mz_machine_theory.specs.ProofMachine.{proof_step, citation, unfolding_of, ends_with}
 use Rattle.mz_machine_theory.specs.Bodies.{proves, body_command, match_steps, fst_of, row_steps, body_start}
 use Rattle.mz_machine.specs.Steps.{row_by, steps_by, is_sorry}
 use Rattle.mz_machine_env.specs.Before.{Before, tables_of, signatures_of}
@@ -23,35 +23,35 @@ use Rattle.mz_unify.specs.declared.stop.Stop.TheVariants.{Rule, Mem}
 use Rattle.mz_machine_theory.proofs.Offered.{citation-plain, unfolding-plain, row-plain, ends-plain, own-plain, command-plain}
 
 module _ (b : Before) (at n : ℕ) (st : State Tree) where
-  pub gap-none : (d : K) → pop st.stack ≡ Err d → proof_row draft (tables_of b) at code.Sorry n st ≡ Err d
-  unfolding proof_row
+  pub gap-none : (d : K) → pop st.stack ≡ Err d → proof_step draft (tables_of b) at code.Sorry n st ≡ Err d
+  unfolding proof_step
   gap-none d is = rw is refl
 
   module _ (xs : List (Item Tree)) where
-    pub gap-proof : (e : Tree) → st.stack ≡ proof e ∷ xs → proof_row draft (tables_of b) at code.Sorry n st ≡ Err k.Kind
-    unfolding proof_row
+    pub gap-proof : (e : Tree) → st.stack ≡ proof e ∷ xs → proof_step draft (tables_of b) at code.Sorry n st ≡ Err k.Kind
+    unfolding proof_step
     gap-proof e is = rw is refl
 
-    pub gap-conversion : (l r : Tree) → st.stack ≡ conversion l r ∷ xs → proof_row draft (tables_of b) at code.Sorry n st ≡ Err k.Kind
-    unfolding proof_row
+    pub gap-conversion : (l r : Tree) → st.stack ≡ conversion l r ∷ xs → proof_step draft (tables_of b) at code.Sorry n st ≡ Err k.Kind
+    unfolding proof_step
     gap-conversion l r is = rw is refl
 
     module _ (e : Tree) (s : ℕ) (is : st.stack ≡ expr e ∷ xs) (sorted : HasSort (signatures_of b) st.ctx e s) where
-      pub gap-claim : is_provable_sort (slice_get (tables_of b).sorts s) ≡ true → proof_row draft (tables_of b) at code.Sorry n st ≡ Ok (with_stack st (proof e ∷ xs))
-      unfolding proof_row
+      pub gap-claim : is_provable_sort (slice_get (tables_of b).sorts s) ≡ true → proof_step draft (tables_of b) at code.Sorry n st ≡ Ok (with_stack st (proof e ∷ xs))
+      unfolding proof_step
       gap-claim provable = rw (is, sort_is (signatures_of b) st.ctx e s sorted, provable) refl
 
-      pub gap-other : is_provable_sort (slice_get (tables_of b).sorts s) ≡ false → proof_row draft (tables_of b) at code.Sorry n st ≡ Err k.NotProvable
-      unfolding proof_row
+      pub gap-other : is_provable_sort (slice_get (tables_of b).sorts s) ≡ false → proof_step draft (tables_of b) at code.Sorry n st ≡ Err k.NotProvable
+      unfolding proof_step
       gap-other provable = rw (is, sort_is (signatures_of b) st.ctx e s sorted, provable) refl
 
     module _ (l r : Tree) (s t : ℕ) (is : st.stack ≡ obligation l r ∷ xs) (left : HasSort (signatures_of b) st.ctx l s) (right : HasSort (signatures_of b) st.ctx r t) where
-      pub gap-sides : (s == t) ≡ true → proof_row draft (tables_of b) at code.Sorry n st ≡ Ok (with_stack st xs)
-      unfolding proof_row
+      pub gap-sides : (s == t) ≡ true → proof_step draft (tables_of b) at code.Sorry n st ≡ Ok (with_stack st xs)
+      unfolding proof_step
       gap-sides same = rw (is, sort_is (signatures_of b) st.ctx l s left, sort_is (signatures_of b) st.ctx r t right, same) refl
 
-      pub gap-sorts : (s == t) ≡ false → proof_row draft (tables_of b) at code.Sorry n st ≡ Err k.Sorry
-      unfolding proof_row
+      pub gap-sorts : (s == t) ≡ false → proof_step draft (tables_of b) at code.Sorry n st ≡ Err k.Sorry
+      unfolding proof_step
       gap-sorts same = rw (is, sort_is (signatures_of b) st.ctx l s left, sort_is (signatures_of b) st.ctx r t right, same) refl
 
 -- ---- steps
@@ -115,8 +115,8 @@ sorry-is code.ConvSave e = absurd cc
 sorry-is code.Save e = absurd cc
 sorry-is code.Sorry e = refl
 
--- it is the published table's where gaps aren't let through, or where it is no gap
-by-table : (gaps : Bool) (tables : RowsBefore) (at : ℕ) (c : ProofCode) (n : ℕ) (st : State Tree) → (gaps && is_sorry (Some c)) ≡ false → proof_row (plain gaps) tables at c n st ≡ proof_row strict tables at c n st
+-- it is the standard machine's where gaps aren't let through, or where it is no gap
+by-table : (gaps : Bool) (tables : RowsBefore) (at : ℕ) (c : ProofCode) (n : ℕ) (st : State Tree) → (gaps && is_sorry (Some c)) ≡ false → proof_step (plain gaps) tables at c n st ≡ proof_step strict tables at c n st
 by-table false tables at c n st no_ = refl
 by-table true tables at c n st no_ = row-plain true tables at c n st (λ is. let bad : true ≡ false = ap (λ x. is_sorry (Some x)) (sym is) ∙ no_ in cc)
 
@@ -124,17 +124,17 @@ module _ (gaps : Bool) (tables : RowsBefore) (kind : Kind) (byte value : ℕ) (c
   pub stands-here : body_command (plain gaps) kind byte value ≡ Some (proves c value)
   stands-here = command-plain gaps kind byte value ∙ here
 
-  pub its-row : (at : ℕ) (st : State Tree) → (gaps && is_sorry (Some c)) ≡ false → row_by gaps tables at st (body_command (plain gaps) kind byte value) ≡ proof_row strict tables at c value st
+  pub its-row : (at : ℕ) (st : State Tree) → (gaps && is_sorry (Some c)) ≡ false → row_by gaps tables at st (body_command (plain gaps) kind byte value) ≡ proof_step strict tables at c value st
   its-row at st no_ = ap (row_by gaps tables at st) stands-here ∙ by-table gaps tables at c value st no_
 
   both : (a b : Bool) → (a && b) ≡ true → (a ≡ true) × (b ≡ true)
   both true b e = (refl, e)
   both false b e = absurd cc
 
-  pub its-gap : (at : ℕ) (st : State Tree) → (gaps && is_sorry (Some c)) ≡ true → row_by gaps tables at st (body_command (plain gaps) kind byte value) ≡ proof_row draft tables at code.Sorry value st
+  pub its-gap : (at : ℕ) (st : State Tree) → (gaps && is_sorry (Some c)) ≡ true → row_by gaps tables at st (body_command (plain gaps) kind byte value) ≡ proof_step draft tables at code.Sorry value st
   its-gap at st is =
       let (allowed, sorry) = both gaps (is_sorry (Some c)) is in
-      ap (row_by gaps tables at st) stands-here ∙ ap (λ g. proof_row (plain g) tables at c value st) allowed ∙ ap (λ x. proof_row draft tables at x value st) (sorry-is c sorry)
+      ap (row_by gaps tables at st) stands-here ∙ ap (λ g. proof_step (plain g) tables at c value st) allowed ∙ ap (λ x. proof_step draft tables at x value st) (sorry-is c sorry)
 
   pub its-steps : (st : State Tree) → steps_by gaps tables st (body_command (plain gaps) kind byte value) ≡ suc (row_steps strict tables c value st)
   its-steps st = ap (steps_by gaps tables st) stands-here ∙ ap suc (steps-plain gaps tables st c value)

@@ -47,7 +47,7 @@ pub ruled-never : {A : Type 0} (answer : Result A K) (result : Result A Stop) �
 ruled-never (Ok x) result is = rw is tt
 ruled-never (Err d) result is = rw is (rule-not-mem d)
 
--- ---- what only want of memory can stop
+-- ---- what only running out of memory can stop
 
 pub pushed-gives : {A B : Type 0} (result : Result A Stop) (row : Result B K) (value : B) → OnOk result (row ≡ Ok value) → MatchResult result (λ _. ⊤) (λ stop. StopsBy stop (λ _. ⊥))
     → Gives row result (λ _. value)

@@ -78,7 +78,7 @@ stands kind byte value c h = first (byte == 0x00) h
     first true e = absurd cc
     first false e = second (proof_code byte) e
 
--- where a command of theorems stands, the store tells all variables
+-- where a command of theorems stands, the store names all variables
 pub tells-all : (kind : Kind) (byte value : ℕ) (c : Command) (s : Sharing) → s.mode ≡ mode_for kind → body_command strict kind byte value ≡ Some (proves (code_of c) value)
     → for_theorems c ≡ true → s.mode ≡ All
 tells-all kind byte value c s mode h theorem = mode ∙ ap mode_for (only kind c (stands kind byte value (code_of c) h) theorem)

@@ -13,7 +13,7 @@ use Rattle.mz_unify_theory.specs.Profile.{Profile, Item, expr, proof, obligation
 use Rattle.mz_unify.proofs.Offered.{Parts, differ}
 use Rattle.mz_machine_theory.specs.MachineState.{RowsBefore, State}
 use Rattle.mz_machine_theory.specs.Premises.{pop_expr, pop_obligation, is_conversion, is_obligation, may_be_dummy_sort, is_provable_sort, bound_count}
-use Rattle.mz_machine_theory.specs.ProofMachine.{proof_row, referred, has_provable_sort}
+use Rattle.mz_machine_theory.specs.ProofMachine.{proof_step, referred, has_provable_sort}
 use Rattle.mz_machine_env.specs.Before.{Before, tables_of, signatures_of}
 
 -- ---- an item of the heap
@@ -41,80 +41,80 @@ module _ {P : Profile} {head : P.T → Option ℕ} {operands : P.T → List P.T}
 module _ (P : Profile) (tables : RowsBefore) (at n : ℕ) (st : State P.T) where
   -- ---- Ref and ConvRef
 
-  pub ref-none : slice_get st.heap n ≡ None → proof_row P tables at code.Ref n st ≡ Err k.HeapIndex
-  unfolding proof_row
+  pub ref-none : slice_get st.heap n ≡ None → proof_step P tables at code.Ref n st ≡ Err k.HeapIndex
+  unfolding proof_step
   ref-none h = rw h refl
 
-  pub ref-row : (x : Item P.T) → slice_get st.heap n ≡ Some x → proof_row P tables at code.Ref n st ≡ referred P x st
-  unfolding proof_row
+  pub ref-row : (x : Item P.T) → slice_get st.heap n ≡ Some x → proof_step P tables at code.Ref n st ≡ referred P x st
+  unfolding proof_step
   ref-row x h = rw h refl
 
-  pub conv-ref-none : slice_get st.heap n ≡ None → proof_row P tables at code.ConvRef n st ≡ Err k.HeapIndex
-  unfolding proof_row
+  pub conv-ref-none : slice_get st.heap n ≡ None → proof_step P tables at code.ConvRef n st ≡ Err k.HeapIndex
+  unfolding proof_step
   conv-ref-none h = rw h refl
 
-  pub conv-ref-other : (x : Item P.T) → slice_get st.heap n ≡ Some x → is_conversion x ≡ false → proof_row P tables at code.ConvRef n st ≡ Err k.Kind
-  unfolding proof_row
+  pub conv-ref-other : (x : Item P.T) → slice_get st.heap n ≡ Some x → is_conversion x ≡ false → proof_step P tables at code.ConvRef n st ≡ Err k.Kind
+  unfolding proof_step
   conv-ref-other x h other = rw (h, other) refl
 
-  pub conv-ref-row : (x : Item P.T) → slice_get st.heap n ≡ Some x → is_conversion x ≡ true → proof_row P tables at code.ConvRef n st ≡ referred P x st
-  unfolding proof_row
+  pub conv-ref-row : (x : Item P.T) → slice_get st.heap n ≡ Some x → is_conversion x ≡ true → proof_step P tables at code.ConvRef n st ≡ referred P x st
+  unfolding proof_step
   conv-ref-row x h is = rw (h, is) refl
 
   -- ---- Save
 
-  pub save-none : st.stack ≡ [] → proof_row P tables at code.Save n st ≡ Err k.Underflow
-  unfolding proof_row
+  pub save-none : st.stack ≡ [] → proof_step P tables at code.Save n st ≡ Err k.Underflow
+  unfolding proof_step
   save-none h = rw h refl
 
-  pub save-other : (x : Item P.T) (rest : List (Item P.T)) → st.stack ≡ x ∷ rest → is_obligation x ≡ true → proof_row P tables at code.Save n st ≡ Err k.SaveKind
-  unfolding proof_row
+  pub save-other : (x : Item P.T) (rest : List (Item P.T)) → st.stack ≡ x ∷ rest → is_obligation x ≡ true → proof_step P tables at code.Save n st ≡ Err k.SaveKind
+  unfolding proof_step
   save-other x rest h is = rw (h, is) refl
 
-  pub save-row : (x : Item P.T) (rest : List (Item P.T)) → st.stack ≡ x ∷ rest → is_obligation x ≡ false → proof_row P tables at code.Save n st ≡ Ok (record st { heap = st.heap ++ x ∷ [] })
-  unfolding proof_row
+  pub save-row : (x : Item P.T) (rest : List (Item P.T)) → st.stack ≡ x ∷ rest → is_obligation x ≡ false → proof_step P tables at code.Save n st ≡ Ok (record st { heap = st.heap ++ x ∷ [] })
+  unfolding proof_step
   save-row x rest h is = rw (h, is) refl
 
   -- ---- Dummy
 
-  pub dummy-sort-fails : may_be_dummy_sort (slice_get tables.sorts n) ≡ false → proof_row P tables at code.Dummy n st ≡ Err k.DummySort
-  unfolding proof_row
+  pub dummy-sort-fails : may_be_dummy_sort (slice_get tables.sorts n) ≡ false → proof_step P tables at code.Dummy n st ≡ Err k.DummySort
+  unfolding proof_step
   dummy-sort-fails h = rw h refl
 
-  pub dummy-many : may_be_dummy_sort (slice_get tables.sorts n) ≡ true → nat_lt (bound_count st.ctx) 55 ≡ false → proof_row P tables at code.Dummy n st ≡ Err k.DummyCount
-  unfolding proof_row
+  pub dummy-many : may_be_dummy_sort (slice_get tables.sorts n) ≡ true → nat_lt (bound_count st.ctx) 55 ≡ false → proof_step P tables at code.Dummy n st ≡ Err k.DummyCount
+  unfolding proof_step
   dummy-many h many = rw (h, many) refl
 
   pub dummy-row : may_be_dummy_sort (slice_get tables.sorts n) ≡ true → nat_lt (bound_count st.ctx) 55 ≡ true
-      → proof_row P tables at code.Dummy n st ≡ Ok (record {
+      → proof_step P tables at code.Dummy n st ≡ Ok (record {
         ctx = st.ctx ++ dummy_of n ∷ [];
         heap = st.heap ++ expr (P.variable (length st.ctx)) ∷ [];
         stack = expr (P.variable (length st.ctx)) ∷ st.stack;
         hyps = st.hyps;
       })
-  unfolding proof_row
+  unfolding proof_step
   dummy-row h few = rw (h, few) refl
 
   -- ---- Sorry
 
-  pub sorry-row : P.gaps ≡ false → proof_row P tables at code.Sorry n st ≡ Err k.Sorry
-  unfolding proof_row
+  pub sorry-row : P.gaps ≡ false → proof_step P tables at code.Sorry n st ≡ Err k.Sorry
+  unfolding proof_step
   sorry-row none = rw none refl
 
   -- ---- Hyp
 
-  pub hyp-err : (rule : K) → pop_expr st.stack ≡ Err rule → proof_row P tables at code.Hyp n st ≡ Err rule
-  unfolding proof_row
+  pub hyp-err : (rule : K) → pop_expr st.stack ≡ Err rule → proof_step P tables at code.Hyp n st ≡ Err rule
+  unfolding proof_step
   hyp-err rule h = rw h refl
 
   pub hyp-other : (e : P.T) (rest : List (Item P.T)) → pop_expr st.stack ≡ Ok (e, rest) → has_provable_sort P tables st.ctx e ≡ false
-      → proof_row P tables at code.Hyp n st ≡ Err k.NotProvable
-  unfolding proof_row
+      → proof_step P tables at code.Hyp n st ≡ Err k.NotProvable
+  unfolding proof_step
   hyp-other e rest h other = rw (h, other) refl
 
   pub hyp-row : (e : P.T) (rest : List (Item P.T)) → pop_expr st.stack ≡ Ok (e, rest) → has_provable_sort P tables st.ctx e ≡ true
-      → proof_row P tables at code.Hyp n st ≡ Ok (record { ctx = st.ctx; heap = st.heap ++ proof e ∷ []; stack = rest; hyps = st.hyps ++ e ∷ [] })
-  unfolding proof_row
+      → proof_step P tables at code.Hyp n st ≡ Ok (record { ctx = st.ctx; heap = st.heap ++ proof e ∷ []; stack = rest; hyps = st.hyps ++ e ∷ [] })
+  unfolding proof_step
   hyp-row e rest h is = rw (h, is) refl
 
 -- ---- what the tests mean

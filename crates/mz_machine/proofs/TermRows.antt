@@ -17,7 +17,7 @@ use Rattle.mz_unify_theory.specs.Profile.{Profile, Item, expr}
 use Rattle.mz_unify_theory.specs.Steps.{◌>>=◌}
 use Rattle.mz_machine_theory.specs.MachineState.{RowsBefore, signatures_in, State}
 use Rattle.mz_machine_theory.specs.Premises.{pop_operands, operands_fit}
-use Rattle.mz_machine_theory.specs.ProofMachine.{proof_row, built, push, saved}
+use Rattle.mz_machine_theory.specs.ProofMachine.{proof_step, built, push, saved}
 use Rattle.mz_machine_env.specs.Before.{Before, signatures_of, words_before}
 use Rattle.mz_machine_theory.specs.FileRows.{term_of_file}
 use Rattle.mz_machine_theory.proofs.Offered.{fits-from}
@@ -26,12 +26,12 @@ use Rattle.mz_machine_env.proofs.Offered.{length-words, words-at, signatures-bef
 module _ (P : Profile) (tables : RowsBefore) (at t : ℕ) (st : State P.T) where
   -- ---- what is made decides
 
-  pub term-of : (r : Result (P.T × List (Item P.T)) K) → built P tables at t st ≡ r → proof_row P tables at code.Term t st ≡ (r >>= λ e. Ok (push (expr e.0) e.1 st))
-  unfolding proof_row
+  pub term-of : (r : Result (P.T × List (Item P.T)) K) → built P tables at t st ≡ r → proof_step P tables at code.Term t st ≡ (r >>= λ e. Ok (push (expr e.0) e.1 st))
+  unfolding proof_step
   term-of r h = ap (λ (x : Result (P.T × List (Item P.T)) K). x >>= λ e. Ok (push (expr e.0) e.1 st)) h
 
-  pub term-save-of : (r : Result (P.T × List (Item P.T)) K) → built P tables at t st ≡ r → proof_row P tables at code.TermSave t st ≡ (r >>= λ e. Ok (saved (expr e.0) (push (expr e.0) e.1 st)))
-  unfolding proof_row
+  pub term-save-of : (r : Result (P.T × List (Item P.T)) K) → built P tables at t st ≡ r → proof_step P tables at code.TermSave t st ≡ (r >>= λ e. Ok (saved (expr e.0) (push (expr e.0) e.1 st)))
+  unfolding proof_step
   term-save-of r h = ap (λ (x : Result (P.T × List (Item P.T)) K). x >>= λ e. Ok (saved (expr e.0) (push (expr e.0) e.1 st))) h
 
   pub built-none : slice_get tables.terms t ≡ None → built P tables at t st ≡ Err k.TermIndex

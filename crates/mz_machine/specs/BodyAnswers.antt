@@ -14,7 +14,7 @@ pub record CountsOf (h : Heading) (last : State Tree) (end : BodyEnd) : Type 0 w
   pub hyps : end.hyps ≡ length last.hyps
   pub dummies : end.dummies + length h.params ≡ length last.ctx
 
--- the answer is what the run of these bytes comes to; want of memory says nothing
+-- the answer is what the run of these bytes comes to; out of memory says nothing
 abbrev pub IsBodyRun : Heading → List ℕ → Result (State Tree) (ℕ × K) → BodyChecked → Type 0
 IsBodyRun h bytes r (Good end) = (last : State Tree) × (r ≡ Ok last) × CountsOf h last end × ((end.sorry ≡ true) ↔ HasGap bytes)
 IsBodyRun h bytes r (Refused at rule) = r ≡ Err (at, rule)

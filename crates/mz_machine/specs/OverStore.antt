@@ -93,11 +93,11 @@ Gives r result value = MatchResult result (λ x. r ≡ Ok (value x)) (λ stop. S
 abbrev pub GivesRule : {A B : Type 0} → Result B K → Result A K → (A → B) → Type 0
 GivesRule r result value = MatchResult result (λ x. r ≡ Ok (value x)) (λ k. r ≡ Err k)
 
--- it isn't want of memory
+-- it isn't out of memory
 abbrev pub NeverWants : {A : Type 0} → Result A Stop → Type 0
 NeverWants result = MatchResult result (λ _. ⊤) (λ stop. stop ≡ Mem → ⊥)
 
--- it isn't want of memory, and this holds; or it is
+-- it isn't out of memory, and this holds; or it is
 abbrev pub UnlessMem : {A : Type 0} → Result A Stop → Type 0 → Type 0
 UnlessMem result P = MatchResult result (λ _. P) (λ stop. StopsBy stop (λ _. P))
 

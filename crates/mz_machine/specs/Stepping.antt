@@ -43,13 +43,13 @@ pub record GoesOn (u : Underway) (c : Cmd) (after : Underway) : Type 0 where
   pub sorry : after.sorry ≡ (u.sorry || is_sorry (proof_code c.code))
   pub nodes : after.nodes ≤ u.nodes + 1
 
--- what a command leads to, its place being `at`; want of memory comes only where memory is taken
+-- what a command leads to, its place being `at`; out of memory comes only where memory is taken
 abbrev pub IsStepped : Underway → Cmd → ℕ → Stepped → Type 0
 IsStepped u c at (stepped.Machine after) = (row_of u.gaps (tables_for u) (heading_for u) at u.state c ≡ Ok after.state) × GoesOn u c after
 IsStepped u c at (stepped.Refused rule) = row_of u.gaps (tables_for u) (heading_for u) at u.state c ≡ Err rule
 IsStepped u c at stepped.Mem = TakesNone u.state (body_command (plain u.gaps) (heading_for u).kind c.code c.value) → ⊥
 
--- it isn't want of memory, and this holds; or it is
+-- it isn't out of memory, and this holds; or it is
 abbrev pub UnlessMem : Stepped → Type 0 → Type 0
 UnlessMem (stepped.Machine after) P = P
 UnlessMem (stepped.Refused rule) P = P
@@ -63,7 +63,7 @@ stepped_to after (Err stop.Mem) = stepped.Mem
 
 -- ---- the END
 
--- what the END leads to; want of memory says nothing
+-- what the END leads to; out of memory says nothing
 abbrev pub IsFinished : Underway → Finished → Type 0
 IsFinished u (finished.Body end) = (last : State Tree) × (proof_end (plain u.gaps) (tables_for u) (heading_for u) u.state ≡ Ok last) × CountsOf (heading_for u) last end × (end.sorry ≡ u.sorry)
 IsFinished u (finished.Refused rule) = proof_end (plain u.gaps) (tables_for u) (heading_for u) u.state ≡ Err rule

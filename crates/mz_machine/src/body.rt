@@ -41,7 +41,7 @@ pub enum BodyChecked {
     Good(BodyEnd),
     /// The first rule that fails, and the place of its command in the file, in bytes.
     Refused { at: u32, rule: K },
-    /// Want of memory.
+    /// Out of memory.
     Mem,
 }
 

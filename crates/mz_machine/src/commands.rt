@@ -11,7 +11,7 @@ ghost use Rattle.mz_store.specs.declared.item.Item.TheVariants.{Proof};
 ghost use Rattle.mz_store.specs.declared.item.DepsMode.TheVariants.{All};
 ghost use Rattle.mz_unify_theory.specs.Profile.{strict};
 ghost use Rattle.mz_unify.specs.Stored.{AreItemsIn};
-ghost use Rattle.mz_machine_theory.specs.ProofMachine.{proof_row};
+ghost use Rattle.mz_machine_theory.specs.ProofMachine.{proof_step};
 ghost use Rattle.mz_machine_theory.specs.Bodies.{row_steps};
 ghost use Rattle.mz_machine_env.specs.Before.{tables_of, signatures_of};
 ghost use Rattle.mz_machine_env.specs.CommandCodes.{code_of_making, code_of_converting};
@@ -49,7 +49,7 @@ fn make<L: Ledger>(
     requires stack { AreItemsIn store.old stack.old.items }
     ensures grows { OnOk result (Grows (signatures_of earlier.now) store.old store.new) }
     ensures ids { OnOk result (AreItemsIn store.new heap.new.items × AreItemsIn store.new stack.new.items) }
-    ensures row { (at : ℕ) (hyps : List Id) → AreIn store.old hyps → Gives (proof_row strict (tables_of earlier.now) at (code_of_making command) value (state_at store.old heap.old.items stack.old.items hyps)) result (λ _. state_at store.new heap.new.items stack.new.items hyps) }
+    ensures row { (at : ℕ) (hyps : List Id) → AreIn store.old hyps → Gives (proof_step strict (tables_of earlier.now) at (code_of_making command) value (state_at store.old heap.old.items stack.old.items hyps)) result (λ _. state_at store.new heap.new.items stack.new.items hyps) }
     ensures steps { (hyps : List Id) → UnlessMem result (steps.new ≡ steps.old + row_steps strict (tables_of earlier.now) (code_of_making command) value (state_at store.old heap.old.items stack.old.items hyps)) }
     ensures most { steps.new ≤ steps.old + length earlier.now.file }
 {
@@ -92,7 +92,7 @@ fn keep(
     ensures grows { OnOk result (Grows (signatures_of earlier.now) store.old store.new) }
     ensures ids { OnOk result (AreItemsIn store.new heap.new.items × AreItemsIn store.new stack.new.items × AreIn store.new hyps.new.items) }
     ensures few { OnOk result (length hyps.new.items < 2 ^ 32) }
-    ensures row { (at : ℕ) → Gives (proof_row strict (tables_of earlier.now) at (code_of_keeping command) value (state_at store.old heap.old.items stack.old.items hyps.old.items)) result (λ _. state_at store.new heap.new.items stack.new.items hyps.new.items) }
+    ensures row { (at : ℕ) → Gives (proof_step strict (tables_of earlier.now) at (code_of_keeping command) value (state_at store.old heap.old.items stack.old.items hyps.old.items)) result (λ _. state_at store.new heap.new.items stack.new.items hyps.new.items) }
     ensures never { IsTrue (takes_none (code_of_keeping command) value (state_at store.old heap.old.items stack.old.items hyps.old.items)) → NeverWants result }
 {
     match command {
@@ -160,7 +160,7 @@ fn convert<L: Ledger>(
     requires heap { AreItemsIn store.now heap.old.items }
     requires stack { AreItemsIn store.now stack.old.items }
     ensures ids { OnOk result (AreItemsIn store.now heap.new.items × AreItemsIn store.now stack.new.items) }
-    ensures row { (at value : ℕ) (hyps : List Id) → Gives (proof_row strict (tables_of earlier.now) at (code_of_converting command) value (state_at store.now heap.old.items stack.old.items hyps)) result (λ _. state_at store.now heap.new.items stack.new.items hyps) }
+    ensures row { (at value : ℕ) (hyps : List Id) → Gives (proof_step strict (tables_of earlier.now) at (code_of_converting command) value (state_at store.now heap.old.items stack.old.items hyps)) result (λ _. state_at store.now heap.new.items stack.new.items hyps) }
     ensures never { (value : ℕ) (hyps : List Id) → IsTrue (takes_none (code_of_converting command) value (state_at store.now heap.old.items stack.old.items hyps)) → NeverWants result }
     ensures steps { (value : ℕ) (hyps : List Id) → UnlessMem result (steps.new ≡ steps.old + row_steps strict (tables_of earlier.now) (code_of_converting command) value (state_at store.now heap.old.items stack.old.items hyps)) }
     ensures most { steps.new ≤ steps.old + length earlier.now.file }
@@ -180,7 +180,7 @@ fn convert<L: Ledger>(
     }
 }
 
-/// Executes a command by the published table: a gap is refused.
+/// Executes a command by the standard machine: a gap is refused.
 #[inline(always)]
 pub(crate) fn execute<L: Ledger>(
     earlier: &Earlier,
@@ -202,7 +202,7 @@ pub(crate) fn execute<L: Ledger>(
     ensures grows { OnOk result (Grows (signatures_of earlier.now) store.old store.new) }
     ensures ids { OnOk result (AreItemsIn store.new heap.new.items × AreItemsIn store.new stack.new.items × AreIn store.new hyps.new.items) }
     ensures few { OnOk result (length hyps.new.items < 2 ^ 32) }
-    ensures row { (at : ℕ) → Gives (proof_row strict (tables_of earlier.now) at (code_of command) value (state_at store.old heap.old.items stack.old.items hyps.old.items)) result (λ _. state_at store.new heap.new.items stack.new.items hyps.new.items) }
+    ensures row { (at : ℕ) → Gives (proof_step strict (tables_of earlier.now) at (code_of command) value (state_at store.old heap.old.items stack.old.items hyps.old.items)) result (λ _. state_at store.new heap.new.items stack.new.items hyps.new.items) }
     ensures never { IsTrue (takes_none (code_of command) value (state_at store.old heap.old.items stack.old.items hyps.old.items)) → NeverWants result }
     ensures steps { UnlessMem result (steps.new ≡ steps.old + row_steps strict (tables_of earlier.now) (code_of command) value (state_at store.old heap.old.items stack.old.items hyps.old.items)) }
     ensures most { steps.new ≤ steps.old + length earlier.now.file }

@@ -84,7 +84,7 @@ pub enum Stepped<'a> {
     Machine(Machine<'a>),
     /// The first rule that fails.
     Refused(K),
-    /// Want of memory.
+    /// Out of memory.
     Mem,
 }
 
@@ -95,7 +95,7 @@ pub enum Finished {
     Body(BodyEnd),
     /// The first rule that fails.
     Refused(K),
-    /// Want of memory.
+    /// Out of memory.
     Mem,
 }
 

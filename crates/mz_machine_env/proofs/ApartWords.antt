@@ -20,7 +20,7 @@ use Rattle.mz_machine_theory.specs.Premises.{operands_fit}
 use Rattle.mz_machine_env.specs.OperandRows.{AreAmong}
 use Rattle.mz_machine_env.proofs.ApartPlaces.{place-below, place-fits, apart-none, whole_row, decides-first}
 
--- the word tells all variables of the expression
+-- the word names all variables of the expression
 abbrev pub TellsV : List Binder → ℕ → Tree → Type 0
 TellsV ctx word e = Tells (bound_vars ctx) word (λ x. InV ctx x e)
 

@@ -31,7 +31,7 @@ kind-byte Axiom = refl
 kind-byte Definition = refl
 kind-byte Theorem = refl
 
--- and has it, where it was told by a code that is one of the three
+-- and has it, where it was asked by a code that is one of the three
 pub byte-kind : (code : ℕ) (k : BodyKind) → (code ≡ 0x02) ⊎ (code ≡ 0x05) ⊎ (code ≡ 0x06) → kind_of k ≡ kind_at code → byte_of k ≡ code
 byte-kind code Axiom (inl is) told = sym is
 byte-kind code Axiom (inr (inl is)) told = let wrong : is_axiom ≡ is_definition = told ∙ ap kind_at is in absurd cc

@@ -22,7 +22,7 @@ kind_of Axiom = is_axiom
 kind_of Definition = is_definition
 kind_of Theorem = is_theorem
 
--- the code of such a statement, without the mark of a local one
+-- the code of such a statement, without its visibility
 abbrev pub byte_of : BodyKind → ℕ
 byte_of Axiom = 0x02
 byte_of Definition = 0x05

@@ -35,7 +35,7 @@ impl<'a> Earlier<'a> {
         ensures file { result.file ≡ mmb.now }
         ensures rows { result.rows ≡ rows }
     {
-        // That the file is a binary is told by the call.
+        // That the file is a binary is reported by the call.
         let _ = mmb.file();
         Earlier { mmb, rows }
     }

@@ -15,7 +15,7 @@ use Rattle.mz_unify_theory.specs.UnifyMachine.{in_citation, at_end, in_definitio
 use Rattle.mz_unify_theory.proofs.Offered.{command-long, follow-same, goes_to-le, if_read-le, goes_to-same, if_read-same, drop-less, from_bind, from_then, from_want, taken-is, steps-bounded}
 use Rattle.mz_machine_theory.specs.MachineState.{RowsBefore, signatures_in, State, Kind, is_axiom, is_theorem, is_definition, Heading}
 use Rattle.mz_machine_theory.specs.Bodies.{BodyCommand, ends, proves, fst_of, body_command, body_turn_by, body_turn, body_from, match_steps, row_steps, command_steps, body_steps_from}
-use Rattle.mz_machine_theory.specs.ProofMachine.{proof_row, proof_end, citation, unfolding_of, stream_of, last_item, ending, own_stream, as_proofs, has_provable_sort, ends_with}
+use Rattle.mz_machine_theory.specs.ProofMachine.{proof_step, proof_end, citation, unfolding_of, stream_of, last_item, ending, own_stream, as_proofs, has_provable_sort, ends_with}
 use Rattle.mz_machine_theory.specs.Premises.{pop_expr, pop_operands, pop_sides, operands_fit, are_apart}
 use Rattle.mz_machine_theory.specs.FreeVars.{free_within}
 use Rattle.mz_logic_theory.specs.Legality.{sort_of}
@@ -36,7 +36,7 @@ module _ (P : Profile) (tables : RowsBefore) (h : Heading) where
   by-len : (at len len' : ℕ) (rest : List ℕ) (st s : State P.T) (u : Option BodyCommand) → body_turn_by P tables h at len rest st u ≡ Ok (goes_on len' s) → len ≡ len'
   by-len at len len' rest st s None e = absurd cc
   by-len at len len' rest st s (Some ends) e = absurd (no-over len' s (need (is_empty rest) k.StatementLength >> proof_end P tables h st) e)
-  by-len at len len' rest st s (Some (proves c value)) e = row-len len len' s (proof_row P tables at c value st) e
+  by-len at len len' rest st s (Some (proves c value)) e = row-len len len' s (proof_step P tables at c value st) e
 
   turn-len : (at : ℕ) (bytes : List ℕ) (r : Result Cmd CmdFault) (st s : State P.T) (len : ℕ) → body_turn P tables h at bytes st r ≡ Ok (goes_on len s) → (c : Cmd) × (r ≡ Ok c) × (c.len ≡ len)
   turn-len at bytes (Err f) st s len e = absurd cc

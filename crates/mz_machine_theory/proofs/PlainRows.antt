@@ -15,7 +15,7 @@ use Rattle.mz_unify_theory.proofs.Offered.{bind-same, bind-first, unify-plain}
 use Rattle.mz_machine_theory.specs.MachineState.{RowsBefore, signatures_in, State, Kind, is_axiom, is_theorem, is_definition, Heading}
 use Rattle.mz_machine_theory.specs.FreeVars.{free_within}
 use Rattle.mz_machine_theory.specs.Premises.{pop_expr, pop_sides, is_conversion}
-use Rattle.mz_machine_theory.specs.ProofMachine.{built, citation, matched_by, cited, referred, unfolding_of, has_provable_sort, proof_row, last_item, own_variables, own_stream, ending, ends_with, proof_end}
+use Rattle.mz_machine_theory.specs.ProofMachine.{built, citation, matched_by, cited, referred, unfolding_of, has_provable_sort, proof_step, last_item, own_variables, own_stream, ending, ends_with, proof_end}
 
 pub sides-plain : (gaps : Bool) (xs : List (Item Tree)) → pop_sides (plain gaps) xs ≡ pop_sides strict xs
 sides-plain gaps [] = refl
@@ -56,8 +56,8 @@ module _ (gaps : Bool) (tables : RowsBefore) where
   unfolding unfolding_of
   unfolding-plain st = bind-same (pop_expr st.stack) _ _ λ e. bind-first (pop_sides (plain gaps) e.1) (pop_sides strict e.1) _ (sides-plain gaps e.1)
 
-  pub row-plain : (at : ℕ) (c : ProofCode) (n : ℕ) (st : State Tree) → (c ≡ code.Sorry → ⊥) → proof_row (plain gaps) tables at c n st ≡ proof_row strict tables at c n st
-  unfolding proof_row
+  pub row-plain : (at : ℕ) (c : ProofCode) (n : ℕ) (st : State Tree) → (c ≡ code.Sorry → ⊥) → proof_step (plain gaps) tables at c n st ≡ proof_step strict tables at c n st
+  unfolding proof_step
   row-plain at code.Term n st other = bind-first (built (plain gaps) tables at n st) (built strict tables at n st) _ (built-plain at n st)
   row-plain at code.TermSave n st other = bind-first (built (plain gaps) tables at n st) (built strict tables at n st) _ (built-plain at n st)
   row-plain at code.Ref n st other = bind-same (want (slice_get st.heap n) k.HeapIndex) _ _ λ x. referred-plain gaps x st

@@ -28,7 +28,7 @@ use Rattle.mz_unify_theory.specs.UnifyMachine.{in_citation, in_definition, Match
 use Rattle.mz_unify_theory.proofs.Offered.{from_bind, from_then, from_need, from_want, rule_of-ok, some_is, taken, taken-is, same_tree-true, parts-are, operands-sorted, citation-is, unfolding-is}
 use Rattle.mz_machine_theory.specs.MachineState.{RowsBefore, signatures_in, State, Declares}
 use Rattle.mz_machine_theory.specs.Premises.{pop, pop_expr, pop_proof, pop_obligation, pop_conversion, pop_operands, pop_sides, is_conversion, is_obligation, may_be_dummy_sort, is_provable_sort, bound_count, operands_fit, are_apart}
-use Rattle.mz_machine_theory.specs.ProofMachine.{built, citation, matched_by, cited, referred, sides, same_term, stream_of, unfolding_of, gapped, has_provable_sort, proof_row}
+use Rattle.mz_machine_theory.specs.ProofMachine.{built, citation, matched_by, cited, referred, sides, same_term, stream_of, unfolding_of, gapped, has_provable_sort, proof_step}
 use Rattle.mz_machine_theory.specs.Facts.{Derivable, Convertible, Holds, StackHolds, IsFront, AreProvableClaims, Fact, Keeps}
 use Rattle.mz_machine_theory.proofs.Declared.{pair-at, signatures-are, signature-at}
 use Rattle.mz_machine_theory.proofs.Operands.{provable-sort, dummy-sort, fits-from, apart-from-test}
@@ -130,8 +130,8 @@ module _ (P : Uses) (tables : RowsBefore) (env : List Declaration) (declares : D
       subst (Made st) (taken-is (app t (trees_of es.0), es.1) r e3)
       ((row.signature.result.sort, (row.signature, signature-at tables env declares t row row-at, refl, fits)), rest-sorted, rest-holds)
 
-  keeps-term : (at t : ℕ) (st st' : State Tree) → proof_row strict tables at code.Term t st ≡ Ok st' → Keeps P env params full st st'
-  unfolding proof_row
+  keeps-term : (at t : ℕ) (st st' : State Tree) → proof_step strict tables at code.Term t st ≡ Ok st' → Keeps P env params full st st'
+  unfolding proof_step
   keeps-term at t st st' e =
       from_bind (built strict tables at t st) _ st' e λ r making e1.
       step-is st (record st { stack = expr r.0 ∷ r.1 }) st' e1 λ front. (
@@ -141,8 +141,8 @@ module _ (P : Uses) (tables : RowsBefore) (env : List Declaration) (declares : D
             with-stack st (expr r.0 ∷ r.1) fact (sorted, rest-sorted) (tt, λ _. rest-holds),
       )
 
-  keeps-term_save : (at t : ℕ) (st st' : State Tree) → proof_row strict tables at code.TermSave t st ≡ Ok st' → Keeps P env params full st st'
-  unfolding proof_row
+  keeps-term_save : (at t : ℕ) (st st' : State Tree) → proof_step strict tables at code.TermSave t st ≡ Ok st' → Keeps P env params full st st'
+  unfolding proof_step
   keeps-term_save at t st st' e =
       from_bind (built strict tables at t st) _ st' e λ r making e1.
       step-is st (record st { stack = expr r.0 ∷ r.1; heap = st.heap ++ expr r.0 ∷ [] }) st' e1 λ front. (
@@ -187,14 +187,14 @@ module _ (P : Uses) (tables : RowsBefore) (env : List Declaration) (declares : D
   known-at : (i : ℕ) (x : Item Tree) (st : State Tree) → slice_get st.heap i ≡ Some x → Fact P env params full st → ItemSorted Sigs st.ctx x × Holds P env full st.hyps x
   known-at i x st x-at fact = (item-at P env full st.ctx st.heap i x x-at fact.heap_sorted, holds-at P env full st.hyps st.heap i x x-at fact.heap_holds)
 
-  keeps-ref : (at i : ℕ) (st st' : State Tree) → proof_row strict tables at code.Ref i st ≡ Ok st' → Keeps P env params full st st'
-  unfolding proof_row
+  keeps-ref : (at i : ℕ) (st st' : State Tree) → proof_step strict tables at code.Ref i st ≡ Ok st' → Keeps P env params full st st'
+  unfolding proof_step
   keeps-ref at i st st' e =
       from_want (slice_get st.heap i) k.HeapIndex _ st' e λ x x-at e1.
       keeps-referred x st st' e1 (known-at i x st x-at)
 
-  keeps-conv_ref : (at i : ℕ) (st st' : State Tree) → proof_row strict tables at code.ConvRef i st ≡ Ok st' → Keeps P env params full st st'
-  unfolding proof_row
+  keeps-conv_ref : (at i : ℕ) (st st' : State Tree) → proof_step strict tables at code.ConvRef i st ≡ Ok st' → Keeps P env params full st st'
+  unfolding proof_step
   keeps-conv_ref at i st st' e =
       from_want (slice_get st.heap i) k.HeapIndex _ st' e λ x x-at e1.
       from_need (is_conversion x) k.Kind _ st' e1 λ is e2.
@@ -202,8 +202,8 @@ module _ (P : Uses) (tables : RowsBefore) (env : List Declaration) (declares : D
 
   -- ---- conversions
 
-  keeps-conv : (at n : ℕ) (st st' : State Tree) → proof_row strict tables at code.Conv n st ≡ Ok st' → Keeps P env params full st st'
-  unfolding proof_row
+  keeps-conv : (at n : ℕ) (st st' : State Tree) → proof_step strict tables at code.Conv n st ≡ Ok st' → Keeps P env params full st st'
+  unfolding proof_step
   keeps-conv at n st st' e =
       from_bind (pop_proof st.stack) _ st' e λ p popping e1.
       from_bind (pop_expr p.1) _ st' e1 λ l popping-l e2.
@@ -217,8 +217,8 @@ module _ (P : Uses) (tables : RowsBefore) (env : List Declaration) (declares : D
             (tt, λ paid. ((convert l.0 paid.0 d, (paid.1, cites), (refl, (p.0, paid.2, derives))), λ _. rest-holds))),
       )
 
-  keeps-refl : (at n : ℕ) (st st' : State Tree) → proof_row strict tables at code.Refl n st ≡ Ok st' → Keeps P env params full st st'
-  unfolding proof_row
+  keeps-refl : (at n : ℕ) (st st' : State Tree) → proof_step strict tables at code.Refl n st ≡ Ok st' → Keeps P env params full st st'
+  unfolding proof_step
   keeps-refl at n st st' e =
       from_bind (pop_obligation st.stack) _ st' e λ o popping e1.
       from_need (same_tree o.0 o.1) k.Refl _ st' e1 λ same e2.
@@ -229,8 +229,8 @@ module _ (P : Uses) (tables : RowsBefore) (env : List Declaration) (declares : D
             (with-stack st o.2 fact rest-sorted (rest-holds (refl_conv o.0, tt, (sorted-full st.ctx front o.0 l-sorted, sorted-full st.ctx front o.1 r-sorted, refl, sym (same_tree-true o.0 o.1 same))))),
       )
 
-  keeps-symm : (at n : ℕ) (st st' : State Tree) → proof_row strict tables at code.Symm n st ≡ Ok st' → Keeps P env params full st st'
-  unfolding proof_row
+  keeps-symm : (at n : ℕ) (st st' : State Tree) → proof_step strict tables at code.Symm n st ≡ Ok st' → Keeps P env params full st st'
+  unfolding proof_step
   keeps-symm at n st st' e =
       from_bind (pop_obligation st.stack) _ st' e λ o popping e1.
       step-is st (record st { stack = obligation o.1 o.0 ∷ o.2 }) st' e1 λ front. (
@@ -241,8 +241,8 @@ module _ (P : Uses) (tables : RowsBefore) (env : List Declaration) (declares : D
             (tt, λ paid. rest-holds (sym_conv paid.0, paid.1, (sorted-full st.ctx front o.0 l-sorted, sorted-full st.ctx front o.1 r-sorted, paid.2)))),
       )
 
-  keeps-conv_cut : (at n : ℕ) (st st' : State Tree) → proof_row strict tables at code.ConvCut n st ≡ Ok st' → Keeps P env params full st st'
-  unfolding proof_row
+  keeps-conv_cut : (at n : ℕ) (st st' : State Tree) → proof_step strict tables at code.ConvCut n st ≡ Ok st' → Keeps P env params full st st'
+  unfolding proof_step
   keeps-conv_cut at n st st' e =
       from_bind (pop_obligation st.stack) _ st' e λ o popping e1.
       step-is st (record st { stack = obligation o.0 o.1 ∷ conversion o.0 o.1 ∷ o.2 }) st' e1 λ front. (
@@ -254,8 +254,8 @@ module _ (P : Uses) (tables : RowsBefore) (env : List Declaration) (declares : D
             (tt, λ paid. (paid, λ _. rest-holds paid))),
       )
 
-  keeps-conv_save : (at n : ℕ) (st st' : State Tree) → proof_row strict tables at code.ConvSave n st ≡ Ok st' → Keeps P env params full st st'
-  unfolding proof_row
+  keeps-conv_save : (at n : ℕ) (st st' : State Tree) → proof_step strict tables at code.ConvSave n st ≡ Ok st' → Keeps P env params full st st'
+  unfolding proof_step
   keeps-conv_save at n st st' e =
       from_bind (pop_conversion st.stack) _ st' e λ o popping e1.
       step-is st (record st { stack = o.2; heap = st.heap ++ conversion o.0 o.1 ∷ [] }) st' e1 λ front. (
@@ -265,8 +265,8 @@ module _ (P : Uses) (tables : RowsBefore) (env : List Declaration) (declares : D
             (with-both st o.2 (conversion o.0 o.1) fact rest-sorted rest-holds (l-sorted, r-sorted) converts),
       )
 
-  keeps-save : (at n : ℕ) (st st' : State Tree) → proof_row strict tables at code.Save n st ≡ Ok st' → Keeps P env params full st st'
-  unfolding proof_row
+  keeps-save : (at n : ℕ) (st st' : State Tree) → proof_step strict tables at code.Save n st ≡ Ok st' → Keeps P env params full st st'
+  unfolding proof_step
   keeps-save at n st st' e =
       from_bind (pop st.stack) _ st' e λ x popping e1.
       from_need (not (is_obligation x.0)) k.SaveKind _ st' e1 λ is e2.
@@ -287,8 +287,8 @@ module _ (P : Uses) (tables : RowsBefore) (env : List Declaration) (declares : D
       let read : sort_of (signatures_in tables) ctx e ≡ s = ap (λ (z : List Signature). sort_of z ctx e) (signatures-are tables env declares) ∙ sort_is Sigs ctx e s h in
       (s, h, provable-sort (sorts env) s (sym (ap is_provable_sort (ap (λ z. slice_get z s) declares.sorts_are)) ∙ sym (ap (λ (z : ℕ). is_provable_sort (slice_get tables.sorts z)) read) ∙ provable))
 
-  keeps-hyp : (at n : ℕ) (st st' : State Tree) → proof_row strict tables at code.Hyp n st ≡ Ok st' → Keeps P env params full st st'
-  unfolding proof_row
+  keeps-hyp : (at n : ℕ) (st st' : State Tree) → proof_step strict tables at code.Hyp n st ≡ Ok st' → Keeps P env params full st st'
+  unfolding proof_step
   keeps-hyp at n st st' e =
       from_bind (pop_expr st.stack) _ st' e λ x popping e1.
       from_need (has_provable_sort strict tables st.ctx x.0) k.NotProvable _ st' e1 λ provable e2.
@@ -334,8 +334,8 @@ module _ (P : Uses) (tables : RowsBefore) (env : List Declaration) (declares : D
       go (inr (zero, _, last)) = let is : dummy_of s ≡ b = cc in subst (λ (z : Binder). IsDummy z × MayBeDummySort (sorts env) z.sort) is ((refl, refl), may)
       go (inr (suc j, _, last)) = absurd cc
 
-  keeps-dummy : (at s : ℕ) (st st' : State Tree) → proof_row strict tables at code.Dummy s st ≡ Ok st' → Keeps P env params full st st'
-  unfolding proof_row
+  keeps-dummy : (at s : ℕ) (st st' : State Tree) → proof_step strict tables at code.Dummy s st ≡ Ok st' → Keeps P env params full st st'
+  unfolding proof_step
   keeps-dummy at s st st' e =
       from_need (may_be_dummy_sort (slice_get tables.sorts s)) k.DummySort _ st' e λ allowed e1.
       from_need (ltb (bound_count st.ctx) 55) k.DummyCount _ st' e1 λ room e2.
@@ -403,8 +403,8 @@ module _ (P : Uses) (tables : RowsBefore) (env : List Declaration) (declares : D
         below,
       )
 
-  keeps-thm : (at t : ℕ) (st st' : State Tree) → (t < length (assertions env) → P.cites t) → proof_row strict tables at code.Thm t st ≡ Ok st' → Keeps P env params full st st'
-  unfolding proof_row
+  keeps-thm : (at t : ℕ) (st st' : State Tree) → (t < length (assertions env) → P.cites t) → proof_step strict tables at code.Thm t st ≡ Ok st' → Keeps P env params full st st'
+  unfolding proof_step
   keeps-thm at t st st' has-p e =
       from_bind (cited strict tables t st) _ st' e λ r citing e1.
       step-is st (record st { stack = proof r.0 ∷ r.1 }) st' e1 λ front. (
@@ -414,8 +414,8 @@ module _ (P : Uses) (tables : RowsBefore) (env : List Declaration) (declares : D
             with-stack st (proof r.0 ∷ r.1) fact (sorted, rest-sorted) (derives, λ _. rest-holds),
       )
 
-  keeps-thm_save : (at t : ℕ) (st st' : State Tree) → (t < length (assertions env) → P.cites t) → proof_row strict tables at code.ThmSave t st ≡ Ok st' → Keeps P env params full st st'
-  unfolding proof_row
+  keeps-thm_save : (at t : ℕ) (st st' : State Tree) → (t < length (assertions env) → P.cites t) → proof_step strict tables at code.ThmSave t st ≡ Ok st' → Keeps P env params full st st'
+  unfolding proof_step
   keeps-thm_save at t st st' has-p e =
       from_bind (cited strict tables t st) _ st' e λ r citing e1.
       step-is st (record st { stack = proof r.0 ∷ r.1; heap = st.heap ++ proof r.0 ∷ [] }) st' e1 λ front. (
@@ -427,8 +427,8 @@ module _ (P : Uses) (tables : RowsBefore) (env : List Declaration) (declares : D
 
   -- ---- congruence
 
-  keeps-cong : (at n : ℕ) (st st' : State Tree) → proof_row strict tables at code.Cong n st ≡ Ok st' → Keeps P env params full st st'
-  unfolding proof_row
+  keeps-cong : (at n : ℕ) (st st' : State Tree) → proof_step strict tables at code.Cong n st ≡ Ok st' → Keeps P env params full st st'
+  unfolding proof_step
   keeps-cong at n st st' e =
       from_bind (pop_obligation st.stack) _ st' e λ o popping e1.
       from_want (same_term (tree_parts o.0) (tree_parts o.1)) k.Cong _ st' e1 λ es same e2.
@@ -492,8 +492,8 @@ module _ (P : Uses) (tables : RowsBefore) (env : List Declaration) (declares : D
         ),
       )
 
-  keeps-unfold : (at n : ℕ) (st st' : State Tree) → proof_row strict tables at code.Unfold n st ≡ Ok st' → Keeps P env params full st st'
-  unfolding proof_row
+  keeps-unfold : (at n : ℕ) (st st' : State Tree) → proof_step strict tables at code.Unfold n st ≡ Ok st' → Keeps P env params full st st'
+  unfolding proof_step
   keeps-unfold at n st st' e =
       from_bind (unfolding_of strict tables st) _ st' e λ m un e1.
       from_bind (matched_by strict tables st.ctx m.0) _ st' e1 λ u unified e2.
@@ -542,8 +542,8 @@ module _ (P : Uses) (tables : RowsBefore) (env : List Declaration) (declares : D
   keeps-gapped gaps (proof a) xs st st' ok stack-is e = absurd cc
   keeps-gapped gaps (conversion l r) xs st st' ok stack-is e = absurd cc
 
-  keeps-sorry : (gaps : Bool) (at n : ℕ) (st st' : State Tree) → (gaps ≡ true → P.gaps) → proof_row (plain gaps) tables at code.Sorry n st ≡ Ok st' → Keeps P env params full st st'
-  unfolding proof_row
+  keeps-sorry : (gaps : Bool) (at n : ℕ) (st st' : State Tree) → (gaps ≡ true → P.gaps) → proof_step (plain gaps) tables at code.Sorry n st ≡ Ok st' → Keeps P env params full st st'
+  unfolding proof_step
   keeps-sorry gaps at n st st' ok e =
       from_need gaps k.Sorry _ st' e λ on e1.
       from_bind (pop st.stack) _ st' e1 λ x popping e2.
@@ -555,7 +555,7 @@ module _ (P : Uses) (tables : RowsBefore) (env : List Declaration) (declares : D
   abbrev pub Allowed : Bool → ProofCode → ℕ → Type 0
   Allowed gaps c value = (((c ≡ code.Thm) ⊎ (c ≡ code.ThmSave)) → value < length (assertions env) → P.cites value) × (c ≡ code.Sorry → gaps ≡ true → P.gaps)
 
-  pub keeps : (gaps : Bool) (at : ℕ) (c : ProofCode) (n : ℕ) (st st' : State Tree) → Allowed gaps c n → proof_row (plain gaps) tables at c n st ≡ Ok st' → Keeps P env params full st st'
+  pub keeps : (gaps : Bool) (at : ℕ) (c : ProofCode) (n : ℕ) (st st' : State Tree) → Allowed gaps c n → proof_step (plain gaps) tables at c n st ≡ Ok st' → Keeps P env params full st st'
   keeps gaps at code.Term n st st' ok e = keeps-term at n st st' (sym (row-plain gaps tables at code.Term n st λ is. cc) ∙ e)
   keeps gaps at code.TermSave n st st' ok e = keeps-term_save at n st st' (sym (row-plain gaps tables at code.TermSave n st λ is. cc) ∙ e)
   keeps gaps at code.Ref n st st' ok e = keeps-ref at n st st' (sym (row-plain gaps tables at code.Ref n st λ is. cc) ∙ e)

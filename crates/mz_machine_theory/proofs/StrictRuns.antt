@@ -1,4 +1,4 @@
--- A body that runs by the published table runs where gaps are let through, to the same end.
+-- A body that runs by the standard machine runs where gaps are let through, to the same end.
 use Rattle.std.proofs.Common.{◌≡◌, ℕ, zero, suc, ◌+◌, ◌⊎◌, Bool, List, [], length, drop, map, cond, eqb, Option, Some, None, Result, Ok, Err, refl, ap, ◌∙◌, subst, inl, inr}
 use Rattle.mz_cmd.specs.declared.rule.K.{K}
 use Rattle.mz_cmd.specs.declared.rule.K.TheVariants as k
@@ -14,7 +14,7 @@ use Rattle.mz_unify_theory.specs.Profile.{plain, strict, expr}
 use Rattle.mz_unify_theory.specs.UnifyMachine.{is_empty}
 use Rattle.mz_unify_theory.proofs.Offered.{from_bind}
 use Rattle.mz_machine_theory.specs.MachineState.{RowsBefore, State, Kind, is_axiom, is_theorem, is_definition, Heading}
-use Rattle.mz_machine_theory.specs.ProofMachine.{proof_row}
+use Rattle.mz_machine_theory.specs.ProofMachine.{proof_step}
 use Rattle.mz_machine_theory.specs.Bodies.{BodyCommand, ends, proves, stands_in, if_allowed, body_command, body_turn, body_turn_by, body_from, body_start}
 use Rattle.mz_machine_theory.specs.Laws.{StrictRunsWithGaps}
 use Rattle.mz_machine_theory.proofs.PlainRows.{own-plain, row-plain, end-plain}
@@ -67,13 +67,13 @@ pub command-plain : (gaps : Bool) (kind : Kind) (byte value : ℕ) → body_comm
 command-plain gaps kind byte value = ap (λ (o : Option BodyCommand). cond (eqb byte 0x00) (Some ends) o) (allowed-plain gaps kind value (proof_code byte))
 
 module _ (gaps : Bool) (tables : RowsBefore) (h : Heading) where
-  no-sorry : (at n : ℕ) (st s : State Tree) → proof_row strict tables at code.Sorry n st ≡ Ok s → ⊥
-  unfolding proof_row
+  no-sorry : (at n : ℕ) (st s : State Tree) → proof_step strict tables at code.Sorry n st ≡ Ok s → ⊥
+  unfolding proof_step
   no-sorry at n st s e = cc
 
-  row-runs : (at : ℕ) (c : ProofCode) (n : ℕ) (st s : State Tree) → proof_row strict tables at c n st ≡ Ok s → proof_row (plain gaps) tables at c n st ≡ Ok s
+  row-runs : (at : ℕ) (c : ProofCode) (n : ℕ) (st s : State Tree) → proof_step strict tables at c n st ≡ Ok s → proof_step (plain gaps) tables at c n st ≡ Ok s
   row-runs at c n st s e = elim (is-sorry c) [
-    | inl is ↦ absurd (no-sorry at n st s (subst (λ (z : ProofCode). proof_row strict tables at z n st ≡ Ok s) is e))
+    | inl is ↦ absurd (no-sorry at n st s (subst (λ (z : ProofCode). proof_step strict tables at z n st ≡ Ok s) is e))
     | inr other ↦ row-plain gaps tables at c n st other ∙ e
   ]
 
@@ -81,7 +81,7 @@ module _ (gaps : Bool) (tables : RowsBefore) (h : Heading) where
   by-runs at len rest st t None e = absurd cc
   by-runs at len rest st t (Some ends) e = ap (λ (z : Result (State Tree) K). (need (is_empty rest) k.StatementLength >> z) >>= λ s. Ok (over s)) (end-plain gaps tables h st) ∙ e
   by-runs at len rest st t (Some (proves c n)) e =
-      from_bind (proof_row strict tables at c n st) _ t e λ s row e1.
+      from_bind (proof_step strict tables at c n st) _ t e λ s row e1.
       ap (λ (z : Result (State Tree) K). z >>= λ x. Ok (goes_on len x)) (row-runs at c n st s row) ∙ e1
 
   turn-runs : (at : ℕ) (bytes : List ℕ) (st : State Tree) (t : Turn (State Tree)) (r : Result Cmd CmdFault) → body_turn strict tables h at bytes st r ≡ Ok t → body_turn (plain gaps) tables h at bytes st r ≡ Ok t

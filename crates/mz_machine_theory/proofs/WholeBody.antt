@@ -18,7 +18,7 @@ use Rattle.mz_unify_theory.specs.Sorted.{ItemsSorted}
 use Rattle.mz_unify_theory.specs.UnifyMachine.{is_empty}
 use Rattle.mz_unify_theory.proofs.Offered.{from_bind, from_need, place-ok, taken, taken-is}
 use Rattle.mz_machine_theory.specs.MachineState.{RowsBefore, State, Heading, Declares}
-use Rattle.mz_machine_theory.specs.ProofMachine.{proof_row, proof_end, ends_with, matched_by, own_variables}
+use Rattle.mz_machine_theory.specs.ProofMachine.{proof_step, proof_end, ends_with, matched_by, own_variables}
 use Rattle.mz_machine_theory.specs.Bodies.{BodyCommand, ends, proves, stands_in, if_allowed, body_command, body_turn, body_turn_by, body_from, body_run, body_start}
 use Rattle.mz_machine_theory.specs.Facts.{HeapHolds, Fact, Keeps}
 use Rattle.mz_machine_theory.specs.Sound.{IsCitation, CitesWithin, GapsWithin, used_by}
@@ -63,15 +63,15 @@ module _ (gaps : Bool) (tables : RowsBefore) (h : Heading) where
 
   -- what a command that goes on is, and the row that ran
   abbrev Went : ℕ → List ℕ → ℕ → State Tree → State Tree → Type 0
-  Went at bytes len st s = (b : Cmd) × (c : ProofCode) × (first_command bytes ≡ Ok b) × (b.len ≡ len) × (proof_code b.code ≡ Some c) × (proof_row (plain gaps) tables at c b.value st ≡ Ok s)
+  Went at bytes len st s = (b : Cmd) × (c : ProofCode) × (first_command bytes ≡ Ok b) × (b.len ≡ len) × (proof_code b.code ≡ Some c) × (proof_step (plain gaps) tables at c b.value st ≡ Ok s)
 
   turn-went : (at len len' : ℕ) (rest : List ℕ) (st s : State Tree) (o : Option BodyCommand)
-      → body_turn_by (plain gaps) tables h at len rest st o ≡ Ok (goes_on len' s) → (c : ProofCode) × (n : ℕ) × (o ≡ Some (proves c n)) × (len ≡ len') × (proof_row (plain gaps) tables at c n st ≡ Ok s)
+      → body_turn_by (plain gaps) tables h at len rest st o ≡ Ok (goes_on len' s) → (c : ProofCode) × (n : ℕ) × (o ≡ Some (proves c n)) × (len ≡ len') × (proof_step (plain gaps) tables at c n st ≡ Ok s)
   turn-went at len len' rest st s None e = absurd cc
   turn-went at len len' rest st s (Some ends) e =
       from_bind (need (is_empty rest) k.StatementLength >> proof_end (plain gaps) tables h st) _ (goes_on len' s) e λ z done e1. absurd cc
   turn-went at len len' rest st s (Some (proves c n)) e =
-      from_bind (proof_row (plain gaps) tables at c n st) _ (goes_on len' s) e λ z row e1.
+      from_bind (proof_step (plain gaps) tables at c n st) _ (goes_on len' s) e λ z row e1.
       (c, n, refl, cc, row ∙ cc)
 
   turn-ended : (at len : ℕ) (rest : List ℕ) (st s : State Tree) (o : Option BodyCommand)
@@ -81,7 +81,7 @@ module _ (gaps : Bool) (tables : RowsBefore) (h : Heading) where
       from_bind (need (is_empty rest) k.StatementLength >> proof_end (plain gaps) tables h st) _ (over s) e λ z both e1.
       from_need (is_empty rest) k.StatementLength _ z both λ p done. done ∙ cc
   turn-ended at len rest st s (Some (proves c n)) e =
-      from_bind (proof_row (plain gaps) tables at c n st) _ (over s) e λ z row e1. absurd cc
+      from_bind (proof_step (plain gaps) tables at c n st) _ (over s) e λ z row e1. absurd cc
 
   went : (at len : ℕ) (bytes : List ℕ) (st s : State Tree) (r : Result Cmd CmdFault) → first_command bytes ≡ r
       → body_turn (plain gaps) tables h at bytes st r ≡ Ok (goes_on len s) → Went at bytes len st s
@@ -89,7 +89,7 @@ module _ (gaps : Bool) (tables : RowsBefore) (h : Heading) where
   went at len bytes st s (Ok b) read e =
       let (c, n, o-is, len-is, row) = turn-went at b.len len (drop b.len bytes) st s (body_command (plain gaps) h.kind b.code b.value) e in
       let (byte, same) = command-is gaps h b.code b.value c n o-is in
-      (b, c, read, len-is, byte, subst (λ (z : ℕ). proof_row (plain gaps) tables at c z st ≡ Ok s) (sym same) row)
+      (b, c, read, len-is, byte, subst (λ (z : ℕ). proof_step (plain gaps) tables at c z st ≡ Ok s) (sym same) row)
 
   ended : (at : ℕ) (bytes : List ℕ) (st s : State Tree) (r : Result Cmd CmdFault)
       → body_turn (plain gaps) tables h at bytes st r ≡ Ok (over s) → proof_end (plain gaps) tables h st ≡ Ok s

@@ -13,7 +13,7 @@ use Rattle.mz_unify_theory.specs.Steps.{◌>>=◌, ◌>>◌, need, at_place, Tur
 use Rattle.mz_unify_theory.specs.Profile.{Profile, expr}
 use Rattle.mz_unify_theory.specs.UnifyMachine.{Matching, is_empty, unify_steps}
 use Rattle.mz_machine_theory.specs.MachineState.{RowsBefore, signatures_in, State, Kind, is_axiom, is_theorem, is_definition, Heading}
-use Rattle.mz_machine_theory.specs.ProofMachine.{citation, unfolding_of, proof_row, own_variables, ends_with, proof_end}
+use Rattle.mz_machine_theory.specs.ProofMachine.{citation, unfolding_of, proof_step, own_variables, ends_with, proof_end}
 
 -- ---- commands of a body
 
@@ -57,7 +57,7 @@ body_command P kind byte value = if byte == 0x00 then Some ends else if_allowed 
 abbrev pub body_turn_by : (P : Profile) → RowsBefore → Heading → ℕ → ℕ → List ℕ → State P.T → Option BodyCommand → Result (Turn (State P.T)) K
 body_turn_by P tables h at len rest st None = Err k.Command
 body_turn_by P tables h at len rest st (Some ends) = need (is_empty rest) k.StatementLength >> proof_end P tables h st >>= λ s. Ok (over s)
-body_turn_by P tables h at len rest st (Some (proves c value)) = proof_row P tables at c value st >>= λ s. Ok (goes_on len s)
+body_turn_by P tables h at len rest st (Some (proves c value)) = proof_step P tables at c value st >>= λ s. Ok (goes_on len s)
 
 abbrev pub body_turn : (P : Profile) → RowsBefore → Heading → ℕ → List ℕ → State P.T → Result Cmd CmdFault → Result (Turn (State P.T)) K
 body_turn P tables h at bytes st (Err _) = Err k.Command

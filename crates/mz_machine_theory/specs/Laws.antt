@@ -76,6 +76,6 @@ BodiesAreChecked P = (tables : RowsBefore) (h : Heading) (at : ℕ) (bytes : Lis
 
 -- ---- gaps
 
--- a body that runs by the published table runs where gaps are let through
+-- a body that runs by the standard machine runs where gaps are let through
 abbrev pub StrictRunsWithGaps : Type 0
 StrictRunsWithGaps = (gaps : Bool) (tables : RowsBefore) (h : Heading) (at : ℕ) (bytes : List ℕ) → Runs strict tables h at bytes → Runs (plain gaps) tables h at bytes

@@ -105,21 +105,21 @@ has_provable_sort P tables ctx e = is_provable_sort (slice_get tables.sorts (sor
 
 -- One clause a command, with its operand: its premises in order, and the next state. The number before the
 -- command is its place.
-unfoldable pub proof_row : (P : Profile) → RowsBefore → ℕ → ProofCode → ℕ → State P.T → Result (State P.T) K
-proof_row P tables at code.Term t st = do
+unfoldable pub proof_step : (P : Profile) → RowsBefore → ℕ → ProofCode → ℕ → State P.T → Result (State P.T) K
+proof_step P tables at code.Term t st = do
   e ← built P tables at t st
   Ok (push (expr e.0) e.1 st)
-proof_row P tables at code.TermSave t st = do
+proof_step P tables at code.TermSave t st = do
   e ← built P tables at t st
   Ok (saved (expr e.0) (push (expr e.0) e.1 st))
-proof_row P tables at code.Ref i st = do
+proof_step P tables at code.Ref i st = do
   x ← want (slice_get st.heap i) k.HeapIndex
   referred P x st
-proof_row P tables at code.ConvRef i st = do
+proof_step P tables at code.ConvRef i st = do
   x ← want (slice_get st.heap i) k.HeapIndex
   need (is_conversion x) k.Kind
   referred P x st
-proof_row P tables at code.Dummy s st = do
+proof_step P tables at code.Dummy s st = do
   need (may_be_dummy_sort (slice_get tables.sorts s)) k.DummySort
   need (nat_lt (bound_count st.ctx) 55) k.DummyCount
   Ok (record {
@@ -128,46 +128,46 @@ proof_row P tables at code.Dummy s st = do
     stack = expr (P.variable (length st.ctx)) ∷ st.stack;
     hyps = st.hyps;
   })
-proof_row P tables at code.Thm t st = do
+proof_step P tables at code.Thm t st = do
   e ← cited P tables t st
   Ok (push (proof e.0) e.1 st)
-proof_row P tables at code.ThmSave t st = do
+proof_step P tables at code.ThmSave t st = do
   e ← cited P tables t st
   Ok (saved (proof e.0) (push (proof e.0) e.1 st))
-proof_row P tables at code.Hyp n st = do
+proof_step P tables at code.Hyp n st = do
   e ← pop_expr st.stack
   need (has_provable_sort P tables st.ctx e.0) k.NotProvable
   Ok (record st { heap = st.heap ++ proof e.0 ∷ []; stack = e.1; hyps = st.hyps ++ e.0 ∷ [] })
-proof_row P tables at code.Conv n st = do
+proof_step P tables at code.Conv n st = do
   p ← pop_proof st.stack
   e ← pop_expr p.1
   Ok (push (obligation e.0 p.0) (proof e.0 ∷ e.1) st)
-proof_row P tables at code.Refl n st = do
+proof_step P tables at code.Refl n st = do
   o ← pop_obligation st.stack
   need (P.same o.0 o.1) k.Refl
   Ok (record st { stack = o.2 })
-proof_row P tables at code.Symm n st = do
+proof_step P tables at code.Symm n st = do
   o ← pop_obligation st.stack
   Ok (push (obligation o.1 o.0) o.2 st)
-proof_row P tables at code.Cong n st = do
+proof_step P tables at code.Cong n st = do
   o ← pop_obligation st.stack
   es ← want (same_term (P.parts o.0) (P.parts o.1)) k.Cong
   Ok (record st { stack = sides es.0 es.1 o.2 })
-proof_row P tables at code.Unfold n st = do
+proof_step P tables at code.Unfold n st = do
   m ← unfolding_of P tables st
   u ← matched_by P tables st.ctx m.0
   Ok (push (obligation m.0.target m.1) m.2 st)
-proof_row P tables at code.ConvCut n st = do
+proof_step P tables at code.ConvCut n st = do
   o ← pop_obligation st.stack
   Ok (push (obligation o.0 o.1) (conversion o.0 o.1 ∷ o.2) st)
-proof_row P tables at code.ConvSave n st = do
+proof_step P tables at code.ConvSave n st = do
   o ← pop_conversion st.stack
   Ok (saved (conversion o.0 o.1) (record st { stack = o.2 }))
-proof_row P tables at code.Save n st = do
+proof_step P tables at code.Save n st = do
   x ← pop st.stack
   need (not (is_obligation x.0)) k.SaveKind
   Ok (saved x.0 st)
-proof_row P tables at code.Sorry n st = do
+proof_step P tables at code.Sorry n st = do
   need P.gaps k.Sorry
   x ← pop st.stack
   gapped P tables st x.0 x.1

@@ -20,7 +20,7 @@ use Rattle.mz_logic_theory.specs.declared.binder.SortMods.{SortMods}
 use Rattle.mz_unify_theory.specs.Profile.{plain}
 use Rattle.mz_unify_theory.specs.Spells.{SpelledTerm, SpelledThm, SpellsTerm, SpellsThm}
 use Rattle.mz_machine_theory.specs.MachineState.{RowsBefore, State, is_axiom, is_theorem, is_definition, Heading, Declares}
-use Rattle.mz_machine_theory.specs.ProofMachine.{proof_row}
+use Rattle.mz_machine_theory.specs.ProofMachine.{proof_step}
 use Rattle.mz_machine_theory.specs.Facts.{Keeps}
 use Rattle.mz_machine_theory.specs.Bodies.{Runs}
 
@@ -63,7 +63,7 @@ cites_as gaps bytes env d = CitesOnly (used_by gaps env bytes) d
 abbrev pub RowsKeepTheFact : Type 0
 RowsKeepTheFact = (gaps : Bool) (tables : RowsBefore) (env : List Declaration) → Declares tables env → (bytes : List ℕ) (params full : List Binder)
     → (at : ℕ) (c : ProofCode) (n : ℕ) (st st' : State Tree) → (((c ≡ Thm) ⊎ (c ≡ ThmSave)) → CitesWithin (length bytes) bytes n) → (c ≡ Sorry → GapsWithin (length bytes) bytes)
-    → proof_row (plain gaps) tables at c n st ≡ Ok st' → Keeps (used_by gaps env bytes) env params full st st'
+    → proof_step (plain gaps) tables at c n st ≡ Ok st' → Keeps (used_by gaps env bytes) env params full st st'
 
 -- the parameters that the words of a row give
 abbrev pub AreRowParams : List SortMods → List Binder → Type 0

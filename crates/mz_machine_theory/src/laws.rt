@@ -37,7 +37,7 @@ pub fn tables_grow()
     ensures assertions { ThmsGrow }
 {}
 
-/// A body that runs by the published table runs where gaps are let through.
+/// A body that runs by the standard machine runs where gaps are let through.
 pub fn strict_runs_with_gaps()
     ensures { StrictRunsWithGaps }
 {}

@@ -66,7 +66,7 @@ matched-nothing p ds m layout passed none no_statements no_rows = record {
   rows_are = no_rows;
 }
 
--- what is told is the next statement
+-- what is reported is the next statement
 pub told-next : (p : Progress) (ds : List Declaration) (m : Matching) (ss : List Statement) (env : List Declaration) (after : Progress) (told : Told)
     → IsMatched p ds m ss env → (passes : Passes p ss env after told) → IsTold p.standard p.file m.publics told ss env passes.statement after.at
 told-next p ds m ss env after told matched passes =
@@ -132,7 +132,7 @@ module _ (p : Progress) (ds : List Declaration) (m : Matching) (ss : List Statem
             ∙ ap (λ xs. m.publics ++ xs) (append-nil (term_row_of (length (terms env)) s.decl)));
       }
 
--- the rows that a declaration told as a term takes, and another
+-- the rows that a declaration reported as a term takes, and another
 pub term-row : (env : List Declaration) (d : Declaration) → kind_code d ≡ 0x05 → term_row_of (length (terms env)) d ≡ row_after env d ∷ []
 term-row env (sort_decl m) is = absurd (omega arith)
 term-row env (term_decl d) is = refl
@@ -143,7 +143,7 @@ no-term-row n (sort_decl m) is = refl
 no-term-row n (term_decl d) is = absurd (is refl)
 no-term-row n (assertion_decl a) is = refl
 
--- fewer declarations are done than statements were told
+-- fewer declarations are done than statements were reported
 pub done-fewer : (p : Progress) (ds : List Declaration) (m : Matching) (ss : List Statement) (env : List Declaration) (after : Progress) (told : Told)
     → IsMatched p ds m ss env → Passes p ss env after told → m.done + 1 ≤ told.number
 done-fewer p ds m ss env after told matched passes = omega (arith, matched.done_is, passes.tells.number, publics-fewer ss)

@@ -147,7 +147,7 @@ claims-said file env r a arities (last, text, met) =
     let whole : SaysClaims file (length params) (thm_row file r).stream_at a = record { marks = last; conclusion = said.first; no_dummies = met; hyps = said.hyps_said met } in
     subst (λ (k : ℕ). SaysClaims file k (thm_row file r).stream_at a) (length-binders 0 [] (thm_row file r).params) whole
 
--- the byte that is told of an axiom or a theorem is that of its code
+-- the byte that is reported of an axiom or a theorem is that of its code
 assertion-kind : (b : Bool) → (if b then 0x02 else 0x06) ≡ statement_byte (assertion_code b)
 assertion-kind true = refl
 assertion-kind false = refl

@@ -1,4 +1,4 @@
--- A statement that a checker of the binary told.
+-- A statement that a checker of the binary reported.
 use Rattle.std.specs.Prelude.{◌≡◌, ◌≤◌, ◌+◌, ℕ, List, [], length, drop}
 use Rattle.mz_logic_theory.specs.Declaration.{Declaration}
 use Rattle.mz_logic_theory.specs.LegalLists.{Statement}
@@ -31,7 +31,7 @@ pub record IsMatched (p : Progress) (ds : List Declaration) (m : Matching) (ss :
   pub passed_is : m.passed ≡ length ss
   pub rows_are : m.publics ≡ term_rows 0 ss
 
--- the binary's next statement is told
+-- the binary's next statement is reported
 pub record IsNextTold (file : List ℕ) (ds : List Declaration) (m : Matching) (told : Told) : Type 0 where
   pub progress : Progress
   pub later : Progress

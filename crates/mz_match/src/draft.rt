@@ -57,12 +57,12 @@ pub enum Draft {
         statement: u32,
         rule: M,
     },
-    /// Want of memory.
+    /// Out of memory.
     Mem,
 }
 
 /// Checks a binary whose proofs may have gaps against a specification, as `verify_bytes` does one
-/// without, and tells which of the specification's theorems rest on a gap.
+/// without, and says which of the specification's theorems rest on a gap.
 pub fn draft_bytes<L: Ledger>(
     alloc: Global,
     seed: Seed,

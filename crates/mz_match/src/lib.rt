@@ -1,7 +1,7 @@
 //! A specification and a binary together: whether the binary proves what the specification
 //! declares, or the first refusal of the two.
 //!
-//! What is asked for is said in `mz_match_theory`. `specs/Drafts.antt` says what is told of proofs with gaps.
+//! What is asked for is said in `mz_match_theory`. `specs/Drafts.antt` says what is said of proofs with gaps.
 #![tactic(auto)]
 
 mod draft;

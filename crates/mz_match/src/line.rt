@@ -1,4 +1,4 @@
-// The line that tells a verdict.
+// The line that prints a verdict.
 ghost use Rattle.std.specs.Prelude.{◌≡◌, IfOk};
 ghost use Rattle.mz_match_theory.specs.Lines.{accepted_line as accepted_lem, match_line as match_lem, spec_line as spec_lem};
 ghost use Rattle.mz_match_theory.specs.Verdict.{line_of};
@@ -10,7 +10,7 @@ use mz_spec_proved_theory::M;
 use mz_spec_theory::SpecRefusal;
 use std::alloc::Global;
 
-/// The line that tells a verdict, with its newline.
+/// The line that prints a verdict, with its newline.
 pub fn verdict_line(alloc: Global, verdict: &Verdict) -> Result<Vec<u8>, Mem>
     requires { verdict.now ≡ Verdict.Mem → ⊥ }
     ensures { IfOk result (λ line. line.items ≡ line_of verdict.now) }

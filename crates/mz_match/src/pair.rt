@@ -23,7 +23,7 @@ use mz_spec_proved_theory::M;
 use mz_spec_theory::Spec;
 use std::alloc::Global;
 
-/// Compares a public statement, which a checker of the binary told, with the i-th declaration, its
+/// Compares a public statement, which a checker of the binary reported, with the i-th declaration, its
 /// partner. `publics` holds the public terms before it.
 ///
 /// # Errors

@@ -181,7 +181,7 @@ module _ (b : Beside) where
 
 -- ---- answers
 
--- a test that is exact tells which it is
+-- a test that is exact says which it is
 pub marked : (r : Bool) (P S N : Type 0) → IsTrue r ↔ P → (P → S) → ((P → ⊥) → N) → MatchBool r S N
 marked true P S N exact hit miss = hit (exact.0 refl)
 marked false P S N exact hit miss = miss (λ p. false≢true (exact.1 p))

@@ -34,7 +34,7 @@ use Rattle.mz_layout_tables.specs.RowWords.{word_checks}
 use Rattle.mz_machine_theory.specs.Lists.{definition_of}
 use Rattle.mz_layout_tables.specs.Heads.{body_bytes}
 use Rattle.mz_machine_theory.specs.FileRows.{taken_by, rows_taken, term_of_file}
-use Rattle.mz_machine_theory.specs.ProofMachine.{ends_with, matched_by, built, referred, proof_row, proof_end, last_item, ending, own_stream}
+use Rattle.mz_machine_theory.specs.ProofMachine.{ends_with, matched_by, built, referred, proof_step, proof_end, last_item, ending, own_stream}
 use Rattle.mz_machine_theory.specs.Bodies.{BodyCommand, ends, proves, stands_in, if_allowed, body_command, body_turn, body_turn_by, body_from, body_start, Runs}
 use Rattle.mz_machine_theory.proofs.Offered.{bodies-checked, body-fact, end-ran, own-run, last-expr}
 use Rattle.mz_layout_tables.proofs.Offered.{right-words}
@@ -71,8 +71,8 @@ module _ (gaps : Bool) where
       from_bind (pop_obligation st.stack) _ st' is λ o popped e1.
       from_need ((plain gaps).same l o.0 && (plain gaps).same r o.1) k.ConversionReference _ st' e1 λ t e2. few-same _ st' e2 few
 
-  row-few : (tables : RowsBefore) (at : ℕ) (c : ProofCode) (n : ℕ) (st st' : State Tree) → stands_in (plain gaps) is_definition c ≡ true → proof_row (plain gaps) tables at c n st ≡ Ok st' → Few st → Few st'
-  unfolding proof_row
+  row-few : (tables : RowsBefore) (at : ℕ) (c : ProofCode) (n : ℕ) (st st' : State Tree) → stands_in (plain gaps) is_definition c ≡ true → proof_step (plain gaps) tables at c n st ≡ Ok st' → Few st → Few st'
+  unfolding proof_step
   row-few tables at code.Term n st st' may e few = from_bind (built (plain gaps) tables at n st) _ st' e λ r made e1. few-same _ st' e1 few
   row-few tables at code.TermSave n st st' may e few = from_bind (built (plain gaps) tables at n st) _ st' e λ r made e1. few-same _ st' e1 few
   row-few tables at code.Ref n st st' may e few = from_want (slice_get st.heap n) k.HeapIndex _ st' e λ x there e1. referred-few x st st' e1 few
@@ -136,7 +136,7 @@ module _ (gaps : Bool) where
         from_need (is_empty rest) k.StatementLength _ s both λ p done.
         let is : over s ≡ turn = cc in subst Few (subst (λ (u : Turn (State Tree)). Next u t) (sym is) next) (end-few st s done few)
     turn-few at len rest st t turn (Some (proves c n)) may e next few =
-        from_bind (proof_row (plain gaps) tables at c n st) _ turn e λ s row e1.
+        from_bind (proof_step (plain gaps) tables at c n st) _ turn e λ s row e1.
         let is : goes_on len s ≡ turn = cc in subst Few (subst (λ (u : Turn (State Tree)). Next u t) (sym is) next) (row-few tables at c n st s (may c n refl) row few)
 
     read-few : (at : ℕ) (bytes : List ℕ) (st t : State Tree) (turn : Turn (State Tree)) (r : Result Cmd CmdFault) → body_turn (plain gaps) tables h at bytes st r ≡ Ok turn → Next turn t → Few st → Few t

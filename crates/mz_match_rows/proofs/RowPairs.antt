@@ -1,4 +1,4 @@
--- A statement that is told beside its declaration.
+-- A statement that is reported beside its declaration.
 use Rattle.std.proofs.Common.{◌≡◌, ◌<◌, ◌∙◌, ℕ, Bool, true, false, List, [], ◌∷◌, length, Ok, Err, refl, sym, ap, subst, inl, inr, arith, Result}
 use Rattle.std.specs.Prelude.{if◌then◌else◌, OnErr}
 use Rattle.std.proofs.lemmas.Bool.{true≢false, false≢true}

@@ -1,4 +1,4 @@
--- What the row of a statement that is told says.
+-- What the row of a statement that is reported says.
 use Rattle.std.specs.Prelude.{◌≡◌, ◌≤◌, ◌<◌, ⊤, ℕ, Bool, true, false, List, [], length, reverse}
 use Rattle.mz_cmd.specs.Codes.{statement_byte}
 use Rattle.mz_cmd.specs.declared.code.StatementCode.{StatementCode}
@@ -51,7 +51,7 @@ abbrev pub assertion_code : Bool → StatementCode
 assertion_code true = codes.Axiom
 assertion_code false = codes.Theorem
 
--- the row of the statement that is told says the declaration
+-- the row of the statement that is reported says the declaration
 abbrev pub IsRowOf : List ℕ → Told → Declaration → Type 0
 IsRowOf bin told (sort_decl m) = (told.kind ≡ statement_byte codes.Sort) × (told.row < sort_count bin) × (m ≡ mods_of bin told.row)
 IsRowOf bin told (term_decl d) = (told.kind ≡ statement_byte codes.Term) × IsTermRow bin told.row d

@@ -137,7 +137,7 @@ fn same_hyp(sides: &Sides, hyps: &Hyps, i: usize, known: Cursor, made: Cursor) -
 }
 
 /// Whether the places are the same one, and the i-th hypothesis has the formula of the one before. No
-/// clause says that it is told where it is so: that such hypotheses are compared once isn't proved.
+/// clause says that it is reported where it is so: that such hypotheses are compared once isn't proved.
 fn is_known(hyps: &Hyps, i: usize, known: Cursor, made: Cursor) -> bool
     requires { 0 < i }
     ensures { IsTrue result → (known ≡ made) × (slice_get (listed hyps.now) (i - 1) ≡ slice_get (listed hyps.now) i) }

@@ -276,7 +276,7 @@ module _ (standard : Standard) where
   pub says-one : (spec bin : List ℕ) (v w : Verdict) → Says spec bin v → Says spec bin w → v ≡ w
   says-one spec bin v w a b = split-one spec bin v w (split spec bin v a) (split spec bin w b)
 
-  -- a verdict is the one that the files say, or want of memory
+  -- a verdict is the one that the files say, or out of memory
   pub verdict-says : (spec bin : List ℕ) (v w : Verdict) → IsVerdictBy standard spec bin v → Says spec bin w → (v ≡ w) ⊎ (v ≡ verdicts.Mem)
   verdict-says spec bin (verdicts.Accepted counts) w is says = inl (says-one spec bin (verdicts.Accepted counts) w is says)
   verdict-says spec bin (verdicts.Spec refusal) w is says = inl (says-one spec bin (verdicts.Spec refusal) w is says)

@@ -59,7 +59,7 @@ abbrev pub AcceptsWith : List ℕ → List ℕ → Counts → Type 0
 AcceptsWith spec bin counts = AcceptsWithBy strict_standard spec bin counts
 
 -- The specification and the binary's statements agree, and every theorem of the specification is proved. All of the
--- binary's statements are a legal list too, and each of its theorems has a closed derivation.
+-- binary's statements are a legal list too, and each of its theorems has a derivation from axioms alone.
 pub record IsSound (spec bin : List ℕ) : Type 0 where
   pub declared : List Declaration
   pub statements : List Statement
@@ -131,7 +131,7 @@ IsVerdict spec bin verdict = IsVerdictBy strict_standard spec bin verdict
 
 -- ---- its line
 
--- want of memory has none
+-- out of memory has none
 abbrev pub line_of : Verdict → List ℕ
 line_of (verdicts.Accepted counts) = accepted_line counts
 line_of (verdicts.Spec refusal) = spec_line refusal
@@ -153,7 +153,7 @@ TicksBy standard bin old new verdicts.Mem = ⊤
 abbrev pub Ticks : List ℕ → (old new : ℕ) → Verdict → Type 0
 Ticks bin old new verdict = TicksBy strict_standard bin old new verdict
 
--- a difference, or want of memory
+-- a difference, or out of memory
 abbrev pub IsDifference : Verdict → Type 0
 IsDifference (verdicts.Accepted counts) = ⊥
 IsDifference (verdicts.Spec refusal) = ⊥

@@ -28,6 +28,6 @@ pub enum Verdict {
         statement: u32,
         rule: M,
     },
-    /// Want of memory.
+    /// Out of memory.
     Mem,
 }

@@ -76,7 +76,7 @@ fn note_first(order: &mut [Option<usize>], place: usize, at: usize)
     }
 }
 
-/// The operands at these places, each of which is told once at most.
+/// The operands at these places, each of which is reported once at most.
 fn picked_in_order(
     alloc: Global,
     operands: &mut [Expr],

@@ -37,7 +37,7 @@ fn refused(rule: S) -> Parsed
 /// statement's variables. The string has at most 4,294,967,295 bytes.
 ///
 /// It is refused by the first rule that it breaks, in this order: a token is unknown (at the token;
-/// the others are told at 0), it has more than 4,096 tokens, they have no tree, an operand or the
+/// the others are reported at 0), it has more than 4,096 tokens, they have no tree, an operand or the
 /// whole can't be wrapped to its sort, the tree is higher than 4,096, it reaches no provable sort or
 /// several.
 pub fn parse_formula(

@@ -30,7 +30,7 @@ pub struct Found {
 /// A form whose parts are being read.
 #[derive(Drop)]
 pub struct Pending<'w> {
-    /// The form, which tells its parts in order.
+    /// The form, which says its parts in order.
     form: Form<'w>,
     /// The part that is next.
     part: usize,

@@ -7,7 +7,7 @@ use Rattle.mz_math_coercions.specs.Firsts.{AreMet}
 abbrev pub is_marked : List Bool → ℕ → Bool
 is_marked marks s = get_or marks s false
 
--- the sorts are listed, those where a coercion begins and those where one ends are marked, and what is marked is listed
+-- the sorts are listed, those where a coercion begins and those where one ends are flagged, and what is flagged is listed
 pub record AreNoted (cs : List Coercion) (m : Sorts) : Type 0 where
   pub met : AreMet cs m.list.items
   pub marked : (c : Coercion) → Contains cs c → (is_marked m.begins.items c.from ≡ true) × (is_marked m.ends.items c.to ≡ true)

@@ -6,7 +6,7 @@ ghost use Rattle.mz_math_theory.specs.declared.coercion.Coercion.{Coercion};
 use mz_math_theory::Coercion;
 use std::alloc::{AllocError, Global};
 
-/// The sorts between which coercions lead, and marks by sort: whether one begins there, and whether
+/// The sorts between which coercions lead, and flags by sort: whether one begins there, and whether
 /// one ends there.
 #[derive(Drop)]
 pub struct Sorts {
@@ -60,7 +60,7 @@ impl Sorts {
     }
 }
 
-/// Whether the sort is marked.
+/// Whether the sort is flagged.
 pub fn is_marked(marks: &[bool], sort: u32) -> bool
     ensures { result ≡ marked marks.now sort }
 {
@@ -70,7 +70,7 @@ pub fn is_marked(marks: &[bool], sort: u32) -> bool
     }
 }
 
-/// Marks a sort.
+/// Flags a sort.
 fn mark(marks: &mut Vec<bool>, sort: u32) -> Result<(), AllocError>
     ensures there { OnOk result (marked marks.new.items sort ≡ true) }
     ensures kept { (s : ℕ) → marked marks.old.items s ≡ true → marked marks.new.items s ≡ true }
@@ -82,7 +82,7 @@ fn mark(marks: &mut Vec<bool>, sort: u32) -> Result<(), AllocError>
     Ok(())
 }
 
-/// Puts marks that aren't set behind the others, until this one is there.
+/// Puts flags that aren't set behind the others, until this one is there.
 fn lengthen(marks: &mut Vec<bool>, place: usize) -> Result<(), AllocError>
     ensures there { OnOk result (place < length marks.new.items) }
     ensures same { (s : ℕ) → marked marks.new.items s ≡ marked marks.old.items s }

@@ -1,4 +1,4 @@
--- How the code counts the parameters that are named: a mark is none or one.
+-- How the code counts the parameters that are named: a flag is none or one.
 use Rattle.std.specs.Prelude.{◌==◌, ℕ, List, Bool, if◌then◌else◌}
 use Rattle.std.specs.List.{count_by}
 use Rattle.mz_math_theory.specs.Notation.{places}

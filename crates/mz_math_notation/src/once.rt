@@ -18,7 +18,7 @@ pub fn each_once(alloc: Global, many: usize, elements: &[Element]) -> Result<boo
     Ok(mark_each_once(&mut marks, elements))
 }
 
-/// Marks the parameters that are named; whether each of them is, exactly once.
+/// Flags the parameters that are named; whether each of them is, exactly once.
 fn mark_each_once(marks: &mut [bool], elements: &[Element]) -> bool
     requires { (i : ℕ) → get_or marks.old i false ≡ false }
     ensures { IsTrue result ↔ EachOnce (length marks.old) elements.now }
@@ -31,7 +31,7 @@ fn mark_each_once(marks: &mut [bool], elements: &[Element]) -> bool
     are_set(marks)
 }
 
-/// Marks the parameter that the element names, if it names one; whether it had no mark.
+/// Flags the parameter that the element names, if it names one; whether it had no flag.
 fn mark_element(marks: &mut [bool], element: &Element) -> bool
     ensures many { length marks.new ≡ length marks.old }
     ensures marked { result ≡ true → (i : ℕ) → i < length marks.old → one_if (get_or marks.new i false) ≡ one_if (get_or marks.old i false) + times (element.now ∷ []) i }
@@ -43,7 +43,7 @@ fn mark_element(marks: &mut [bool], element: &Element) -> bool
     }
 }
 
-/// Marks the place, if there is one; whether it had no mark.
+/// Flags the place, if there is one; whether it had no flag.
 fn mark(marks: &mut [bool], place: usize) -> bool
     ensures many { length marks.new ≡ length marks.old }
     ensures marked { result ≡ true → (i : ℕ) → i < length marks.old → one_if (get_or marks.new i false) ≡ one_if (get_or marks.old i false) + one_if (place == i) }

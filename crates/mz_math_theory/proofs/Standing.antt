@@ -79,7 +79,7 @@ bound_var-decided ctx (var x) = go (some-decided (slice_get ctx x))
         no : IsBoundVar ctx (var x) → ⊥
         no (y, c, is, at_y, is_bound) = never (c, ap (slice_get ctx) (same y is) ∙ at_y)
 
--- a fact that a test tells
+-- a fact that a test shows
 by-test : {P Q : Type 0} → Decided P → ((r : Bool) → (IsTrue r ↔ P) → IsTrue r ↔ Q) → Decided Q
 by-test (inl p) tells = inl ((tells true ((λ t. p), (λ h. refl))).0 refl)
 by-test (inr out) tells = inr (λ q. false≢true ((tells false ((λ t. absurd (false≢true t)), (λ p. absurd (out p)))).1 q))

@@ -100,7 +100,7 @@ delimiter_checks left right = demand faults.Form ((d : Delimiters) × AreDelimit
 
 -- ---- answers
 
--- nothing fails, or this is the first rule that does; want of memory is free
+-- nothing fails, or this is the first rule that does; out of memory is free
 abbrev pub IsAnswer : {A : Type 0} → Result A NoteFault → Checks NoteFault → Type 0
 IsAnswer (Ok _) cs = AllHold cs
 IsAnswer (Err faults.Clash) cs = FailsFirst cs faults.Clash

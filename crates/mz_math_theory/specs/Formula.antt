@@ -45,7 +45,7 @@ Means r wanted tokens e = (f : Tree) × (s : ℕ) × StandsFor r wanted tokens f
 
 -- ---- the rules in order
 
--- a rule, and the byte of the math string at which it is told
+-- a rule, and the byte of the math string at which it is reported
 pub record Misreading : Type 0 where
   pub at : ℕ
   pub rule : S

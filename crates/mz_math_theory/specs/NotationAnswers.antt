@@ -10,7 +10,7 @@ use Rattle.mz_math_theory.specs.declared.fault.NoteFault.TheVariants as faults
 
 -- ---- statements
 
--- what is made of a statement, or there is no such thing; no other rule is told
+-- what is made of a statement, or there is no such thing; no other rule is reported
 abbrev pub IsMade : {A : Type 0} → Result A NoteFault → (A → Type 0) → Type 0
 IsMade (Ok x) P = P x
 IsMade {A} (Err faults.Form) P = (y : A) → P y → ⊥

@@ -1,4 +1,4 @@
--- A table of bytes that tells which bytes are in a list.
+-- A table of bytes that says which bytes are in a list.
 use Rattle.std.specs.Prelude.{◌↔◌, ℕ, List, Bool, false, IsTrue, Contains, get_or}
 
 abbrev pub Tells : List Bool → List ℕ → Type 0

@@ -87,7 +87,7 @@ impl ByteSet {
     }
 }
 
-/// Marks these bytes in a table.
+/// Flags these bytes in a table.
 fn mark(there: &mut [bool; 256], bytes: &[u8])
     ensures { (c : ℕ) → IsTrue (get_or there.new c false) ↔ (IsTrue (get_or there.old c false) ⊎ Contains bytes.now c) }
 {

@@ -10,7 +10,7 @@ use Rattle.mz_mmu.specs.declared.text.TextStop.TheVariants as text_stop
 use Rattle.mz_mmu.specs.declared.text.TextRead.{TextRead}
 use Rattle.mz_mmu.specs.declared.text.TextRead.TheVariants as read
 
--- with the first of these that doesn't hold, or for want of memory
+-- with the first of these that doesn't hold, or out of memory
 abbrev pub TextStops : TextStop → Checks TextRefusal → Type 0
 TextStops (text_stop.Refused r) cs = FailsFirst cs r
 TextStops text_stop.Mem cs = ⊤

@@ -25,7 +25,7 @@ use std::marker::Model;
 pub struct Entry<'a> {
     /// The number of its node.
     pub root: u32,
-    /// Whether it's marked as local.
+    /// Whether it's local.
     pub is_local: bool,
     /// What it declares.
     pub declared: Declared<'a>,
@@ -234,7 +234,7 @@ impl<'a> Text<'a> {
         self.entries[i as usize].declared.name
     }
 
-    /// Whether it is marked local.
+    /// Whether it is declared local.
     pub fn is_local(&self, i: u32) -> bool
         requires { i < length self.now.statements }
         ensures { option_map (λ s. s.is_local) (slice_get self.now.statements i) ≡ Some result }

@@ -30,7 +30,7 @@ found_here i w k (inr here) h =
     differs false e = refl
     differs true e = absurd (true≢false (sym h ∙ ap is_name (same_text w k.0.now (sym e)) ∙ here.0))
 
--- so of each key the test tells whether its word is this name
+-- so of each key the test says whether its word is this name
 pub keys-tell : (i : ℕ) (ks : List Key) (w : List ℕ) → AreKeysFrom i ks → IsName w → Tells word_of_key w (is_key w 0) ks
 keys-tell i [] w all h = tt
 keys-tell i (k ∷ ks) w all h = (found_here i w k all.0 h, keys-tell (suc i) ks w all.1 h)

@@ -426,7 +426,7 @@ fn local<'a>(
     }
 }
 
-/// The statement that the node is, and whether it's marked as local. The names of its variables and of its
+/// The statement that the node is, and whether it's local. The names of its variables and of its
 /// hypotheses are put into the spaces, which are empty.
 fn statement_in<'a>(
     reader: &Reader<'_, 'a>,
@@ -466,7 +466,7 @@ fn statement_in<'a>(
     Ok((true, declared))
 }
 
-/// The statement that the node is, and whether it's marked as local.
+/// The statement that the node is, and whether it's local.
 ///
 /// # Errors
 ///

@@ -56,7 +56,7 @@ IsProvedAsStated gaps env (term_decl _) dummies proof = ⊤
 IsProvedAsStated gaps env (assertion_decl a) dummies proof = a.is_axiom ≡ false → AreDummies (sorts env) dummies
     × ((p : Proof) × (proof ≡ Some p) × IsProofOf gaps env (a.params ++ dummies) a p)
 
--- the statement may follow those of env: it is a legal declaration, marked local only where it may
+-- the statement may follow those of env: it is a legal declaration, declared local only where it may
 -- be, and proved if it is a theorem
 abbrev pub IsLegalAsStated : Bool → List Declaration → Statement → Type 0
 IsLegalAsStated gaps env s = IsLegalDecl env s.decl × (s.is_local ≡ true → MayBeLocal s.decl) × IsProvedAsStated gaps env s.decl s.dummies s.proof

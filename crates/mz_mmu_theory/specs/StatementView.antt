@@ -18,6 +18,6 @@ abbrev pub option_proof : Option ProofBox → Option StatedProof
 option_proof None = None
 option_proof (Some p) = Some p
 
--- with this mark
+-- with this visibility
 abbrev pub stated : Bool → Declared → Statement
 stated mark d = record { is_local = mark; name = d.name.now; decl = declaration d.decl; dummies = d.dummies; proof = option_proof d.proof }

@@ -15,7 +15,7 @@ use Rattle.mz_mmu_theory.specs.Proof.{Proof}
 use Rattle.mz_mmu_theory.specs.Proofs.{IsProof}
 use Rattle.mz_mmu_theory.specs.Gaps.{SomeLeavesOnly}
 
--- a statement of a text, with its mark and its name; a theorem has dummies and a proof
+-- a statement of a text, with its visibility and its name; a theorem has dummies and a proof
 pub record Statement : Type 0 where
   pub is_local : Bool
   pub name : List ℕ
@@ -93,7 +93,7 @@ AreNamedHyps sc (list _ ns) es after = AreHyps sc [] ns es after
 
 -- ---- statements
 
--- the parts behind the word of the kind are those of this statement, whose mark isn't looked at
+-- the parts behind the word of the kind are those of this statement, whose visibility isn't looked at
 abbrev pub IsDeclared : Names → Kind → Nodes → Statement → Type 0
 IsDeclared names sort_kind (node x ms) s = (m : Modifiers)
     × IsNewName names.sorts x s.name × AreModifiers no_modifiers ms m
@@ -124,7 +124,7 @@ IsDeclared names theorem_kind (node x (node ps (node hs (node e (node ds (node q
     × (s.proof ≡ Some proof)
 IsDeclared names _ _ s = ⊥
 
--- only definitions and theorems are marked local
+-- only definitions and theorems are local
 abbrev pub IsLocal : Names → Kind → Nodes → Statement → Type 0
 IsLocal names def_kind ns s = IsDeclared names def_kind ns s
 IsLocal names theorem_kind ns s = IsDeclared names theorem_kind ns s

@@ -2,7 +2,7 @@
 use mz_sexpr::U;
 use std::alloc::{AllocError, AllocFailed};
 
-/// A rule that a statement breaks, and the place where it is told, in bytes from 0.
+/// A rule that a statement breaks, and the place where it is reported, in bytes from 0.
 #[derive(Clone, Copy, Debug, PartialEq, Eq)]
 pub struct Fault {
     /// The place in the text.

@@ -1,4 +1,4 @@
--- What is answered where a body has run by address.
+-- What is answered where a body has run by identity.
 use Rattle.std.specs.Prelude.{◌≡◌, ℕ, ⊤, ◌+◌, false, length, Result, Ok, Err}
 use Rattle.mz_cmd.specs.declared.rule.K.{K}
 use Rattle.mz_machine_theory.specs.MachineState.{State, Heading}
@@ -13,7 +13,7 @@ pub record CountsOf (h : Heading) (last : State Numbered) (end : BodyEnd) : Type
   pub dummies : end.dummies + length h.params ≡ length last.ctx
   pub sorry : end.sorry ≡ false
 
--- the answer is what the run comes to; want of memory says nothing
+-- the answer is what the run comes to; out of memory says nothing
 abbrev pub IsBodyRun : Heading → Result (State Numbered) (ℕ × K) → BodyChecked → Type 0
 IsBodyRun h r (Good end) = (last : State Numbered) × (r ≡ Ok last) × CountsOf h last end
 IsBodyRun h r (Refused at rule) = r ≡ Err (at, rule)

@@ -33,7 +33,7 @@ pub record GoesOn (u : Underway) (at : ℕ) (after : Underway) : Type 0 where
   pub before : after.before ≡ u.before
   pub next : after.next ≤ at + 1
 
--- what the command at a place leads to, where it isn't stopped; want of memory says nothing
+-- what the command at a place leads to, where it isn't stopped; out of memory says nothing
 abbrev pub IsStepped : {A : Type 0} → Underway → Cmd → ℕ → Underway → Result A Stop → Type 0
 IsStepped u c at after (Ok x) = (row_of (tables_for u) (heading_for u) at u.state c ≡ Ok after.state) × GoesOn u at after
 IsStepped u c at after (Err (stop.Rule rule)) = row_of (tables_for u) (heading_for u) at u.state c ≡ Err rule
@@ -41,7 +41,7 @@ IsStepped u c at after (Err stop.Mem) = ⊤
 
 -- ---- the END
 
--- what the END leads to; want of memory says nothing
+-- what the END leads to; out of memory says nothing
 abbrev pub IsFinished : Underway → Finished → Type 0
 IsFinished u (finished.Body end) = (last : State Numbered) × (proof_end portable (tables_for u) (heading_for u) u.state ≡ Ok last) × CountsOf (heading_for u) last end
 IsFinished u (finished.Refused rule) = proof_end portable (tables_for u) (heading_for u) u.state ≡ Err rule

@@ -60,7 +60,7 @@ fn variables_at(nodes: &Nodes, operands: &[Id], places: &[u32]) -> u64
 }
 
 /// Whether the operand at a place is apart from all others. The bound parameters stand at these places,
-/// and the word tells the variables of their operands: where it shares none with it, none is met.
+/// and the word names the variables of their operands: where it shares none with it, none is met.
 fn is_apart(
     earlier: &Earlier,
     row: Row,

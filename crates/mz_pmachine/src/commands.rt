@@ -7,7 +7,7 @@ ghost use Rattle.std.specs.Prelude.{ℕ, ◌≡◌, ◌<◌, ◌≤◌, ◌+◌,
 ghost use Rattle.mz_pmachine_unify.specs.Numbering.{AreIn, IsOver};
 ghost use Rattle.mz_store.specs.declared.item.Id.{Id};
 ghost use Rattle.mz_pmachine_unify.specs.Stored.{AreItemsIn};
-ghost use Rattle.mz_machine_theory.specs.ProofMachine.{proof_row};
+ghost use Rattle.mz_machine_theory.specs.ProofMachine.{proof_step};
 ghost use Rattle.mz_machine_theory.specs.Bodies.{row_steps};
 ghost use Rattle.mz_machine_env.specs.Before.{tables_of, signatures_of};
 ghost use Rattle.mz_pmachine.specs.OverNodes.{state_at, code_of, code_of_keeping, Grows};
@@ -46,7 +46,7 @@ fn make<L: Ledger>(
     ensures grows { OnOk result (Grows (signatures_of earlier.now) nodes.old nodes.new) }
     ensures ids { OnOk result (AreItemsIn nodes.new heap.new.items × AreItemsIn nodes.new stack.new.items) }
     ensures next { OnOk result (nodes.new.next ≤ at + 1) }
-    ensures row { (hyps : List Id) → AreIn nodes.old hyps → Gives (proof_row portable (tables_of earlier.now) at (code_of_making command) value (state_at nodes.old heap.old.items stack.old.items hyps)) result (λ _. state_at nodes.new heap.new.items stack.new.items hyps) }
+    ensures row { (hyps : List Id) → AreIn nodes.old hyps → Gives (proof_step portable (tables_of earlier.now) at (code_of_making command) value (state_at nodes.old heap.old.items stack.old.items hyps)) result (λ _. state_at nodes.new heap.new.items stack.new.items hyps) }
     ensures steps { (hyps : List Id) → UnlessMem result (steps.new ≡ steps.old + row_steps portable (tables_of earlier.now) (code_of_making command) value (state_at nodes.old heap.old.items stack.old.items hyps)) }
     ensures most { steps.new ≤ steps.old + length earlier.now.file }
 {
@@ -89,7 +89,7 @@ fn keep(
     ensures ids { OnOk result (AreItemsIn nodes.new heap.new.items × AreItemsIn nodes.new stack.new.items × AreIn nodes.new hyps.new.items) }
     ensures few { OnOk result (length hyps.new.items < 2 ^ 32) }
     ensures next { OnOk result (nodes.new.next ≡ nodes.old.next) }
-    ensures row { (at : ℕ) → Gives (proof_row portable (tables_of earlier.now) at (code_of_keeping command) value (state_at nodes.old heap.old.items stack.old.items hyps.old.items)) result (λ _. state_at nodes.new heap.new.items stack.new.items hyps.new.items) }
+    ensures row { (at : ℕ) → Gives (proof_step portable (tables_of earlier.now) at (code_of_keeping command) value (state_at nodes.old heap.old.items stack.old.items hyps.old.items)) result (λ _. state_at nodes.new heap.new.items stack.new.items hyps.new.items) }
 {
     match command {
         Keeping::Ref => refer(nodes, value, heap, stack),
@@ -124,7 +124,7 @@ fn convert<L: Ledger>(
     requires heap { AreItemsIn nodes.now heap.old.items }
     requires stack { AreItemsIn nodes.now stack.old.items }
     ensures ids { OnOk result (AreItemsIn nodes.now heap.new.items × AreItemsIn nodes.now stack.new.items) }
-    ensures row { (at value : ℕ) (hyps : List Id) → Gives (proof_row portable (tables_of earlier.now) at (code_of_converting command) value (state_at nodes.now heap.old.items stack.old.items hyps)) result (λ _. state_at nodes.now heap.new.items stack.new.items hyps) }
+    ensures row { (at value : ℕ) (hyps : List Id) → Gives (proof_step portable (tables_of earlier.now) at (code_of_converting command) value (state_at nodes.now heap.old.items stack.old.items hyps)) result (λ _. state_at nodes.now heap.new.items stack.new.items hyps) }
     ensures steps { (value : ℕ) (hyps : List Id) → UnlessMem result (steps.new ≡ steps.old + row_steps portable (tables_of earlier.now) (code_of_converting command) value (state_at nodes.now heap.old.items stack.old.items hyps)) }
     ensures most { steps.new ≤ steps.old + length earlier.now.file }
 {
@@ -166,7 +166,7 @@ pub(crate) fn execute<L: Ledger>(
     ensures ids { OnOk result (AreItemsIn nodes.new heap.new.items × AreItemsIn nodes.new stack.new.items × AreIn nodes.new hyps.new.items) }
     ensures few { OnOk result (length hyps.new.items < 2 ^ 32) }
     ensures next { OnOk result (nodes.new.next ≤ at + 1) }
-    ensures row { Gives (proof_row portable (tables_of earlier.now) at (code_of command) value (state_at nodes.old heap.old.items stack.old.items hyps.old.items)) result (λ _. state_at nodes.new heap.new.items stack.new.items hyps.new.items) }
+    ensures row { Gives (proof_step portable (tables_of earlier.now) at (code_of command) value (state_at nodes.old heap.old.items stack.old.items hyps.old.items)) result (λ _. state_at nodes.new heap.new.items stack.new.items hyps.new.items) }
     ensures steps { UnlessMem result (steps.new ≡ steps.old + row_steps portable (tables_of earlier.now) (code_of command) value (state_at nodes.old heap.old.items stack.old.items hyps.old.items)) }
     ensures most { steps.new ≤ steps.old + length earlier.now.file }
 {

@@ -1,4 +1,4 @@
--- What runs by the published table runs with what is asked beside numbers, but for Unfold and for definitions: the stream
+-- What runs by the standard machine runs with what is asked beside numbers, but for Unfold and for definitions: the stream
 -- of an assertion has no dummy.
 use Rattle.std.proofs.Common.{◌≡◌, ℕ, zero, suc, ◌+◌, Bool, true, false, cond, List, [], ◌∷◌, ◌++◌, length, drop, map, Option, Some, None, Result, Ok, Err, refl, sym, ap, subst, ◌∙◌}
 use Rattle.std.specs.Prelude.{slice_get, leb, ◌&&◌, ◌==◌}
@@ -19,11 +19,11 @@ use Rattle.mz_unify_theory.specs.Steps.{◌>>=◌, ◌>>◌, need, want}
 use Rattle.mz_unify_theory.specs.Streams.{StreamKind, of_assertion, UnifyCommand, u_term, u_term_save, u_ref, u_dummy, u_hyp, u_end, command_in, unify_command}
 use Rattle.mz_unify_theory.specs.Tests.{same_tree}
 use Rattle.mz_unify_theory.specs.Profile.{strict, tree_parts, Item, expr, proof, obligation, conversion}
-use Rattle.mz_unify_theory.specs.UnifyMachine.{UnifyMode, in_citation, at_end, kind_of, Matching, UnifyState, top_target, is_empty, next_hypothesis, operands_of, nothing_left, unify_row, unify_turn_by, unify_turn, unify_from, at_start, unify}
+use Rattle.mz_unify_theory.specs.UnifyMachine.{UnifyMode, in_citation, at_end, kind_of, Matching, UnifyState, top_target, is_empty, next_hypothesis, operands_of, nothing_left, unify_step, unify_turn_by, unify_turn, unify_from, at_start, unify}
 use Rattle.mz_unify_theory.proofs.Offered.{from_bind, from_then, from_want, taken-is, bind-same}
 use Rattle.mz_machine_theory.specs.MachineState.{RowsBefore, signatures_in, State, Kind, is_axiom, is_theorem, is_definition, Heading}
 use Rattle.mz_machine_theory.specs.Premises.{pop_expr, pop_operands, is_conversion, operands_fit, are_apart}
-use Rattle.mz_machine_theory.specs.ProofMachine.{push, saved, built, citation, matched_by, cited, referred, has_provable_sort, proof_row, last_item, as_proofs, own_variables, own_stream, ending, ends_with, proof_end}
+use Rattle.mz_machine_theory.specs.ProofMachine.{push, saved, built, citation, matched_by, cited, referred, has_provable_sort, proof_step, last_item, as_proofs, own_variables, own_stream, ending, ends_with, proof_end}
 use Rattle.mz_pmachine_theory.specs.Making.{portable_trees}
 use Rattle.mz_pmachine_theory.specs.Laws.{AssertionsRunToo, RowsRunToo, EndsRunToo}
 use Rattle.mz_pmachine_theory.proofs.Going.{Goes, Is, TurnIs, goes-to, goes-on, goes-need, goes-want, goes-rule, goes-over, goes-further, goes-follow}
@@ -57,8 +57,8 @@ abbrev Same : UnifyState Tree → UnifyState Tree → Type 0
 Same u v = (ys : List Tree) × (record u { apart = ys } ≡ v)
 
 module _ (sigs : List Signature) (ctx : List Binder) (mode : UnifyMode) where
-  row-same : (c : UnifyCommand) (u : UnifyState Tree) (ys : List Tree) → NoDummy (Some c) → Goes Same (unify_row strict sigs ctx mode c u) (unify_row portable_trees sigs ctx mode c (record u { apart = ys }))
-  unfolding unify_row
+  row-same : (c : UnifyCommand) (u : UnifyState Tree) (ys : List Tree) → NoDummy (Some c) → Goes Same (unify_step strict sigs ctx mode c u) (unify_step portable_trees sigs ctx mode c (record u { apart = ys }))
+  unfolding unify_step
   row-same (u_term t) u ys none =
       goes-on (λ x. x) Same (top_target u.targets) (top_target u.targets) _ _ (goes-same (top_target u.targets)) λ top.
       goes-want (λ x. x) Same (operands_of t (tree_parts top.0)) (operands_of t (tree_parts top.0)) k.UnifyTerm _ _ (λ x there. there) λ es.
@@ -84,8 +84,8 @@ module _ (sigs : List Signature) (ctx : List Binder) (mode : UnifyMode) where
   by-same : (len : ℕ) (u : UnifyState Tree) (ys : List Tree) (o : Option UnifyCommand) → NoDummy o
       → Goes (TurnIs Same) (unify_turn_by strict sigs ctx mode len u o) (unify_turn_by portable_trees sigs ctx mode len (record u { apart = ys }) o)
   by-same len u ys None none = λ x e. absurd cc
-  by-same len u ys (Some u_end) none = goes-over Same (unify_row strict sigs ctx mode u_end u) (unify_row portable_trees sigs ctx mode u_end (record u { apart = ys })) (row-same u_end u ys none)
-  by-same len u ys (Some c) none = goes-further Same len (unify_row strict sigs ctx mode c u) (unify_row portable_trees sigs ctx mode c (record u { apart = ys })) (row-same c u ys none)
+  by-same len u ys (Some u_end) none = goes-over Same (unify_step strict sigs ctx mode u_end u) (unify_step portable_trees sigs ctx mode u_end (record u { apart = ys })) (row-same u_end u ys none)
+  by-same len u ys (Some c) none = goes-further Same len (unify_step strict sigs ctx mode c u) (unify_step portable_trees sigs ctx mode c (record u { apart = ys })) (row-same c u ys none)
 
   turn-same : kind_of mode ≡ of_assertion → (u : UnifyState Tree) (ys : List Tree) (r : Result Cmd CmdFault)
       → Goes (TurnIs Same) (unify_turn strict sigs ctx mode u r) (unify_turn portable_trees sigs ctx mode (record u { apart = ys }) r)
@@ -168,8 +168,8 @@ module _ (tables : RowsBefore) where
   unfolding built
   built-same at t st = refl
 
-  row-too : (at : ℕ) (c : ProofCode) (n : ℕ) (st s : State Tree) → (c ≡ code.Unfold → ⊥) → proof_row strict tables at c n st ≡ Ok s → proof_row portable_trees tables at c n st ≡ Ok s
-  unfolding proof_row
+  row-too : (at : ℕ) (c : ProofCode) (n : ℕ) (st s : State Tree) → (c ≡ code.Unfold → ⊥) → proof_step strict tables at c n st ≡ Ok s → proof_step portable_trees tables at c n st ≡ Ok s
+  unfolding proof_step
   row-too at code.Term n st s other e = ap (λ (z : Result (Tree × List (Item Tree)) K). z >>= λ x. Ok (push (expr x.0) x.1 st)) (built-same at n st) ∙ e
   row-too at code.TermSave n st s other e = ap (λ (z : Result (Tree × List (Item Tree)) K). z >>= λ x. Ok (saved (expr x.0) (push (expr x.0) x.1 st))) (built-same at n st) ∙ e
   row-too at code.Ref n st s other e = bind-same (want (slice_get st.heap n) k.HeapIndex) _ _ (λ x. referred-same x st) ∙ e

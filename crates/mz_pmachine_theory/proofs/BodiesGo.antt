@@ -19,7 +19,7 @@ use Rattle.mz_unify_theory.specs.UnifyMachine.{UnifyMode, at_end, in_definition,
 use Rattle.mz_unify_theory.proofs.Offered.{map-reverse}
 use Rattle.mz_machine_theory.specs.MachineState.{RowsBefore, signatures_in, State, Kind, is_axiom, is_theorem, is_definition, Heading}
 use Rattle.mz_machine_theory.specs.FreeVars.{free_within}
-use Rattle.mz_machine_theory.specs.ProofMachine.{matched_by, has_provable_sort, proof_row, last_item, as_proofs, own_variables, own_stream, ending, ends_with, proof_end}
+use Rattle.mz_machine_theory.specs.ProofMachine.{matched_by, has_provable_sort, proof_step, last_item, as_proofs, own_variables, own_stream, ending, ends_with, proof_end}
 use Rattle.mz_machine_theory.specs.Bodies.{BodyCommand, ends, proves, stands_in, if_allowed, body_command, body_turn, body_turn_by, body_from, body_start, Runs}
 use Rattle.mz_pmachine_theory.specs.Mapping.{items_onto, state_onto, matching_onto}
 use Rattle.mz_pmachine_theory.proofs.Going.{Goes, Is, TurnIs, goes-to, goes-bind, goes-on, goes-need, goes-over, goes-further, goes-follow}
@@ -171,7 +171,7 @@ module _ (P Q : Profile) (f : P.T → Q.T) (Right : ℕ → P.T → Type 0) (emb
         goes-over Stated (need (is_empty rest) k.StatementLength >> proof_end P tables h st) (need (is_empty rest) k.StatementLength >> proof_end Q tables h (state_onto f st))
         (goes-need Stated (is_empty rest) (is_empty rest) k.StatementLength _ _ (λ b. b) (end-goes st))
     command-goes at len rest st (proves c value) right =
-        goes-further Stated len (proof_row P tables at c value st) (proof_row Q tables at c value (state_onto f st)) (row-goes P Q f Right embeds tables at c value st right)
+        goes-further Stated len (proof_step P tables at c value st) (proof_step Q tables at c value (state_onto f st)) (row-goes P Q f Right embeds tables at c value st right)
 
     by-goes : (at len : ℕ) (rest : List ℕ) (st : State P.T) (o o' : Option BodyCommand) → CommandMakes at st o → ((u : BodyCommand) → o ≡ Some u → o' ≡ Some u)
         → Goes (TurnIs Stated) (body_turn_by P tables h at len rest st o) (body_turn_by Q tables h at len rest (state_onto f st) o')
@@ -206,10 +206,10 @@ module _ (P Q : Profile) (f : P.T → Q.T) (Right : ℕ → P.T → Type 0) (emb
   stated r s y run is = run ∙ ap (λ (z : State Q.T). Ok z) (sym is)
 
   pub row-runs : (tables : RowsBefore) (at : ℕ) (c : ProofCode) (value : ℕ) (st s : State P.T) → MakesRight P Q f Right embeds tables at c value st
-      → proof_row P tables at c value st ≡ Ok s → proof_row Q tables at c value (state_onto f st) ≡ Ok (state_onto f s)
+      → proof_step P tables at c value st ≡ Ok s → proof_step Q tables at c value (state_onto f st) ≡ Ok (state_onto f s)
   row-runs tables at c value st s right e =
       let (y, run, is) = row-goes P Q f Right embeds tables at c value st right s e in
-      stated (proof_row Q tables at c value (state_onto f st)) s y run is
+      stated (proof_step Q tables at c value (state_onto f st)) s y run is
 
   pub stream-runs : (sigs : List Signature) (ctx : List Binder) (m : Matching P.T) (u : UnifyState P.T) → unify P sigs ctx m ≡ Ok u
       → (v : UnifyState Q.T) × (unify Q sigs ctx (matching_onto f m) ≡ Ok v) × (v.heap ≡ map f u.heap) × (v.items ≡ items_onto f u.items)

@@ -1,4 +1,4 @@
--- Where no application is made by two commands, numbers can be given to trees, and what runs over trees runs by address.
+-- Where no application is made by two commands, numbers can be given to trees, and what runs over trees runs by identity.
 use Rattle.std.proofs.Common.{◌≡◌, ℕ, zero, suc, ◌+◌, Bool, true, false, cond, List, [], ◌∷◌, ◌++◌, length, drop, map, Option, Some, None, Result, Ok, Err, refl, sym, ap, ap₂, subst, ◌∙◌}
 use Rattle.std.specs.Prelude.{slice_get}
 use Rattle.std.proofs.lemmas.Option.{same_Some}

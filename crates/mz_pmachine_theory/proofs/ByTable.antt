@@ -1,4 +1,4 @@
--- What runs by address runs by the published table, numbers forgotten.
+-- What runs by identity runs by the standard machine, numbers forgotten.
 use Rattle.std.proofs.Common.{◌≡◌, ℕ, zero, suc, ◌+◌, true, List, [], ◌∷◌, drop, map, Option, Some, None, Result, Ok, Err, refl, sym, ap, ◌∙◌}
 use Rattle.std.specs.Prelude.{⊤}
 use Rattle.mz_cmd.specs.declared.command.Cmd.{Cmd}

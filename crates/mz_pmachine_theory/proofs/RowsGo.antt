@@ -15,7 +15,7 @@ use Rattle.mz_unify_theory.specs.Profile.{Profile, Item, expr, proof, obligation
 use Rattle.mz_unify_theory.specs.UnifyMachine.{in_citation, in_definition, Matching, UnifyState, unify}
 use Rattle.mz_machine_theory.specs.MachineState.{RowsBefore, signatures_in, State}
 use Rattle.mz_machine_theory.specs.Premises.{pop, pop_expr, pop_proof, pop_obligation, pop_conversion, pop_exprs, pop_operands, pop_sides, is_conversion, is_obligation, may_be_dummy_sort, is_provable_sort, bound_count, operands_fit, are_apart}
-use Rattle.mz_machine_theory.specs.ProofMachine.{push, saved, built, citation, matched_by, cited, referred, sides, same_term, stream_of, unfolding_of, gapped, has_provable_sort, proof_row}
+use Rattle.mz_machine_theory.specs.ProofMachine.{push, saved, built, citation, matched_by, cited, referred, sides, same_term, stream_of, unfolding_of, gapped, has_provable_sort, proof_step}
 use Rattle.mz_pmachine_theory.specs.Mapping.{item_onto, items_onto, state_onto, matching_onto}
 use Rattle.mz_pmachine_theory.proofs.Going.{Goes, Is, goes-to, goes-bind, goes-known, goes-on, goes-need, goes-want, goes-after, goes-rule}
 use Rattle.mz_pmachine_theory.proofs.Embeds.{Embeds, both-are, trees-same}
@@ -242,8 +242,8 @@ module _ (P Q : Profile) (f : P.T → Q.T) (Right : ℕ → P.T → Type 0) (emb
         goes-bind _ StateIs (built P tables at t st) (built Q tables at t (state_onto f st)) _ _ (goes-known (MadeIs at) (built P tables at t st) (built Q tables at t (state_onto f st)) (built-goes at t st))
         λ x y (made, are). goes-to StateIs (g x) (g' y) (is x ∙ ap g' (are (right x made)))
 
-    pub row-goes : (at : ℕ) (c : ProofCode) (n : ℕ) (st : State P.T) → MakesRight at c n st → Goes StateIs (proof_row P tables at c n st) (proof_row Q tables at c n (state_onto f st))
-    unfolding proof_row
+    pub row-goes : (at : ℕ) (c : ProofCode) (n : ℕ) (st : State P.T) → MakesRight at c n st → Goes StateIs (proof_step P tables at c n st) (proof_step Q tables at c n (state_onto f st))
+    unfolding proof_step
     row-goes at code.Term n st right = on-built at n st (λ x. push (expr x.0) x.1 st) (λ x. push (expr x.0) x.1 (state_onto f st)) right λ x. refl
     row-goes at code.TermSave n st right =
         on-built at n st (λ x. saved (expr x.0) (push (expr x.0) x.1 st)) (λ x. saved (expr x.0) (push (expr x.0) x.1 (state_onto f st))) right λ x. heap-is (push (expr x.0) x.1 st) (expr x.0)

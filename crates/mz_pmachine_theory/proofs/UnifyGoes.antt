@@ -17,7 +17,7 @@ use Rattle.mz_unify_theory.specs.Steps.{◌>>=◌, want}
 use Rattle.mz_unify_theory.specs.Streams.{UnifyCommand, u_term, u_term_save, u_ref, u_dummy, u_hyp, u_end, unify_command}
 use Rattle.mz_unify_theory.specs.Tests.{var_within, is_bound_var}
 use Rattle.mz_unify_theory.specs.Profile.{Profile, Item, expr, proof, obligation, conversion}
-use Rattle.mz_unify_theory.specs.UnifyMachine.{UnifyMode, in_citation, at_end, in_definition, kind_of, Matching, UnifyState, top_target, is_empty, proved_by, next_hypothesis, operands_of, within_any, is_fresh, nothing_left, unify_row, unify_turn_by, unify_turn, unify_from, at_start, unify}
+use Rattle.mz_unify_theory.specs.UnifyMachine.{UnifyMode, in_citation, at_end, in_definition, kind_of, Matching, UnifyState, top_target, is_empty, proved_by, next_hypothesis, operands_of, within_any, is_fresh, nothing_left, unify_step, unify_turn_by, unify_turn, unify_from, at_start, unify}
 use Rattle.mz_pmachine_theory.specs.Mapping.{item_onto, items_onto, matching_onto}
 use Rattle.mz_pmachine_theory.proofs.Going.{Goes, Is, TurnIs, goes-to, goes-on, goes-need, goes-want, goes-over, goes-further, goes-follow}
 use Rattle.mz_pmachine_theory.proofs.Embeds.{Embeds, operands-are}
@@ -123,8 +123,8 @@ module _ (P Q : Profile) (f : P.T → Q.T) (Right : ℕ → P.T → Type 0) (emb
       ∙ fresh-too (is_bound_var ctx (P.tree e)) (sort_of sigs ctx (P.tree e) == s) (within_any P ctx e xs) (within_any Q ctx (f e) ys) (covers e) h
 
   module _ (mode : UnifyMode) where
-    row-goes : (c : UnifyCommand) (u : UnifyState P.T) (ys : List Q.T) → Covers u.apart ys → Goes Shows (unify_row P sigs ctx mode c u) (unify_row Q sigs ctx mode c (shown u ys))
-    unfolding unify_row
+    row-goes : (c : UnifyCommand) (u : UnifyState P.T) (ys : List Q.T) → Covers u.apart ys → Goes Shows (unify_step P sigs ctx mode c u) (unify_step Q sigs ctx mode c (shown u ys))
+    unfolding unify_step
     row-goes (u_term t) u ys covers =
         goes-on top_onto Shows (top_target u.targets) (top_target (map f u.targets)) _ _ (top-goes u.targets) λ top.
         goes-want (map f) Shows (operands_of t (P.parts top.0)) (operands_of t (Q.parts (f top.0))) k.UnifyTerm _ _ (operands-are P Q f Right embeds t top.0) λ es.
@@ -165,8 +165,8 @@ module _ (P Q : Profile) (f : P.T → Q.T) (Right : ℕ → P.T → Type 0) (emb
     by-goes : (len : ℕ) (u : UnifyState P.T) (ys : List Q.T) (o : Option UnifyCommand) → Covers u.apart ys
         → Goes (TurnIs Shows) (unify_turn_by P sigs ctx mode len u o) (unify_turn_by Q sigs ctx mode len (shown u ys) o)
     by-goes len u ys None covers = λ x e. absurd cc
-    by-goes len u ys (Some u_end) covers = goes-over Shows (unify_row P sigs ctx mode u_end u) (unify_row Q sigs ctx mode u_end (shown u ys)) (row-goes u_end u ys covers)
-    by-goes len u ys (Some c) covers = goes-further Shows len (unify_row P sigs ctx mode c u) (unify_row Q sigs ctx mode c (shown u ys)) (row-goes c u ys covers)
+    by-goes len u ys (Some u_end) covers = goes-over Shows (unify_step P sigs ctx mode u_end u) (unify_step Q sigs ctx mode u_end (shown u ys)) (row-goes u_end u ys covers)
+    by-goes len u ys (Some c) covers = goes-further Shows len (unify_step P sigs ctx mode c u) (unify_step Q sigs ctx mode c (shown u ys)) (row-goes c u ys covers)
 
     turn-goes : (u : UnifyState P.T) (ys : List Q.T) (r : Result Cmd CmdFault) → Covers u.apart ys
         → Goes (TurnIs Shows) (unify_turn P sigs ctx mode u r) (unify_turn Q sigs ctx mode (shown u ys) r)

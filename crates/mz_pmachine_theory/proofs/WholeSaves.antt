@@ -21,7 +21,7 @@ use Rattle.mz_unify_theory.specs.Streams.{UnifyCommand, u_term, u_term_save, u_r
 use Rattle.mz_unify_theory.specs.Spells.{trees_of}
 use Rattle.mz_unify_theory.specs.Tests.{same_tree, is_bound_var, in_v}
 use Rattle.mz_unify_theory.specs.Profile.{strict, tree_parts}
-use Rattle.mz_unify_theory.specs.UnifyMachine.{UnifyMode, in_definition, kind_of, UnifyState, top_target, is_empty, next_hypothesis, operands_of, within_any, is_fresh, nothing_left, unify_row, unify_turn_by, unify_turn, unify_from, unify}
+use Rattle.mz_unify_theory.specs.UnifyMachine.{UnifyMode, in_definition, kind_of, UnifyState, top_target, is_empty, next_hypothesis, operands_of, within_any, is_fresh, nothing_left, unify_step, unify_turn_by, unify_turn, unify_from, unify}
 use Rattle.mz_unify_theory.proofs.Offered.{from_bind, from_need, from_want, taken-is, in-v-true, not-in-v, in-some, unfoldings-exact}
 use Rattle.mz_pmachine_theory.specs.Making.{portable_trees}
 use Rattle.mz_pmachine_theory.specs.Saving.{AreWhole}
@@ -94,8 +94,8 @@ module _ (sigs : List Signature) (ctx : List Binder) (mode : UnifyMode) where
   by-one : (u s t : UnifyState Tree) (e : Tree) → t.heap ≡ u.heap ++ e ∷ [] → t ≡ s → Grown u s
   by-one u s t e extra is = (e ∷ [], ap (λ (z : UnifyState Tree). z.heap) (sym is) ∙ extra)
 
-  row-grows : (c : UnifyCommand) (u s : UnifyState Tree) → unify_row strict sigs ctx mode c u ≡ Ok s → Grown u s
-  unfolding unify_row
+  row-grows : (c : UnifyCommand) (u s : UnifyState Tree) → unify_step strict sigs ctx mode c u ≡ Ok s → Grown u s
+  unfolding unify_step
   row-grows (u_term t) u s e =
       from_bind (top_target u.targets) _ s e λ top top-is e1.
       from_want (operands_of t (tree_parts top.0)) k.UnifyTerm _ s e1 λ ts ts-are e2.
@@ -124,10 +124,10 @@ module _ (sigs : List Signature) (ctx : List Binder) (mode : UnifyMode) where
   by-grows : (len : ℕ) (u : UnifyState Tree) (o : Option UnifyCommand) (t : Turn (UnifyState Tree)) → unify_turn_by strict sigs ctx mode len u o ≡ Ok t → Grown u (after t)
   by-grows len u None t e = absurd cc
   by-grows len u (Some u_end) t e =
-      from_bind (unify_row strict sigs ctx mode u_end u) _ t e λ s row e1.
+      from_bind (unify_step strict sigs ctx mode u_end u) _ t e λ s row e1.
       subst (λ (z : Turn (UnifyState Tree)). Grown u (after z)) (taken-is (over s) t e1) (row-grows u_end u s row)
   by-grows len u (Some c) t e =
-      from_bind (unify_row strict sigs ctx mode c u) _ t e λ s row e1.
+      from_bind (unify_step strict sigs ctx mode c u) _ t e λ s row e1.
       subst (λ (z : Turn (UnifyState Tree)). Grown u (after z)) (taken-is (goes_on len s) t e1) (row-grows c u s row)
 
   turn-grows : (u : UnifyState Tree) (r : Result Cmd CmdFault) (t : Turn (UnifyState Tree)) → unify_turn strict sigs ctx mode u r ≡ Ok t → Grown u (after t)
@@ -204,22 +204,22 @@ module _ (sigs : List Signature) (ctx : List Binder) (mode : UnifyMode) where
         go (inr (suc j, _, there)) = absurd cc
 
     abbrev Beside : UnifyCommand → UnifyState Tree → UnifyState Tree → Type 0
-    Beside c u s = (unify_row portable_trees sigs ctx mode c (shown u) ≡ Ok (shown s)) × Covered s
+    Beside c u s = (unify_step portable_trees sigs ctx mode c (shown u) ≡ Ok (shown s)) × Covered s
 
-    row-beside : (c : UnifyCommand) (u s : UnifyState Tree) (extra : List Tree) → Covered u → final ≡ s.heap ++ extra → unify_row strict sigs ctx mode c u ≡ Ok s → Beside c u s
-    unfolding unify_row
+    row-beside : (c : UnifyCommand) (u s : UnifyState Tree) (extra : List Tree) → Covered u → final ≡ s.heap ++ extra → unify_step strict sigs ctx mode c u ≡ Ok s → Beside c u s
+    unfolding unify_step
     row-beside (u_term t) u s extra covered all e =
         from_bind (top_target u.targets) _ s e λ top top-is e1.
         from_want (operands_of t (tree_parts top.0)) k.UnifyTerm _ s e1 λ ts ts-are e2.
         let s' : UnifyState Tree = record u { targets = ts ++ top.1 } in
-        let row : unify_row portable_trees sigs ctx mode (u_term t) (shown u) ≡ Ok (shown s') = rw (top-is, ts-are) refl in
+        let row : unify_step portable_trees sigs ctx mode (u_term t) (shown u) ≡ Ok (shown s') = rw (top-is, ts-are) refl in
         subst (λ (z : UnifyState Tree). Beside (u_term t) u z) (taken-is s' s e2) (row, record { heap = covered.heap; operands = covered.operands })
     row-beside (u_term_save t) u s extra covered all e =
         from_bind (top_target u.targets) _ s e λ top top-is e1.
         from_want (operands_of t (tree_parts top.0)) k.UnifyTerm _ s e1 λ ts ts-are e2.
         let s' : UnifyState Tree = record u { targets = ts ++ top.1; heap = u.heap ++ top.0 ∷ [] } in
         let is : s' ≡ s = taken-is s' s e2 in
-        let row : unify_row portable_trees sigs ctx mode (u_term_save t) (shown u) ≡ Ok (shown s') = rw (top-is, ts-are) refl in
+        let row : unify_step portable_trees sigs ctx mode (u_term_save t) (shown u) ≡ Ok (shown s') = rw (top-is, ts-are) refl in
         let (h, fs, top-app) = is-applied t top.0 ts ts-are in
         let all' : final ≡ (u.heap ++ top.0 ∷ []) ++ extra = all ∙ ap (λ (z : UnifyState Tree). z.heap ++ extra) (sym is) in
         subst (λ (z : UnifyState Tree). Beside (u_term_save t) u z) is
@@ -229,13 +229,13 @@ module _ (sigs : List Signature) (ctx : List Binder) (mode : UnifyMode) where
         from_want (slice_get u.heap i) k.UnifyReference _ s e1 λ d d-at e2.
         from_need (same_tree d top.0) k.UnifyReference _ s e2 λ same e3.
         let s' : UnifyState Tree = record u { targets = top.1 } in
-        let row : unify_row portable_trees sigs ctx mode (u_ref i) (shown u) ≡ Ok (shown s') = rw (top-is, d-at, same) refl in
+        let row : unify_step portable_trees sigs ctx mode (u_ref i) (shown u) ≡ Ok (shown s') = rw (top-is, d-at, same) refl in
         subst (λ (z : UnifyState Tree). Beside (u_ref i) u z) (taken-is s' s e3) (row, record { heap = covered.heap; operands = covered.operands })
     row-beside (u_dummy d) u s extra covered all e =
         from_bind (top_target u.targets) _ s e λ top top-is e1.
         from_need (is_fresh strict sigs ctx d top.0 u.apart) k.UnifyDummy _ s e1 λ fresh e2.
         let s' : UnifyState Tree = record u { targets = top.1; heap = u.heap ++ top.0 ∷ []; apart = u.apart ++ top.0 ∷ [] } in
-        let row : unify_row portable_trees sigs ctx mode (u_dummy d) (shown u) ≡ Ok (shown s') = rw (top-is, stays-fresh u d top.0 covered fresh) refl in
+        let row : unify_step portable_trees sigs ctx mode (u_dummy d) (shown u) ≡ Ok (shown s') = rw (top-is, stays-fresh u d top.0 covered fresh) refl in
         subst (λ (z : UnifyState Tree). Beside (u_dummy d) u z) (taken-is s' s e2) (
           row,
           record {
@@ -247,24 +247,24 @@ module _ (sigs : List Signature) (ctx : List Binder) (mode : UnifyMode) where
         from_need (is_empty u.targets) k.UnifyRest _ s e λ empty e1.
         from_bind (next_hypothesis mode u.items) _ s e1 λ next next-is e2.
         let s' : UnifyState Tree = record u { targets = next.0 ∷ []; items = next.1 } in
-        let row : unify_row portable_trees sigs ctx mode u_hyp (shown u) ≡ Ok (shown s') = rw (empty, next-is) refl in
+        let row : unify_step portable_trees sigs ctx mode u_hyp (shown u) ≡ Ok (shown s') = rw (empty, next-is) refl in
         subst (λ (z : UnifyState Tree). Beside u_hyp u z) (taken-is s' s e2) (row, record { heap = covered.heap; operands = covered.operands })
     row-beside u_end u s extra covered all e =
         from_need (is_empty u.targets && nothing_left mode u.items) k.UnifyRest _ s e λ ended e1.
-        let row : unify_row portable_trees sigs ctx mode u_end (shown u) ≡ Ok (shown u) = rw ended refl in
+        let row : unify_step portable_trees sigs ctx mode u_end (shown u) ≡ Ok (shown u) = rw ended refl in
         subst (λ (z : UnifyState Tree). Beside u_end u z) (taken-is u s e1) (row, covered)
 
     by-beside : (len : ℕ) (u : UnifyState Tree) (o : Option UnifyCommand) (t : Turn (UnifyState Tree)) (extra : List Tree) → Covered u → final ≡ (after t).heap ++ extra → unify_turn_by strict sigs ctx mode len u o ≡ Ok t
         → (unify_turn_by portable_trees sigs ctx mode len (shown u) o ≡ Ok (shown_turn t)) × Covered (after t)
     by-beside len u None t extra covered all e = absurd cc
     by-beside len u (Some u_end) t extra covered all e =
-        from_bind (unify_row strict sigs ctx mode u_end u) _ t e λ s row e1.
+        from_bind (unify_step strict sigs ctx mode u_end u) _ t e λ s row e1.
         let is : over s ≡ t = taken-is (over s) t e1 in
         let (run, next) = row-beside u_end u s extra covered (subst (λ (z : Turn (UnifyState Tree)). final ≡ (after z).heap ++ extra) (sym is) all) row in
         subst (λ (z : Turn (UnifyState Tree)). (unify_turn_by portable_trees sigs ctx mode len (shown u) (Some u_end) ≡ Ok (shown_turn z)) × Covered (after z)) is
         (ap (λ (z : Result (UnifyState Tree) K). z >>= λ s. Ok (over s)) run, next)
     by-beside len u (Some c) t extra covered all e =
-        from_bind (unify_row strict sigs ctx mode c u) _ t e λ s row e1.
+        from_bind (unify_step strict sigs ctx mode c u) _ t e λ s row e1.
         let is : goes_on len s ≡ t = taken-is (goes_on len s) t e1 in
         let (run, next) = row-beside c u s extra covered (subst (λ (z : Turn (UnifyState Tree)). final ≡ (after z).heap ++ extra) (sym is) all) row in
         subst (λ (z : Turn (UnifyState Tree)). (unify_turn_by portable_trees sigs ctx mode len (shown u) (Some c) ≡ Ok (shown_turn z)) × Covered (after z)) is

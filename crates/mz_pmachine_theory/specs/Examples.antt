@@ -1,4 +1,4 @@
--- Bodies by address whose outcome is known from outside. A place is one of the file in which the body stands.
+-- Bodies by identity whose outcome is known from outside. A place is one of the file in which the body stands.
 use Rattle.std.specs.Prelude.{◌≡◌, ℕ, List, [], ◌∷◌, Option, Some, None}
 use Rattle.mz_cmd.specs.declared.rule.K.{K}
 use Rattle.mz_cmd.specs.declared.rule.K.TheVariants as k
@@ -9,13 +9,13 @@ use Rattle.mz_machine_theory.specs.Cases.{Case, stop, with_code, ax_1, ax_mp, a1
 use Rattle.mz_pmachine_theory.specs.Numbered.{portable}
 use Rattle.mz_pmachine_theory.specs.Making.{portable_trees, body_makes}
 
--- where a body stops by address, and by which rule; nothing where it runs
-abbrev pub stop_by_address : Case → Option (ℕ × K)
-stop_by_address c = outcome (body_run portable c.tables c.heading c.at c.bytes)
+-- where a body stops by identity, and by which rule; nothing where it runs
+abbrev pub stop_by_identity : Case → Option (ℕ × K)
+stop_by_identity c = outcome (body_run portable c.tables c.heading c.at c.bytes)
 
--- it runs by the published table, and by address this rule fails at this place
+-- it runs by the standard machine, and by identity this rule fails at this place
 abbrev pub IsStrictAlone : Case → ℕ → K → Type 0
-IsStrictAlone c place rule = (stop c ≡ None) × (stop_by_address c ≡ Some (place, rule))
+IsStrictAlone c place rule = (stop c ≡ None) × (stop_by_identity c ≡ Some (place, rule))
 
 -- ---- accepted: what is used twice is saved
 
@@ -37,8 +37,8 @@ shared_conversion code = record fold {
 
 abbrev pub Shared : Type 0
 Shared =
-    (stop_by_address shared_a1i ≡ None) × (stop_by_address shared_fold ≡ None) × (stop_by_address (shared_conversion 0x52) ≡ None)
-    × (stop_by_address ax_1 ≡ None) × (stop_by_address ax_mp ≡ None) × (stop_by_address (gen (0 ∷ [])) ≡ None) × (stop_by_address nn ≡ None) × (stop_by_address dummy ≡ None)
+    (stop_by_identity shared_a1i ≡ None) × (stop_by_identity shared_fold ≡ None) × (stop_by_identity (shared_conversion 0x52) ≡ None)
+    × (stop_by_identity ax_1 ≡ None) × (stop_by_identity ax_mp ≡ None) × (stop_by_identity (gen (0 ∷ [])) ≡ None) × (stop_by_identity nn ≡ None) × (stop_by_identity dummy ≡ None)
 
 -- ---- refused
 
@@ -83,7 +83,7 @@ ThreeItems = IsStrictAlone two_items 153 k.Kind
 abbrev pub ConversionsByRef : Type 0
 ConversionsByRef =
     IsStrictAlone (shared_conversion 0x5D) 167 k.Command
-    × (stop (with_code 211 0x1D a1i) ≡ Some (211, k.Kind)) × (stop_by_address (with_code 211 0x1D a1i) ≡ Some (211, k.Command))
+    × (stop (with_code 211 0x1D a1i) ≡ Some (211, k.Kind)) × (stop_by_identity (with_code 211 0x1D a1i) ≡ Some (211, k.Command))
 
 -- ---- what is asked beside numbers, and what is made
 

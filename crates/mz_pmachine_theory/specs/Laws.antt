@@ -1,4 +1,4 @@
--- What is promised of the machine by address: what it lets through the published table lets through; and it lets through
+-- What is promised of the machine by identity: what it lets through the standard machine lets through; and it lets through
 -- what makes each application once (this project's own).
 use Rattle.std.specs.Prelude.{◌≡◌, ℕ, true, ◌↔◌, List, [], length, map, Ok}
 use Rattle.mz_cmd.specs.declared.code.ProofCode.{ProofCode}
@@ -13,23 +13,23 @@ use Rattle.mz_unify_theory.specs.Spells.{Marks, SpellsText}
 use Rattle.mz_unify_theory.specs.Sorted.{Sorted}
 use Rattle.mz_unify_theory.specs.Laws.{RunsLeaving, unfolding_by}
 use Rattle.mz_machine_theory.specs.MachineState.{RowsBefore, State, is_definition, Heading}
-use Rattle.mz_machine_theory.specs.ProofMachine.{proof_row, proof_end}
+use Rattle.mz_machine_theory.specs.ProofMachine.{proof_step, proof_end}
 use Rattle.mz_machine_theory.specs.Bodies.{Runs}
 use Rattle.mz_pmachine_theory.specs.Numbered.{Numbered, tree_of, equal, portable}
 use Rattle.mz_pmachine_theory.specs.Mapping.{items_onto, state_onto, matching_onto}
 use Rattle.mz_pmachine_theory.specs.Saving.{AreWhole}
 use Rattle.mz_pmachine_theory.specs.Making.{portable_trees, row_makes, body_makes, MadeOnce, numbered, AreNumbered}
 
--- ---- by the published table
+-- ---- by the standard machine
 
--- a body that runs by address runs by the published table
+-- a body that runs by identity runs by the standard machine
 abbrev pub BodiesRunStrict : Type 0
 BodiesRunStrict = (tables : RowsBefore) (h : Heading) (at : ℕ) (bytes : List ℕ) → Runs portable tables h at bytes → Runs strict tables h at bytes
 
 -- each row that goes through goes through, numbers forgotten
 abbrev pub RowsRunStrict : Type 0
 RowsRunStrict = (tables : RowsBefore) (at : ℕ) (c : ProofCode) (value : ℕ) (st s : State Numbered)
-    → proof_row portable tables at c value st ≡ Ok s → proof_row strict tables at c value (state_onto tree_of st) ≡ Ok (state_onto tree_of s)
+    → proof_step portable tables at c value st ≡ Ok s → proof_step strict tables at c value (state_onto tree_of st) ≡ Ok (state_onto tree_of s)
 
 -- and each stream, with the heap and the items that it leaves
 abbrev pub StreamsRunStrict : Type 0
@@ -37,9 +37,9 @@ StreamsRunStrict = (sigs : List Signature) (ctx : List Binder) (m : Matching Num
     → unify portable sigs ctx m ≡ Ok u
     → (v : UnifyState Tree) × (unify strict sigs ctx (matching_onto tree_of m) ≡ Ok v) × (v.heap ≡ map tree_of u.heap) × (v.items ≡ items_onto tree_of u.items)
 
--- ---- by address
+-- ---- by identity
 
--- where no application is made by two commands, a body that meets all else that is asked runs by address
+-- where no application is made by two commands, a body that meets all else that is asked runs by identity
 abbrev pub SharedBodiesRun : Type 0
 SharedBodiesRun = (tables : RowsBefore) (h : Heading) (at : ℕ) (bytes : List ℕ)
     → Runs portable_trees tables h at bytes → MadeOnce (body_makes portable_trees tables h at bytes) → Runs portable tables h at bytes
@@ -48,7 +48,7 @@ SharedBodiesRun = (tables : RowsBefore) (h : Heading) (at : ℕ) (bytes : List �
 abbrev pub NumberedRowsRun : Type 0
 NumberedRowsRun = (g : Tree → ℕ) (tables : RowsBefore) (at : ℕ) (c : ProofCode) (value : ℕ) (st s : State Tree)
     → AreNumbered g (row_makes portable_trees tables at c value st)
-    → proof_row portable_trees tables at c value st ≡ Ok s → proof_row portable tables at c value (state_onto (numbered g) st) ≡ Ok (state_onto (numbered g) s)
+    → proof_step portable_trees tables at c value st ≡ Ok s → proof_step portable tables at c value (state_onto (numbered g) st) ≡ Ok (state_onto (numbered g) s)
 
 -- and each stream
 abbrev pub NumberedStreamsRun : Type 0
@@ -67,7 +67,7 @@ AssertionsRunToo = (sigs : List Signature) (ctx : List Binder) (m : Matching Tre
 -- nor of a row but Unfold's
 abbrev pub RowsRunToo : Type 0
 RowsRunToo = (tables : RowsBefore) (at : ℕ) (c : ProofCode) (value : ℕ) (st s : State Tree)
-    → (c ≡ code.Unfold → ⊥) → proof_row strict tables at c value st ≡ Ok s → proof_row portable_trees tables at c value st ≡ Ok s
+    → (c ≡ code.Unfold → ⊥) → proof_step strict tables at c value st ≡ Ok s → proof_step portable_trees tables at c value st ≡ Ok s
 
 -- nor of an END but a definition's
 abbrev pub EndsRunToo : Type 0

@@ -1,4 +1,4 @@
--- What a body makes, and bodies that make each application once: these run by address (this project's own; the commands
+-- What a body makes, and bodies that make each application once: these run by identity (this project's own; the commands
 -- are the .mmb format's).
 use Rattle.std.specs.Prelude.{◌≡◌, ℕ, zero, suc, ◌+◌, ⊤, true, List, [], ◌∷◌, ◌++◌, length, drop, Option, Some, None, Result, Ok, Err, slice_get}
 use Rattle.mz_cmd.specs.declared.rule.K.{K}
@@ -15,7 +15,7 @@ use Rattle.mz_machine_theory.specs.ProofMachine.{built}
 use Rattle.mz_machine_theory.specs.Bodies.{BodyCommand, ends, proves, body_command, body_turn, body_start}
 use Rattle.mz_pmachine_theory.specs.Numbered.{Numbered, Operands, a_variable, an_application, no_more, one_more}
 
--- The published table with all that the machine by address asks beyond it but the numbers: Unfold has its three items, a
+-- The standard machine with all that the machine by identity asks beyond it but the numbers: Unfold has its three items, a
 -- conversion is referred to by Ref, and a dummy is kept apart from what is saved.
 abbrev pub portable_trees : Profile
 portable_trees = record strict { portable = true }

@@ -1,4 +1,4 @@
--- Expressions that carry the commands which made them, and the machine that tells them apart by these: two are the same
+-- Expressions that carry the commands which made them, and the machine that says them apart by these: two are the same
 -- only where the same commands made them. So a verifier decides that keeps each expression at the address where a command
 -- of the body made it, and compares addresses (the .mmb format, and verifiers that compare addresses; the profile is this
 -- project's own).
@@ -53,7 +53,7 @@ abbrev pub parts_of : Numbered → Option (ℕ × List Numbered)
 parts_of (a_variable x) = None
 parts_of (an_application n t es) = Some (t, operand_list es)
 
--- The machine by address. The number of an application is the place of its command.
+-- The machine by identity. The number of an application is the place of its command.
 abbrev pub portable : Profile
 portable = record {
   T = Numbered;

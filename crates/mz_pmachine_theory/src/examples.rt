@@ -1,4 +1,4 @@
-// Worked bodies by address, computed.
+// Worked bodies by identity, computed.
 ghost use Rattle.mz_pmachine_theory.specs.Examples.{AskedOfTrees, ConversionsByRef, DummyInSaved, EqualTrees, MadeIn, Shared, ThreeItems};
 
 /// Bodies that are accepted: they refer back to what they made.
@@ -6,7 +6,7 @@ pub fn shared_bodies()
     ensures { Shared }
 {}
 
-/// Bodies that run by the published table and not by address: the rule that fails, and its place.
+/// Bodies that run by the standard machine and not by identity: the rule that fails, and its place.
 pub fn kept_apart()
     ensures equal_trees { EqualTrees }
     ensures dummy_in_saved { DummyInSaved }

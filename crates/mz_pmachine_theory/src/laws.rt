@@ -3,24 +3,24 @@ ghost use Rattle.mz_pmachine_theory.specs.Laws.{AssertionsRunToo, BodiesRunStric
 ghost use Rattle.mz_pmachine_theory.specs.Numbered.{portable};
 ghost use Rattle.mz_machine_theory.specs.Laws.{BodiesAreChecked, BoundNeverEnds, CountsAreWhole, OneOutcome, StepsBounded};
 
-/// What runs by address runs by the published table: bodies, and of them each row and each stream.
+/// What runs by identity runs by the standard machine: bodies, and of them each row and each stream.
 pub fn portable_runs_are_strict_runs()
     ensures bodies { BodiesRunStrict }
     ensures rows { RowsRunStrict }
     ensures streams { StreamsRunStrict }
 {}
 
-/// A body that meets all that is asked beside equal numbers runs by address, if no application is made by
+/// A body that meets all that is asked beside equal numbers runs by identity, if no application is made by
 /// two commands; and so do rows and streams over expressions whose numbers are the places where they
 /// were made.
-pub fn shared_bodies_run_by_address()
+pub fn shared_bodies_run_by_identity()
     ensures bodies { SharedBodiesRun }
     ensures rows { NumberedRowsRun }
     ensures streams { NumberedStreamsRun }
 {}
 
 /// Beside equal numbers, and that ConvRef stands in no body, something is asked of Unfold and of
-/// definitions alone: what else runs by the published table runs so too; and the stream of a definition
+/// definitions alone: what else runs by the standard machine runs so too; and the stream of a definition
 /// does if what it saves has its dummies met before.
 pub fn asked_of_unfoldings_alone()
     ensures streams { AssertionsRunToo }
@@ -34,12 +34,12 @@ pub fn equal_is_same()
     ensures { EqualIsSame }
 {}
 
-/// A body runs by address to its END, or stops at one place by one rule.
+/// A body runs by identity to its END, or stops at one place by one rule.
 pub fn one_outcome()
     ensures { OneOutcome portable }
 {}
 
-/// A body as ordered checks: all hold where it runs by address, and else the first that fails is its
+/// A body as ordered checks: all hold where it runs by identity, and else the first that fails is its
 /// rule at its place.
 pub fn bodies_are_checked()
     ensures { BodiesAreChecked portable }

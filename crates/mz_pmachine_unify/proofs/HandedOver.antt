@@ -1,4 +1,4 @@
--- An answer that only want of memory can stop.
+-- An answer that only running out of memory can stop.
 use Rattle.std.proofs.Common.{Result, Ok, Err}
 use Rattle.std.specs.Prelude.{⊤, OnOk, MatchResult}
 use Rattle.mz_cmd.specs.declared.rule.K.{K}

@@ -22,7 +22,7 @@ use Rattle.mz_pmachine_unify.specs.Numbering.{Numbering, expr_of}
 use Rattle.mz_pmachine_unify.specs.Stored.{exprs_at}
 use Rattle.mz_pmachine_unify.proofs.StoredIds.{exprs-append}
 
--- ---- one more expression is told
+-- ---- one more expression is reported
 
 pub tells-push : (ctx : List Binder) (v w : ℕ) (es : List Numbered) (e : Numbered) → TellsAny ctx v (map tree_of es) → Tells (bound_vars ctx) w (λ x. InV ctx x (tree_of e))
     → TellsAny ctx (bit_or v w) (map tree_of (es ++ e ∷ []))

@@ -10,14 +10,14 @@ use Rattle.mz_store.specs.declared.item.DepsMode.TheVariants.{All}
 use Rattle.mz_store.specs.declared.item.Id.{Id}
 use Rattle.mz_pmachine_theory.specs.Numbered.{Numbered, Operands, a_variable, an_application, no_more, one_more, operand_trees, tree_of as without_numbers}
 
--- an expression, with what is kept beside it: its sort, the word of all its variables, and the word of those that are told
+-- an expression, with what is kept beside it: its sort, the word of all its variables, and the word of those that are reported
 pub record Entry : Type 0 where
   pub expr : Numbered
   pub sort : ℕ
   pub vars : ℕ
   pub deps : ℕ
 
--- the expressions of a body: their context, which variables the second word tells, a number above those of all commands
+-- the expressions of a body: their context, which variables the second word names, a number above those of all commands
 -- that made one, and the expressions, of which the i-th has the id i
 pub record Numbering : Type 0 where
   pub context : List Binder
@@ -79,7 +79,7 @@ abbrev pub IsMadeBefore : ℕ → Numbered → Type 0
 IsMadeBefore next (a_variable x) = ⊤
 IsMadeBefore next (an_application n t es) = n < next
 
--- as a shared expression is kept, by the word of all variables, and by that of those that are told
+-- as a shared expression is kept, by the word of all variables, and by that of those that are reported
 abbrev pub by_vars : Entry → Shared
 by_vars e = record { tree = without_numbers e.expr; sort = e.sort; deps = e.vars }
 

@@ -1,6 +1,6 @@
 use mz_store::Id;
 
-/// An expression of a body: its sort, the word of all its variables, the word of those that are told,
+/// An expression of a body: its sort, the word of all its variables, the word of those that are reported,
 /// and what it is made of.
 #[derive(Drop)]
 pub struct Node {

@@ -233,7 +233,7 @@ impl Nodes {
         self.nodes[id.0 as usize].vars
     }
 
-    /// The same of the variables that are told: all of them, or the free ones, as `begin` was told.
+    /// The same of the variables that are reported: all of them, or the free ones, as `begin` was asked.
     pub fn deps(&self, id: Id) -> u64
         requires { IsIn self.now id.0 }
         ensures kept { result ≡ deps_of self.now id.0 }

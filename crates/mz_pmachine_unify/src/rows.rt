@@ -5,7 +5,7 @@ ghost use Rattle.mz_logic_theory.specs.Signature.{Signature};
 ghost use Rattle.mz_pmachine_unify.specs.Numbering.{IsIn, AreIn, expr_of, IsOver};
 ghost use Rattle.mz_pmachine_theory.specs.Numbered.{Numbered, tree_of, portable};
 ghost use Rattle.mz_unify_theory.specs.Streams.{UnifyCommand, u_term, u_term_save, u_ref, u_dummy, u_hyp, u_end};
-ghost use Rattle.mz_unify_theory.specs.UnifyMachine.{UnifyMode as Mode, UnifyState, unify_row, is_fresh, next_hypothesis, nothing_left};
+ghost use Rattle.mz_unify_theory.specs.UnifyMachine.{UnifyMode as Mode, UnifyState, unify_step, is_fresh, next_hypothesis, nothing_left};
 ghost use Rattle.mz_unify.specs.Stored.{mode_of, AreLeft};
 ghost use Rattle.mz_unify.specs.Rows.{command_of, IsRow, StopsBy, TellsAny, with_targets};
 ghost use Rattle.mz_pmachine_unify.specs.Stored.{exprs_at, stack_at, items_at, AreItemsIn};
@@ -44,8 +44,8 @@ fn take_top(nodes: &Nodes, targets: &mut Vec<Id>) -> Option<Id>
 fn open(nodes: &Nodes, term: u32, targets: &mut Vec<Id>) -> Result<Id, Stop>
     requires { AreIn nodes.now targets.old.items }
     ensures ids { IfOk result (λ id. IsIn nodes.now id.0 × AreIn nodes.now targets.new.items) }
-    ensures plain { (sigs : List Signature) (mode : Mode) (st : UnifyState Numbered) → st.targets ≡ stack_at nodes.now targets.old.items → IsRow (unify_row portable sigs nodes.now.context mode (u_term term) st) result (λ _. with_targets st (stack_at nodes.now targets.new.items)) }
-    ensures saved { (sigs : List Signature) (mode : Mode) (st : UnifyState Numbered) → st.targets ≡ stack_at nodes.now targets.old.items → IsRow (unify_row portable sigs nodes.now.context mode (u_term_save term) st) result (λ id. record (with_targets st (stack_at nodes.now targets.new.items)) { heap = st.heap ++ expr_of nodes.now id.0 ∷ []; apart = st.apart ++ expr_of nodes.now id.0 ∷ [] }) }
+    ensures plain { (sigs : List Signature) (mode : Mode) (st : UnifyState Numbered) → st.targets ≡ stack_at nodes.now targets.old.items → IsRow (unify_step portable sigs nodes.now.context mode (u_term term) st) result (λ _. with_targets st (stack_at nodes.now targets.new.items)) }
+    ensures saved { (sigs : List Signature) (mode : Mode) (st : UnifyState Numbered) → st.targets ≡ stack_at nodes.now targets.old.items → IsRow (unify_step portable sigs nodes.now.context mode (u_term_save term) st) result (λ id. record (with_targets st (stack_at nodes.now targets.new.items)) { heap = st.heap ++ expr_of nodes.now id.0 ∷ []; apart = st.apart ++ expr_of nodes.now id.0 ∷ [] }) }
 {
     let Some(top) = take_top(nodes, targets) else {
         return Err(Stop::Rule(K::UnifyRest));
@@ -62,7 +62,7 @@ fn refer(nodes: &Nodes, place: u32, heap: &[Id], targets: &mut Vec<Id>) -> Resul
     requires heap { AreIn nodes.now heap.now }
     requires targets { AreIn nodes.now targets.old.items }
     ensures ids { OnOk result (AreIn nodes.now targets.new.items) }
-    ensures row { (sigs : List Signature) (mode : Mode) (st : UnifyState Numbered) → st.heap ≡ exprs_at nodes.now heap.now → st.targets ≡ stack_at nodes.now targets.old.items → IsRow (unify_row portable sigs nodes.now.context mode (u_ref place) st) result (λ _. with_targets st (stack_at nodes.now targets.new.items)) }
+    ensures row { (sigs : List Signature) (mode : Mode) (st : UnifyState Numbered) → st.heap ≡ exprs_at nodes.now heap.now → st.targets ≡ stack_at nodes.now targets.old.items → IsRow (unify_step portable sigs nodes.now.context mode (u_ref place) st) result (λ _. with_targets st (stack_at nodes.now targets.new.items)) }
 {
     let Some(top) = take_top(nodes, targets) else {
         return Err(Stop::Rule(K::UnifyRest));
@@ -76,7 +76,7 @@ fn refer(nodes: &Nodes, place: u32, heap: &[Id], targets: &mut Vec<Id>) -> Resul
     Ok(())
 }
 
-/// Whether the expression is a bound variable of the sort, in V of nothing whose variables the word tells.
+/// Whether the expression is a bound variable of the sort, in V of nothing whose variables the word names.
 fn is_fresh(nodes: &Nodes, sort: u32, id: Id, apart: u64) -> bool
     requires { IsIn nodes.now id.0 }
     ensures { (sigs : List Signature) (es : List Numbered) → IsOver sigs nodes.now → TellsAny nodes.now.context apart (map tree_of es) → result ≡ is_fresh portable sigs nodes.now.context sort (expr_of nodes.now id.0) es }
@@ -88,7 +88,7 @@ fn is_fresh(nodes: &Nodes, sort: u32, id: Id, apart: u64) -> bool
 fn dummy(nodes: &Nodes, sort: u32, targets: &mut Vec<Id>, apart: u64) -> Result<Id, Stop>
     requires { AreIn nodes.now targets.old.items }
     ensures ids { IfOk result (λ id. IsIn nodes.now id.0 × AreIn nodes.now targets.new.items) }
-    ensures row { (sigs : List Signature) (mode : Mode) (st : UnifyState Numbered) → IsOver sigs nodes.now → TellsAny nodes.now.context apart (map tree_of st.apart) → st.targets ≡ stack_at nodes.now targets.old.items → IsRow (unify_row portable sigs nodes.now.context mode (u_dummy sort) st) result (λ id. record (with_targets st (stack_at nodes.now targets.new.items)) { heap = st.heap ++ expr_of nodes.now id.0 ∷ []; apart = st.apart ++ expr_of nodes.now id.0 ∷ [] }) }
+    ensures row { (sigs : List Signature) (mode : Mode) (st : UnifyState Numbered) → IsOver sigs nodes.now → TellsAny nodes.now.context apart (map tree_of st.apart) → st.targets ≡ stack_at nodes.now targets.old.items → IsRow (unify_step portable sigs nodes.now.context mode (u_dummy sort) st) result (λ id. record (with_targets st (stack_at nodes.now targets.new.items)) { heap = st.heap ++ expr_of nodes.now id.0 ∷ []; apart = st.apart ++ expr_of nodes.now id.0 ∷ [] }) }
 {
     let Some(top) = take_top(nodes, targets) else {
         return Err(Stop::Rule(K::UnifyRest));
@@ -135,7 +135,7 @@ fn hypothesis(
     requires { AreItemsIn nodes.now hyps.old.items }
     ensures ids { OnOk result (AreIn nodes.now targets.new.items × AreItemsIn nodes.now hyps.new.items) }
     ensures left { OnOk result (AreLeft hyps.old.items hyps.new.items 1) }
-    ensures row { (sigs : List Signature) (st : UnifyState Numbered) → st.targets ≡ stack_at nodes.now targets.old.items → st.items ≡ items_at nodes.now hyps.old.items → IsRow (unify_row portable sigs nodes.now.context (mode_of mode) u_hyp st) result (λ _. record (with_targets st (stack_at nodes.now targets.new.items)) { items = items_at nodes.now hyps.new.items }) }
+    ensures row { (sigs : List Signature) (st : UnifyState Numbered) → st.targets ≡ stack_at nodes.now targets.old.items → st.items ≡ items_at nodes.now hyps.old.items → IsRow (unify_step portable sigs nodes.now.context (mode_of mode) u_hyp st) result (λ _. record (with_targets st (stack_at nodes.now targets.new.items)) { items = items_at nodes.now hyps.new.items }) }
 {
     if !targets.is_empty() {
         return Err(Stop::Rule(K::UnifyRest));
@@ -161,7 +161,7 @@ fn nothing_left(nodes: &Nodes, mode: UnifyMode, hyps: &[Item]) -> bool
 
 /// Ends the stream: no targets are left, nor at an assertion's own end hypotheses.
 fn end(nodes: &Nodes, mode: UnifyMode, targets: &[Id], hyps: &[Item]) -> Result<(), Stop>
-    ensures { (sigs : List Signature) (st : UnifyState Numbered) → st.targets ≡ stack_at nodes.now targets.now → st.items ≡ items_at nodes.now hyps.now → IsRow (unify_row portable sigs nodes.now.context (mode_of mode) u_end st) result (λ _. st) }
+    ensures { (sigs : List Signature) (st : UnifyState Numbered) → st.targets ≡ stack_at nodes.now targets.now → st.items ≡ items_at nodes.now hyps.now → IsRow (unify_step portable sigs nodes.now.context (mode_of mode) u_end st) result (λ _. st) }
 {
     if !targets.is_empty() {
         return Err(Stop::Rule(K::UnifyRest));
@@ -200,7 +200,7 @@ pub(crate) fn step(
     requires hyps { AreItemsIn nodes.now hyps.old.items }
     ensures ids { OnOk result (AreIn nodes.now heap.new.items × AreIn nodes.now targets.new.items × AreItemsIn nodes.now hyps.new.items) }
     ensures left { OnOk result ((taken : ℕ) × (taken ≤ 1) × AreLeft hyps.old.items hyps.new.items taken) }
-    ensures row { (sigs : List Signature) (es : List Numbered) → IsOver sigs nodes.now → TellsAny nodes.now.context apart.old (map tree_of es) → MatchResult result (λ _. (fs : List Numbered) × TellsAny nodes.now.context apart.new (map tree_of fs) × (unify_row portable sigs nodes.now.context (mode_of mode) (command_of command) (state_at nodes.now heap.old.items es targets.old.items hyps.old.items) ≡ Ok (state_at nodes.now heap.new.items fs targets.new.items hyps.new.items))) (λ stop. StopsBy stop (λ k. unify_row portable sigs nodes.now.context (mode_of mode) (command_of command) (state_at nodes.now heap.old.items es targets.old.items hyps.old.items) ≡ Err k)) }
+    ensures row { (sigs : List Signature) (es : List Numbered) → IsOver sigs nodes.now → TellsAny nodes.now.context apart.old (map tree_of es) → MatchResult result (λ _. (fs : List Numbered) × TellsAny nodes.now.context apart.new (map tree_of fs) × (unify_step portable sigs nodes.now.context (mode_of mode) (command_of command) (state_at nodes.now heap.old.items es targets.old.items hyps.old.items) ≡ Ok (state_at nodes.now heap.new.items fs targets.new.items hyps.new.items))) (λ stop. StopsBy stop (λ k. unify_step portable sigs nodes.now.context (mode_of mode) (command_of command) (state_at nodes.now heap.old.items es targets.old.items hyps.old.items) ≡ Err k)) }
 {
     match command {
         Command::Term(term) => {

@@ -28,7 +28,7 @@ pub(crate) fn all_vars(nodes: &Nodes, args: &[Id]) -> u64
     word
 }
 
-/// The variables that are told of the term `t` over these operands, whose variables are `vars`.
+/// The variables that are reported of the term `t` over these operands, whose variables are `vars`.
 ///
 /// # Errors
 ///

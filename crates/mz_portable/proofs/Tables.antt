@@ -1,4 +1,4 @@
--- What is accepted by address is accepted by the published table.
+-- What is accepted by identity is accepted by the standard machine.
 use Rattle.std.proofs.Common.{ℕ, List}
 use Rattle.mz_binary_theory.proofs.Offered.{good-by-table}
 use Rattle.mz_match_theory.specs.declared.verdict.Counts.{Counts}

@@ -1,4 +1,4 @@
-// A specification and a binary together, by address.
+// A specification and a binary together, by identity.
 ghost use Rattle.std.specs.Prelude.{◌≡◌, ◌⊎◌, ◌<◌, ◌≤◌, ◌+◌, ◌*◌, ◌^◌, length};
 ghost use Rattle.mz_match_theory.specs.Verdict.{IsSoundIfAccepted};
 ghost use Rattle.mz_portable.specs.Portable.{FirstPortableRefusal, IsAcceptedByTable, IsPortableVerdict, PortableTicks, PortablyAccepts};

@@ -11,7 +11,7 @@ use Rattle.mz_prefix.proofs.Gathering.{from-there}
 next-number : (n : ℕ) → suc n ≡ n + 1
 next-number n = omega arith
 
--- P is asked of each, and told with its number, where the first of all has the number 1
+-- P is asked of each, and reported with its number, where the first of all has the number 1
 module _ (checks : ℕ → List Statement → Checks Unwritten) (told : ℕ → Unwritten) (P : Statement → Type 0)
     (cut : (k : ℕ) (s : Statement) (ss : List Statement) → checks k (s ∷ ss) ≡ ask (told k) (P s) (checks (suc k) ss)) (ss : List Statement) where
   -- those from the i-th on decide

@@ -16,7 +16,7 @@ use Rattle.mz_prefix.specs.Names.{texts, AreNamesOf}
 pub from-there : (ss : List Statement) (i : ℕ) → i < length ss → drop i ss ≡ statement_at ss i ∷ drop (i + 1) ss
 from-there ss i below = rw add-one (drop-cons ss i _ below)
 
--- what is told of the i-th statement
+-- what is said of the i-th statement
 pub told-of : {B : Type 0} (f : Statement → B) (ss : List Statement) (i : ℕ) (b : B) → option_map f (slice_get ss i) ≡ Some b → f (statement_at ss i) ≡ b
 told-of f [] i b e = absurd (let n : option_map f None ≡ Some b = e in cc)
 told-of f (s ∷ ss) zero b e = let n : Some (f s) ≡ Some b = e in cc

@@ -149,7 +149,7 @@ module _ (v : Vocabulary) (name : List ℕ) where
       (written (math_word (formula_of v a.conclusion) ∷ [])) (codes ";\n") is-p is-q is-r is-s is-t
       ∙ ap (λ k. old ++ text k ps) is-keyword ∙ ap (λ ps. old ++ text (keyword_of (Assert (kind_of a.is_axiom))) ps) are-ps ∙ ap (λ t. old ++ t) (sym (assertion-line v name a))
 
--- ---- what is told of a declaration
+-- ---- what is said of a declaration
 
 mutual
   renamed-same : (e : Tree) → renamed (λ t. t) e ≡ e

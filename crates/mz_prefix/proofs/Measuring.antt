@@ -48,7 +48,7 @@ pub is-short : (v : Vocabulary) (e : Tree) → IsShort (formula_of v e) e → is
 is-short v e short =
     and_from (nat_le (length (formula_of v e)) most) (nat_le (height e) most) (le-leb (length (formula_of v e)) most short.few) (le-leb (height e) most short.low)
 
--- where it is low, the room that is left tells
+-- where it is low, the room that is left shows it
 pub measured : (v : Vocabulary) (e : Tree) (o : Option ℕ) → height e ≤ most → MatchOption o (most < token_count e) (λ left. left + token_count e ≡ most) → is_some o ≡ is_short v e
 measured v e None low many =
     sym (false_from_ne_true (is_short v e) (λ is. let few : length (formula_of v e) ≤ most = (short-is v e is).few in

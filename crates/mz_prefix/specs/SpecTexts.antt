@@ -9,7 +9,7 @@ use Rattle.mz_prefix_theory.specs.Wording.{Unwritten, local_in, long_in, too_lon
 use Rattle.mz_prefix.specs.declared.spec_text.SpecText.{SpecText}
 use Rattle.mz_prefix.specs.declared.spec_text.SpecText.TheVariants as answers
 
--- where a specification may have at most so many bytes; want of memory says nothing
+-- where a specification may have at most so many bytes; out of memory says nothing
 abbrev pub IsWording : ℕ → List ℕ → SpecText → Type 0
 IsWording limit text (answers.Text bytes) = IsWordedAs limit text bytes.items
 IsWording limit text (answers.Refused refusal) = TextFault false text refusal

@@ -1,10 +1,10 @@
-// The lines that tell what making a specification answered, where compiling a text has none.
+// The lines that print what making a specification answered, where compiling a text has none.
 ghost use Rattle.std.specs.Prelude.{◌≡◌, IfOk};
 ghost use Rattle.mz_prefix.specs.Told;
 
 use std::alloc::{AllocError, Global};
 
-/// The line that tells how long the specification is.
+/// The line that prints how long the specification is.
 pub fn specified_line(alloc: Global, bytes: usize) -> Result<Vec<u8>, AllocError>
     ensures { IfOk result (λ line. line.items ≡ Told.specified_line bytes) }
 {
@@ -12,7 +12,7 @@ pub fn specified_line(alloc: Global, bytes: usize) -> Result<Vec<u8>, AllocError
     Ok(text.into_bytes())
 }
 
-/// The line that tells of which statement a claim mentions a local definition.
+/// The line that prints of which statement a claim mentions a local definition.
 pub fn local_line(alloc: Global, statement: u32) -> Result<Vec<u8>, AllocError>
     ensures { IfOk result (λ line. line.items ≡ Told.local_line statement) }
 {
@@ -20,7 +20,7 @@ pub fn local_line(alloc: Global, statement: u32) -> Result<Vec<u8>, AllocError>
     Ok(text.into_bytes())
 }
 
-/// The line that tells of which statement a claim is over the limits of a math string.
+/// The line that prints of which statement a claim is over the limits of a math string.
 pub fn long_line(alloc: Global, statement: u32) -> Result<Vec<u8>, AllocError>
     ensures { IfOk result (λ line. line.items ≡ Told.long_line statement) }
 {

@@ -77,7 +77,7 @@ sample_text zero = text_head
 sample_text (suc k) =
     sample_text k ++ stated_definition k (suc k) ++ proved_theorem k (suc k) ++ proved_generalization (suc k)
 
--- ---- the line that tells how long both are, in bytes
+-- ---- the line that says how long both are, in bytes
 
 abbrev pub sample_line : ℕ → ℕ → List ℕ
 sample_line specification text =

@@ -57,7 +57,7 @@ no_entry = record { depth = 0; at = 0; bytes = None }
 abbrev pub entry_at : List Entry → ℕ → Entry
 entry_at es n = get_or es n no_entry
 
--- where the parts of each row end that its size tells, the first row being the k-th
+-- where the parts of each row end that its size gives, the first row being the k-th
 abbrev pub sized : ℕ → List Row → List ℕ
 sized k [] = []
 sized k (r ∷ rs) = (k + r.size) ∷ sized (suc k) rs

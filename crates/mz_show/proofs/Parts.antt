@@ -1,4 +1,4 @@
--- What was found of a statement's streams and body is told of the one statement there.
+-- What was found of a statement's streams and body is reported of the one statement there.
 use Rattle.std.proofs.Common.{◌≡◌, ◌++◌, ◌∙◌, ℕ, Bool, true, false, List, length, take, codes, Result, Ok, Err, refl, sym, ap, subst, inl, inr, arith, append_assoc, append-nil}
 use Rattle.std.specs.Prelude.{IsErrAnd}
 use Rattle.mz_base_theory.specs.Checks.{AllHold, FailsFirst}

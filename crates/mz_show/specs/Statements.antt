@@ -66,7 +66,7 @@ after place s = place_after place s.head.code s.head.next
 abbrev pub refusal_at : Place → ℕ → K → Refusal
 refusal_at place at rule = record { statement = place.number; at = at; rule = rule }
 
--- the same checks, told of the statement there
+-- the same checks, reported of the statement there
 abbrev pub told_there : Place → Checks (ℕ × K) → Checks Refusal
 told_there place checks = retold (λ fault. refusal_at place fault.0 fault.1) checks
 

@@ -8,7 +8,7 @@ use mz_cmd::{Mem, Refusal};
 pub enum Stop {
     /// A rule of the binary fails.
     Refused(Refusal),
-    /// Want of memory.
+    /// Out of memory.
     Mem,
 }
 

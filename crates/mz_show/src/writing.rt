@@ -22,7 +22,7 @@ pub enum Shown {
     Refused(Refusal),
     /// The sink failed: a prefix is written.
     Fault,
-    /// Want of memory: a prefix is written.
+    /// Out of memory: a prefix is written.
     Mem,
 }
 

@@ -171,7 +171,7 @@ after-marks σ place (coercion_statement n from to) τ (u, is, same) = let e = a
 after-marks σ place (delimiter_statement left right) τ (u, is, same) = let e = ap (λ x. length x.marks) same in omega (arith, e)
 after-marks σ place (notation_statement h t ls l tail) τ (u, is, same) = let e = ap (λ x. length x.marks) same in omega (arith, e)
 
--- ---- what comes of a fault of a statement, or of want of memory
+-- ---- what comes of a fault of a statement, or of running out of memory
 
 pub halt-stops : (text : List ℕ) (count at : ℕ) (σ : State) (halt : Halt) → StandTo text count at σ → OnFault halt (StopsFrom text at) → IsAnswer text (halted (count + 1) halt)
 halt-stops text count at σ (halts.Fault fault) stand stops = spec-stops text count at σ fault stand stops

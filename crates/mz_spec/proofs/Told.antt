@@ -1,4 +1,4 @@
--- What reading a math string answers, told at its places in the text.
+-- What reading a math string answers, reported at its places in the text.
 use Rattle.std.proofs.Common.{◌≡◌, ◌<◌, ◌≤◌, ◌+◌, ◌-◌, ◌^◌, ℕ, List, [], ◌∷◌, length, drop, ap, subst, inl, inr, arith}
 use Rattle.mz_base_theory.proofs.Offered.{take-short, retold-fails, retold-holds}
 use Rattle.mz_lex.specs.Lexemes.{Lexeme}

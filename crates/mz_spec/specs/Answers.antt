@@ -24,7 +24,7 @@ IsAnswer text Mem = ⊤
 abbrev pub JudgesStatement : {A : Type 0} → Result A Halt → State → ℕ → Statement → Type 0
 JudgesStatement result σ place s = (tokens : List (List Piece)) → AreTokens σ (view s).formulas tokens → JudgesOrMem result (statement_checks σ place s tokens)
 
--- what a fault of a statement, or want of memory, makes of the whole text
+-- what a fault of a statement, or out of memory, makes of the whole text
 abbrev pub halted : ℕ → Halt → SpecRead
 halted statement (halts.Fault fault) = Refused (record { statement = statement; at = fault.at; rule = fault.rule })
 halted statement halts.Mem = Mem

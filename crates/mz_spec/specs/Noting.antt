@@ -17,7 +17,7 @@ abbrev pub literals_size : List LiteralText → ℕ
 literals_size [] = 0
 literals_size (l ∷ ls) = literal_size l + literals_size ls
 
--- a fault of the table, told of the statement at a place
+-- a fault of the table, reported of the statement at a place
 abbrev pub halt_of : ℕ → NoteFault → Halt
 halt_of place faults.Mem = halts.Mem
 halt_of place faults.Form = halts.Fault (at_statement place faults.Form)

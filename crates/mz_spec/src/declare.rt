@@ -35,7 +35,8 @@ use mz_math::Scope;
 use mz_math_theory::Wanted;
 use mz_spec_rules::{State, check_new, index_of};
 use mz_spec_theory::{
-    AssertKind, AssertText, DefinitionText, Fault, Halt, Lexeme, Mark, Modifiers, Stated, TermText,
+    AssertKind, AssertText, DefinitionText, Fault, Halt, Lexeme, Modifiers, NameSpan, Stated,
+    TermText,
 };
 use mz_spec_variables::{NameIndex, Parts};
 use std::alloc::{AllocError, Global};
@@ -52,10 +53,10 @@ fn mods(modifiers: Modifiers) -> SortMods
     )
 }
 
-fn mark_of(name: Lexeme<'_>, place: u32) -> Mark
+fn mark_of(name: Lexeme<'_>, place: u32) -> NameSpan
     ensures { result ≡ record { from = name.entry.from; to = name.entry.to; place = place } }
 {
-    Mark {
+    NameSpan {
         from: name.from,
         to: name.to,
         place,

@@ -80,7 +80,7 @@ pub fn inner<'a>(math: Lexeme<'a>) -> &'a [u8]
     &bytes[1..bytes.len() - 1]
 }
 
-/// An unknown token is told where it stands, the other rules at the `$`.
+/// An unknown token is reported where it stands, the other rules at the `$`.
 fn place_in(math: Lexeme<'_>, at: u32, rule: S) -> u32
     requires { math.from + 1 + at < 2 ^ 32 }
     ensures { result ≡ place_of (lexeme math.entry) rule at }

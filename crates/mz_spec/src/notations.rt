@@ -236,7 +236,7 @@ fn notation_over<'a>(
     }
 }
 
-/// A fault of the table, told of the statement at a place.
+/// A fault of the table, reported of the statement at a place.
 fn halt_of(place: u32, fault: NoteFault) -> Halt
     ensures { result ≡ halt_of_lem place fault }
 {

@@ -37,7 +37,7 @@ fn first_rule(first: Lexeme<'_>) -> S
 ///
 /// # Errors
 ///
-/// Where the lexemes from there on begin with no statement, told at the first that doesn't fit, at
+/// Where the lexemes from there on begin with no statement, reported at the first that doesn't fit, at
 /// the place where no lexeme comes, or at the end of the text; or where there is no memory.
 pub fn read_statement(
     alloc: Global,

@@ -1,6 +1,6 @@
 //! The names of a specification's declarations, as its text has them.
 //!
-//! Whoever tells of a specification that was accepted reads it once more (`declared_by`), and finds in
+//! Whoever says of a specification that was accepted reads it once more (`declared_by`), and finds in
 //! the text the name of each declaration. `specs/Names.antt` says which bytes it is.
 #![tactic(auto)]
 

@@ -184,7 +184,7 @@ length-taken [] i d at = absurd cc
 length-taken (e ∷ ds) zero d at = refl
 length-taken (e ∷ ds) (suc i) d at = ap suc (length-taken ds i d at)
 
--- of a draft that agrees each theorem follows that has a closed derivation where it stands
+-- of a draft that agrees each theorem follows that has a derivation from axioms alone where it stands
 pub follows-where : (ds : List Declaration) (ss : List Statement) → DraftLegal ss → Agrees ds (publics ss) → (i : ℕ) (a : Assertion) → slice_get ds i ≡ Some (assertion_decl a)
     → a.is_axiom ≡ false → ((before after : List Statement) (proved : Assertion) → ss ≡ before ++ stated proved ∷ after → proved.is_axiom ≡ false → length (publics before) ≡ i
     → IsClosed (declarations before) proved) → Follows ds ss i a

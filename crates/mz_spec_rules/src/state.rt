@@ -6,11 +6,11 @@ ghost use Rattle.mz_spec_theory.specs.State.{nothing};
 use mz_base::Hashing;
 use mz_logic_theory::Env;
 use mz_math_notation::Notations;
-use mz_spec_theory::Mark;
+use mz_spec_theory::NameSpan;
 use mz_spec_variables::Names;
 use std::alloc::Global;
 
-/// The names of sorts and of axioms and theorems, the declarations, the mark of each, and what has been
+/// The names of sorts and of axioms and theorems, the declarations, the name span of each, and what has been
 /// declared for math strings, where terms have their names; and how all of these names, and those of a
 /// statement's variables, are hashed.
 #[derive(Drop)]
@@ -19,7 +19,7 @@ pub struct State<'a> {
     pub sort_names: Names<'a>,
     pub assertion_names: Names<'a>,
     pub env: Env,
-    pub marks: Vec<Mark>,
+    pub marks: Vec<NameSpan>,
     pub notations: Notations,
 }
 
@@ -38,8 +38,8 @@ impl<'a> State<'a> {
         }
     }
 
-    /// The declarations and their marks.
-    pub fn into_parts(self) -> (Env, Vec<Mark>)
+    /// The declarations and their name spans.
+    pub fn into_parts(self) -> (Env, Vec<NameSpan>)
         ensures env { result.0 ≡ self.entry.env }
         ensures marks { result.1.items ≡ self.entry.marks.items }
     {

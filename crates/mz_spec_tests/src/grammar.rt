@@ -28,7 +28,7 @@ const STATEMENTS: &[&str] = &[
     "notation t ( a : s ) : s = ( $'$ : 50 ) : max lassoc ;",
 ];
 
-/// Lexemes that begin no statement, the byte at which that is told, and the rule.
+/// Lexemes that begin no statement, the byte at which that is reported, and the rule.
 const MISFITS: &[(&str, u32, S)] = &[
     ("x", 0, S::Statement),
     (";", 0, S::Statement),

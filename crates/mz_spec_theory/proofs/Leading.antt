@@ -105,7 +105,7 @@ ends step = by-symbol (codes ";") step none-goes
 mods : Bool → Bool → Bool → Bool → Progress
 mods p s v f = opening (record { is_pure = p; is_strict = s; is_provable = v; is_free = f })
 
--- a keyword that may be left out: f tells whether it was there
+-- a keyword that may be left out: f says whether it was there
 goes-if : (b : Bool) (text : List ℕ) (f : Bool → Progress) → ((l : Lexeme) → choose (moves (f false)) kinds.Name text l ≡ Some (f true)) → Goes (f false) (f b) (optional b text)
 goes-if true text f step = by-keyword text step none-goes
 goes-if false text f step = none-goes

@@ -3,39 +3,39 @@ use Rattle.std.proofs.Common.{◌≡◌, ◌<◌, ◌≤◌, ◌∷◌, [], ℕ,
 use Rattle.std.specs.Prelude.{Some, None, option_map, slice_get, get_or, ◌⊎◌}
 use Rattle.std.proofs.lemmas.Option.{slice_get-map, slice_get_cases}
 use Rattle.mz_logic_theory.specs.Declaration.{Declaration}
-use Rattle.mz_spec_theory.specs.declared.spec.Mark.{Mark}
+use Rattle.mz_spec_theory.specs.declared.spec.NameSpan.{NameSpan}
 use Rattle.mz_spec_theory.specs.State.{Entry, entries_of, entry_at}
 
 -- as many entries as marks
-pub entries-length : (ds : List Declaration) (ms : List Mark) → length ms ≡ length ds → length (entries_of ds ms) ≡ length ms
+pub entries-length : (ds : List Declaration) (ms : List NameSpan) → length ms ≡ length ds → length (entries_of ds ms) ≡ length ms
 entries-length [] [] same = refl
 entries-length [] (m ∷ ms) same = absurd cc
 entries-length (d ∷ ds) [] same = absurd cc
 entries-length (d ∷ ds) (m ∷ ms) same = ap suc (entries-length ds ms (let e : length ms ≡ length ds = cc in e))
 
 -- the declarations of the entries
-pub entries-decls : (ds : List Declaration) (ms : List Mark) → length ms ≡ length ds → map (λ e. e.decl) (entries_of ds ms) ≡ ds
+pub entries-decls : (ds : List Declaration) (ms : List NameSpan) → length ms ≡ length ds → map (λ e. e.decl) (entries_of ds ms) ≡ ds
 entries-decls [] ms same = refl
 entries-decls (d ∷ ds) [] same = absurd cc
 entries-decls (d ∷ ds) (m ∷ ms) same = ap (λ xs. d ∷ xs) (entries-decls ds ms (let e : length ms ≡ length ds = cc in e))
 
 -- what only the mark says
-pub entries-marks : {A : Type 0} (f : Entry → A) (g : Mark → A) → ((d : Declaration) (m : Mark) → f (entry_at d m) ≡ g m)
-    → (ds : List Declaration) (ms : List Mark) → length ms ≡ length ds → map f (entries_of ds ms) ≡ map g ms
+pub entries-marks : {A : Type 0} (f : Entry → A) (g : NameSpan → A) → ((d : Declaration) (m : NameSpan) → f (entry_at d m) ≡ g m)
+    → (ds : List Declaration) (ms : List NameSpan) → length ms ≡ length ds → map f (entries_of ds ms) ≡ map g ms
 entries-marks f g each [] [] same = refl
 entries-marks f g each [] (m ∷ ms) same = absurd cc
 entries-marks f g each (d ∷ ds) [] same = absurd cc
 entries-marks f g each (d ∷ ds) (m ∷ ms) same = cc (each d m, entries-marks f g each ds ms (let e : length ms ≡ length ds = cc in e))
 
-pub entry-decl : (ds : List Declaration) (ms : List Mark) (i : ℕ) → length ms ≡ length ds → option_map (λ e. e.decl) (slice_get (entries_of ds ms) i) ≡ slice_get ds i
+pub entry-decl : (ds : List Declaration) (ms : List NameSpan) (i : ℕ) → length ms ≡ length ds → option_map (λ e. e.decl) (slice_get (entries_of ds ms) i) ≡ slice_get ds i
 entry-decl ds ms i same = sym (slice_get-map (λ e. e.decl) (entries_of ds ms) i) ∙ ap (λ xs. slice_get xs i) (entries-decls ds ms same)
 
-pub entry-mark : {A : Type 0} (f : Entry → A) (g : Mark → A) → ((d : Declaration) (m : Mark) → f (entry_at d m) ≡ g m)
-    → (ds : List Declaration) (ms : List Mark) (i : ℕ) → length ms ≡ length ds → option_map f (slice_get (entries_of ds ms) i) ≡ option_map g (slice_get ms i)
+pub entry-mark : {A : Type 0} (f : Entry → A) (g : NameSpan → A) → ((d : Declaration) (m : NameSpan) → f (entry_at d m) ≡ g m)
+    → (ds : List Declaration) (ms : List NameSpan) (i : ℕ) → length ms ≡ length ds → option_map f (slice_get (entries_of ds ms) i) ≡ option_map g (slice_get ms i)
 entry-mark f g each ds ms i same = sym (slice_get-map f (entries_of ds ms) i) ∙ ap (λ xs. slice_get xs i) (entries-marks f g each ds ms same) ∙ slice_get-map g ms i
 
 -- a place among the entries is one among the marks
-pub mark-within : (ds : List Declaration) (ms : List Mark) (i : ℕ) → length ms ≡ length ds → i < length (entries_of ds ms) → i < length ms
+pub mark-within : (ds : List Declaration) (ms : List NameSpan) (i : ℕ) → length ms ≡ length ds → i < length (entries_of ds ms) → i < length ms
 mark-within ds ms i same within = subst (λ n. i < n) (entries-length ds ms same) within
 
 -- what stands within a list is there

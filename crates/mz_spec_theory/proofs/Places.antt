@@ -102,7 +102,7 @@ called-bytes : (o : Option Lexeme) (w : List ℕ) → w ≢ [] → bytes_of o �
 called-bytes None w some is = absurd (some (sym is))
 called-bytes (Some l) w some is = is
 
--- a name among those of parameters and dummies is a variable's, and its place tells that variable's
+-- a name among those of parameters and dummies is a variable's, and its place names that variable's
 abbrev IsNameAt : List Variable → ℕ → List ℕ → Type 0
 IsNameAt vs i w = ((v : Variable) × IsParamAt vs i v × (variable_bytes v ≡ w)) ⊎ ((v : Variable) × (length (params_of vs) ≤ i) × IsDummyAt vs (i - length (params_of vs)) v × (variable_bytes v ≡ w))
 

@@ -84,7 +84,7 @@ coercion_of σ n from to = record { term = term_number σ n; from = sort_number 
 
 -- ---- rules
 
--- no check tells want of memory
+-- no check answers out of memory
 abbrev pub rule_of_note : NoteFault → S
 rule_of_note faults.Form = rules.NotationForm
 rule_of_note faults.Clash = rules.NotationClash

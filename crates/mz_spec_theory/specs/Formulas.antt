@@ -55,7 +55,7 @@ AreTokens σ (f ∷ fs) (ps ∷ pss) = Pieces σ.table.delimiters (inner (math_o
 
 -- ---- rules
 
--- an unknown token is told where it stands, the other rules at the `$`
+-- an unknown token is reported where it stands, the other rules at the `$`
 abbrev pub place_of : Lexeme → S → ℕ → ℕ
 place_of l rules.MathToken at = l.from + 1 + at
 place_of l _ at = l.from

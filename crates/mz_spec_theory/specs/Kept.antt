@@ -17,7 +17,7 @@ abbrev pub numbered : ℕ → List (List ℕ) → List TermName
 numbered i [] = []
 numbered i (n ∷ ns) = record { name = n; term = i } ∷ numbered (i + 1) ns
 
--- each space has as many names as there are declarations of its kind, each declaration has a mark, math
+-- each space has as many names as there are declarations of its kind, each declaration has a name span, math
 -- strings know the terms by their names, and coercions lead from the sort of their parameter to that of
 -- their result
 pub record IsKept (σ : State) : Type 0 where

@@ -1,4 +1,4 @@
--- What reading a statement answers (mm0.md, section on the grammar; where a fault is told is this project's own).
+-- What reading a statement answers (mm0.md, section on the grammar; where a fault is reported is this project's own).
 use Rattle.std.specs.Prelude.{◌≡◌, ⊤, ℕ, List, [], ◌∷◌, length, Option}
 use Rattle.std.proofs.Common.{Result, Ok, Err, Some, None}
 use Rattle.mz_lex.specs.Lexemes.{Lexeme, LexemesTo, LexesFrom, EndsBy}
@@ -39,7 +39,7 @@ ending_fault size (Some fault) = record { at = place_of fault; rule = rule_of fa
 abbrev pub EndsAt : List ℕ → ℕ → Fault → Type 0
 EndsAt text at fault = (e : Option LexFault) × EndsBy text at e × (fault ≡ ending_fault (length text) e)
 
--- a fault has the property; want of memory tells nothing
+-- a fault has the property; out of memory says nothing
 abbrev pub OnFault : Halt → (Fault → Type 0) → Type 0
 OnFault (halts.Fault fault) P = P fault
 OnFault halts.Mem P = ⊤

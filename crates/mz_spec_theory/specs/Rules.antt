@@ -1,4 +1,4 @@
--- The rules of a statement, in their order, each with the place at which it is told (mm0.md, sections on
+-- The rules of a statement, in their order, each with the place at which it is reported (mm0.md, sections on
 -- sorts, terms, definitions, axioms and theorems, notations and coercions).
 use Rattle.std.specs.Prelude.{◌≡◌, ◌⊎◌, ◌≤◌, ⊤, ℕ, List, [], ◌∷◌, ◌++◌, true, Option, Some, None, option_and_then, slice_get}
 use Rattle.mz_lex.specs.Lexemes.{Lexeme}

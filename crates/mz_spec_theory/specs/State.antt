@@ -10,7 +10,7 @@ use Rattle.mz_logic_theory.specs.declared.binder.Binder.{Binder}
 use Rattle.mz_logic_theory.specs.declared.binder.ResultType.{ResultType}
 use Rattle.mz_math_theory.specs.Notation.{Table, empty_table, with_name, Variables}
 use Rattle.mz_math_theory.specs.Formula.{Reader}
-use Rattle.mz_spec_theory.specs.declared.spec.Mark.{Mark}
+use Rattle.mz_spec_theory.specs.declared.spec.NameSpan.{NameSpan}
 use Rattle.mz_base.specs.Names.{number_of}
 use Rattle.mz_spec_theory.specs.Dependencies.{dep_places}
 use Rattle.mz_spec_theory.specs.Statement.{TypeText}
@@ -32,26 +32,26 @@ entry_code = code_by (Declaration × (ℕ × (ℕ × ℕ))) (coded× declaration
 abbrev pub env_of : List Entry → List Declaration
 env_of es = map (λ e. e.decl) es
 
--- a declaration with its mark: the span and the place
-abbrev pub entry_at : Declaration → Mark → Entry
+-- a declaration with its name span: the span and the place
+abbrev pub entry_at : Declaration → NameSpan → Entry
 entry_at d m = record { decl = d; from = m.from; to = m.to; place = m.place }
 
--- declarations, each with its mark
-abbrev pub entries_of : List Declaration → List Mark → List Entry
+-- declarations, each with its name span
+abbrev pub entries_of : List Declaration → List NameSpan → List Entry
 entries_of [] ms = []
 entries_of (d ∷ ds) [] = []
 entries_of (d ∷ ds) (m ∷ ms) = entry_at d m ∷ entries_of ds ms
 
 -- ---- the state
 
--- the names of each space, by number; the declarations, and beside each its mark; and what has been
+-- the names of each space, by number; the declarations, and beside each its name span; and what has been
 -- declared for math strings
 pub record State : Type 0 where
   pub sort_names : List (List ℕ)
   pub term_names : List (List ℕ)
   pub assertion_names : List (List ℕ)
   pub env : List Declaration
-  pub marks : List Mark
+  pub marks : List NameSpan
   pub table : Table
 
 abbrev pub nothing : State
@@ -64,7 +64,7 @@ names_in σ assertions = σ.assertion_names
 
 -- ---- one more declaration, by its name, of the statement at a place
 
-abbrev pub mark_at : ℕ → Lexeme → Mark
+abbrev pub mark_at : ℕ → Lexeme → NameSpan
 mark_at place name = record { from = name.from; to = name.to; place = place }
 
 abbrev pub with_sort : State → ℕ → Lexeme → Declaration → State

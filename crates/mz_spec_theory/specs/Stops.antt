@@ -1,4 +1,4 @@
--- Where lexemes are no statement (mm0.md, section on the grammar; the place and the rule that are told are this
+-- Where lexemes are no statement (mm0.md, section on the grammar; the place and the rule that are reported are this
 -- project's own).
 use Rattle.std.specs.Prelude.{◌≡◌, ◌++◌, ◌||◌, ℕ, List, [], ◌∷◌, Option, Some, None, if◌then◌else◌, codes}
 use Rattle.mz_lex.specs.Lexemes.{Lexeme}

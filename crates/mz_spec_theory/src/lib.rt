@@ -19,7 +19,7 @@ pub use kind::{AssertKind, Fixity, Kind};
 pub use lexeme::Lexeme;
 pub use read::StatementRead;
 pub use refusal::{Fault, Halt};
-pub use spec::{Mark, Spec};
+pub use spec::{NameSpan, Spec};
 pub use spec_refusal::SpecRefusal;
 pub use stated::Stated;
 pub use statement::{

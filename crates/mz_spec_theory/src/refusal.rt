@@ -4,14 +4,14 @@ ghost use Rattle.std.specs.Prelude.{◌≡◌};
 use mz_lex::S;
 use std::alloc::{AllocError, AllocFailed};
 
-/// The first rule that fails, and the byte at which it is told.
+/// The first rule that fails, and the byte at which it is reported.
 #[derive(Clone, Copy, Debug, PartialEq, Eq)]
 pub struct Fault {
     pub at: u32,
     pub rule: S,
 }
 
-/// A fault, or want of memory.
+/// A fault, or out of memory.
 #[derive(Clone, Copy, Debug, PartialEq, Eq)]
 pub enum Halt {
     Fault(Fault),

@@ -4,7 +4,7 @@ use std::marker::Model;
 
 /// The span of a declaration's name, and the first byte of its statement.
 #[derive(Clone, Copy, Debug, PartialEq, Eq)]
-pub struct Mark {
+pub struct NameSpan {
     pub from: u32,
     pub to: u32,
     pub place: u32,
@@ -14,7 +14,7 @@ pub struct Mark {
 #[derive(Drop)]
 pub struct Spec {
     env: Env,
-    marks: Vec<Mark>,
+    marks: Vec<NameSpan>,
 }
 
 impl Model for Spec {
@@ -36,8 +36,8 @@ impl Spec {
     ghost use Rattle.mz_logic_theory.specs.DeclView.{declaration};
     ghost use Rattle.mz_spec_theory.specs.State.{entries_of};
 
-    /// These declarations, each with its mark.
-    pub fn new(env: Env, marks: Vec<Mark>) -> Spec
+    /// These declarations, each with its name span.
+    pub fn new(env: Env, marks: Vec<NameSpan>) -> Spec
         requires each { length marks.items ≡ length env }
         requires few { length marks.items < 2 ^ 32 }
         ensures { result ≡ entries_of env marks.items }

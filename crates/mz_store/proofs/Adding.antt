@@ -12,7 +12,7 @@ use Rattle.mz_logic_theory.proofs.Offered.{one_at, DepsInside, same-term, same-o
 use Rattle.mz_store.specs.Bits.{bound_vars}
 use Rattle.mz_store.specs.Sharing.{Shared, Sharing, tree_of, trees_of, IsIn, AreIn, Holds, IsOver}
 use Rattle.mz_store.specs.Nodes.{Made, MadeOf, variable, application, form_of, made_of, all_made, entered, binder_after, sharing_of, no_expressions, IsVariableWord}
-use Rattle.mz_store.specs.Prints.{print_of}
+use Rattle.mz_store.specs.Hashes.{hash_of}
 use Rattle.mz_store.specs.Chains.{IsOf, IsNode}
 use Rattle.mz_store.specs.Kept.{Forms, Shows, IsKept, IsChained}
 use Rattle.mz_store.specs.declared.item.DepsMode.{DepsMode}
@@ -210,19 +210,19 @@ term-view factor mode count os os' news nodes nodes' newest sort deps a v (_, ch
     ∙ all-pushed os news nodes (record { sort = sort; deps = deps; form = Application a }) (record { sort = sort; deps = deps; form = application a.head news })
     (all-lie factor os nodes newest chained) (term-says os news sort deps a from-is to-is))
 
-pub add-kept : (factor : ℕ) (mode : DepsMode) (count : ℕ) (os os' news : List Id) (nodes nodes' : List Node) (newest newest' : ℕ → Option Id) (sort deps : ℕ) (a : Term) (v : Sharing) (print : ℕ) (id : Id)
+pub add-kept : (factor : ℕ) (mode : DepsMode) (count : ℕ) (os os' news : List Id) (nodes nodes' : List Node) (newest newest' : ℕ → Option Id) (sort deps : ℕ) (a : Term) (v : Sharing) (hash : ℕ) (id : Id)
     → Keeps factor mode count os nodes newest → sharing_of mode (all_made os nodes) ≡ v → os' ≡ os ++ news → a.from ≡ length os → a.to ≡ length os + length news
     → nodes' ≡ nodes ++ record { sort = sort; deps = deps; form = Application a } ∷ []
     → AreIn v news → ((i : ℕ) → Holds v i (app a.head (trees_of v news)) → ⊥)
-    → print ≡ print_of factor a.head news → a.earlier ≡ newest print → id.0 ≡ length nodes → Puts newest newest' print id
+    → hash ≡ hash_of factor a.head news → a.earlier ≡ newest hash → id.0 ≡ length nodes → Puts newest newest' hash id
     → Keeps factor mode count os' nodes' newest'
-add-kept factor mode count os os' news nodes nodes' newest newest' sort deps a v print id (kept, chained) view os-is from-is to-is is there fresh print-is earlier-is place puts =
+add-kept factor mode count os os' news nodes nodes' newest newest' sort deps a v hash id (kept, chained) view os-is from-is to-is is there fresh hash-is earlier-is place puts =
     subst (λ (ns : List Node). Keeps factor mode count os' ns newest') (sym is) (subst (λ (is : List Id). Keeps factor mode count is (nodes ++ n ∷ []) newest') (sym os-is) (
       subst (λ (s : Sharing). IsKept s count (os ++ news) (nodes ++ n ∷ []))
           (sym (term-view factor mode count os (os ++ news) news nodes (nodes ++ n ∷ []) newest sort deps a (sharing_of mode (all_made os nodes)) (kept, chained) refl refl from-is to-is refl))
           (term-kept (sharing_of mode (all_made os nodes)) count os news nodes n sort deps a.head kept (all-lie factor os nodes newest chained) (term-says os news sort deps a from-is to-is)
           (subst (λ w. AreIn w news) (sym view) there) (λ i holds. fresh i (subst (λ w. Holds w i (app a.head (trees_of w news))) view holds))),
-      chained-term factor os news nodes newest newest' sort deps a print id chained from-is to-is print-is earlier-is place puts,
+      chained-term factor os news nodes newest newest' sort deps a hash id chained from-is to-is hash-is earlier-is place puts,
     ))
   where
     n : Node

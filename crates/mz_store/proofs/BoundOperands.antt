@@ -145,7 +145,7 @@ places-within sigs ctx es ws fits i within places are j has =
     let same : many es ≡ length (binders_of ws) = fits-many sigs ctx es (binders_of ws) fits in
     omega arith
 
--- what such places name among operands is told by the word that their bits choose
+-- what such places name among operands is reported by the word that their bits choose
 pub names-told : (ctx : List Binder) (es : Trees) (ws : List Word) (places old : List ℕ) (bits bits' word : ℕ) → places ≡ old → bits ≡ bits'
     → Tells (bound_vars ctx) word (At es (binders_of ws) bits places) → Tells (bound_vars ctx) word (At es (binders_of ws) bits' old)
 names-told ctx es ws places old bits bits' word same equal tells =

@@ -6,8 +6,8 @@ use Rattle.std.proofs.lemmas.Option.{slice_get_within, none-some}
 use Rattle.mz_base_theory.proofs.Offered.{slice_get-last, length-push}
 use Rattle.mz_logic_theory.proofs.Offered.{one_at, extends_append, split_at}
 use Rattle.mz_store.specs.Nodes.{Made, variable, application, operands_at, made_of, all_made}
-use Rattle.mz_store.specs.Prints.{print_of}
-use Rattle.mz_store.specs.Chains.{IsLast, HasPrint, Links}
+use Rattle.mz_store.specs.Hashes.{hash_of}
+use Rattle.mz_store.specs.Chains.{IsLast, HasHash, Links}
 use Rattle.mz_store.specs.Kept.{IsChained}
 use Rattle.mz_store.specs.declared.item.Id.{Id}
 use Rattle.mz_store.specs.declared.node.Node.{Node}
@@ -20,35 +20,35 @@ pub only-last : {A : Type 0} (x y : A) (j : ℕ) → slice_get (x ∷ []) j ≡ 
 only-last x y zero at = (refl, one_at refl at)
 only-last x y (suc j) at = absurd (none-some _ at)
 
--- ---- the last one of a print
+-- ---- the last one of a hash
 
 within-first : (ms more : List Made) (j : ℕ) (m : Made) → j < length ms → slice_get (ms ++ more) j ≡ Some m → slice_get ms j ≡ Some m
 within-first ms more j m less at = elim (split_at ms more j m at) [ inl here ↦ here | inr later ↦ absurd (let place : j ≡ length ms + later.0 = later.1 in omega arith) ]
 
-pub last-below : (factor : ℕ) (ms more : List Made) (k print : ℕ) (o : Option Id) → k ≤ length ms → IsLast factor ms k print o → IsLast factor (ms ++ more) k print o
-last-below factor ms more k print None below none = λ j m less at has. none j m less (within-first ms more j m (omega arith) at) has
-last-below factor ms more k print (Some e) below (less, (w, at, has), most) = (
+pub last-below : (factor : ℕ) (ms more : List Made) (k hash : ℕ) (o : Option Id) → k ≤ length ms → IsLast factor ms k hash o → IsLast factor (ms ++ more) k hash o
+last-below factor ms more k hash None below none = λ j m less at has. none j m less (within-first ms more j m (omega arith) at) has
+last-below factor ms more k hash (Some e) below (less, (w, at, has), most) = (
   less,
   (w, extends_append ms more e.0 w at, has),
   λ j m less' at' has'. most j m less' (within-first ms more j m (omega arith) at') has',
 )
 
-last-skip : (factor : ℕ) (ms : List Made) (m : Made) (k print : ℕ) (o : Option Id) → k ≡ length ms → IsLast factor ms k print o → (HasPrint factor m.form print → ⊥) → IsLast factor (ms ++ m ∷ []) (suc k) print o
-last-skip factor ms m k print None many none out = λ j x less at has. elim (split_at ms (m ∷ []) j x at) [
+last-skip : (factor : ℕ) (ms : List Made) (m : Made) (k hash : ℕ) (o : Option Id) → k ≡ length ms → IsLast factor ms k hash o → (HasHash factor m.form hash → ⊥) → IsLast factor (ms ++ m ∷ []) (suc k) hash o
+last-skip factor ms m k hash None many none out = λ j x less at has. elim (split_at ms (m ∷ []) j x at) [
   | inl here ↦ none j x (let within : j < length ms = slice_get_within ms j x here in omega arith) here has
-  | inr later ↦ out (subst (λ (y : Made). HasPrint factor y.form print) (sym (only-last m x later.0 later.2).1) has)
+  | inr later ↦ out (subst (λ (y : Made). HasHash factor y.form hash) (sym (only-last m x later.0 later.2).1) has)
 ]
-last-skip factor ms m k print (Some e) many (less, (w, at, has), most) out = (
+last-skip factor ms m k hash (Some e) many (less, (w, at, has), most) out = (
   omega arith,
   (w, extends_append ms (m ∷ []) e.0 w at, has),
   λ j x less' at' has'. elim (split_at ms (m ∷ []) j x at') [
     | inl here ↦ most j x (let within : j < length ms = slice_get_within ms j x here in omega arith) here has'
-    | inr later ↦ absurd (out (subst (λ (y : Made). HasPrint factor y.form print) (sym (only-last m x later.0 later.2).1) has'))
+    | inr later ↦ absurd (out (subst (λ (y : Made). HasHash factor y.form hash) (sym (only-last m x later.0 later.2).1) has'))
   ],
 )
 
-last-here : (factor : ℕ) (ms : List Made) (m : Made) (k print : ℕ) (e : Id) → k ≡ length ms → e.0 ≡ k → HasPrint factor m.form print → IsLast factor (ms ++ m ∷ []) (suc k) print (Some e)
-last-here factor ms m k print e many place has = (
+last-here : (factor : ℕ) (ms : List Made) (m : Made) (k hash : ℕ) (e : Id) → k ≡ length ms → e.0 ≡ k → HasHash factor m.form hash → IsLast factor (ms ++ m ∷ []) (suc k) hash (Some e)
+last-here factor ms m k hash e many place has = (
   omega arith,
   (m, subst (λ i. slice_get (ms ++ m ∷ []) i ≡ Some m) (sym (place ∙ many)) (slice_get-last ms m), has),
   λ j x less at has'. omega arith,
@@ -68,18 +68,18 @@ links-kept factor os more ms mores i (Variable bound) below _ = tt
 links-kept factor os more ms mores i (Application a) below (order, within, last) = (
   order,
   omega (arith, length-append os more),
-  subst (λ (is : List Id). IsLast factor (ms ++ mores) i (print_of factor a.head is) a.earlier) (sym (operands-kept os more a.from a.to order within))
-      (last-below factor ms mores i (print_of factor a.head (operands_at os a.from a.to)) a.earlier below last),
+  subst (λ (is : List Id). IsLast factor (ms ++ mores) i (hash_of factor a.head is) a.earlier) (sym (operands-kept os more a.from a.to order within))
+      (last-below factor ms mores i (hash_of factor a.head (operands_at os a.from a.to)) a.earlier below last),
 )
 
 chained-grown : (factor : ℕ) (os more : List Id) (nodes : List Node) (newest newest' : ℕ → Option Id) (n : Node) (m : Made) → IsChained factor os nodes newest → made_of (os ++ more) n ≡ m
     → Links factor (os ++ more) (all_made os nodes ++ m ∷ []) (length nodes) n.form
-    → ((print : ℕ) → IsLast factor (all_made os nodes ++ m ∷ []) (suc (length nodes)) print (newest' print))
+    → ((hash : ℕ) → IsLast factor (all_made os nodes ++ m ∷ []) (suc (length nodes)) hash (newest' hash))
     → IsChained factor (os ++ more) (nodes ++ n ∷ []) newest'
 chained-grown factor os more nodes newest newest' n m chained says links last = record {
   linked = λ i k at. subst (λ (ms : List Made). Links factor (os ++ more) ms i k.form) (sym pushed) (go i k (split_at nodes (n ∷ []) i k at));
-  last = λ print. subst (λ j. IsLast factor (all_made (os ++ more) (nodes ++ n ∷ [])) j print (newest' print)) (sym (length-push nodes n))
-      (subst (λ (ms : List Made). IsLast factor ms (suc (length nodes)) print (newest' print)) (sym pushed) (last print));
+  last = λ hash. subst (λ j. IsLast factor (all_made (os ++ more) (nodes ++ n ∷ [])) j hash (newest' hash)) (sym (length-push nodes n))
+      (subst (λ (ms : List Made). IsLast factor ms (suc (length nodes)) hash (newest' hash)) (sym pushed) (last hash));
 }
   where
     pushed : all_made (os ++ more) (nodes ++ n ∷ []) ≡ all_made os nodes ++ m ∷ []
@@ -102,7 +102,7 @@ pub chained-variable : (factor : ℕ) (os : List Id) (nodes : List Node) (newest
 chained-variable factor os nodes newest sort deps bound chained =
     subst (λ (is : List Id). IsChained factor is (nodes ++ n ∷ []) newest) (append-nil os)
     (chained-grown factor os [] nodes newest newest n m chained refl tt
-    (λ print. last-skip factor (all_made os nodes) m (length nodes) print (newest print) (sym (many-made os nodes)) (chained.last print) (λ nope. nope)))
+    (λ hash. last-skip factor (all_made os nodes) m (length nodes) hash (newest hash) (sym (many-made os nodes)) (chained.last hash) (λ nope. nope)))
   where
     n : Node
     n = record { sort = sort; deps = deps; form = Variable bound }
@@ -110,19 +110,19 @@ chained-variable factor os nodes newest sort deps bound chained =
     m : Made
     m = record { sort = sort; deps = deps; form = variable bound }
 
--- the table has the id for the print, and for others what it had
+-- the table has the id for the hash, and for others what it had
 abbrev pub Puts : (ℕ → Option Id) → (ℕ → Option Id) → ℕ → Id → Type 0
-Puts newest newest' print id = (q : ℕ) → newest' q ≡ cond (nat_eq print q) (Some id) (newest q)
+Puts newest newest' hash id = (q : ℕ) → newest' q ≡ cond (nat_eq hash q) (Some id) (newest q)
 
 pub term-says : (os more : List Id) (sort deps : ℕ) (a : Term) → a.from ≡ length os → a.to ≡ length os + length more
     → made_of (os ++ more) (record { sort = sort; deps = deps; form = Application a }) ≡ record { sort = sort; deps = deps; form = application a.head more }
 term-says os more sort deps a from-is to-is =
     ap (λ (is : List Id). record { sort = sort; deps = deps; form = application a.head is }) (operands-new os more a.from a.to from-is to-is)
 
-pub chained-term : (factor : ℕ) (os more : List Id) (nodes : List Node) (newest newest' : ℕ → Option Id) (sort deps : ℕ) (a : Term) (print : ℕ) (id : Id) → IsChained factor os nodes newest
-    → a.from ≡ length os → a.to ≡ length os + length more → print ≡ print_of factor a.head more → a.earlier ≡ newest print → id.0 ≡ length nodes → Puts newest newest' print id
+pub chained-term : (factor : ℕ) (os more : List Id) (nodes : List Node) (newest newest' : ℕ → Option Id) (sort deps : ℕ) (a : Term) (hash : ℕ) (id : Id) → IsChained factor os nodes newest
+    → a.from ≡ length os → a.to ≡ length os + length more → hash ≡ hash_of factor a.head more → a.earlier ≡ newest hash → id.0 ≡ length nodes → Puts newest newest' hash id
     → IsChained factor (os ++ more) (nodes ++ record { sort = sort; deps = deps; form = Application a } ∷ []) newest'
-chained-term factor os more nodes newest newest' sort deps a print id chained from-is to-is print-is earlier-is place puts =
+chained-term factor os more nodes newest newest' sort deps a hash id chained from-is to-is hash-is earlier-is place puts =
     chained-grown factor os more nodes newest newest' n m chained (term-says os more sort deps a from-is to-is) links last
   where
     n : Node
@@ -135,22 +135,22 @@ chained-term factor os more nodes newest newest' sort deps a print id chained fr
     links = (
       omega arith,
       omega (arith, length-append os more),
-      subst (λ (o : Option Id). IsLast factor (all_made os nodes ++ m ∷ []) (length nodes) (print_of factor a.head (operands_at (os ++ more) a.from a.to)) o) (sym earlier-is)
-          (subst (λ q. IsLast factor (all_made os nodes ++ m ∷ []) (length nodes) q (newest print)) (print-is ∙ ap (print_of factor a.head) (sym (operands-new os more a.from a.to from-is to-is)))
-          (last-below factor (all_made os nodes) (m ∷ []) (length nodes) print (newest print) (omega (arith, many-made os nodes)) (chained.last print))),
+      subst (λ (o : Option Id). IsLast factor (all_made os nodes ++ m ∷ []) (length nodes) (hash_of factor a.head (operands_at (os ++ more) a.from a.to)) o) (sym earlier-is)
+          (subst (λ q. IsLast factor (all_made os nodes ++ m ∷ []) (length nodes) q (newest hash)) (hash-is ∙ ap (hash_of factor a.head) (sym (operands-new os more a.from a.to from-is to-is)))
+          (last-below factor (all_made os nodes) (m ∷ []) (length nodes) hash (newest hash) (omega (arith, many-made os nodes)) (chained.last hash))),
     )
 
     last : (q : ℕ) → IsLast factor (all_made os nodes ++ m ∷ []) (suc (length nodes)) q (newest' q)
-    last q = go (nat_eq print q) refl
+    last q = go (nat_eq hash q) refl
       where
-        go : (b : Bool) → nat_eq print q ≡ b → IsLast factor (all_made os nodes ++ m ∷ []) (suc (length nodes)) q (newest' q)
+        go : (b : Bool) → nat_eq hash q ≡ b → IsLast factor (all_made os nodes ++ m ∷ []) (suc (length nodes)) q (newest' q)
         go true same =
             subst (IsLast factor (all_made os nodes ++ m ∷ []) (suc (length nodes)) q) (sym (puts q ∙ ap (λ b. cond b (Some id) (newest q)) same))
-            (last-here factor (all_made os nodes) m (length nodes) q id (sym (many-made os nodes)) place (sym print-is ∙ (Decides-eqb print q).0 same))
+            (last-here factor (all_made os nodes) m (length nodes) q id (sym (many-made os nodes)) place (sym hash-is ∙ (Decides-eqb hash q).0 same))
         go false other =
             subst (IsLast factor (all_made os nodes ++ m ∷ []) (suc (length nodes)) q) (sym (puts q ∙ ap (λ b. cond b (Some id) (newest q)) other))
             (last-skip factor (all_made os nodes) m (length nodes) q (newest q) (sym (many-made os nodes)) (chained.last q)
-            (λ has. let same : nat_eq print q ≡ true = (Decides-eqb print q).1 (print-is ∙ has) in apart (sym same ∙ other)))
+            (λ has. let same : nat_eq hash q ≡ true = (Decides-eqb hash q).1 (hash-is ∙ has) in apart (sym same ∙ other)))
           where
             apart : true ≡ false → ⊥
             apart nope = cc
@@ -160,7 +160,7 @@ pub chained-more : (factor : ℕ) (os more : List Id) (nodes : List Node) (newes
 chained-more factor os more nodes newest chained = record {
   linked = λ i n at. subst (λ (ms : List Made). Links factor (os ++ more) ms i n.form) (sym same)
       (wider i n.form (let within : i < length nodes = slice_get_within nodes i n at in omega (arith, many-made os nodes)) (chained.linked i n at));
-  last = λ print. subst (λ (ms : List Made). IsLast factor ms (length nodes) print (newest print)) (sym same) (chained.last print);
+  last = λ hash. subst (λ (ms : List Made). IsLast factor ms (length nodes) hash (newest hash)) (sym same) (chained.last hash);
 }
   where
     same : all_made (os ++ more) nodes ≡ all_made os nodes
@@ -172,12 +172,12 @@ chained-more factor os more nodes newest chained = record {
 pub chained-by : (factor : ℕ) (os : List Id) (nodes : List Node) (newest newest' : ℕ → Option Id) → IsChained factor os nodes newest → ((q : ℕ) → newest' q ≡ newest q) → IsChained factor os nodes newest'
 chained-by factor os nodes newest newest' chained same = record {
   linked = chained.linked;
-  last = λ print. subst (IsLast factor (all_made os nodes) (length nodes) print) (sym (same print)) (chained.last print);
+  last = λ hash. subst (IsLast factor (all_made os nodes) (length nodes) hash) (sym (same hash)) (chained.last hash);
 }
 
 pub chained-empty : (factor : ℕ) (os : List Id) (nodes : List Node) (newest : ℕ → Option Id) → nodes ≡ [] → ((q : ℕ) → newest q ≡ None) → IsChained factor os nodes newest
 chained-empty factor os nodes newest no-nodes lacks = record {
   linked = λ i n at. absurd (none-some _ (sym (ap (λ (ns : List Node). slice_get ns i) no-nodes) ∙ at));
-  last = λ print. subst (IsLast factor (all_made os nodes) (length nodes) print) (sym (lacks print))
+  last = λ hash. subst (IsLast factor (all_made os nodes) (length nodes) hash) (sym (lacks hash))
       (λ j m less at has. absurd (let none : length nodes ≡ 0 = ap length no-nodes in omega arith));
 }

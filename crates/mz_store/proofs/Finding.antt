@@ -1,10 +1,10 @@
--- A term is looked for along the chain of its print.
+-- A term is looked for along the chain of its hash.
 use Rattle.std.proofs.Common.{ℕ, suc, ◌≡◌, ◌<◌, ◌≤◌, Bool, true, false, IsTrue, List, length, get_or, slice_get, Option, Some, None, ap, sym, ◌∙◌, subst, arith}
 use Rattle.std.proofs.lemmas.Option.{slice_get_within, slice_get-get_or}
 use Rattle.mz_logic_theory.proofs.Offered.{one_at}
 use Rattle.mz_store.specs.Nodes.{Made, MadeOf, variable, application, operands_at, form_of, made_of, all_made}
-use Rattle.mz_store.specs.Prints.{print_of}
-use Rattle.mz_store.specs.Chains.{IsOf, IsNode, IsLast, HasPrint, Links, IsLinked, IsChain}
+use Rattle.mz_store.specs.Hashes.{hash_of}
+use Rattle.mz_store.specs.Chains.{IsOf, IsNode, IsLast, HasHash, Links, IsLinked, IsChain}
 use Rattle.mz_store.specs.declared.item.Id.{Id}
 use Rattle.mz_store.specs.declared.node.Node.{Node}
 use Rattle.mz_store.specs.declared.node.Application.{Application as Term}
@@ -19,34 +19,34 @@ rank (Some e) = suc e.0
 
 -- what is looked for stands before the k-th of the linked nodes, and the chain goes on with the last one before it
 abbrev pub IsSought : List Id → List Node → ℕ → List Id → Option Id → Type 0
-IsSought os nodes h is next = (factor : ℕ) × IsLinked factor os nodes × (k : ℕ) × (k ≤ length nodes) × IsLast factor (all_made os nodes) k (print_of factor h is) next
+IsSought os nodes h is next = (factor : ℕ) × IsLinked factor os nodes × (k : ℕ) × (k ≤ length nodes) × IsLast factor (all_made os nodes) k (hash_of factor h is) next
     × ((j : ℕ) → IsNode (all_made os nodes) h is j → j < k)
 
-of-print : (factor : ℕ) (f : MadeOf) (h : ℕ) (is : List Id) → IsOf f h is → HasPrint factor f (print_of factor h is)
-of-print factor (variable bound) h is nope = nope
-of-print factor (application g os) h is (head-is, operands-are) = ap (λ t. print_of factor t os) head-is ∙ ap (print_of factor h) operands-are
+of-hash : (factor : ℕ) (f : MadeOf) (h : ℕ) (is : List Id) → IsOf f h is → HasHash factor f (hash_of factor h is)
+of-hash factor (variable bound) h is nope = nope
+of-hash factor (application g os) h is (head-is, operands-are) = ap (λ t. hash_of factor t os) head-is ∙ ap (hash_of factor h) operands-are
 
 pub sought-first : (os : List Id) (nodes : List Node) (h : ℕ) (is : List Id) (next : Option Id) → IsChain os nodes h is next → IsSought os nodes h is next
 sought-first os nodes h is next (factor, linked, last) = (factor, linked, length nodes, omega arith, last, λ j node. (let within : j < length (all_made os nodes) = slice_get_within (all_made os nodes) j node.0 node.1 in omega (arith, many-made os nodes)))
 
 pub sought-none : (os : List Id) (nodes : List Node) (h : ℕ) (is : List Id) → IsSought os nodes h is None → (j : ℕ) → IsNode (all_made os nodes) h is j → ⊥
-sought-none os nodes h is (factor, _, k, _, none, before) j (m, at, of) = none j m (before j (m, at, of)) at (of-print factor m.form h is of)
+sought-none os nodes h is (factor, _, k, _, none, before) j (m, at, of) = none j m (before j (m, at, of)) at (of-hash factor m.form h is of)
 
 -- the next one of the chain is a node
 pub next-within : (os : List Id) (nodes : List Node) (h : ℕ) (is : List Id) (e : Id) → IsSought os nodes h is (Some e) → e.0 < length nodes
 next-within os nodes h is e (_, _, k, small, (less, _, _), _) = omega arith
 
--- and a term with the print
-pub next-print : (os : List Id) (nodes : List Node) (h : ℕ) (is : List Id) (e : Id) (sought : IsSought os nodes h is (Some e)) (n : Node) → slice_get nodes e.0 ≡ Some n
-    → HasPrint sought.0 (made_of os n).form (print_of sought.0 h is)
-next-print os nodes h is e (factor, _, k, _, (_, (m, at, has), _), _) n here =
-    subst (λ (x : Made). HasPrint factor x.form (print_of factor h is)) (one_at at (made-at os nodes e.0 n here)) has
+-- and a term with the hash
+pub next-hash : (os : List Id) (nodes : List Node) (h : ℕ) (is : List Id) (e : Id) (sought : IsSought os nodes h is (Some e)) (n : Node) → slice_get nodes e.0 ≡ Some n
+    → HasHash sought.0 (made_of os n).form (hash_of sought.0 h is)
+next-hash os nodes h is e (factor, _, k, _, (_, (m, at, has), _), _) n here =
+    subst (λ (x : Made). HasHash factor x.form (hash_of factor h is)) (one_at at (made-at os nodes e.0 n here)) has
 
 pub next-term : (os : List Id) (nodes : List Node) (h : ℕ) (is : List Id) (e : Id) (d : Node) → IsSought os nodes h is (Some e)
     → (bound : Bool) → (get_or nodes e.0 d).form ≡ Variable bound → ⊥
 next-term os nodes h is e d sought bound form-is =
-    subst (λ (f : Form). HasPrint sought.0 (form_of os f) (print_of sought.0 h is)) form-is
-    (next-print os nodes h is e sought (get_or nodes e.0 d) (slice_get-get_or nodes e.0 d (next-within os nodes h is e sought)))
+    subst (λ (f : Form). HasHash sought.0 (form_of os f) (hash_of sought.0 h is)) form-is
+    (next-hash os nodes h is e sought (get_or nodes e.0 d) (slice_get-get_or nodes e.0 d (next-within os nodes h is e sought)))
 
 -- its operands lie within the list
 pub next-order : (factor : ℕ) (os : List Id) (nodes : List Node) (e : Id) (d : Node) (a : Term) → IsLinked factor os nodes → e.0 < length nodes → (get_or nodes e.0 d).form ≡ Application a
@@ -79,11 +79,11 @@ next-other os nodes h is e d a sought form-is other = (sought.0, sought.1, e.0, 
     says : slice_get (all_made os nodes) e.0 ≡ Some (record { sort = n.sort; deps = n.deps; form = application a.head (operands_at os a.from a.to) })
     says = subst (λ (f : Form). slice_get (all_made os nodes) e.0 ≡ Some (made_of os (record { sort = n.sort; deps = n.deps; form = f }))) form-is (made-at os nodes e.0 n here)
 
-    print-is : print_of sought.0 a.head (operands_at os a.from a.to) ≡ print_of sought.0 h is
-    print-is = subst (λ (f : Form). HasPrint sought.0 (made_of os (record { sort = n.sort; deps = n.deps; form = f })).form (print_of sought.0 h is)) form-is (next-print os nodes h is e sought n here)
+    hash-is : hash_of sought.0 a.head (operands_at os a.from a.to) ≡ hash_of sought.0 h is
+    hash-is = subst (λ (f : Form). HasHash sought.0 (made_of os (record { sort = n.sort; deps = n.deps; form = f })).form (hash_of sought.0 h is)) form-is (next-hash os nodes h is e sought n here)
 
-    last : IsLast sought.0 (all_made os nodes) e.0 (print_of sought.0 h is) a.earlier
-    last = subst (λ p. IsLast sought.0 (all_made os nodes) e.0 p a.earlier) print-is
+    last : IsLast sought.0 (all_made os nodes) e.0 (hash_of sought.0 h is) a.earlier
+    last = subst (λ p. IsLast sought.0 (all_made os nodes) e.0 p a.earlier) hash-is
         (subst (Links sought.0 os (all_made os nodes) e.0) form-is (sought.1 e.0 n here)).2
 
     before : (j : ℕ) → IsNode (all_made os nodes) h is j → j < e.0
@@ -94,7 +94,7 @@ next-other os nodes h is e d a sought form-is other = (sought.0, sought.1, e.0, 
         )
       where
         up : IsSought os nodes h is (Some e) → j ≤ e.0
-        up (by, _, k, _, (_, _, most), below) = most j m (below j (m, at, of)) at (of-print by m.form h is of)
+        up (by, _, k, _, (_, _, most), below) = most j m (below j (m, at, of)) at (of-hash by m.form h is of)
 
         is-it : slice_get (all_made os nodes) e.0 ≡ Some m → (a.head ≡ h) × (operands_at os a.from a.to ≡ is)
         is-it at-e = subst (λ (x : Made). IsOf x.form h is) (one_at at-e says) of
@@ -108,7 +108,7 @@ pub rank-less : (factor : ℕ) (os : List Id) (nodes : List Node) (e : Id) (d : 
 rank-less factor os nodes e d a linked inside form-is =
     below a.earlier (subst (Links factor os (all_made os nodes) e.0) form-is (linked e.0 (get_or nodes e.0 d) (slice_get-get_or nodes e.0 d inside))).2
   where
-    below : (o : Option Id) → IsLast factor (all_made os nodes) e.0 (print_of factor a.head (operands_at os a.from a.to)) o → rank o < suc e.0
+    below : (o : Option Id) → IsLast factor (all_made os nodes) e.0 (hash_of factor a.head (operands_at os a.from a.to)) o → rank o < suc e.0
     below None _ = omega arith
     below (Some x) (less, _, _) = omega arith
 

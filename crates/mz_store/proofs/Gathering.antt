@@ -6,7 +6,7 @@ use Rattle.std.proofs.lemmas.Bool.{cases_lt}
 use Rattle.mz_logic_theory.proofs.Offered.{one_at}
 use Rattle.mz_store.specs.Bits.{HasAt, Tells}
 
--- so far the word tells P, but for Q
+-- so far the word says P, but for Q
 abbrev pub Gathers : List ℕ → ℕ → (ℕ → Type 0) → (ℕ → Type 0) → Type 0
 Gathers places word P Q = (k : ℕ) → ((bit_at word k ≡ 1) ⊎ HasAt places Q k) ↔ HasAt places P k
 

@@ -123,7 +123,7 @@ operand-here params es i js x (bd, is) = (i, contains_head i js, bd, is)
 pub operand-later : (params : List Binder) (es : Trees) (i : ℕ) (js : List ℕ) (x : ℕ) → IsOperandAt params es js x → IsOperandAt params es (i ∷ js) x
 operand-later params es i js x (j, has, bd, is) = (j, contains_tail i j js has, bd, is)
 
--- the word of a bound variable tells the variable itself
+-- the word of a bound variable names the variable itself
 pub tells-bound : (mode : DepsMode) (sigs : List Signature) (ctx params : List Binder) (places : List ℕ) (word : ℕ) (es : Trees) (i : ℕ) (e : Tree)
     → IsBoundAt params i → operand es i ≡ e → IsBoundVar ctx e → Tells places word (IsTold mode sigs ctx e) → Tells places word (λ x. IsBoundAt params i × (operand es i ≡ var x))
 tells-bound mode sigs ctx params places word es i e bd is (y, b, e-is, at, bound) tells =

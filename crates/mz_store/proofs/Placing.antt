@@ -5,7 +5,7 @@ use Rattle.mz_logic_theory.specs.Words.{TermWords, term_at, word_sort, signature
 use Rattle.mz_store.specs.Bits.{Tells, bound_vars}
 use Rattle.mz_store.specs.Sharing.{Sharing, Shared, AreIn, Holds, KeepsIds, trees_of, IsOver, IsTold, CanTake}
 use Rattle.mz_store.specs.Nodes.{Made, all_made, application, entered}
-use Rattle.mz_store.specs.Prints.{print_of}
+use Rattle.mz_store.specs.Hashes.{hash_of}
 use Rattle.mz_store.specs.Chains.{IsChain, IsLast, IsNode}
 use Rattle.mz_store.specs.Kept.{shared_by, IsAdded, HasMore}
 use Rattle.mz_store.specs.Placed.{IsPlaced}
@@ -34,13 +34,13 @@ same-modes factor e e' newest mode-is count-is keeps =
 abbrev term-of : Expressions → ℕ → List Id → Option Id → Term
 term-of e t is earlier = record { head = t; from = length e.operands.items; to = length e.operands.items + length is; earlier = earlier }
 
-pub placed-kept : (factor : ℕ) (terms : List TermWords) (e e' : Expressions) (newest newest' : ℕ → Option Id) (v : Sharing) (t : ℕ) (is : List Id) (earlier : Option Id) (print : ℕ) (id : Id)
+pub placed-kept : (factor : ℕ) (terms : List TermWords) (e e' : Expressions) (newest newest' : ℕ → Option Id) (v : Sharing) (t : ℕ) (is : List Id) (earlier : Option Id) (hash : ℕ) (id : Id)
     → Has factor e newest → shared_by e ≡ v → IsAdded terms e t is earlier e' → AreIn v is → ((i : ℕ) → Holds v i (app t (trees_of v is)) → ⊥)
-    → print ≡ print_of factor t is → earlier ≡ newest print → id.0 ≡ length e.nodes.items → Puts newest newest' print id → Has factor e' newest'
-placed-kept factor terms e e' newest newest' v t is earlier print id keeps view (deps, tells, os-are, nodes-are, mode-is, count-is) there fresh print-is earlier-is place puts =
+    → hash ≡ hash_of factor t is → earlier ≡ newest hash → id.0 ≡ length e.nodes.items → Puts newest newest' hash id → Has factor e' newest'
+placed-kept factor terms e e' newest newest' v t is earlier hash id keeps view (deps, tells, os-are, nodes-are, mode-is, count-is) there fresh hash-is earlier-is place puts =
     same-modes factor e e' newest' mode-is count-is
-    (add-kept factor e.mode e.bound_count e.operands.items e'.operands.items is e.nodes.items e'.nodes.items newest newest' (word_sort (term_at terms t).result) deps (term-of e t is earlier) v print id
-    keeps view os-are refl refl nodes-are there fresh print-is earlier-is place puts)
+    (add-kept factor e.mode e.bound_count e.operands.items e'.operands.items is e.nodes.items e'.nodes.items newest newest' (word_sort (term_at terms t).result) deps (term-of e t is earlier) v hash id
+    keeps view os-are refl refl nodes-are there fresh hash-is earlier-is place puts)
 
 pub placed-new : (factor : ℕ) (terms : List TermWords) (e e' : Expressions) (newest : ℕ → Option Id) (v : Sharing) (t : ℕ) (is : List Id) (earlier : Option Id) (id : Id)
     → Has factor e newest → shared_by e ≡ v → IsAdded terms e t is earlier e' → IsOver (signatures_of terms) v → CanTake terms v.context t (trees_of v is)
@@ -73,21 +73,21 @@ left-same factor e e' newest v keeps view (more, os-are, nodes-are, mode-is, cou
     ap (λ m. shared_by (record e' { mode = m })) mode-is
     ∙ more-view factor e.mode e.bound_count e.operands.items e'.operands.items more e.nodes.items e'.nodes.items newest v keeps view os-are nodes-are
 
--- ---- the table knows no term with the print
+-- ---- the table knows no term with the hash
 
-pub none-holds : (factor : ℕ) (e : Expressions) (newest : ℕ → Option Id) (v : Sharing) (t : ℕ) (is : List Id) → Has factor e newest → shared_by e ≡ v → AreIn v is → newest (print_of factor t is) ≡ None
+pub none-holds : (factor : ℕ) (e : Expressions) (newest : ℕ → Option Id) (v : Sharing) (t : ℕ) (is : List Id) → Has factor e newest → shared_by e ≡ v → AreIn v is → newest (hash_of factor t is) ≡ None
     → (i : ℕ) → Holds v i (app t (trees_of v is)) → ⊥
 none-holds factor e newest v t is (kept, chained) view there lacks =
     missing-holds (shared_by e) v e.bound_count e.operands.items e.nodes.items kept view t is there None
     (sought-none e.operands.items e.nodes.items t is (sought-first e.operands.items e.nodes.items t is None
-    (factor, chained.linked, subst (IsLast factor (all_made e.operands.items e.nodes.items) (length e.nodes.items) (print_of factor t is)) lacks (chained.last (print_of factor t is)))))
+    (factor, chained.linked, subst (IsLast factor (all_made e.operands.items e.nodes.items) (length e.nodes.items) (hash_of factor t is)) lacks (chained.last (hash_of factor t is)))))
 
--- ---- the last term with the print, that the table knows
+-- ---- the last term with the hash, that the table knows
 
-pub chain-here : (factor : ℕ) (e : Expressions) (newest : ℕ → Option Id) (t : ℕ) (is os : List Id) (nodes : List Node) (first : Option Id) (print : ℕ)
-    → Has factor e newest → os ≡ e.operands.items → nodes ≡ e.nodes.items → print ≡ print_of factor t is → first ≡ newest print → IsChain os nodes t is first
-chain-here factor e newest t is os nodes first print (_, chained) os-are nodes-are print-is first-is =
-    rw (os-are, nodes-are, first-is, print-is) (factor, chained.linked, chained.last (print_of factor t is))
+pub chain-here : (factor : ℕ) (e : Expressions) (newest : ℕ → Option Id) (t : ℕ) (is os : List Id) (nodes : List Node) (first : Option Id) (hash : ℕ)
+    → Has factor e newest → os ≡ e.operands.items → nodes ≡ e.nodes.items → hash ≡ hash_of factor t is → first ≡ newest hash → IsChain os nodes t is first
+chain-here factor e newest t is os nodes first hash (_, chained) os-are nodes-are hash-is first-is =
+    rw (os-are, nodes-are, first-is, hash-is) (factor, chained.linked, chained.last (hash_of factor t is))
 
 -- ---- what was found along the chain, or wasn't
 

@@ -1,7 +1,7 @@
--- How a store finds the terms that it has: those of one print are a chain.
+-- How a store finds the terms that it has: those of one hash are a chain.
 use Rattle.std.specs.Prelude.{ℕ, ◌≡◌, ◌<◌, ◌≤◌, ⊤, List, length, slice_get, Option, Some, None}
 use Rattle.mz_store.specs.Nodes.{Made, MadeOf, variable, application, operands_at, all_made}
-use Rattle.mz_store.specs.Prints.{print_of}
+use Rattle.mz_store.specs.Hashes.{hash_of}
 use Rattle.mz_store.specs.declared.item.Id.{Id}
 use Rattle.mz_store.specs.declared.node.Node.{Node}
 use Rattle.mz_store.specs.declared.node.Form.{Form}
@@ -16,25 +16,25 @@ IsOf (application h is) head operands = (h ≡ head) × (is ≡ operands)
 abbrev pub IsNode : List Made → ℕ → List Id → ℕ → Type 0
 IsNode made head operands i = (m : Made) × (slice_get made i ≡ Some m) × IsOf m.form head operands
 
--- it is a term with this print
-abbrev pub HasPrint : ℕ → MadeOf → ℕ → Type 0
-HasPrint factor (variable bound) print = ⊥
-HasPrint factor (application h is) print = print_of factor h is ≡ print
+-- it is a term with this hash
+abbrev pub HasHash : ℕ → MadeOf → ℕ → Type 0
+HasHash factor (variable bound) hash = ⊥
+HasHash factor (application h is) hash = hash_of factor h is ≡ hash
 
--- of the first k the last one with this print
+-- of the first k the last one with this hash
 abbrev pub IsLast : ℕ → List Made → ℕ → ℕ → Option Id → Type 0
-IsLast factor made k print None = (j : ℕ) (m : Made) → j < k → slice_get made j ≡ Some m → HasPrint factor m.form print → ⊥
-IsLast factor made k print (Some e) = (e.0 < k) × ((m : Made) × (slice_get made e.0 ≡ Some m) × HasPrint factor m.form print)
-    × ((j : ℕ) (m : Made) → j < k → slice_get made j ≡ Some m → HasPrint factor m.form print → j ≤ e.0)
+IsLast factor made k hash None = (j : ℕ) (m : Made) → j < k → slice_get made j ≡ Some m → HasHash factor m.form hash → ⊥
+IsLast factor made k hash (Some e) = (e.0 < k) × ((m : Made) × (slice_get made e.0 ≡ Some m) × HasHash factor m.form hash)
+    × ((j : ℕ) (m : Made) → j < k → slice_get made j ≡ Some m → HasHash factor m.form hash → j ≤ e.0)
 
--- the operands lie within the list, and before the i-th with its print comes the one that it names
+-- the operands lie within the list, and before the i-th with its hash comes the one that it names
 abbrev pub Links : ℕ → List Id → List Made → ℕ → Form → Type 0
 Links factor operands made i (Variable bound) = ⊤
-Links factor operands made i (Application a) = (a.from ≤ a.to) × (a.to ≤ length operands) × IsLast factor made i (print_of factor a.head (operands_at operands a.from a.to)) a.earlier
+Links factor operands made i (Application a) = (a.from ≤ a.to) × (a.to ≤ length operands) × IsLast factor made i (hash_of factor a.head (operands_at operands a.from a.to)) a.earlier
 
 abbrev pub IsLinked : ℕ → List Id → List Node → Type 0
 IsLinked factor operands nodes = (i : ℕ) (n : Node) → slice_get nodes i ≡ Some n → Links factor operands (all_made operands nodes) i n.form
 
--- under some factor the nodes are linked, and `newest` is the last one with the print of this term
+-- under some factor the nodes are linked, and `newest` is the last one with the hash of this term
 abbrev pub IsChain : List Id → List Node → ℕ → List Id → Option Id → Type 0
-IsChain operands nodes head args newest = (factor : ℕ) × IsLinked factor operands nodes × IsLast factor (all_made operands nodes) (length nodes) (print_of factor head args) newest
+IsChain operands nodes head args newest = (factor : ℕ) × IsLinked factor operands nodes × IsLast factor (all_made operands nodes) (length nodes) (hash_of factor head args) newest

@@ -1,4 +1,4 @@
--- What holds between a store's nodes, their prints and the trees that they stand for.
+-- What holds between a store's nodes, their hashes and the trees that they stand for.
 use Rattle.std.specs.Prelude.{ℕ, ◌≡◌, ◌<◌, ◌≤◌, ◌+◌, Contains, List, [], ◌∷◌, ◌++◌, length, slice_get, Option, Some}
 use Rattle.mz_logic_theory.specs.Tree.{var, app}
 use Rattle.mz_logic_theory.specs.Legality.{Each}
@@ -35,10 +35,10 @@ pub record IsKept (s : Sharing) (bound_count : ℕ) (operands : List Id) (nodes 
   -- different ids have different trees
   pub once : (i j : ℕ) → IsIn s i → IsIn s j → tree_of s i ≡ tree_of s j → i ≡ j
 
--- the terms of each print are a chain, which begins with the last one
+-- the terms of each hash are a chain, which begins with the last one
 pub record IsChained (factor : ℕ) (operands : List Id) (nodes : List Node) (newest : ℕ → Option Id) : Type 0 where
   pub linked : IsLinked factor operands nodes
-  pub last : (print : ℕ) → IsLast factor (all_made operands nodes) (length nodes) print (newest print)
+  pub last : (hash : ℕ) → IsLast factor (all_made operands nodes) (length nodes) hash (newest hash)
 
 -- ---- the expressions without the table
 
@@ -49,7 +49,7 @@ shared_by e = sharing_of e.mode (all_made e.operands.items e.nodes.items)
 abbrev pub AreKept : Expressions → Type 0
 AreKept e = IsKept (shared_by e) e.bound_count e.operands.items e.nodes.items
 
--- e' has the term t over these expressions as its last one, and its word tells its variables
+-- e' has the term t over these expressions as its last one, and its word names its variables
 abbrev pub IsAdded : List TermWords → Expressions → ℕ → List Id → Option Id → Expressions → Type 0
 IsAdded terms e t is earlier e' = (deps : ℕ) × Tells (bound_vars (shared_by e).context) deps (IsTold (shared_by e).mode (signatures_of terms) (shared_by e).context (app t (trees_of (shared_by e) is)))
     × (e'.operands.items ≡ e.operands.items ++ is)

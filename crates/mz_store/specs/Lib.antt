@@ -1,7 +1,7 @@
 pub mod Bits
 pub mod Sharing
 pub mod Nodes
-pub mod Prints
+pub mod Hashes
 pub mod Chains
 pub mod Codes
 pub mod Kept

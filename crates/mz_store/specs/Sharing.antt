@@ -69,7 +69,7 @@ abbrev pub IsTold : DepsMode → List Signature → List Binder → Tree → ℕ
 IsTold of.All sigs ctx e x = InV ctx x e
 IsTold of.Free sigs ctx e x = InFV sigs ctx x e
 
--- the tree has this sort, and the word tells its variables
+-- the tree has this sort, and the word names its variables
 abbrev pub IsRight : DepsMode → List Signature → List Binder → Shared → Type 0
 IsRight mode sigs ctx e = HasSort sigs ctx e.tree e.sort × Tells (bound_vars ctx) e.deps (IsTold mode sigs ctx e.tree)
 

@@ -1,8 +1,8 @@
-//! From a head and operands to the expression that has them: those of one print are a chain, the last
+//! From a head and operands to the expression that has them: those of one hash are a chain, the last
 //! one first.
 ghost use Rattle.std.specs.Prelude.{ℕ, ◌≡◌, ◌↔◌, ◌≤◌, IfSome, IfNone, IsTrue, List, length};
 ghost use Rattle.mz_store.specs.Nodes.{all_made, operands_at};
-ghost use Rattle.mz_store.specs.Prints.{mixed, print_of, spread};
+ghost use Rattle.mz_store.specs.Hashes.{mixed, hash_of, spread};
 ghost use Rattle.mz_store.specs.Chains.{IsNode, IsChain};
 
 use crate::item::Id;
@@ -14,39 +14,39 @@ const HALF: u64 = 0x1_0000_0000;
 /// The number of a head and operands by which they are looked up.
 ///
 /// It is the factor that is drawn by chance: with a known one, operands can be chosen that have one
-/// print whatever it begins with.
+/// hash whatever it begins with.
 #[inline(always)]
-pub(crate) fn print_of(factor: u64, head: u32, operands: &[Id]) -> u64
-    ensures { result ≡ print_of factor head operands.now }
+pub(crate) fn hash_of(factor: u64, head: u32, operands: &[Id]) -> u64
+    ensures { result ≡ hash_of factor head operands.now }
 {
-    let mut print = u64::from(head);
+    let mut hash = u64::from(head);
     for id in operands {
-        print = mixed(factor, print, id.0);
+        hash = mixed(factor, hash, id.0);
     }
-    print
+    hash
 }
 
-/// A print with one id more. The upper half is added to the lower one, so that terms of one print
+/// A hash with one id more. The upper half is added to the lower one, so that terms of one hash
 /// can't be found by sums alone.
-#[tactic(auto, unfolding(crate::specs::Prints::mixed))]
+#[tactic(auto, unfolding(crate::specs::Hashes::mixed))]
 #[inline(always)]
-fn mixed(factor: u64, print: u64, id: u64) -> u64
-    ensures { result ≡ mixed factor print id }
+fn mixed(factor: u64, hash: u64, id: u64) -> u64
+    ensures { result ≡ mixed factor hash id }
 {
-    let sum = spread(factor, print, id);
+    let sum = spread(factor, hash, id);
     sum.wrapping_add(sum / HALF)
 }
 
-#[tactic(auto, unfolding(crate::specs::Prints::spread))]
+#[tactic(auto, unfolding(crate::specs::Hashes::spread))]
 #[inline(always)]
-fn spread(factor: u64, print: u64, id: u64) -> u64
-    ensures { result ≡ spread factor print id }
+fn spread(factor: u64, hash: u64, id: u64) -> u64
+    ensures { result ≡ spread factor hash id }
 {
-    print.wrapping_mul(factor).wrapping_add(id)
+    hash.wrapping_mul(factor).wrapping_add(id)
 }
 
 /// The id of the term `head` over these operands, if there is one. `newest` is the last expression
-/// with their print.
+/// with their hash.
 #[inline(always)]
 pub(crate) fn find(
     nodes: &[Node],

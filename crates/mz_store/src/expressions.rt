@@ -37,7 +37,7 @@ impl Expressions {
     }
 
     /// Adds the term `t` over these expressions, which isn't there. `earlier` is the last one with its
-    /// print.
+    /// hash.
     ///
     /// # Errors
     ///

@@ -21,6 +21,6 @@ pub struct Application {
     pub head: u32,
     pub from: usize,
     pub to: usize,
-    /// The last one before it with the same print.
+    /// The last one before it with the same hash.
     pub earlier: Option<Id>,
 }

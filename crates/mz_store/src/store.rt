@@ -9,7 +9,7 @@ ghost use Rattle.mz_store.specs.Sharing.{IsIn, AreIn, Holds, tree_of, trees_of, 
 ghost use Rattle.mz_store.specs.Nodes.{IsVariableWord, variable, variable_node, entered, entered_all};
 ghost use Rattle.mz_store.specs.Placed.{IsPlaced};
 
-use crate::chain::{find, print_of};
+use crate::chain::{find, hash_of};
 use crate::expressions::Expressions;
 use crate::item::{DepsMode, Id};
 use crate::node::{Form, Node};
@@ -28,10 +28,10 @@ use std::marker::Model;
 #[derive(Drop)]
 pub struct Store {
     alloc: Global,
-    // what prints are made with: odd, so that it takes no bit of them away
+    // what hashes are made with: odd, so that it takes no bit of them away
     factor: u64,
     expressions: Expressions,
-    // from a print to the last term that has it
+    // from a hash to the last term that has it
     newest: HashMap<u64, Id>,
 }
 
@@ -195,7 +195,7 @@ impl Store {
         ensures ok { IfOk result (λ id. IsPlaced (T.all_terms terms.now) self.old t args.now id self.new) }
         ensures err { OnErr result (self.new ≡ self.old) }
     {
-        match self.newest.entry(print_of(self.factor, t, args))? {
+        match self.newest.entry(hash_of(self.factor, t, args))? {
             Entry::Occupied(mut place) => {
                 let newest = Some(*place.get());
                 let there = find(
@@ -258,7 +258,7 @@ impl Store {
     }
 
     /// The word of the expression's variables: bit k is set exactly where the k-th bound variable is
-    /// among all its variables, or among the free ones, as `begin` was told.
+    /// among all its variables, or among the free ones, as `begin` was asked.
     #[inline(always)]
     pub fn deps(&self, id: Id) -> u64
         requires { IsIn self.now id.0 }

@@ -8,7 +8,7 @@ use Rattle.mz_decompile.specs.Printed.{decompiled_line}
 use Rattle.mz_tool_verify.specs.Judging.{IsRefusal}
 use Rattle.mz_tool.specs.Decompile.{unstated_line}
 
--- want of memory has none
+-- out of memory has none
 abbrev pub text_line : Decompiled → List ℕ
 text_line (answers.Text text) = decompiled_line (length text.items)
 text_line (answers.Refused verdict) = line_of verdict

@@ -47,7 +47,7 @@ impl<'a> Program<'a> for Mz {
 
 /// Does what the words ask for, with the folder's files, and writes the answer to `out`.
 ///
-/// Want of memory may come in place of any answer but `Usage`. The terms of a binary's bodies are numbered, and names
+/// Out of memory may come in place of any answer but `Usage`. The terms of a binary's bodies are numbered, and names
 /// are hashed, with the seed, on which no answer depends.
 pub fn run<F: Folder, O: Sink>(
     alloc: Global,

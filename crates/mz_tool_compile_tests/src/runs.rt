@@ -57,10 +57,10 @@ pub fn made_of(
     (status, folder, out)
 }
 
-/// What is compiled of a finished text is judged alike by the published table and by address.
+/// What is compiled of a finished text is judged alike by the standard machine and by identity.
 const JUDGING: &[&str] = &["verify spec bin", "portable spec bin"];
 
-/// Verifies a binary against a specification, by the published table and by address, and compares the line
+/// Verifies a binary against a specification, by the standard machine and by identity, and compares the line
 /// and the status.
 pub fn expect_verdict(
     rt: &(impl Abort + AllocGlobal),

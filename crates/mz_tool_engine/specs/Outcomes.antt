@@ -22,7 +22,7 @@ OnYes outcome P = IfYes outcome (λ _ _. P)
 abbrev pub OnNo : Outcome → Type 0 → Type 0
 OnNo outcome P = IfNo outcome (λ _. P)
 
--- the same answer, with a line before its text; want of memory may come in its place
+-- the same answer, with a line before its text; out of memory may come in its place
 abbrev pub IsAfter : List ℕ → Outcome → Outcome → Type 0
 IsAfter line old outcomes.Mem = ⊤
 IsAfter line (outcomes.Yes put text) (outcomes.Yes put' text') = (bytes_of put' ≡ bytes_of put) × (text'.items ≡ line ++ text.items)

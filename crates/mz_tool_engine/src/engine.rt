@@ -18,7 +18,7 @@ use std::alloc::Global;
 /// Answers a command, with files of at most `limit` bytes: reads them, asks the command, puts its file where the answer
 /// is yes, and writes the text.
 ///
-/// Want of memory may come in place of any answer.
+/// Out of memory may come in place of any answer.
 pub fn answer<C: Command, F: Folder, O: Sink>(
     alloc: Global,
     limit: u64,

@@ -45,7 +45,7 @@ pub trait Program<'a> {
 
 /// Does what the words ask of the program, with the folder's files, and writes the answer to `out`.
 ///
-/// Want of memory may come in place of any answer but `Usage`.
+/// Out of memory may come in place of any answer but `Usage`.
 pub fn run<'a, P: Program<'a>, F: Folder, O: Sink>(
     alloc: Global,
     program: &P,

@@ -46,7 +46,7 @@ impl<'a> Program<'a> for Verifier {
 
 /// Does what the words ask of the verifier, with the folder's files, and writes the answer to `out`.
 ///
-/// Want of memory may come in place of any answer but `Usage`. The terms of a binary's bodies are numbered with the
+/// Out of memory may come in place of any answer but `Usage`. The terms of a binary's bodies are numbered with the
 /// seed, on which no answer depends.
 pub fn run<F: Folder, O: Sink>(
     alloc: Global,

@@ -16,7 +16,7 @@ use Rattle.mz_unify_theory.specs.Steps.{◌>>=◌, ◌>>◌, need, at_place, ove
 use Rattle.mz_unify_theory.specs.Profile.{strict}
 use Rattle.mz_unify_theory.specs.UnifyMachine.{is_empty}
 use Rattle.mz_machine_theory.specs.MachineState.{RowsBefore, State, is_theorem, Heading}
-use Rattle.mz_machine_theory.specs.ProofMachine.{proof_row, built, proof_end}
+use Rattle.mz_machine_theory.specs.ProofMachine.{proof_step, built, proof_end}
 use Rattle.mz_machine_theory.specs.Bodies.{BodyCommand, ends, proves, if_allowed, body_command, body_turn_by, body_turn, body_from}
 use Rattle.mz_trace.specs.Commands.{Stage, IsRead, IsMade, state_of, trace_of, Goes, Leads, size_of}
 use Rattle.mz_trace.specs.Sharing.{nodes_by, nodes_for, nodes_from}
@@ -40,9 +40,9 @@ module _ (tables : RowsBefore) (h : Heading) (at : ℕ) (st end : State Tree) wh
 
   -- or a command that leads on
   abbrev pub GoesOn : Cmd → ℕ → List ℕ → Type 0
-  GoesOn c n bytes = (pc : ProofCode) × (value m : ℕ) × (st' : State Tree) × (body_command strict h.kind c.code c.value ≡ Some (proves pc value)) × (proof_row strict tables at pc value st ≡ Ok st')
+  GoesOn c n bytes = (pc : ProofCode) × (value m : ℕ) × (st' : State Tree) × (body_command strict h.kind c.code c.value ≡ Some (proves pc value)) × (proof_step strict tables at pc value st ≡ Ok st')
       × (body_from strict tables h m (at + c.len) (drop c.len bytes) st' ≡ Ok end)
-      × ((tr tr' : Trace) → proof_row strict tables 0 pc value st ≡ Ok st' → traced tables pc value st tr ≡ Ok tr' → trace_from tables h n bytes (st, tr) ≡ trace_from tables h m (drop c.len bytes) (st', tr'))
+      × ((tr tr' : Trace) → proof_step strict tables 0 pc value st ≡ Ok st' → traced tables pc value st tr ≡ Ok tr' → trace_from tables h n bytes (st, tr) ≡ trace_from tables h m (drop c.len bytes) (st', tr'))
       × (nodes_from n bytes ≡ nodes_by (proof_code c.code) + nodes_from m (drop c.len bytes))
 
   by-command : (c : Cmd) (n : ℕ) (bytes : List ℕ) (o : Option BodyCommand) → first_command bytes ≡ Ok c → body_command strict h.kind c.code c.value ≡ o
@@ -58,9 +58,9 @@ module _ (tables : RowsBefore) (h : Heading) (at : ℕ) (st end : State Tree) wh
       go false r done run = absurd cc
       go true (Err f) done run = absurd cc
       go true (Ok s) done run = let same : s ≡ end = cc in inl (is, done ∙ ap (λ z. finished z) same, λ tr. rw (read, is) refl)
-  by-command c n bytes (Some (proves pc value)) read is run = go (proof_row strict tables at pc value st) refl run
+  by-command c n bytes (Some (proves pc value)) read is run = go (proof_step strict tables at pc value st) refl run
     where
-      go : (r : Result (State Tree) K) → proof_row strict tables at pc value st ≡ r
+      go : (r : Result (State Tree) K) → proof_step strict tables at pc value st ≡ r
           → follow (at_place at (r >>= λ s. Ok (goes_on c.len s))) (λ len s. body_from strict tables h n (at + len) (drop len bytes) s) ≡ Ok end
           → EndsHere c (suc n) bytes ⊎ GoesOn c (suc n) bytes
       go (Err f) row run = absurd cc
@@ -78,8 +78,8 @@ module _ (tables : RowsBefore) (h : Heading) (at : ℕ) (st end : State Tree) wh
       go (Ok c) read run = (c, read, by-command c n bytes (body_command strict h.kind c.code c.value) read refl run)
 
 -- the place of a command is of no account
-pub any-place : (tables : RowsBefore) (at : ℕ) (c : ProofCode) (n : ℕ) (st : State Tree) → proof_row strict tables at c n st ≡ proof_row strict tables 0 c n st
-unfolding proof_row built
+pub any-place : (tables : RowsBefore) (at : ℕ) (c : ProofCode) (n : ℕ) (st : State Tree) → proof_step strict tables at c n st ≡ proof_step strict tables 0 c n st
+unfolding proof_step built
 any-place tables at code.Term n st = refl
 any-place tables at code.TermSave n st = refl
 any-place tables at code.Ref n st = refl
@@ -149,9 +149,9 @@ read-same x y e = cc
 
 -- the row of this command, and what is left behind it
 abbrev pub GoesOnBy : RowsBefore → Heading → ℕ → State Tree → State Tree → Cmd → ℕ → List ℕ → ProofCode → Type 0
-GoesOnBy tables h at st end c n bytes pc = (m : ℕ) × (st' : State Tree) × (proof_row strict tables 0 pc c.value st ≡ Ok st')
+GoesOnBy tables h at st end c n bytes pc = (m : ℕ) × (st' : State Tree) × (proof_step strict tables 0 pc c.value st ≡ Ok st')
     × (body_from strict tables h m (at + c.len) (drop c.len bytes) st' ≡ Ok end)
-    × ((tr tr' : Trace) → proof_row strict tables 0 pc c.value st ≡ Ok st' → traced tables pc c.value st tr ≡ Ok tr' → trace_from tables h n bytes (st, tr) ≡ trace_from tables h m (drop c.len bytes) (st', tr'))
+    × ((tr tr' : Trace) → proof_step strict tables 0 pc c.value st ≡ Ok st' → traced tables pc c.value st tr ≡ Ok tr' → trace_from tables h n bytes (st, tr) ≡ trace_from tables h m (drop c.len bytes) (st', tr'))
     × (nodes_from n bytes ≡ nodes_for pc + nodes_from m (drop c.len bytes))
 
 -- ---- a body that is underway
@@ -189,17 +189,17 @@ module _ (file bytes : List ℕ) (s0 : Stage) where
           coded : body_command strict h.kind c.code c.value ≡ Some (proves pc c.value)
           coded = ap (λ z. body_command strict z c.code c.value) kind ∙ a-proof c.code c.value pc has
 
-          by-same : (pc1 : ProofCode) (value : ℕ) → pc1 ≡ pc → value ≡ c.value → (n1 : ℕ) (st' : State Tree) → proof_row strict tables p pc1 value here ≡ Ok st'
+          by-same : (pc1 : ProofCode) (value : ℕ) → pc1 ≡ pc → value ≡ c.value → (n1 : ℕ) (st' : State Tree) → proof_step strict tables p pc1 value here ≡ Ok st'
               → body_from strict tables h n1 (p + c.len) (drop c.len (drop at bytes)) st' ≡ Ok end
-              → ((tr tr' : Trace) → proof_row strict tables 0 pc1 value here ≡ Ok st' → traced tables pc1 value here tr ≡ Ok tr' → trace_from tables h m (drop at bytes) (here, tr) ≡ trace_from tables h n1 (drop c.len (drop at bytes)) (st', tr'))
+              → ((tr tr' : Trace) → proof_step strict tables 0 pc1 value here ≡ Ok st' → traced tables pc1 value here tr ≡ Ok tr' → trace_from tables h m (drop at bytes) (here, tr) ≡ trace_from tables h n1 (drop c.len (drop at bytes)) (st', tr'))
               → nodes_from m (drop at bytes) ≡ nodes_by (proof_code c.code) + nodes_from n1 (drop c.len (drop at bytes))
               → GoesOnBy tables h p here end c m (drop at bytes) pc
           by-same pc1 value pc-is value-is n1 st' row run1 same count = (
             n1,
             st',
-            sym (any-place tables p pc c.value here) ∙ subst (λ z. proof_row strict tables p z c.value here ≡ Ok st') pc-is (subst (λ z. proof_row strict tables p pc1 z here ≡ Ok st') value-is row),
+            sym (any-place tables p pc c.value here) ∙ subst (λ z. proof_step strict tables p z c.value here ≡ Ok st') pc-is (subst (λ z. proof_step strict tables p pc1 z here ≡ Ok st') value-is row),
             run1,
-            λ tr tr' row0 made. same tr tr' (subst (λ z. proof_row strict tables 0 z value here ≡ Ok st') (sym pc-is) (subst (λ z. proof_row strict tables 0 pc z here ≡ Ok st') (sym value-is) row0))
+            λ tr tr' row0 made. same tr tr' (subst (λ z. proof_step strict tables 0 z value here ≡ Ok st') (sym pc-is) (subst (λ z. proof_step strict tables 0 pc z here ≡ Ok st') (sym value-is) row0))
                 (subst (λ z. traced tables z value here tr ≡ Ok tr') (sym pc-is) (subst (λ z. traced tables pc z here tr ≡ Ok tr') (sym value-is) made)),
             subst (λ (o : Option ProofCode). nodes_from m (drop at bytes) ≡ nodes_by o + nodes_from n1 (drop c.len (drop at bytes))) has count,
           )

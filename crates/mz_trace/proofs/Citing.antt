@@ -19,7 +19,7 @@ use Rattle.mz_unify_theory.specs.UnifyMachine.{Matching, UnifyState, unify}
 use Rattle.mz_unify_theory.proofs.Offered.{from_bind, from_then, from_need, from_want, rule_of-ok, taken, taken-is, some_is}
 use Rattle.mz_machine_theory.specs.MachineState.{RowsBefore, State, signatures_in}
 use Rattle.mz_machine_theory.specs.Premises.{pop_expr, pop_operands, pop_exprs, operands_fit, are_apart}
-use Rattle.mz_machine_theory.specs.ProofMachine.{proof_row, citation, matched_by, cited}
+use Rattle.mz_machine_theory.specs.ProofMachine.{proof_step, citation, matched_by, cited}
 use Rattle.mz_machine_theory.specs.FileRows.{thm_of_file}
 use Rattle.mz_machine_env.specs.Before.{Before}
 use Rattle.mz_machine_env.proofs.Offered.{thm-before, binders_many}
@@ -179,11 +179,11 @@ module _ (file : List ℕ) (t : ℕ) (s : Stage) where
       )
 
   pub may-thm : Goes (IsRead file) code.Thm t s → MayCite file t s
-  unfolding proof_row
+  unfolding proof_step
   may-thm (tables, params, st, q, made, row) = from_bind (cited strict tables t (state_of params s)) _ st row λ r making e1. may-cite tables params q.0 made r making
 
   pub may-thm_save : Goes (IsRead file) code.ThmSave t s → MayCite file t s
-  unfolding proof_row
+  unfolding proof_step
   may-thm_save (tables, params, st, q, made, row) = from_bind (cited strict tables t (state_of params s)) _ st row λ r making e1. may-cite tables params q.0 made r making
 
 same-onto : (ns ms : List ℕ) (xs ys : List Entry) → exprs_onto ns xs ≡ exprs_onto ms ys → length ns ≡ length ms → xs ≡ ys
@@ -394,7 +394,7 @@ module _ (file : List ℕ) (t : ℕ) (s s' : Stage) (claim made-at : ℕ) (c : I
   fewer = omega (arith, one-node s.nodes c.node, ap unmade c.taken, unmade-exprs (reverse c.operands) (proofs_onto c.proofs s'.stack), unmade-proofs c.proofs s'.stack)
 
   pub thm-leads : Leads (IsRead file) code.Thm t s cites
-  unfolding proof_row traced
+  unfolding proof_step traced
   thm-leads tables params st q made row =
       from_bind (cited strict tables t (state_of params s)) _ st row λ r making e1.
       let (r-is, beside, claims) = gives-both tables params q made r making in
@@ -409,7 +409,7 @@ module _ (file : List ℕ) (t : ℕ) (s s' : Stage) (claim made-at : ℕ) (c : I
       )
 
   pub thm_save-leads : Leads (IsRead file) code.ThmSave t s names
-  unfolding proof_row traced
+  unfolding proof_step traced
   thm_save-leads tables params st q made row =
       from_bind (cited strict tables t (state_of params s)) _ st row λ r making e1.
       let (r-is, beside, claims) = gives-both tables params q made r making in

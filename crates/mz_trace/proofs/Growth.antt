@@ -17,7 +17,7 @@ use Rattle.mz_unify_theory.specs.Steps.{◌>>=◌, want}
 use Rattle.mz_unify_theory.proofs.Offered.{from_bind, from_then, from_need, from_want, taken-is, some_is}
 use Rattle.mz_machine_theory.specs.MachineState.{RowsBefore, State, signatures_in}
 use Rattle.mz_machine_theory.specs.Premises.{pop_operands, pop_exprs, operands_fit}
-use Rattle.mz_machine_theory.specs.ProofMachine.{proof_row, built}
+use Rattle.mz_machine_theory.specs.ProofMachine.{proof_step, built}
 use Rattle.mz_machine_theory.specs.FileRows.{term_of_file}
 use Rattle.mz_machine_env.specs.Before.{Before}
 use Rattle.mz_machine_env.proofs.Offered.{term-before, binders_many}
@@ -197,7 +197,7 @@ module _ (file : List ℕ) (t : ℕ) (s s' : Stage) (made-at : ℕ) (b : IsBuilt
   few = omega (arith, one-node s.nodes b.node, ap unmade b.taken, unmade-exprs (reverse b.operands) s'.stack)
 
   pub term-leads : Leads (IsRead file) code.Term t s whole
-  unfolding proof_row traced
+  unfolding proof_step traced
   term-leads tables params st q made row =
       from_bind (built strict tables 0 t (state_of params s)) _ st row λ r making e1.
       built-row tables params q.0 made r making λ row1 at r-is.
@@ -214,7 +214,7 @@ module _ (file : List ℕ) (t : ℕ) (s s' : Stage) (made-at : ℕ) (b : IsBuilt
   whole_saved = record whole { heap = s.heap ++ Expr new ∷ [] }
 
   pub term_save-leads : Leads (IsRead file) code.TermSave t s whole_saved
-  unfolding proof_row traced
+  unfolding proof_step traced
   term_save-leads tables params st q made row =
       from_bind (built strict tables 0 t (state_of params s)) _ st row λ r making e1.
       built-row tables params q.0 made r making λ row1 at r-is.
@@ -250,9 +250,9 @@ module _ (file : List ℕ) (t : ℕ) (s s' : Stage) (made-at : ℕ) (b : IsBuilt
 
 module _ (file : List ℕ) (t : ℕ) (s : Stage) where
   pub may-term : Goes (IsRead file) code.Term t s → MayBuild file t s
-  unfolding proof_row
+  unfolding proof_step
   may-term (tables, params, st, q, made, row) = from_bind (built strict tables 0 t (state_of params s)) _ st row λ r making e1. may-build file t s (tables, params, q.0, made, (r, making))
 
   pub may-term_save : Goes (IsRead file) code.TermSave t s → MayBuild file t s
-  unfolding proof_row
+  unfolding proof_step
   may-term_save (tables, params, st, q, made, row) = from_bind (built strict tables 0 t (state_of params s)) _ st row λ r making e1. may-build file t s (tables, params, q.0, made, (r, making))

@@ -15,7 +15,7 @@ use Rattle.mz_unify_theory.specs.Tests.{same_tree}
 use Rattle.mz_unify_theory.proofs.Offered.{from_bind, from_need, from_want, taken-is}
 use Rattle.mz_machine_theory.specs.MachineState.{RowsBefore}
 use Rattle.mz_machine_theory.specs.Premises.{pop, pop_obligation, may_be_dummy_sort, bound_count, is_obligation}
-use Rattle.mz_machine_theory.specs.ProofMachine.{proof_row, has_provable_sort, referred}
+use Rattle.mz_machine_theory.specs.ProofMachine.{proof_step, has_provable_sort, referred}
 use Rattle.mz_trace_theory.specs.Parts.{expression, proved, paid}
 use Rattle.mz_trace_theory.specs.Traces.{stacked, kept, named, traced, referred as referred-part}
 use Rattle.mz_trace_theory.proofs.Offered.{to_want}
@@ -52,7 +52,7 @@ module _ (n : ℕ) (s : Stage) where
   longer params = ap (λ bs. params ++ bs) (map-append dummy_of s.dummies (n ∷ [])) ∙ sym (append_assoc params (map dummy_of s.dummies) (dummy_of n ∷ []))
 
   pub dummy-leads : Leads IsAny code.Dummy n s dummied
-  unfolding proof_row traced
+  unfolding proof_step traced
   dummy-leads tables params st q made row =
       let v = node.Var s.variables in
       let new = length s.nodes in
@@ -92,7 +92,7 @@ module _ (n : ℕ) (s : Stage) (xs : List Entry) (e : ℕ) where
   assumed = record s { nodes = s.nodes ++ node.Hyp (length s.hyps) ∷ []; heap = s.heap ++ ProofItem e (length s.nodes) ∷ []; stack = xs; hyps = s.hyps ++ e ∷ [] }
 
   pub hyp-leads : Leads IsAny code.Hyp n (with_stack s (Held (Expr e) ∷ xs)) assumed
-  unfolding proof_row traced
+  unfolding proof_step traced
   hyp-leads tables params st q made row =
       let v = node.Hyp (length s.hyps) in
       let vs = values_in s in
@@ -172,7 +172,7 @@ module _ (tables : RowsBefore) (params : List Binder) (s : Stage) (e p : ℕ) (m
 
 module _ (n : ℕ) (s : Stage) (xs : List Entry) where
   pub save_proof-leads : (e p : ℕ) → Leads IsAny code.Save n (with_stack s (Held (ProofItem e p) ∷ xs)) (with_name (with_stack s xs) e p)
-  unfolding proof_row traced
+  unfolding proof_step traced
   save_proof-leads e p tables params st q made row =
       let t = with_stack s xs in
       let below : IsMade tables params t = (held-of tables params s (Held (ProofItem e p) ∷ xs) xs made.0, made.1.1) in
@@ -198,7 +198,7 @@ module _ (n : ℕ) (s : Stage) (xs : List Entry) where
   saved-trace x = ap (λ h. record (trace_of (with_stack s (Held x ∷ xs))) { heap = h }) (sym (map-append (part_at (values_in s)) s.heap (x ∷ [])))
 
   pub save_expr-leads : (e : ℕ) → Leads IsAny code.Save n (with_stack s (Held (Expr e) ∷ xs)) (saved_item (Expr e))
-  unfolding proof_row traced
+  unfolding proof_step traced
   save_expr-leads e tables params st q made row = (
     (saved-held tables params (Expr e) made.0 made.1.0, made.1),
     sym (taken-is (record (state_of params (with_stack s (Held (Expr e) ∷ xs))) { heap = map (item_at (values_in s)) s.heap ++ item_at (values_in s) (Expr e) ∷ [] }) st row) ∙ saved-state params (Expr e),
@@ -207,7 +207,7 @@ module _ (n : ℕ) (s : Stage) (xs : List Entry) where
   )
 
   pub save_conversion-leads : (l r c : ℕ) → Leads IsAny code.Save n (with_stack s (Held (ConversionItem l r c) ∷ xs)) (saved_item (ConversionItem l r c))
-  unfolding proof_row traced
+  unfolding proof_step traced
   save_conversion-leads l r c tables params st q made row = (
     (saved-held tables params (ConversionItem l r c) made.0 made.1.0, made.1),
     sym (taken-is (record (state_of params (with_stack s (Held (ConversionItem l r c) ∷ xs))) { heap = map (item_at (values_in s)) s.heap ++ item_at (values_in s) (ConversionItem l r c) ∷ [] }) st row)
@@ -229,7 +229,7 @@ module _ (tables : RowsBefore) (vs : List Value) where
   held-top (ForCut a b ∷ xs) r h e other = absurd h
 
 pub save-has : (Q : Known) (n : ℕ) (s : Stage) → Goes Q code.Save n s → HasHeld s.stack
-unfolding proof_row
+unfolding proof_step
 save-has Q n s (tables, params, st, q, made, row) =
     from_bind (pop (items_at (values_in s) s.stack)) _ st row λ x popping e1.
     from_need (not (is_obligation x.0)) k.SaveKind _ st e1 λ other e2.
@@ -249,14 +249,14 @@ item-in vs (y ∷ xs) (suc i) x h at = item-in vs xs i x h.1 at
 
 module _ (n : ℕ) (s : Stage) where
   pub ref-has : (Q : Known) → Goes Q code.Ref n s → (x : Item) × (slice_get s.heap n ≡ Some x)
-  unfolding proof_row
+  unfolding proof_step
   ref-has Q (tables, params, st, q, made, row) =
       from_want (slice_get (map (item_at (values_in s)) s.heap) n) k.HeapIndex _ st row λ y at e1.
       let (x, is, of) = at-map (item_at (values_in s)) s.heap n y at in (x, is)
 
   module _ (x : Item) (at : slice_get s.heap n ≡ Some x) where
-    item-row : (tables : RowsBefore) (params : List Binder) → proof_row strict tables 0 code.Ref n (state_of params s) ≡ referred strict (item_at (values_in s) x) (state_of params s)
-    unfolding proof_row
+    item-row : (tables : RowsBefore) (params : List Binder) → proof_step strict tables 0 code.Ref n (state_of params s) ≡ referred strict (item_at (values_in s) x) (state_of params s)
+    unfolding proof_step
     item-row tables params = to_want (slice_get (map (item_at (values_in s)) s.heap) n) k.HeapIndex _ (item_at (values_in s) x) (slice_get-map_at (item_at (values_in s)) s.heap n x at)
 
     part-row : (tables : RowsBefore) (params : List Binder) → traced tables code.Ref n (state_of params s) (trace_of s) ≡ taken-trace (referred-part (part_at (values_in s) x) (trace_of s))

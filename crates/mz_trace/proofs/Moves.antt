@@ -12,7 +12,7 @@ use Rattle.mz_unify_theory.specs.Profile.{strict}
 use Rattle.mz_unify_theory.specs.Tests.{same_tree}
 use Rattle.mz_unify_theory.proofs.Offered.{from_need, taken-is}
 use Rattle.mz_machine_theory.specs.MachineState.{RowsBefore, State}
-use Rattle.mz_machine_theory.specs.ProofMachine.{proof_row}
+use Rattle.mz_machine_theory.specs.ProofMachine.{proof_step}
 use Rattle.mz_trace_theory.specs.Parts.{paid}
 use Rattle.mz_trace_theory.specs.Traces.{Trace, stacked, traced}
 use Rattle.mz_trace.specs.Nodes.{Value, a_conversion, expression_at, conversion_at, value_of, HasParts, IsConversion}
@@ -36,7 +36,7 @@ leads-to Q c n s b s' t h h' go = subst (λ z. Leads Q c n (with_stack s z) s') 
 
 module _ (n : ℕ) (s : Stage) (xs : List Entry) where
   pub conv-leads : (e p f : ℕ) → Leads IsAny code.Conv n (with_stack s (Held (Proof e p) ∷ Held (Expr f) ∷ xs)) (with_stack s (Owed f e ∷ ForProof f p ∷ xs))
-  unfolding proof_row traced
+  unfolding proof_step traced
   conv-leads e p f tables params st q made row =
       let (ep, (hf, below)) = made.1 in (
         (held-of tables params s _ (Owed f e ∷ ForProof f p ∷ xs) made.0, (hf, ep.0, (hf, ep.1, below))),
@@ -46,7 +46,7 @@ module _ (n : ℕ) (s : Stage) (xs : List Entry) where
       )
 
   pub symm-leads : (l r : ℕ) → Leads IsAny code.Symm n (with_stack s (Owed l r ∷ xs)) (with_stack s (Owed r l ∷ ForTurned ∷ xs))
-  unfolding proof_row traced
+  unfolding proof_step traced
   symm-leads l r tables params st q made row = (
     (held-of tables params s _ (Owed r l ∷ ForTurned ∷ xs) made.0, (made.1.1, made.1.0, made.1.2)),
     sym (taken-is (state_of params (with_stack s (Owed r l ∷ ForTurned ∷ xs))) st row),
@@ -55,7 +55,7 @@ module _ (n : ℕ) (s : Stage) (xs : List Entry) where
   )
 
   pub conv_cut-leads : (l r : ℕ) → Leads IsAny code.ConvCut n (with_stack s (Owed l r ∷ xs)) (with_stack s (Owed l r ∷ ForCut l r ∷ xs))
-  unfolding proof_row traced
+  unfolding proof_step traced
   conv_cut-leads l r tables params st q made row = (
     (held-of tables params s _ (Owed l r ∷ ForCut l r ∷ xs) made.0, (made.1.0, made.1.1, (made.1.0, made.1.1, made.1.2))),
     sym (taken-is (state_of params (with_stack s (Owed l r ∷ ForCut l r ∷ xs))) st row),
@@ -74,7 +74,7 @@ items-both vs (x ∷ xs) ys h h' = (h.0, items-both vs xs ys h.1 h')
 
 -- the command takes what is owed, and leaves a conversion that pays
 pub paying : (c : ProofCode) (n : ℕ) (s t : Stage) (k : ℕ) (s' : Stage) → Pays t k s'
-    → ((tables : RowsBefore) (params : List Binder) (st : State Tree) → IsMade tables params s → proof_row strict tables 0 c n (state_of params s) ≡ Ok st
+    → ((tables : RowsBefore) (params : List Binder) (st : State Tree) → IsMade tables params s → proof_step strict tables 0 c n (state_of params s) ≡ Ok st
     → IsMadeBelow tables params t × IsConversion (values_in t) k × (st ≡ state_of params t)
     × (traced tables c n (state_of params s) (trace_of s) ≡ taken-trace (stacked (trace_of t) (paid (conversion_at (values_in t) k) (trace_of t).stack)))
     × (size_of t ≤ size_of s + nodes_for c))
@@ -108,7 +108,7 @@ module _ (n : ℕ) (s : Stage) (xs : List Entry) (l r : ℕ) where
       (tables, params, below, is)
 
   pub refl-leads : (s' : Stage) → Pays reflected (length s.nodes) s' → Leads IsAny code.Refl n (with_stack s (Owed l r ∷ xs)) s'
-  unfolding proof_row traced
+  unfolding proof_step traced
   refl-leads s' pays = paying code.Refl n (with_stack s (Owed l r ∷ xs)) reflected (length s.nodes) s' pays λ tables params st made row.
       let (below, is, state, trace) = with-conversion tables params (with_stack s xs) (node.Refl l) (refl_conv (expression_at (values_in s) l)) (held-of tables params s (Owed l r ∷ xs) xs made.0) made.1.0 made.1.2 refl in
       from_need (same_tree (expression_at (values_in s) l) (expression_at (values_in s) r)) k.Refl _ st row λ same e.
@@ -134,7 +134,7 @@ module _ (n : ℕ) (s : Stage) (xs : List Entry) (l r c : ℕ) where
   conv_save-may (tables, params, st, q, made, row) = (tables, params, saving-below tables params made, made.1.0.2)
 
   pub conv_save-leads : (s' : Stage) → Pays saving c s' → Leads IsAny code.ConvSave n (with_stack s (Held (ConversionItem l r c) ∷ xs)) s'
-  unfolding proof_row traced
+  unfolding proof_step traced
   conv_save-leads s' pays = paying code.ConvSave n (with_stack s (Held (ConversionItem l r c) ∷ xs)) saving c s' pays λ tables params st made row.
       let vs = values_in s in (
         saving-below tables params made,

@@ -14,7 +14,7 @@ use Rattle.mz_unify_theory.specs.Profile.{strict, tree_parts}
 use Rattle.mz_unify_theory.specs.Spells.{trees_of}
 use Rattle.mz_unify_theory.specs.Streams.{u_term, u_term_save, u_ref, u_dummy}
 use Rattle.mz_unify_theory.specs.Tests.{same_tree, is_bound_var}
-use Rattle.mz_unify_theory.specs.UnifyMachine.{in_definition, UnifyState, top_target, operands_of, within_any, is_fresh, unify_row}
+use Rattle.mz_unify_theory.specs.UnifyMachine.{in_definition, UnifyState, top_target, operands_of, within_any, is_fresh, unify_step}
 use Rattle.mz_unify_theory.proofs.Offered.{from_bind, from_need, from_want, some_is, taken-is, top-is, apart-is, listed-trees_of}
 use Rattle.mz_machine_theory.specs.MachineState.{RowsBefore}
 use Rattle.mz_trace_theory.specs.Traces.{variable_in, variables_in}
@@ -46,22 +46,22 @@ module _ (sigs : List Signature) (ctx : List Binder) (st s : UnifyState Tree) wh
       let there : st.targets ≡ app t (trees_of fs) ∷ top.1 = top-is st.targets top first ∙ ap (λ (e : Tree). e ∷ top.1) (apart-is top.0 t fs at) in
       (fs, top.1, (there, ap (λ (z : UnifyState Tree). z.targets) (sym is) ∙ targets), ap (λ (z : UnifyState Tree). z.apart) (sym is) ∙ apart)
 
-  term-row : (t : ℕ) → unify_row strict sigs ctx in_definition (u_term t) st ≡ Ok s → Opens st s t
-  unfolding unify_row
+  term-row : (t : ℕ) → unify_step strict sigs ctx in_definition (u_term t) st ≡ Ok s → Opens st s t
+  unfolding unify_step
   term-row t e =
       from_bind (top_target st.targets) _ s e λ top first e1.
       from_want (operands_of t (tree_parts top.0)) k.UnifyTerm _ s e1 λ fs at e2.
       opened t top fs (record st { targets = fs ++ top.1 }) first at (taken-is _ s e2) refl refl
 
-  term_save-row : (t : ℕ) → unify_row strict sigs ctx in_definition (u_term_save t) st ≡ Ok s → Opens st s t
-  unfolding unify_row
+  term_save-row : (t : ℕ) → unify_step strict sigs ctx in_definition (u_term_save t) st ≡ Ok s → Opens st s t
+  unfolding unify_step
   term_save-row t e =
       from_bind (top_target st.targets) _ s e λ top first e1.
       from_want (operands_of t (tree_parts top.0)) k.UnifyTerm _ s e1 λ fs at e2.
       opened t top fs (record st { targets = fs ++ top.1; heap = st.heap ++ top.0 ∷ [] }) first at (taken-is _ s e2) refl refl
 
-  ref-row : (i : ℕ) → unify_row strict sigs ctx in_definition (u_ref i) st ≡ Ok s → Refers st s
-  unfolding unify_row
+  ref-row : (i : ℕ) → unify_step strict sigs ctx in_definition (u_ref i) st ≡ Ok s → Refers st s
+  unfolding unify_step
   ref-row i e =
       from_bind (top_target st.targets) _ s e λ top first e1.
       from_want (slice_get st.heap i) k.UnifyReference _ s e1 λ x _ e2.
@@ -69,8 +69,8 @@ module _ (sigs : List Signature) (ctx : List Binder) (st s : UnifyState Tree) wh
       let is : record st { targets = top.1 } ≡ s = taken-is _ s e3 in
       (top.0, top.1, (top-is st.targets top first, ap (λ (z : UnifyState Tree). z.targets) (sym is)), ap (λ (z : UnifyState Tree). z.apart) (sym is))
 
-  dummy-row : (d : ℕ) → unify_row strict sigs ctx in_definition (u_dummy d) st ≡ Ok s → MeetsVariable st s
-  unfolding unify_row
+  dummy-row : (d : ℕ) → unify_step strict sigs ctx in_definition (u_dummy d) st ≡ Ok s → MeetsVariable st s
+  unfolding unify_step
   dummy-row d e =
       from_bind (top_target st.targets) _ s e λ top first e1.
       from_need (is_fresh strict sigs ctx d top.0 st.apart) k.UnifyDummy _ s e1 λ fresh e2.

@@ -14,7 +14,7 @@ use Rattle.mz_logic_theory.specs.declared.binder.Binder.{Binder}
 use Rattle.mz_unify_theory.specs.Streams.{of_assertion, UnifyCommand, u_term, u_term_save, u_ref, u_hyp, command_in}
 use Rattle.mz_unify_theory.specs.Profile.{strict, tree_parts}
 use Rattle.mz_unify_theory.specs.Tests.{same_tree}
-use Rattle.mz_unify_theory.specs.UnifyMachine.{in_citation, Matching, UnifyState, at_start, top_target, is_empty, next_hypothesis, operands_of, unify_row, unify}
+use Rattle.mz_unify_theory.specs.UnifyMachine.{in_citation, Matching, UnifyState, at_start, top_target, is_empty, next_hypothesis, operands_of, unify_step, unify}
 use Rattle.mz_unify_theory.proofs.Offered.{from_bind, from_need, from_want, taken-is, hypothesis-is}
 use Rattle.mz_trace.specs.Commands.{RunsInCitation, TakesHyps}
 use Rattle.mz_trace.specs.Streams.{hyps_of}
@@ -29,8 +29,8 @@ module _ (sigs : List Signature) (ctx : List Binder) (st s : UnifyState Tree) wh
   same-items : (r : UnifyState Tree) → r ≡ s → r.items ≡ st.items → Took 0 s
   same-items r is items = subst (Took 0) is (omega (arith, ap length items))
 
-  took : (value : ℕ) (code : UnifyCode) (v : UnifyCommand) → command_in of_assertion value (Some code) ≡ Some v → unify_row strict sigs ctx in_citation v st ≡ Ok s → Took (hyps_of code) s
-  unfolding unify_row
+  took : (value : ℕ) (code : UnifyCode) (v : UnifyCommand) → command_in of_assertion value (Some code) ≡ Some v → unify_step strict sigs ctx in_citation v st ≡ Ok s → Took (hyps_of code) s
+  unfolding unify_step
   took value Term v is e =
       let same : u_term value ≡ v = cc in
       from_bind (top_target st.targets) _ s (rw (sym same) at e) λ top _ e1.

@@ -16,7 +16,7 @@ use Rattle.mz_logic_theory.specs.Signature.{Signature}
 use Rattle.mz_logic_theory.specs.declared.binder.Binder.{Binder}
 use Rattle.mz_unify_theory.specs.Streams.{StreamKind, of_assertion, of_definition, UnifyCommand, u_term, u_term_save, u_ref, u_dummy, u_hyp, u_end, IsEnd, command_in, unify_command}
 use Rattle.mz_unify_theory.specs.Profile.{strict}
-use Rattle.mz_unify_theory.specs.UnifyMachine.{UnifyMode, kind_of, is_empty, nothing_left, UnifyState, unify_row}
+use Rattle.mz_unify_theory.specs.UnifyMachine.{UnifyMode, kind_of, is_empty, nothing_left, UnifyState, unify_step}
 use Rattle.mz_unify_theory.proofs.Offered.{from_need, taken-is}
 use Rattle.mz_unify.proofs.Offered.{run_left, cut-run, other-run, stopped-run, ended-run, went-run}
 
@@ -61,32 +61,32 @@ module _ (sigs : List Signature) (ctx : List Binder) (mode : UnifyMode) where
   pub is-read : (at : ℕ) (bytes : List ℕ) (st u : UnifyState Tree) (f : CmdFault) → first_command bytes ≡ Err f → Left at bytes st u → ⊥
   is-read at bytes st u f read ran = let no = sym (cut-run strict sigs ctx mode at bytes st f read) ∙ ran in cc
 
-  end-row : (st s : UnifyState Tree) → unify_row strict sigs ctx mode u_end st ≡ Ok s → st ≡ s
-  unfolding unify_row
+  end-row : (st s : UnifyState Tree) → unify_step strict sigs ctx mode u_end st ≡ Ok s → st ≡ s
+  unfolding unify_step
   end-row st s e = from_need (is_empty st.targets && nothing_left mode st.items) k.UnifyRest _ s e λ _ e1. taken-is st s e1
 
   module _ (at : ℕ) (bytes : List ℕ) (st u : UnifyState Tree) (c : Cmd) (read : first_command bytes ≡ Ok c) (ran : Left at bytes st u) where
     abbrev Goes : Type 0
-    Goes = (v : UnifyCommand) × (s : UnifyState Tree) × (unify_command (kind_of mode) c.code c.value ≡ Some v) × (unify_row strict sigs ctx mode v st ≡ Ok s)
+    Goes = (v : UnifyCommand) × (s : UnifyState Tree) × (unify_command (kind_of mode) c.code c.value ≡ Some v) × (unify_step strict sigs ctx mode v st ≡ Ok s)
 
     -- whose row goes through
     goes : Goes
     goes = by-command (unify_command (kind_of mode) c.code c.value) refl
       where
-        by-row : (v : UnifyCommand) → unify_command (kind_of mode) c.code c.value ≡ Some v → (r : Result (UnifyState Tree) K) → unify_row strict sigs ctx mode v st ≡ r → Goes
+        by-row : (v : UnifyCommand) → unify_command (kind_of mode) c.code c.value ≡ Some v → (r : Result (UnifyState Tree) K) → unify_step strict sigs ctx mode v st ≡ r → Goes
         by-row v is (Ok s) row = (v, s, is, row)
         by-row v is (Err rule) row = absurd (let no = sym (stopped-run strict sigs ctx mode bytes st c read v is at rule row) ∙ ran in cc)
 
         by-command : (o : Option UnifyCommand) → unify_command (kind_of mode) c.code c.value ≡ o → Goes
         by-command None is = absurd (let no = sym (other-run strict sigs ctx mode bytes st c read at is) ∙ ran in cc)
-        by-command (Some v) is = by-row v is (unify_row strict sigs ctx mode v st) refl
+        by-command (Some v) is = by-row v is (unify_step strict sigs ctx mode v st) refl
 
     -- with no code it is the END, where the state is the last one
     pub ends : unify_code c.code ≡ None → st ≡ u
     ends none =
         let (v, s, is, row) = goes in
         let end : v ≡ u_end = no-code c.code c.value (kind_of mode) v none is in
-        let last : unify_row strict sigs ctx mode u_end st ≡ Ok s = subst (λ w. unify_row strict sigs ctx mode w st ≡ Ok s) end row in
+        let last : unify_step strict sigs ctx mode u_end st ≡ Ok s = subst (λ w. unify_step strict sigs ctx mode w st ≡ Ok s) end row in
         let over : unify_command (kind_of mode) c.code c.value ≡ Some u_end = is ∙ ap (λ w. Some w) end in
         let whole : Ok s ≡ Ok u = sym (ended-run strict sigs ctx mode bytes st c read u_end over at s tt last) ∙ ran in
         let same : s ≡ u = cc in
@@ -95,7 +95,7 @@ module _ (sigs : List Signature) (ctx : List Binder) (mode : UnifyMode) where
     -- else it leads to a state from which the rest runs
     abbrev pub Went : UnifyCode → Type 0
     Went code = (v : UnifyCommand) × (s : UnifyState Tree) × (command_in (kind_of mode) c.value (Some code) ≡ Some v)
-        × (unify_row strict sigs ctx mode v st ≡ Ok s) × Left (at + c.len) (drop c.len bytes) s u
+        × (unify_step strict sigs ctx mode v st ≡ Ok s) × Left (at + c.len) (drop c.len bytes) s u
 
     pub goes-on : (code : UnifyCode) → unify_code c.code ≡ Some code → Went code
     goes-on code is-code =
@@ -107,7 +107,7 @@ module _ (sigs : List Signature) (ctx : List Binder) (mode : UnifyMode) where
   pub goes-on-at : (at : ℕ) (stream : List ℕ) (st u : UnifyState Tree) (c : Cmd) (read : first_command (drop at stream) ≡ Ok c)
       → Left at (drop at stream) st u → (code : UnifyCode) → unify_code c.code ≡ Some code
       → (v : UnifyCommand) × (s : UnifyState Tree) × (command_in (kind_of mode) c.value (Some code) ≡ Some v)
-      × (unify_row strict sigs ctx mode v st ≡ Ok s) × Left (at + c.len) (drop (at + c.len) stream) s u
+      × (unify_step strict sigs ctx mode v st ≡ Ok s) × Left (at + c.len) (drop (at + c.len) stream) s u
   goes-on-at at stream st u c read ran code is-code =
       let (v, s, is, row, on) = goes-on at (drop at stream) st u c read ran code is-code in
       (v, s, is, row, subst (λ bytes. Left (at + c.len) bytes s u) (drop-drop c.len at stream) on)

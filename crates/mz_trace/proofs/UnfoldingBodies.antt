@@ -19,7 +19,7 @@ use Rattle.mz_unify_theory.specs.UnifyMachine.{Matching, UnifyState, unify}
 use Rattle.mz_unify_theory.proofs.Offered.{from_bind, from_need, from_want, taken-is, rule_of-ok, trees_of-listed}
 use Rattle.mz_machine_theory.specs.MachineState.{RowsBefore, State, signatures_in}
 use Rattle.mz_machine_theory.specs.Premises.{pop_expr, pop_sides}
-use Rattle.mz_machine_theory.specs.ProofMachine.{proof_row, unfolding_of, matched_by, stream_of}
+use Rattle.mz_machine_theory.specs.ProofMachine.{proof_step, unfolding_of, matched_by, stream_of}
 use Rattle.mz_machine_theory.proofs.Offered.{stream-row}
 use Rattle.mz_trace_theory.specs.Parts.{owed, for_unfolded}
 use Rattle.mz_trace_theory.specs.Traces.{stacked, traced, below_sides, variables_in}
@@ -40,7 +40,7 @@ use Rattle.mz_trace.proofs.Moves.{taken-trace}
 -- ---- what stands there
 
 pub unfold-has : (Q : Known) (n : ℕ) (s : Stage) → Goes Q code.Unfold n s → (e : ℕ) × (ys : List Entry) × (s.stack ≡ Held (Expr e) ∷ ys) × HasSides ys
-unfolding proof_row unfolding_of
+unfolding proof_step unfolding_of
 unfold-has Q n s (tables, params, st, q, made, row) =
     let vs = values_in s in
     from_bind (unfolding_of strict tables (state_of params s)) _ st row λ m making e1.
@@ -141,8 +141,8 @@ module _ (n : ℕ) (s : Stage) (ys zs : List Entry) (e l r : ℕ) (took : TookSi
     pub unfolds : Unfolds tables (values_in s) e l r zs m
 
   unfold-row : (tables : RowsBefore) (params : List Binder) (st : State Tree) → IsMade tables params before
-      → proof_row strict tables 0 code.Unfold n (state_of params before) ≡ Ok st → Row tables params st
-  unfolding proof_row unfolding_of
+      → proof_step strict tables 0 code.Unfold n (state_of params before) ≡ Ok st → Row tables params st
+  unfolding proof_step unfolding_of
   unfold-row tables params st made row =
       let vs = values_in s in
       from_bind (unfolding_of strict tables (state_of params before)) _ st row λ m making e1.

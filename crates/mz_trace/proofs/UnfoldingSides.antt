@@ -15,7 +15,7 @@ use Rattle.mz_unify_theory.specs.Steps.{◌>>=◌, ◌>>◌, need}
 use Rattle.mz_unify_theory.specs.Tests.{same_tree}
 use Rattle.mz_unify_theory.proofs.Offered.{from_want, taken-is, some_is, listed-trees_of, same_tree-refl}
 use Rattle.mz_machine_theory.specs.MachineState.{RowsBefore, State}
-use Rattle.mz_machine_theory.specs.ProofMachine.{proof_row, same_term, sides}
+use Rattle.mz_machine_theory.specs.ProofMachine.{proof_step, same_term, sides}
 use Rattle.mz_trace_theory.specs.Parts.{owed, for_operand, paid, by_operands}
 use Rattle.mz_trace_theory.specs.Traces.{stacked, traced}
 use Rattle.mz_trace_theory.proofs.Offered.{to_want}
@@ -128,9 +128,9 @@ module _ (n : ℕ) (s : Stage) (xs : List Entry) (l r t : ℕ) (ps : List (ℕ �
   state-with params zs = record (state_of params s) { stack = zs }
 
   -- what the row reads
-  cong-row : (tables : RowsBefore) (params : List Binder) (st : State Tree) → IsMade tables params owing → proof_row strict tables 0 code.Cong n (state_of params owing) ≡ Ok st
+  cong-row : (tables : RowsBefore) (params : List Binder) (st : State Tree) → IsMade tables params owing → proof_step strict tables 0 code.Cong n (state_of params owing) ≡ Ok st
       → (p : List Tree × List Tree) × (state-with params (sides p.0 p.1 (items_at (values_in s) xs)) ≡ st) × (same_term (tree_parts el) (tree_parts er) ≡ Some p)
-  unfolding proof_row
+  unfolding proof_step
   cong-row tables params st made row =
       from_want (same_term (tree_parts el) (tree_parts er)) k.Cong _ st row λ p both e1.
       (p, taken-is (state-with params (sides p.0 p.1 (items_at (values_in s) xs))) st e1, both)
@@ -192,14 +192,14 @@ module _ (n : ℕ) (s : Stage) (xs : List Entry) (l r t : ℕ) (ps : List (ℕ �
             er-is ∙ ap (λ (zs : List ℕ). app t (trees_of (expressions_at vs zs))) none-right,
           )
 
-      refl-row : proof_row strict tables 0 code.Refl n (state_of params owing) ≡ taken-state (state-with params (sides p.0 p.1 (items_at (values_in s) xs)))
-      unfolding proof_row
+      refl-row : proof_step strict tables 0 code.Refl n (state_of params owing) ≡ taken-state (state-with params (sides p.0 p.1 (items_at (values_in s) xs)))
+      unfolding proof_step
       refl-row =
           need-is (same_tree el er) k.Refl _ (rw (bare.1, bare.2) (same_tree-refl (app t none)))
           ∙ ap (λ (z : List Tree × List Tree). taken-state (state-with params (sides z.0 z.1 (items_at (values_in s) xs)))) (sym bare.0)
 
-    as-refl : (tables : RowsBefore) (params : List Binder) (st : State Tree) → IsMade tables params owing → proof_row strict tables 0 code.Cong n (state_of params owing) ≡ Ok st
-        → proof_row strict tables 0 code.Refl n (state_of params owing) ≡ Ok st
+    as-refl : (tables : RowsBefore) (params : List Binder) (st : State Tree) → IsMade tables params owing → proof_step strict tables 0 code.Cong n (state_of params owing) ≡ Ok st
+        → proof_step strict tables 0 code.Refl n (state_of params owing) ≡ Ok st
     as-refl tables params st made row =
         let (p, st-is, both) = cong-row tables params st made row in
         refl-row tables params made p both ∙ ap taken-state st-is
@@ -221,7 +221,7 @@ module _ (n : ℕ) (s : Stage) (xs : List Entry) (l r t : ℕ) (ps : List (ℕ �
 
 -- the left side and the right one are applications
 pub cong-may : (n : ℕ) (s : Stage) (xs : List Entry) (l r : ℕ) → Goes IsAny code.Cong n (with_stack s (Owed l r ∷ xs)) → AreApplications s.nodes l r
-unfolding proof_row
+unfolding proof_step
 cong-may n s xs l r (tables, params, st, q, made, row) =
     from_want (same_term (tree_parts (expression_at (values_in s) l)) (tree_parts (expression_at (values_in s) r))) k.Cong _ st row λ p both e1.
     are-applications tables s.nodes made.0.nodes l r made.1.0 made.1.1 p (of-one-term tables s.nodes made.0.nodes l r made.1.0 made.1.1 p both)

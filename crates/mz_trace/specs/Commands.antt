@@ -9,7 +9,7 @@ use Rattle.mz_unify_theory.specs.Profile.{strict}
 use Rattle.mz_unify_theory.specs.Spells.{dummy_of}
 use Rattle.mz_machine_theory.specs.MachineState.{RowsBefore, State, Declares}
 use Rattle.mz_machine_theory.specs.Facts.{IsFront, Fact}
-use Rattle.mz_machine_theory.specs.ProofMachine.{proof_row}
+use Rattle.mz_machine_theory.specs.ProofMachine.{proof_step}
 use Rattle.mz_machine_env.specs.Before.{AreWithin, tables_before}
 use Rattle.mz_layout_tables.specs.declared.taken.Rows.{Rows}
 use Rattle.mz_logic_theory.specs.Signature.{Signature}
@@ -147,12 +147,12 @@ IsAny tables params s = ⊤
 -- the command goes through, over such rows
 abbrev pub Goes : Known → ProofCode → ℕ → Stage → Type 0
 Goes Q c n s = (tables : RowsBefore) × (params : List Binder) × (st : State Tree)
-    × Q tables params s × IsMade tables params s × (proof_row strict tables 0 c n (state_of params s) ≡ Ok st)
+    × Q tables params s × IsMade tables params s × (proof_step strict tables 0 c n (state_of params s) ≡ Ok st)
 
 -- it leads from s to s'
 abbrev pub Leads : Known → ProofCode → ℕ → Stage → Stage → Type 0
 Leads Q c n s s' = (tables : RowsBefore) (params : List Binder) (st : State Tree)
-    → Q tables params s → IsMade tables params s → proof_row strict tables 0 c n (state_of params s) ≡ Ok st
+    → Q tables params s → IsMade tables params s → proof_step strict tables 0 c n (state_of params s) ≡ Ok st
     → IsMade tables params s' × (st ≡ state_of params s') × (traced tables c n (state_of params s) (trace_of s) ≡ Ok (trace_of s'))
     × (size_of s' ≤ size_of s + nodes_for c)
 

@@ -48,7 +48,7 @@ pub record IsRunOf (tables : RowsBefore) (h : Heading) (bytes : List ℕ) (r : R
   pub made : Made tables h bytes (dummies_in r) (lets_in r) (root_in r)
   pub few : length r.nodes.items ≤ length h.params + nodes_in bytes
 
--- want of memory says nothing
+-- out of memory says nothing
 abbrev pub IsTraced : RowsBefore → Heading → List ℕ → Traced → Type 0
 IsTraced tables h bytes (traced.Run r) = IsRunOf tables h bytes r
 IsTraced tables h bytes traced.Mem = ⊤

@@ -7,7 +7,7 @@ use Rattle.mz_logic_theory.specs.Signature.{Signature}
 use Rattle.mz_logic_theory.specs.declared.binder.Binder.{Binder}
 use Rattle.mz_unify_theory.specs.Profile.{strict}
 use Rattle.mz_unify_theory.specs.Streams.{of_definition, UnifyCommand, command_in}
-use Rattle.mz_unify_theory.specs.UnifyMachine.{in_definition, UnifyState, unify_row}
+use Rattle.mz_unify_theory.specs.UnifyMachine.{in_definition, UnifyState, unify_step}
 use Rattle.mz_machine_theory.specs.MachineState.{RowsBefore}
 use Rattle.mz_trace_theory.specs.Traces.{variables_in}
 use Rattle.mz_trace.specs.Nodes.{values, expressions_at, HaveParts, AreExpressions}
@@ -33,7 +33,7 @@ IsReached nodes es targets met st =
 
 -- the command leads from one state to the other
 abbrev pub Executes : List Signature → List Binder → UnifyCode → UnifyState Tree → UnifyState Tree → Type 0
-Executes sigs ctx code st s = (value : ℕ) × (u : UnifyCommand) × (command_in of_definition value (Some code) ≡ Some u) × (unify_row strict sigs ctx in_definition u st ≡ Ok s)
+Executes sigs ctx code st s = (value : ℕ) × (u : UnifyCommand) × (command_in of_definition value (Some code) ≡ Some u) × (unify_step strict sigs ctx in_definition u st ≡ Ok s)
 
 -- it goes through on such a state
 abbrev pub MayTakeApart : List RunNode → UnifyCode → List ℕ → List ℕ → Type 0

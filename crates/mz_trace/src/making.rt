@@ -166,7 +166,7 @@ impl Making {
         let claim = pop_expr(&mut self.stack);
         let operands = pop_exprs(self.alloc, mmb.thm_arity(t), &mut self.stack)?;
         let (_, stream) = mmb.unify_of_thm(t);
-        // That the file is a binary is told by the call, so the length of its rest fits.
+        // That the file is a binary is reported by the call, so the length of its rest fits.
         let _ = mmb.file();
         let proofs = pop_proofs(self.alloc, hypotheses(stream, steps), &mut self.stack)?;
         let proof = add(&mut self.nodes, RunNode::Use(t, claim, operands, proofs))?;
@@ -289,7 +289,7 @@ impl Making {
         let (term, operands) = application(&self.nodes, left);
         let operands = Vec::from_slice(self.alloc, operands)?;
         let (_, stream) = mmb.unify_of_term(term);
-        // That the file is a binary is told by the call, so the length of its rest fits.
+        // That the file is a binary is reported by the call, so the length of its rest fits.
         let _ = mmb.file();
         let met = met_variables(self.alloc, &self.nodes, stream, target, steps)?;
         push(

@@ -57,7 +57,7 @@ impl Run {
 #[derive(Drop)]
 pub enum Traced {
     Run(Run),
-    /// Want of memory.
+    /// Out of memory.
     Mem,
 }
 

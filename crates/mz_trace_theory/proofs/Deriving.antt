@@ -22,7 +22,7 @@ use Rattle.mz_unify_theory.specs.UnifyMachine.{unify}
 use Rattle.mz_unify_theory.proofs.Offered.{some_is, parts-are, operands-sorted, citation-is, unfolding-is}
 use Rattle.mz_machine_theory.specs.MachineState.{RowsBefore, State, Declares}
 use Rattle.mz_machine_theory.specs.Premises.{operands_fit}
-use Rattle.mz_machine_theory.specs.ProofMachine.{proof_row}
+use Rattle.mz_machine_theory.specs.ProofMachine.{proof_step}
 use Rattle.mz_machine_theory.specs.Facts.{IsFront, Fact}
 use Rattle.mz_machine_theory.proofs.Offered.{pair-at, signatures-are, signature-at, fits-from, apart-from-test, expr-top, sides-top, operands-top, keeps, stream-row, definition-of}
 use Rattle.mz_trace_theory.specs.Traces.{Trace, variables_in, traced}
@@ -156,7 +156,7 @@ module _ (N : Type 0) (tables : RowsBefore) (env : List Declaration) (declares :
   abbrev pub Derived : State Tree → Trace → Type 0
   Derived st tr = IsFront st.ctx full → Known st × Standing A params st tr
 
-  pub derived-goes : (at : ℕ) (c : ProofCode) (n : ℕ) (st : State Tree) (tr : Trace) (st' : State Tree) → proof_row strict tables at c n st ≡ Ok st' → Derived st tr
+  pub derived-goes : (at : ℕ) (c : ProofCode) (n : ℕ) (st : State Tree) (tr : Trace) (st' : State Tree) → proof_step strict tables at c n st ≡ Ok st' → Derived st tr
       → IsFront st'.ctx full → Known st' × ((tr' : Trace) × (traced tables c n st tr ≡ Ok tr') × Standing A params st' tr')
   derived-goes at c n st tr st' row derived front' =
       let (front, keep) = keeps anything tables env declares params full false at c n st st' ((λ is there. tt), λ is on. tt) row front' in

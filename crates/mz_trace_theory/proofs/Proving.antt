@@ -17,7 +17,7 @@ use Rattle.mz_unify_theory.specs.Sorted.{Sorted, ItemsSorted}
 use Rattle.mz_unify_theory.specs.UnifyMachine.{at_end}
 use Rattle.mz_unify_theory.proofs.Offered.{taken-is, one-assertion, assertion-spelled}
 use Rattle.mz_machine_theory.specs.MachineState.{RowsBefore, State, Kind, is_theorem, Heading, Declares}
-use Rattle.mz_machine_theory.specs.ProofMachine.{last_item, ending, own_variables, own_stream, as_proofs, proof_row, proof_end}
+use Rattle.mz_machine_theory.specs.ProofMachine.{last_item, ending, own_variables, own_stream, as_proofs, proof_step, proof_end}
 use Rattle.mz_machine_theory.specs.Bodies.{body_start}
 use Rattle.mz_machine_theory.specs.Facts.{Fact}
 use Rattle.mz_machine_theory.specs.Sound.{thm_row}
@@ -37,7 +37,7 @@ module _ (N : Type 0) (tables : RowsBefore) (env : List Declaration) (declares :
   abbrev pub Kept : State Tree → Trace → Type 0
   Kept st tr = Shaped tables h.params st tr × Derived N tables env declares h.params full st tr
 
-  pub kept-goes : (at : ℕ) (c : ProofCode) (n : ℕ) (st : State Tree) (tr : Trace) (st' : State Tree) → proof_row strict tables at c n st ≡ Ok st' → Kept st tr
+  pub kept-goes : (at : ℕ) (c : ProofCode) (n : ℕ) (st : State Tree) (tr : Trace) (st' : State Tree) → proof_step strict tables at c n st ≡ Ok st' → Kept st tr
       → (tr' : Trace) × (traced tables c n st tr ≡ Ok tr') × Kept st' tr'
   kept-goes at c n st tr st' row (shaped, derived) =
       let (tr', goes, shaped') = shape-goes tables h.params at c n st tr st' row shaped in (

@@ -19,7 +19,7 @@ use Rattle.mz_unify_theory.specs.UnifyMachine.{Matching, UnifyState, unify}
 use Rattle.mz_unify_theory.proofs.Offered.{from_bind, from_then, from_need, from_want, rule_of-ok, taken, taken-is, same_tree-true, trees_of-listed, listed-trees_of}
 use Rattle.mz_machine_theory.specs.MachineState.{RowsBefore, signatures_in, State, Pairwise}
 use Rattle.mz_machine_theory.specs.Premises.{pop, pop_expr, pop_proof, pop_obligation, pop_conversion, pop_operands, pop_sides, is_conversion, is_obligation, may_be_dummy_sort, bound_count, operands_fit, are_apart}
-use Rattle.mz_machine_theory.specs.ProofMachine.{built, citation, matched_by, cited, referred, sides, same_term, stream_of, unfolding_of, has_provable_sort, proof_row}
+use Rattle.mz_machine_theory.specs.ProofMachine.{built, citation, matched_by, cited, referred, sides, same_term, stream_of, unfolding_of, has_provable_sort, proof_step}
 use Rattle.mz_machine_theory.proofs.Offered.{pair-at, pop-is}
 use Rattle.mz_trace_theory.specs.Parts.{Part, expression, proved, owed, converted, for_proof, for_turned, for_unfolded, for_cut, paid, by_operands, proofs_above}
 use Rattle.mz_trace_theory.specs.Traces.{Trace, stacked, kept, named, conversion_saved, to_convert, below_sides, variables_in, traced}
@@ -136,8 +136,8 @@ module _ (tables : RowsBefore) (A : Asked) (closed : Closed A) (params : List Bi
       subst (λ (z : Tree × List (Item Tree)). (row : SpelledTerm) × (slice_get tables.terms t ≡ Some row) × IsNew z.0 × Beside st tr z.1 (drop (length row.signature.params) tr.stack))
       (taken-is (app t (trees_of es.0), es.1) r e4) (row, row-at, new, below)
 
-  goes-term : (at t : ℕ) (st : State Tree) (tr : Trace) (st' : State Tree) → proof_row strict tables at code.Term t st ≡ Ok st' → Right st tr → NewIsRight st' → Goes code.Term t st tr st'
-  unfolding proof_row traced
+  goes-term : (at t : ℕ) (st : State Tree) (tr : Trace) (st' : State Tree) → proof_step strict tables at code.Term t st ≡ Ok st' → Right st tr → NewIsRight st' → Goes code.Term t st tr st'
+  unfolding proof_step traced
   goes-term at t st tr st' e s =
       from_bind (built strict tables at t st) _ st' e λ r making e1.
       let (row, row-at, new, below) = built-stands at t st tr r making s in
@@ -148,8 +148,8 @@ module _ (tables : RowsBefore) (A : Asked) (closed : Closed A) (params : List Bi
         with-stack st tr (expr r.0 ∷ r.1) ts s (right r.0 r.1 refl new, below),
       )
 
-  goes-term_save : (at t : ℕ) (st : State Tree) (tr : Trace) (st' : State Tree) → proof_row strict tables at code.TermSave t st ≡ Ok st' → Right st tr → NewIsRight st' → Goes code.TermSave t st tr st'
-  unfolding proof_row traced
+  goes-term_save : (at t : ℕ) (st : State Tree) (tr : Trace) (st' : State Tree) → proof_step strict tables at code.TermSave t st ≡ Ok st' → Right st tr → NewIsRight st' → Goes code.TermSave t st tr st'
+  unfolding proof_step traced
   goes-term_save at t st tr st' e s =
       from_bind (built strict tables at t st) _ st' e λ r making e1.
       let (row, row-at, new, below) = built-stands at t st tr r making s in
@@ -161,8 +161,8 @@ module _ (tables : RowsBefore) (A : Asked) (closed : Closed A) (params : List Bi
         with-both st tr (expr r.0 ∷ r.1) ts (expr r.0) expression s (is, below) is,
       )
 
-  goes-dummy : (at d : ℕ) (st : State Tree) (tr : Trace) (st' : State Tree) → proof_row strict tables at code.Dummy d st ≡ Ok st' → Right st tr → NewIsRight st' → Goes code.Dummy d st tr st'
-  unfolding proof_row traced
+  goes-dummy : (at d : ℕ) (st : State Tree) (tr : Trace) (st' : State Tree) → proof_step strict tables at code.Dummy d st ≡ Ok st' → Right st tr → NewIsRight st' → Goes code.Dummy d st tr st'
+  unfolding proof_step traced
   goes-dummy at d st tr st' e s =
       from_need (may_be_dummy_sort (slice_get tables.sorts d)) k.DummySort _ st' e λ allowed e1.
       from_need (ltb (bound_count st.ctx) 55) k.DummyCount _ st' e1 λ room e2.
@@ -202,15 +202,15 @@ module _ (tables : RowsBefore) (A : Asked) (closed : Closed A) (params : List Bi
       (with-stack st tr o.2 (paid c (drop 1 tr.stack)) s (pays c same-both))
   refers x t st tr st' e is s = absurd is
 
-  goes-ref : (at i : ℕ) (st : State Tree) (tr : Trace) (st' : State Tree) → proof_row strict tables at code.Ref i st ≡ Ok st' → Right st tr → Goes code.Ref i st tr st'
-  unfolding proof_row traced
+  goes-ref : (at i : ℕ) (st : State Tree) (tr : Trace) (st' : State Tree) → proof_step strict tables at code.Ref i st ≡ Ok st' → Right st tr → Goes code.Ref i st tr st'
+  unfolding proof_step traced
   goes-ref at i st tr st' e s =
       from_want (slice_get st.heap i) k.HeapIndex _ st' e λ x x-at e1.
       let (t, t-at, is) = pair-at (Is A st.hyps tr.lets) st.heap tr.heap s.heap i x x-at in
       (making.referred t tr, to_want (slice_get tr.heap i) k.HeapIndex _ t t-at, refers x t st tr st' e1 is s)
 
-  goes-conv_ref : (at i : ℕ) (st : State Tree) (tr : Trace) (st' : State Tree) → proof_row strict tables at code.ConvRef i st ≡ Ok st' → Right st tr → Goes code.ConvRef i st tr st'
-  unfolding proof_row traced
+  goes-conv_ref : (at i : ℕ) (st : State Tree) (tr : Trace) (st' : State Tree) → proof_step strict tables at code.ConvRef i st ≡ Ok st' → Right st tr → Goes code.ConvRef i st tr st'
+  unfolding proof_step traced
   goes-conv_ref at i st tr st' e s =
       from_want (slice_get st.heap i) k.HeapIndex _ st' e λ x x-at e1.
       from_need (is_conversion x) k.Kind _ st' e1 λ _ e2.
@@ -219,8 +219,8 @@ module _ (tables : RowsBefore) (A : Asked) (closed : Closed A) (params : List Bi
 
   -- ---- hypotheses
 
-  goes-hyp : (at n : ℕ) (st : State Tree) (tr : Trace) (st' : State Tree) → proof_row strict tables at code.Hyp n st ≡ Ok st' → Right st tr → Goes code.Hyp n st tr st'
-  unfolding proof_row traced
+  goes-hyp : (at n : ℕ) (st : State Tree) (tr : Trace) (st' : State Tree) → proof_step strict tables at code.Hyp n st ≡ Ok st' → Right st tr → Goes code.Hyp n st tr st'
+  unfolding proof_step traced
   goes-hyp at n st tr st' e s =
       from_bind (pop_expr st.stack) _ st' e λ x popping e1.
       from_need (has_provable_sort strict tables st.ctx x.0) k.NotProvable _ st' e1 λ provable e2.
@@ -262,8 +262,8 @@ module _ (tables : RowsBefore) (A : Asked) (closed : Closed A) (params : List Bi
       (with-both st tr st.stack tr.stack (conversion a b) (converted c) s s.stack hc))
   saves (obligation a b) xs st tr st' is kind e s = absurd cc
 
-  goes-save : (at n : ℕ) (st : State Tree) (tr : Trace) (st' : State Tree) → proof_row strict tables at code.Save n st ≡ Ok st' → Right st tr → Goes code.Save n st tr st'
-  unfolding proof_row traced
+  goes-save : (at n : ℕ) (st : State Tree) (tr : Trace) (st' : State Tree) → proof_step strict tables at code.Save n st ≡ Ok st' → Right st tr → Goes code.Save n st tr st'
+  unfolding proof_step traced
   goes-save at n st tr st' e s =
       from_bind (pop st.stack) _ st' e λ x popping e1.
       from_need (not (is_obligation x.0)) k.SaveKind _ st' e1 λ kind e2.
@@ -271,8 +271,8 @@ module _ (tables : RowsBefore) (A : Asked) (closed : Closed A) (params : List Bi
 
   -- ---- conversions
 
-  goes-conv : (at n : ℕ) (st : State Tree) (tr : Trace) (st' : State Tree) → proof_row strict tables at code.Conv n st ≡ Ok st' → Right st tr → Goes code.Conv n st tr st'
-  unfolding proof_row traced
+  goes-conv : (at n : ℕ) (st : State Tree) (tr : Trace) (st' : State Tree) → proof_step strict tables at code.Conv n st ≡ Ok st' → Right st tr → Goes code.Conv n st tr st'
+  unfolding proof_step traced
   goes-conv at n st tr st' e s =
       from_bind (pop_proof st.stack) _ st' e λ p popping e1.
       from_bind (pop_expr p.1) _ st' e1 λ l popping-l e2.
@@ -286,8 +286,8 @@ module _ (tables : RowsBefore) (A : Asked) (closed : Closed A) (params : List Bi
         with-stack st tr (obligation l.0 p.0 ∷ proof l.0 ∷ l.1) ts s (l-is, p-is, λ c hc. (l-is, closed.converts st.hyps tr.lets l.0 p.0 c q l-is hc q-proves, rest)),
       )
 
-  goes-refl : (at n : ℕ) (st : State Tree) (tr : Trace) (st' : State Tree) → proof_row strict tables at code.Refl n st ≡ Ok st' → Right st tr → Goes code.Refl n st tr st'
-  unfolding proof_row traced
+  goes-refl : (at n : ℕ) (st : State Tree) (tr : Trace) (st' : State Tree) → proof_step strict tables at code.Refl n st ≡ Ok st' → Right st tr → Goes code.Refl n st tr st'
+  unfolding proof_step traced
   goes-refl at n st tr st' e s =
       from_bind (pop_obligation st.stack) _ st' e λ o popping e1.
       from_need (same_tree o.0 o.1) k.Refl _ st' e1 λ same e2.
@@ -299,8 +299,8 @@ module _ (tables : RowsBefore) (A : Asked) (closed : Closed A) (params : List Bi
         with-stack st tr o.2 ts s (pays (refl_conv o.0) (subst (A.of_conv (refl_conv o.0) o.0) (same_tree-true o.0 o.1 same) (closed.by_refl o.0 l-is))),
       )
 
-  goes-symm : (at n : ℕ) (st : State Tree) (tr : Trace) (st' : State Tree) → proof_row strict tables at code.Symm n st ≡ Ok st' → Right st tr → Goes code.Symm n st tr st'
-  unfolding proof_row traced
+  goes-symm : (at n : ℕ) (st : State Tree) (tr : Trace) (st' : State Tree) → proof_step strict tables at code.Symm n st ≡ Ok st' → Right st tr → Goes code.Symm n st tr st'
+  unfolding proof_step traced
   goes-symm at n st tr st' e s =
       from_bind (pop_obligation st.stack) _ st' e λ o popping e1.
       let (l-is, r-is, pays) = obligation-top A st.hyps tr.lets st.stack tr.stack o popping s.stack in
@@ -317,8 +317,8 @@ module _ (tables : RowsBefore) (A : Asked) (closed : Closed A) (params : List Bi
   none-alike t (l ∷ ls) rs no-ls no-rs is = absurd cc
   none-alike t [] (r ∷ rs) no-ls no-rs is = absurd cc
 
-  goes-cong : (at n : ℕ) (st : State Tree) (tr : Trace) (st' : State Tree) → proof_row strict tables at code.Cong n st ≡ Ok st' → Right st tr → Goes code.Cong n st tr st'
-  unfolding proof_row traced
+  goes-cong : (at n : ℕ) (st : State Tree) (tr : Trace) (st' : State Tree) → proof_step strict tables at code.Cong n st ≡ Ok st' → Right st tr → Goes code.Cong n st tr st'
+  unfolding proof_step traced
   goes-cong at n st tr st' e s =
       from_bind (pop_obligation st.stack) _ st' e λ o popping e1.
       from_want (same_term (tree_parts o.0) (tree_parts o.1)) k.Cong _ st' e1 λ es same e2.
@@ -340,8 +340,8 @@ module _ (tables : RowsBefore) (A : Asked) (closed : Closed A) (params : List Bi
             (λ cs all. pay (cong_conv t cs) (closed.by_cong t es.0 es.1 cs l-right r-right all))),
       )
 
-  goes-conv_cut : (at n : ℕ) (st : State Tree) (tr : Trace) (st' : State Tree) → proof_row strict tables at code.ConvCut n st ≡ Ok st' → Right st tr → Goes code.ConvCut n st tr st'
-  unfolding proof_row traced
+  goes-conv_cut : (at n : ℕ) (st : State Tree) (tr : Trace) (st' : State Tree) → proof_step strict tables at code.ConvCut n st ≡ Ok st' → Right st tr → Goes code.ConvCut n st tr st'
+  unfolding proof_step traced
   goes-conv_cut at n st tr st' e s =
       from_bind (pop_obligation st.stack) _ st' e λ o popping e1.
       let (l-is, r-is, pays) = obligation-top A st.hyps tr.lets st.stack tr.stack o popping s.stack in
@@ -352,8 +352,8 @@ module _ (tables : RowsBefore) (A : Asked) (closed : Closed A) (params : List Bi
         with-stack st tr (obligation o.0 o.1 ∷ conversion o.0 o.1 ∷ o.2) ts s (l-is, r-is, λ c hc. (hc, pays c hc)),
       )
 
-  goes-conv_save : (at n : ℕ) (st : State Tree) (tr : Trace) (st' : State Tree) → proof_row strict tables at code.ConvSave n st ≡ Ok st' → Right st tr → Goes code.ConvSave n st tr st'
-  unfolding proof_row traced
+  goes-conv_save : (at n : ℕ) (st : State Tree) (tr : Trace) (st' : State Tree) → proof_step strict tables at code.ConvSave n st ≡ Ok st' → Right st tr → Goes code.ConvSave n st tr st'
+  unfolding proof_step traced
   goes-conv_save at n st tr st' e s =
       from_bind (pop_conversion st.stack) _ st' e λ o popping e1.
       let (c, us, ts-is, hc, below) = conversion-is A st.hyps tr.lets o.0 o.1 o.2 tr.stack (subst (λ (z : List (Item Tree)). Beside st tr z tr.stack) (conversion-popped st.stack o popping) s.stack) in
@@ -371,8 +371,8 @@ module _ (tables : RowsBefore) (A : Asked) (closed : Closed A) (params : List Bi
       → tree_parts o.0 ≡ Some p → stream_of (slice_get tables.terms p.0) ≡ Some stream → unify strict (signatures_in tables) st.ctx (unfolding_by stream p.1 x.0) ≡ Ok u
       → (c : Conversion) → A.of_conv c x.0 o.1 → A.of_conv (unfold_conv p.0 (trees_of p.1) (variables_in (drop (length p.1) u.apart)) c) o.0 o.1
 
-  goes-unfold : (at n : ℕ) (st : State Tree) (tr : Trace) (st' : State Tree) → proof_row strict tables at code.Unfold n st ≡ Ok st' → Right st tr → Unfolds st → Goes code.Unfold n st tr st'
-  unfolding proof_row traced unfolding_of
+  goes-unfold : (at n : ℕ) (st : State Tree) (tr : Trace) (st' : State Tree) → proof_step strict tables at code.Unfold n st ≡ Ok st' → Right st tr → Unfolds st → Goes code.Unfold n st tr st'
+  unfolding proof_step traced unfolding_of
   goes-unfold at n st tr st' e s unfolds =
       from_bind (unfolding_of strict tables st) _ st' e λ m un e1.
       from_bind (matched_by strict tables st.ctx m.0) _ st' e1 λ u unified e2.
@@ -465,8 +465,8 @@ module _ (tables : RowsBefore) (A : Asked) (closed : Closed A) (params : List Bi
       (subst (λ (z : Matching Tree). Cited t st tr (z.target, u.items)) m-is
       (cites-by t st tr (length row.params) row.stream es.0 x.0 es.1 u hs citing' unified' len items-are is rest proves))
 
-  goes-thm : (at t : ℕ) (st : State Tree) (tr : Trace) (st' : State Tree) → proof_row strict tables at code.Thm t st ≡ Ok st' → Right st tr → Cites t st tr → Goes code.Thm t st tr st'
-  unfolding proof_row traced
+  goes-thm : (at t : ℕ) (st : State Tree) (tr : Trace) (st' : State Tree) → proof_step strict tables at code.Thm t st ≡ Ok st' → Right st tr → Cites t st tr → Goes code.Thm t st tr st'
+  unfolding proof_step traced
   goes-thm at t st tr st' e s cites =
       from_bind (cited strict tables t st) _ st' e λ r citing-is e1.
       let (q, made, is, proves, below) = cited-goes t st tr r citing-is s cites in
@@ -476,8 +476,8 @@ module _ (tables : RowsBefore) (A : Asked) (closed : Closed A) (params : List Bi
         with-stack st tr (proof r.0 ∷ r.1) (proved q.0 ∷ q.1) s (is, proves, below),
       )
 
-  goes-thm_save : (at t : ℕ) (st : State Tree) (tr : Trace) (st' : State Tree) → proof_row strict tables at code.ThmSave t st ≡ Ok st' → Right st tr → Cites t st tr → Goes code.ThmSave t st tr st'
-  unfolding proof_row traced
+  goes-thm_save : (at t : ℕ) (st : State Tree) (tr : Trace) (st' : State Tree) → proof_step strict tables at code.ThmSave t st ≡ Ok st' → Right st tr → Cites t st tr → Goes code.ThmSave t st tr st'
+  unfolding proof_step traced
   goes-thm_save at t st tr st' e s cites =
       from_bind (cited strict tables t st) _ st' e λ r citing-is e1.
       let (q, made, is, proves, below) = cited-goes t st tr r citing-is s cites in
@@ -495,8 +495,8 @@ module _ (tables : RowsBefore) (A : Asked) (closed : Closed A) (params : List Bi
     pub unfolds : Unfolds st
     pub cites : Cites n st tr
 
-  pub goes : (at : ℕ) (c : ProofCode) (n : ℕ) (st : State Tree) (tr : Trace) (st' : State Tree) → proof_row strict tables at c n st ≡ Ok st' → Right st tr → RowRight n st tr st' → Goes c n st tr st'
-  unfolding proof_row
+  pub goes : (at : ℕ) (c : ProofCode) (n : ℕ) (st : State Tree) (tr : Trace) (st' : State Tree) → proof_step strict tables at c n st ≡ Ok st' → Right st tr → RowRight n st tr st' → Goes c n st tr st'
+  unfolding proof_step
   goes at code.Term n st tr st' e s right = goes-term at n st tr st' e s right.new
   goes at code.TermSave n st tr st' e s right = goes-term_save at n st tr st' e s right.new
   goes at code.Ref n st tr st' e s right = goes-ref at n st tr st' e s

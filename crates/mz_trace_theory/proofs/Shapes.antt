@@ -10,7 +10,7 @@ use Rattle.mz_unify_theory.specs.Spells.{trees_of, SpelledTerm}
 use Rattle.mz_unify_theory.specs.Profile.{strict, Item, proof}
 use Rattle.mz_unify_theory.proofs.Offered.{some_is, listed-trees_of}
 use Rattle.mz_machine_theory.specs.MachineState.{RowsBefore, signatures_in, State}
-use Rattle.mz_machine_theory.specs.ProofMachine.{proof_row}
+use Rattle.mz_machine_theory.specs.ProofMachine.{proof_step}
 use Rattle.mz_trace_theory.specs.Traces.{Trace, traced}
 use Rattle.mz_trace_theory.proofs.Taken.{Takes, unify-takes}
 use Rattle.mz_trace_theory.proofs.Standing.{Asked, EachIs}
@@ -65,7 +65,7 @@ module _ (tables : RowsBefore) where
     abbrev pub Shaped : State Tree → Trace → Type 0
     Shaped st tr = Standing shape params st tr
 
-    pub shape-goes : (at : ℕ) (c : ProofCode) (n : ℕ) (st : State Tree) (tr : Trace) (st' : State Tree) → proof_row strict tables at c n st ≡ Ok st' → Shaped st tr
+    pub shape-goes : (at : ℕ) (c : ProofCode) (n : ℕ) (st : State Tree) (tr : Trace) (st' : State Tree) → proof_step strict tables at c n st ≡ Ok st' → Shaped st tr
         → (tr' : Trace) × (traced tables c n st tr ≡ Ok tr') × Shaped st' tr'
     shape-goes at c n st tr st' row s = goes tables shape shapes params at c n st tr st' row s (record {
       new = λ e xs is new. new-made e new;

@@ -14,7 +14,7 @@ use Rattle.mz_unify_theory.specs.Streams.{of_assertion, UnifyCommand, u_term, u_
 use Rattle.mz_unify_theory.specs.Profile.{strict, tree_parts, Item, proof}
 use Rattle.mz_unify_theory.specs.Tests.{same_tree}
 use Rattle.mz_unify_theory.specs.Laws.{citing}
-use Rattle.mz_unify_theory.specs.UnifyMachine.{in_citation, UnifyState, top_target, is_empty, next_hypothesis, operands_of, is_fresh, unify_row, unify_turn_by, unify_turn, unify_from, unify}
+use Rattle.mz_unify_theory.specs.UnifyMachine.{in_citation, UnifyState, top_target, is_empty, next_hypothesis, operands_of, is_fresh, unify_step, unify_turn_by, unify_turn, unify_from, unify}
 use Rattle.mz_unify_theory.proofs.Offered.{from_bind, from_need, from_want, place-ok, taken, taken-is, hypothesis-is}
 use Rattle.mz_machine_theory.proofs.Offered.{from_follow}
 use Rattle.mz_trace_theory.proofs.Following.{left_of}
@@ -36,8 +36,8 @@ module _ (sigs : List Signature) (ctx : List Binder) where
   row-is : (xs : List (Item Tree)) (made s : UnifyState Tree) → taken made ≡ taken s → Takes xs made.items → Takes xs s.items
   row-is xs made s e h = subst (λ (z : UnifyState Tree). Takes xs z.items) (taken-is made s e) h
 
-  row-takes : (u : UnifyCommand) (st s : UnifyState Tree) → unify_row strict sigs ctx in_citation u st ≡ Ok s → Takes st.items s.items
-  unfolding unify_row
+  row-takes : (u : UnifyCommand) (st s : UnifyState Tree) → unify_step strict sigs ctx in_citation u st ≡ Ok s → Takes st.items s.items
+  unfolding unify_step
   row-takes (u_term t) st s e =
       from_bind (top_target st.targets) _ s e λ top _ e1.
       from_want (operands_of t (tree_parts top.0)) k.UnifyTerm _ s e1 λ es _ e2.
@@ -65,10 +65,10 @@ module _ (sigs : List Signature) (ctx : List Binder) where
   turn-takes : (len : ℕ) (st : UnifyState Tree) (t : Turn (UnifyState Tree)) (o : Option UnifyCommand) → unify_turn_by strict sigs ctx in_citation len st o ≡ Ok t → Takes st.items (left_of t).items
   turn-takes len st t None e = absurd cc
   turn-takes len st t (Some u_end) e =
-      from_bind (unify_row strict sigs ctx in_citation u_end st) _ t e λ s row e1.
+      from_bind (unify_step strict sigs ctx in_citation u_end st) _ t e λ s row e1.
       subst (λ (z : Turn (UnifyState Tree)). Takes st.items (left_of z).items) (taken-is (over s) t e1) (row-takes u_end st s row)
   turn-takes len st t (Some u) e =
-      from_bind (unify_row strict sigs ctx in_citation u st) _ t e λ s row e1.
+      from_bind (unify_step strict sigs ctx in_citation u st) _ t e λ s row e1.
       subst (λ (z : Turn (UnifyState Tree)). Takes st.items (left_of z).items) (taken-is (goes_on len s) t e1) (row-takes u st s row)
 
   command-takes : (st : UnifyState Tree) (t : Turn (UnifyState Tree)) (r : Result Cmd CmdFault) → unify_turn strict sigs ctx in_citation st r ≡ Ok t → Takes st.items (left_of t).items

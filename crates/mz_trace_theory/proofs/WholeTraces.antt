@@ -15,7 +15,7 @@ use Rattle.mz_unify_theory.specs.Profile.{strict, expr}
 use Rattle.mz_unify_theory.specs.UnifyMachine.{is_empty}
 use Rattle.mz_unify_theory.proofs.Offered.{from_bind, from_need, place-ok, taken, taken-is}
 use Rattle.mz_machine_theory.specs.MachineState.{RowsBefore, State, Heading, Pairwise}
-use Rattle.mz_machine_theory.specs.ProofMachine.{built, proof_row, own_variables, ends_with, matched_by, proof_end}
+use Rattle.mz_machine_theory.specs.ProofMachine.{built, proof_step, own_variables, ends_with, matched_by, proof_end}
 use Rattle.mz_machine_theory.specs.Bodies.{BodyCommand, ends, proves, body_command, body_turn_by, body_turn, body_from}
 use Rattle.mz_machine_theory.proofs.Offered.{from_follow}
 use Rattle.mz_trace_theory.specs.Parts.{expression}
@@ -24,8 +24,8 @@ use Rattle.mz_trace_theory.proofs.Following.{to_bind}
 use Rattle.mz_trace_theory.proofs.Standing.{Asked, EachIs, Is}
 
 -- over trees a row is the same at each place
-row-anywhere : (tables : RowsBefore) (at : ℕ) (c : ProofCode) (n : ℕ) (st : State Tree) → proof_row strict tables 0 c n st ≡ proof_row strict tables at c n st
-unfolding proof_row built
+row-anywhere : (tables : RowsBefore) (at : ℕ) (c : ProofCode) (n : ℕ) (st : State Tree) → proof_step strict tables 0 c n st ≡ proof_step strict tables at c n st
+unfolding proof_step built
 row-anywhere tables at code.Term n st = refl
 row-anywhere tables at code.TermSave n st = refl
 row-anywhere tables at c n st = refl
@@ -39,7 +39,7 @@ end-is tables h st s done =
 -- what each command keeps
 module _ (tables : RowsBefore) (h : Heading) (Kept : State Tree → Trace → Type 0)
     (step : (at : ℕ) (c : ProofCode) (n : ℕ) (st : State Tree) (tr : Trace) (st' : State Tree)
-    → proof_row strict tables at c n st ≡ Ok st' → Kept st tr → (tr' : Trace) × (traced tables c n st tr ≡ Ok tr') × Kept st' tr') where
+    → proof_step strict tables at c n st ≡ Ok st' → Kept st tr → (tr' : Trace) × (traced tables c n st tr ≡ Ok tr') × Kept st' tr') where
   -- the same turn is taken beside
   abbrev Turned : State Tree → Trace → Result (Turn (State Tree × Trace)) K → Turn (State Tree) → Type 0
   Turned st tr r (over s) = (r ≡ Ok (over (st, tr))) × (st ≡ s) × (proof_end strict tables h st ≡ Ok s)
@@ -53,10 +53,10 @@ module _ (tables : RowsBefore) (h : Heading) (Kept : State Tree → Trace → Ty
       from_need (is_empty rest) k.StatementLength _ s both λ _ done.
       subst (Turned st tr (Ok (over (st, tr)))) (taken-is (over s) t e1) (refl, end-is tables h st s done, done)
   turned at len rest st tr t (Some (proves c n)) e kept =
-      from_bind (proof_row strict tables at c n st) _ t e λ s row e1.
+      from_bind (proof_step strict tables at c n st) _ t e λ s row e1.
       let (tr', made, kept') = step at c n st tr s row kept in
       subst (Turned st tr (trace_turn tables h len (st, tr) (Some (proves c n)))) (taken-is (goes_on len s) t e1)
-      (tr', to_bind (proof_row strict tables 0 c n st) _ s (row-anywhere tables at c n st ∙ row) ∙ to_bind (traced tables c n st tr) _ tr' made, kept')
+      (tr', to_bind (proof_step strict tables 0 c n st) _ s (row-anywhere tables at c n st ∙ row) ∙ to_bind (traced tables c n st tr) _ tr' made, kept')
 
   commanded : (at : ℕ) (bytes : List ℕ) (st : State Tree) (tr : Trace) (t : Turn (State Tree)) (r : Result Cmd CmdFault) → body_turn strict tables h at bytes st r ≡ Ok t → Kept st tr
       → Turned st tr (trace_command tables h (st, tr) r) t

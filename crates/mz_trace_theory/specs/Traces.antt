@@ -17,7 +17,7 @@ use Rattle.mz_unify_theory.specs.Spells.{trees_of}
 use Rattle.mz_unify_theory.specs.Profile.{strict, tree_parts}
 use Rattle.mz_machine_theory.specs.MachineState.{RowsBefore, State, Heading}
 use Rattle.mz_machine_theory.specs.Premises.{pop_expr, pop_proof, pop_obligation, pop_sides}
-use Rattle.mz_machine_theory.specs.ProofMachine.{citation, matched_by, unfolding_of, proof_row}
+use Rattle.mz_machine_theory.specs.ProofMachine.{citation, matched_by, unfolding_of, proof_step}
 use Rattle.mz_machine_theory.specs.Bodies.{BodyCommand, ends, proves, body_command, body_start}
 use Rattle.mz_trace_theory.specs.Parts.{Part, expression, proved, owed, converted, for_proof, for_turned, for_unfolded, for_cut, paid, by_operands, proofs_above}
 
@@ -147,7 +147,7 @@ abbrev pub trace_turn : RowsBefore → Heading → ℕ → State Tree × Trace �
 trace_turn tables h len s None = Err k.Command
 trace_turn tables h len s (Some ends) = Ok (over s)
 trace_turn tables h len s (Some (proves c value)) = do
-  st ← proof_row strict tables 0 c value s.0
+  st ← proof_step strict tables 0 c value s.0
   tr ← traced tables c value s.0 s.1
   Ok (goes_on len (st, tr))
 

@@ -1,4 +1,4 @@
--- What a shape tells of the expression with operands put in.
+-- What a shape says of the expression with operands put in.
 use Rattle.std.proofs.Common.{ℕ, zero, suc, true, Result, Ok, Err, OnOk, OnErr, ◌≡◌, ◌<◌, ◌≤◌, ◌+◌, ◌*◌, List, [], ◌∷◌, ◌++◌, length, get_or, drop, slice_set, replicate, map, sum_by, refl, sym, ap, ◌∙◌, subst, arith, add-one, append-nil, add-mul}
 use Rattle.std.proofs.lemmas.List.{map-append}
 use Rattle.std.proofs.lemmas.List.Sums.{sum_by-cons, get_or-le-sum_by}
@@ -186,7 +186,7 @@ pub shapes_with_any_sort : {A E : Type 0} (r : Result A E) (env new : List Decla
 shapes_with_any_sort (Ok x) env new m bodies conclusions ok err are = shapes_with_sort env new bodies conclusions are m ok
 shapes_with_any_sort (Err x) env new m bodies conclusions ok err are = subst (λ e. HasShapes e bodies conclusions) (sym err) are
 
--- ---- what is told of an instance
+-- ---- what is said of an instance
 
 module _ (env self : List Declaration) (seen shapes : List Shape) (es : Trees) (i : ℕ) (same : env ≡ self) (read : seen ≡ shapes) where
   pub no_body_size : AreShapes shapes (bodies_of env) → length seen ≤ i → size (instance es (body_tree (term_at self i).form)) ≡ 1

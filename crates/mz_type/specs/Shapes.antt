@@ -31,7 +31,7 @@ put_on none us = 0
 put_on (more e es) [] = 0
 put_on (more e es) (u ∷ us) = u * beneath e + put_on es us
 
--- the shape tells how large the expression becomes
+-- the shape says how large the expression becomes
 abbrev pub IsShapeOf : Shape → Tree → Type 0
 IsShapeOf shape e = (es : Trees) → size (instance es e) ≡ shape.own + put_on es shape.uses.items
 

@@ -1,4 +1,4 @@
-//! Environments in which it is told at once how large a body or a conclusion becomes where operands
+//! Environments in which it is reported at once how large a body or a conclusion becomes where operands
 //! are put in.
 ghost use Rattle.std.specs.Prelude.{◌≡◌, ◌<◌, ◌^◌, ◌+◌, ◌∷◌, [], ◌++◌, IfOk, OnOk, List, sum_by, get_or, drop, length};
 ghost use Rattle.mz_logic_theory.specs.Declaration.{body_of, context_of, term_decl, sort_decl, body_tree};

@@ -31,7 +31,7 @@ use std::marker::Model;
 /// What a statement says beside its declaration.
 #[derive(Drop)]
 pub struct Beside<'a> {
-    /// Whether it's marked as local.
+    /// Whether it's local.
     pub is_local: bool,
     /// The name, as it stands in the text.
     pub name: &'a [u8],
@@ -50,7 +50,7 @@ impl<'a> Beside<'a> {
     }
 }
 
-/// A well-typed text: its statements alone, since no later fault is told at a node.
+/// A well-typed text: its statements alone, since no later fault is reported at a node.
 #[derive(Drop)]
 pub struct Typed<'a> {
     pub(crate) mode: Mode,
@@ -207,7 +207,7 @@ impl<'a> Typed<'a> {
         self.beside[i as usize].name
     }
 
-    /// Whether it is marked local.
+    /// Whether it is declared local.
     pub fn is_local(&self, i: u32) -> bool
         requires { i < length self.now.statements }
         ensures { option_map (λ s. s.is_local) (slice_get self.now.statements i) ≡ Some result }

@@ -120,7 +120,7 @@ pub convs_there_cut : (ts n : ℕ) (xs : List Conv) (i : ℕ) (c : Conv) → i <
     → ConvsThere ts n (conversions (drop (i + 1) xs))
 convs_there_cut ts n xs i c below is there = (subst (ConvsThere ts n) (convs_cut xs i c below is) there).1
 
--- what is asked and told of a conversion is asked and told of an equal one
+-- what is asked and reported of a conversion is asked and reported of an equal one
 module _ {c d : Conversion} (is : d ≡ c) where
   pub there_as : (ts n : ℕ) → ConvThere ts n d → ConvThere ts n c
   there_as ts n = subst (ConvThere ts n) is

@@ -71,7 +71,7 @@ pub stop_handed_on : {A : Type 0} (cs : Checks Fault) (r : Result A Stop) (s : S
 stop_handed_on cs (Ok a) s h k = absurd h
 stop_handed_on cs (Err x) s h k = subst (λ y. Stops y cs) (sym h) k
 
--- what is told of checks that take no memory
+-- what is said of checks that take no memory
 pub told_judged : (cs : Checks Fault) (r : Result (Unit {0}) Fault) (r' : Result (Unit {0}) Stop) → r' ≡ told r → Judges r cs → Judged r' cs
 told_judged cs (Ok x) r' is j = subst (λ y. Judged y cs) (sym is) j
 told_judged cs (Err f) r' is j = subst (λ y. Judged y cs) (sym is) j

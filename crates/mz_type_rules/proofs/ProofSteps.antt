@@ -143,7 +143,7 @@ module _ (env : List Declaration) (ctx : List Binder) (hyps lets : Trees) where
     pub conversion_holds : AllHold of_expr → AllHold of_conv → AllHold of_proof → (left c ≡ e) × (right c ≡ proved env hyps lets p) → AllHold of_conversion
     conversion_holds h k l is = all_hold-both of_expr _ h (all_hold-both of_conv _ k (all_hold-both of_proof _ l (is, tt)))
 
--- what is asked and told of a proof is asked and told of an equal one
+-- what is asked and reported of a proof is asked and reported of an equal one
 module _ {p q : Proof} (is : q ≡ p) where
   pub there_as : (ts n ths hs ls : ℕ) → ProofThere ts n ths hs ls q → ProofThere ts n ths hs ls p
   there_as ts n ths hs ls = subst (ProofThere ts n ths hs ls) is

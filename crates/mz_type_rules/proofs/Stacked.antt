@@ -57,7 +57,7 @@ last_same xs ys e are =
 
 -- ---- answers
 
--- what asks nothing stops for want of memory alone
+-- what asks nothing can only run out of memory
 pub stopped_still : (cs : Checks Fault) (s : Stop) → Stops s nothing → Stops s cs
 stopped_still cs (Refused f) h = absurd h
 stopped_still cs Mem h = tt

@@ -19,7 +19,7 @@ use Rattle.mz_mmu_theory.specs.Parts.{part}
 use Rattle.mz_mmu_theory.specs.Rules.{expr_rules, conv_rules}
 use Rattle.mz_type_rules.specs.declared.claim.Claim.{Claim}
 
--- all hold, or the first that doesn't is told, or there was no memory
+-- all hold, or the first that doesn't is reported, or there was no memory
 abbrev pub Judged : {A : Type 0} → Result A Stop → Checks Fault → Type 0
 Judged (Ok _) cs = AllHold cs
 Judged (Err stop) cs = Stops stop cs

@@ -1,4 +1,4 @@
-//! The nodes at which rules are told.
+//! The nodes at which rules are reported.
 ghost use Rattle.std.specs.Prelude.{◌≡◌, ℕ};
 ghost use Rattle.mz_sexpr.specs.Node;
 ghost use Rattle.mz_sexpr.specs.Number;

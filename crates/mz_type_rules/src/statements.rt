@@ -221,7 +221,7 @@ fn declared_parts<'n, 'a>(nodes: &Cursor<'n, 'a>, is_local: bool) -> Cursor<'n, 
     }
 }
 
-/// The rules of a statement with this mark, whose node is the first, over those before it.
+/// The rules of a statement with this visibility, whose node is the first, over those before it.
 ///
 /// # Errors
 ///

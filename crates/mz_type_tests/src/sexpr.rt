@@ -101,7 +101,7 @@ const TEXTS: &[(&str, &str)] = &[
     ("(a\0", "statement 1 at byte 2: U1 character"),
     ("a -- \x7f", "statement 2 at byte 5: U1 character"),
     ("() é", "statement 2 at byte 3: U1 character"),
-    // the first in the text is told
+    // the first in the text is reported
     ("(\0))", "statement 1 at byte 1: U1 character"),
     ("())\0", "statement 2 at byte 2: U2 parenthesis"),
 ];
@@ -114,7 +114,7 @@ fn nodes_and_refusals(rt: HostRuntime) {
     }
 }
 
-/// What is told of `open` parentheses, and then `closed` closing ones.
+/// What is said of `open` parentheses, and then `closed` closing ones.
 fn nested(alloc: Global, open: usize, closed: usize) -> Result<Vec<u8>, AllocError> {
     let front: Vec<u8> = vec![in alloc; b'('; open]?;
     let back: Vec<u8> = vec![in alloc; b')'; closed]?;

@@ -17,7 +17,7 @@ use Rattle.mz_unify_theory.specs.Steps.{◌>>=◌, ◌>>◌, need, want, at_plac
 use Rattle.mz_unify_theory.specs.Streams.{of_definition, UnifyCommand, u_term, u_term_save, u_ref, u_dummy, u_hyp, u_end, command_in, unify_command}
 use Rattle.mz_unify_theory.specs.Profile.{strict, Item, tree_parts}
 use Rattle.mz_unify_theory.specs.Tests.{same_tree}
-use Rattle.mz_unify_theory.specs.UnifyMachine.{at_end, in_definition, kind_of, UnifyState, top_target, operands_of, is_fresh, is_empty, unify_row, unify_turn_by, unify_turn, unify_from}
+use Rattle.mz_unify_theory.specs.UnifyMachine.{at_end, in_definition, kind_of, UnifyState, top_target, operands_of, is_fresh, is_empty, unify_step, unify_turn_by, unify_turn, unify_from}
 use Rattle.mz_unify_theory.proofs.Offered.{from_need, taken-is}
 
 module _ (sigs : List Signature) (ctx : List Binder) where
@@ -37,13 +37,13 @@ module _ (sigs : List Signature) (ctx : List Binder) where
   none-left (x ∷ xs) e = absurd cc
 
   over-empty : (len : ℕ) (st s : UnifyState Tree) (u : Option UnifyCommand) → unify_turn_by strict sigs ctx at_end len st u ≡ Ok (over s) → s.items ≡ []
-  unfolding unify_row
+  unfolding unify_step
   over-empty len st s None e = absurd cc
   over-empty len st s (Some u_end) e =
-      from_need (is_empty st.targets && is_empty st.items) k.UnifyRest _ s (is-over s (unify_row strict sigs ctx at_end u_end st) e) λ left is.
+      from_need (is_empty st.targets && is_empty st.items) k.UnifyRest _ s (is-over s (unify_step strict sigs ctx at_end u_end st) e) λ left is.
       let same : st ≡ s = taken-is st s is in
       ap (λ (z : UnifyState Tree). z.items) (sym same) ∙ none-left st.items (both-true (is_empty st.targets) (is_empty st.items) left).1
-  over-empty len st s (Some u) e = absurd (not-over len s (unify_row strict sigs ctx at_end u st) e)
+  over-empty len st s (Some u) e = absurd (not-over len s (unify_step strict sigs ctx at_end u st) e)
 
   turn-empty : (r : Result Cmd CmdFault) (st s : UnifyState Tree) → unify_turn strict sigs ctx at_end st r ≡ Ok (over s) → s.items ≡ []
   turn-empty (Err f) st s e = absurd cc
@@ -85,8 +85,8 @@ put-then xs (Ok x) a b same = same
 put-then xs (Err k) a b same = refl
 
 module _ (sigs : List Signature) (ctx : List Binder) (xs : List (Item Tree)) where
-  row-items : (u : UnifyCommand) (st : UnifyState Tree) → (u ≡ u_hyp → ⊥) → unify_row strict sigs ctx in_definition u (with_items xs st) ≡ put xs (unify_row strict sigs ctx in_definition u st)
-  unfolding unify_row
+  row-items : (u : UnifyCommand) (st : UnifyState Tree) → (u ≡ u_hyp → ⊥) → unify_step strict sigs ctx in_definition u (with_items xs st) ≡ put xs (unify_step strict sigs ctx in_definition u st)
+  unfolding unify_step
   row-items (u_term t) st h = put-bind xs (top_target st.targets) _ _ λ top. put-bind xs (want (operands_of t (tree_parts top.0)) k.UnifyTerm) _ _ λ es. refl
   row-items (u_term_save t) st h = put-bind xs (top_target st.targets) _ _ λ top. put-bind xs (want (operands_of t (tree_parts top.0)) k.UnifyTerm) _ _ λ es. refl
   row-items (u_ref i) st h = put-bind xs (top_target st.targets) _ _ λ top. put-bind xs (want (slice_get st.heap i) k.UnifyReference) _ _ λ e. put-then xs (need (same_tree e top.0) k.UnifyReference) _ _ refl
@@ -104,8 +104,8 @@ module _ (sigs : List Signature) (ctx : List Binder) (xs : List (Item Tree)) whe
 
   turn-by-items : (len : ℕ) (st : UnifyState Tree) (u : Option UnifyCommand) → (u ≡ Some u_hyp → ⊥) → unify_turn_by strict sigs ctx in_definition len (with_items xs st) u ≡ put_turn xs (unify_turn_by strict sigs ctx in_definition len st u)
   turn-by-items len st None h = refl
-  turn-by-items len st (Some u_end) h = ap (λ r. r >>= λ s. Ok (over s)) (row-items u_end st (λ e. h (ap (λ u. Some u) e))) ∙ bind-over (unify_row strict sigs ctx in_definition u_end st)
-  turn-by-items len st (Some u) h = ap (λ r. r >>= λ s. Ok (goes_on len s)) (row-items u st (λ e. h (ap (λ v. Some v) e))) ∙ bind-on len (unify_row strict sigs ctx in_definition u st)
+  turn-by-items len st (Some u_end) h = ap (λ r. r >>= λ s. Ok (over s)) (row-items u_end st (λ e. h (ap (λ u. Some u) e))) ∙ bind-over (unify_step strict sigs ctx in_definition u_end st)
+  turn-by-items len st (Some u) h = ap (λ r. r >>= λ s. Ok (goes_on len s)) (row-items u st (λ e. h (ap (λ v. Some v) e))) ∙ bind-on len (unify_step strict sigs ctx in_definition u st)
 
   no-hyp : (value : ℕ) (o : Option UnifyCode) → command_in of_definition value o ≡ Some u_hyp → ⊥
   no-hyp value None e = cc

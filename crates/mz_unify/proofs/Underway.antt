@@ -13,7 +13,7 @@ use Rattle.mz_logic_theory.specs.Signature.{Signature}
 use Rattle.mz_logic_theory.specs.declared.binder.Binder.{Binder}
 use Rattle.mz_unify_theory.specs.Streams.{StreamKind, of_assertion, of_definition, UnifyCommand, u_dummy, u_end, IsEnd, command_in, unify_command}
 use Rattle.mz_unify_theory.specs.Profile.{Profile, Item}
-use Rattle.mz_unify_theory.specs.UnifyMachine.{UnifyMode as Mode, in_citation, at_end, in_definition, kind_of, Matching, UnifyState, unify_row, unify_from, unify_steps_from, at_start, unify, unify_steps}
+use Rattle.mz_unify_theory.specs.UnifyMachine.{UnifyMode as Mode, in_citation, at_end, in_definition, kind_of, Matching, UnifyState, unify_step, unify_from, unify_steps_from, at_start, unify, unify_steps}
 use Rattle.mz_unify.specs.Stored.{AreLeft, EndsWith, IsRun, OnDone, Says, UnlessMem}
 use Rattle.mz_unify.specs.Rows.{command_of, StopsBy, stopped_at}
 use Rattle.mz_unify.specs.declared.unified.Unified.{Unified}
@@ -125,11 +125,11 @@ module _ {P : Profile} {sigs : List Signature} {ctx : List Binder} {mode : Mode}
         omega arith
 
     module _ (u : UnifyCommand) (here : unify_command (kind_of mode) c.code c.value ≡ Some u) where
-      -- ---- a rule stops the command, or want of memory
+      -- ---- a rule stops the command, or out of memory
 
       -- from each state that this may be
       abbrev pub Stops : Stop → Type 0
-      Stops stop = (a : A) → Known a → StopsBy stop (λ rule. unify_row P sigs ctx mode u (state a) ≡ Err rule)
+      Stops stop = (a : A) → Known a → StopsBy stop (λ rule. unify_step P sigs ctx mode u (state a) ≡ Err rule)
 
       pub stopped-whole : (stop : Stop) (Q : ℕ → Type 0) → Stops stop → Says (stopped_at at stop) Q (λ place rule. whole ≡ Err (place, rule))
       stopped-whole (Rule rule) Q stops = let (a, is, run, count) = h.left in run ∙ stopped-run P sigs ctx mode (drop at stream) (state a) c read u here at rule (stops a is)
@@ -147,7 +147,7 @@ module _ {P : Profile} {sigs : List Signature} {ctx : List Binder} {mode : Mode}
       -- to one of these states
       module _ (Known' : A → Type 0) (state' : A → UnifyState P.T) where
         abbrev pub Goes : Type 0
-        Goes = (a : A) → Known a → (b : A) × Known' b × (unify_row P sigs ctx mode u (state a) ≡ Ok (state' b))
+        Goes = (a : A) → Known a → (b : A) × Known' b × (unify_step P sigs ctx mode u (state a) ≡ Ok (state' b))
 
         pub ended-whole : (heap : List P.T) (items : List (Item P.T)) → ((b : A) → ((state' b).heap ≡ heap) × ((state' b).items ≡ items)) → IsEnd u → Goes → EndsWith whole heap items
         ended-whole heap items keeps end goes =

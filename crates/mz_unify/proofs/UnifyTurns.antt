@@ -10,7 +10,7 @@ use Rattle.mz_logic_theory.specs.declared.binder.Binder.{Binder}
 use Rattle.mz_unify_theory.specs.Steps.{at_place, over, goes_on, follow, goes_to, if_read}
 use Rattle.mz_unify_theory.specs.Streams.{UnifyCommand, u_end, IsEnd, unify_command}
 use Rattle.mz_unify_theory.specs.Profile.{Profile}
-use Rattle.mz_unify_theory.specs.UnifyMachine.{UnifyMode, kind_of, UnifyState, unify_row, unify_turn_by, unify_turn, unify_from, unify_steps_from}
+use Rattle.mz_unify_theory.specs.UnifyMachine.{UnifyMode, kind_of, UnifyState, unify_step, unify_turn_by, unify_turn, unify_from, unify_steps_from}
 use Rattle.mz_unify_theory.proofs.Offered.{follow-same, goes_to-same, if_read-same, drop-less, went-on, bound-never-ends, count-is-whole}
 
 module _ (P : Profile) (sigs : List Signature) (ctx : List Binder) (mode : UnifyMode) where
@@ -55,47 +55,47 @@ module _ (P : Profile) (sigs : List Signature) (ctx : List Binder) (mode : Unify
     other-count is = one-count bytes st ∙ rw (read, is) refl
 
     module _ (u : UnifyCommand) (is : unify_command (kind_of mode) c.code c.value ≡ Some u) where
-      turn-stops : (rule : K) → unify_row P sigs ctx mode u st ≡ Err rule → unify_turn_by P sigs ctx mode c.len st (Some u) ≡ Err rule
+      turn-stops : (rule : K) → unify_step P sigs ctx mode u st ≡ Err rule → unify_turn_by P sigs ctx mode c.len st (Some u) ≡ Err rule
       turn-stops rule row = go u row
         where
-          go : (v : UnifyCommand) → unify_row P sigs ctx mode v st ≡ Err rule → unify_turn_by P sigs ctx mode c.len st (Some v) ≡ Err rule
+          go : (v : UnifyCommand) → unify_step P sigs ctx mode v st ≡ Err rule → unify_turn_by P sigs ctx mode c.len st (Some v) ≡ Err rule
           go u_end e = rw e refl
           go v e = rw e refl
 
-      turn-over : (s : UnifyState P.T) → IsEnd u → unify_row P sigs ctx mode u st ≡ Ok s → unify_turn_by P sigs ctx mode c.len st (Some u) ≡ Ok (over s)
+      turn-over : (s : UnifyState P.T) → IsEnd u → unify_step P sigs ctx mode u st ≡ Ok s → unify_turn_by P sigs ctx mode c.len st (Some u) ≡ Ok (over s)
       turn-over s end row = go u end row
         where
-          go : (v : UnifyCommand) → IsEnd v → unify_row P sigs ctx mode v st ≡ Ok s → unify_turn_by P sigs ctx mode c.len st (Some v) ≡ Ok (over s)
+          go : (v : UnifyCommand) → IsEnd v → unify_step P sigs ctx mode v st ≡ Ok s → unify_turn_by P sigs ctx mode c.len st (Some v) ≡ Ok (over s)
           go u_end tt e = rw e refl
           go v none e = absurd none
 
-      turn-on : (s : UnifyState P.T) → (IsEnd u → ⊥) → unify_row P sigs ctx mode u st ≡ Ok s → unify_turn_by P sigs ctx mode c.len st (Some u) ≡ Ok (goes_on c.len s)
+      turn-on : (s : UnifyState P.T) → (IsEnd u → ⊥) → unify_step P sigs ctx mode u st ≡ Ok s → unify_turn_by P sigs ctx mode c.len st (Some u) ≡ Ok (goes_on c.len s)
       turn-on s no-end row = go u no-end row
         where
-          go : (v : UnifyCommand) → (IsEnd v → ⊥) → unify_row P sigs ctx mode v st ≡ Ok s → unify_turn_by P sigs ctx mode c.len st (Some v) ≡ Ok (goes_on c.len s)
+          go : (v : UnifyCommand) → (IsEnd v → ⊥) → unify_step P sigs ctx mode v st ≡ Ok s → unify_turn_by P sigs ctx mode c.len st (Some v) ≡ Ok (goes_on c.len s)
           go u_end none e = absurd (none tt)
           go v none e = rw e refl
 
       -- ---- a rule stops it
 
-      pub stopped-run : (at : ℕ) (rule : K) → unify_row P sigs ctx mode u st ≡ Err rule → run_left at bytes st ≡ Err (at, rule)
+      pub stopped-run : (at : ℕ) (rule : K) → unify_step P sigs ctx mode u st ≡ Err rule → run_left at bytes st ≡ Err (at, rule)
       stopped-run at rule row = one-turn at bytes st ∙ rw (read, is, turn-stops rule row) refl
 
-      pub stopped-count : (rule : K) → unify_row P sigs ctx mode u st ≡ Err rule → count_left bytes st ≡ 1
+      pub stopped-count : (rule : K) → unify_step P sigs ctx mode u st ≡ Err rule → count_left bytes st ≡ 1
       stopped-count rule row = one-count bytes st ∙ rw (read, is, turn-stops rule row) refl
 
       -- ---- the end
 
-      pub ended-run : (at : ℕ) (s : UnifyState P.T) → IsEnd u → unify_row P sigs ctx mode u st ≡ Ok s → run_left at bytes st ≡ Ok s
+      pub ended-run : (at : ℕ) (s : UnifyState P.T) → IsEnd u → unify_step P sigs ctx mode u st ≡ Ok s → run_left at bytes st ≡ Ok s
       ended-run at s end row = one-turn at bytes st ∙ rw (read, is, turn-over s end row) refl
 
-      pub ended-count : (s : UnifyState P.T) → IsEnd u → unify_row P sigs ctx mode u st ≡ Ok s → count_left bytes st ≡ 1
+      pub ended-count : (s : UnifyState P.T) → IsEnd u → unify_step P sigs ctx mode u st ≡ Ok s → count_left bytes st ≡ 1
       ended-count s end row = one-count bytes st ∙ rw (read, is, turn-over s end row) refl
 
       -- ---- it goes on
 
-      pub went-run : (at : ℕ) (s : UnifyState P.T) → (IsEnd u → ⊥) → unify_row P sigs ctx mode u st ≡ Ok s → run_left at bytes st ≡ run_left (at + c.len) (drop c.len bytes) s
+      pub went-run : (at : ℕ) (s : UnifyState P.T) → (IsEnd u → ⊥) → unify_step P sigs ctx mode u st ≡ Ok s → run_left at bytes st ≡ run_left (at + c.len) (drop c.len bytes) s
       went-run at s no-end row = one-turn at bytes st ∙ rw (read, is, turn-on s no-end row) refl
 
-      pub went-count : (s : UnifyState P.T) → (IsEnd u → ⊥) → unify_row P sigs ctx mode u st ≡ Ok s → count_left bytes st ≡ suc (count_left (drop c.len bytes) s)
+      pub went-count : (s : UnifyState P.T) → (IsEnd u → ⊥) → unify_step P sigs ctx mode u st ≡ Ok s → count_left bytes st ≡ suc (count_left (drop c.len bytes) s)
       went-count s no-end row = one-count bytes st ∙ rw (read, is, turn-on s no-end row) refl

@@ -90,7 +90,7 @@ pub tells-at : (s : Sharing) (sigs : List Signature) (is : List Id) (k : ℕ) (i
 tells-at s sigs is k i word (inl all) at tells = tells-one s sigs i word (inl all) tells
 tells-at s sigs is k i word (inr vs) at tells = tells-one s sigs i word (inr (variable-at s is k i vs at)) tells
 
--- one more of the expressions is told
+-- one more of the expressions is reported
 pub tells-next : (s : Sharing) (sigs : List Signature) (is : List Id) (k : ℕ) (i : Id) (v w : ℕ) → TellsAllOf s is → slice_get is k ≡ Some i
     → TellsAny s.context v (trees_at s (take k is)) → Tells (bound_vars s.context) w (IsTold s.mode sigs s.context (tree_of s i.0)) → TellsAny s.context (bit_or v w) (trees_at s (take (k + 1) is))
 tells-next s sigs is k i v w all at p q =
@@ -103,7 +103,7 @@ tells-next s sigs is k i v w all at p q =
 
 -- ---- fresh variables
 
--- a variable that is fresh is one, whose word tells all its variables
+-- a variable that is fresh is one, whose word names all its variables
 pub tells-bound : (s : Sharing) (sigs : List Signature) (es : List Tree) (sort : ℕ) (i : Id) (word : ℕ) → is_fresh strict sigs s.context sort (tree_of s i.0) es ≡ true
     → Tells (bound_vars s.context) word (IsTold s.mode sigs s.context (tree_of s i.0)) → Tells (bound_vars s.context) word (λ x. InV s.context x (tree_of s i.0))
 tells-bound s sigs es sort i word fresh tells = tells-one s sigs i word (inr (is-variable (tree_of s i.0) fresh)) tells

@@ -27,7 +27,7 @@ command_of (Dummy s) = u_dummy s
 command_of Hyp = u_hyp
 command_of End = u_end
 
--- where a rule stops the command, it is one of which this holds; want of memory says nothing
+-- where a rule stops the command, it is one of which this holds; out of memory says nothing
 abbrev pub StopsBy : Stop → (K → Type 0) → Type 0
 StopsBy (Rule k) P = P k
 StopsBy Mem P = ⊤
@@ -37,11 +37,11 @@ abbrev pub InAnyV : List Binder → List Tree → ℕ → Type 0
 InAnyV ctx [] x = ⊥
 InAnyV ctx (e ∷ es) x = InV ctx x e ⊎ InAnyV ctx es x
 
--- the word tells the variables of all of these
+-- the word names the variables of all of these
 abbrev pub TellsAny : List Binder → ℕ → List Tree → Type 0
 TellsAny ctx word es = Tells (bound_vars ctx) word (InAnyV ctx es)
 
--- the word tells the variables of all of these, where the stream may meet dummies
+-- the word names the variables of all of these, where the stream may meet dummies
 abbrev pub TellsFor : Mode → List Binder → ℕ → List Tree → Type 0
 TellsFor mode ctx word es = mode ≡ in_definition → TellsAny ctx word es
 

@@ -66,7 +66,7 @@ TellsAllOf s is = (s.mode ≡ of.All) ⊎ AreVariables s is
 abbrev pub matching_at : Sharing → UnifyMode → List ℕ → List Id → Id → List Kept → Matching Tree
 matching_at s mode stream heap target hyps = record { mode = mode_of mode; stream = stream; operands = trees_at s heap; target = tree_of s target.0; items = items_at s hyps }
 
--- what is said holds: P of the number of hypotheses taken, Q of the place and the rule; want of memory
+-- what is said holds: P of the number of hypotheses taken, Q of the place and the rule; out of memory
 -- says nothing
 abbrev pub Says : Unified → (ℕ → Type 0) → (ℕ → K → Type 0) → Type 0
 Says (Done taken) P Q = P taken

@@ -6,7 +6,7 @@ ghost use Rattle.mz_logic_theory.specs.Signature.{Signature};
 ghost use Rattle.mz_store.specs.Sharing.{IsIn, AreIn, tree_of, IsOver};
 ghost use Rattle.mz_unify_theory.specs.Profile.{strict};
 ghost use Rattle.mz_unify_theory.specs.Streams.{UnifyCommand, u_term, u_term_save, u_ref, u_dummy, u_hyp, u_end};
-ghost use Rattle.mz_unify_theory.specs.UnifyMachine.{UnifyMode as Mode, in_definition, UnifyState, unify_row, is_fresh, next_hypothesis, nothing_left};
+ghost use Rattle.mz_unify_theory.specs.UnifyMachine.{UnifyMode as Mode, in_definition, UnifyState, unify_step, is_fresh, next_hypothesis, nothing_left};
 ghost use Rattle.mz_unify.specs.Stored.{mode_of, trees_at, stack_at, items_at, AreItemsIn, AreLeft, TellsAllOf};
 ghost use Rattle.mz_unify.specs.declared.command.Command.TheVariants.{Dummy};
 ghost use Rattle.mz_unify.specs.Rows.{command_of, StopsBy, TellsAny, TellsFor, state_at, with_targets, IsRow};
@@ -62,8 +62,8 @@ fn take_top(store: &Store, targets: &mut Vec<Id>) -> Option<Id>
 fn open(store: &Store, term: u32, targets: &mut Vec<Id>) -> Result<Id, Stop>
     requires { AreIn store.now targets.old.items }
     ensures ids { IfOk result (λ id. IsIn store.now id.0 × AreIn store.now targets.new.items) }
-    ensures plain { (sigs : List Signature) (mode : Mode) (st : UnifyState Tree) → st.targets ≡ stack_at store.now targets.old.items → IsRow (unify_row strict sigs store.now.context mode (u_term term) st) result (λ _. with_targets st (stack_at store.now targets.new.items)) }
-    ensures saved { (sigs : List Signature) (mode : Mode) (st : UnifyState Tree) → st.targets ≡ stack_at store.now targets.old.items → IsRow (unify_row strict sigs store.now.context mode (u_term_save term) st) result (λ id. record (with_targets st (stack_at store.now targets.new.items)) { heap = st.heap ++ tree_of store.now id.0 ∷ [] }) }
+    ensures plain { (sigs : List Signature) (mode : Mode) (st : UnifyState Tree) → st.targets ≡ stack_at store.now targets.old.items → IsRow (unify_step strict sigs store.now.context mode (u_term term) st) result (λ _. with_targets st (stack_at store.now targets.new.items)) }
+    ensures saved { (sigs : List Signature) (mode : Mode) (st : UnifyState Tree) → st.targets ≡ stack_at store.now targets.old.items → IsRow (unify_step strict sigs store.now.context mode (u_term_save term) st) result (λ id. record (with_targets st (stack_at store.now targets.new.items)) { heap = st.heap ++ tree_of store.now id.0 ∷ [] }) }
 {
     let Some(top) = take_top(store, targets) else {
         return Err(Stop::Rule(K::UnifyRest));
@@ -81,7 +81,7 @@ fn refer(store: &Store, place: u32, heap: &[Id], targets: &mut Vec<Id>) -> Resul
     requires heap { AreIn store.now heap.now }
     requires targets { AreIn store.now targets.old.items }
     ensures ids { OnOk result (AreIn store.now targets.new.items) }
-    ensures row { (sigs : List Signature) (mode : Mode) (st : UnifyState Tree) → st.heap ≡ trees_at store.now heap.now → st.targets ≡ stack_at store.now targets.old.items → IsRow (unify_row strict sigs store.now.context mode (u_ref place) st) result (λ _. with_targets st (stack_at store.now targets.new.items)) }
+    ensures row { (sigs : List Signature) (mode : Mode) (st : UnifyState Tree) → st.heap ≡ trees_at store.now heap.now → st.targets ≡ stack_at store.now targets.old.items → IsRow (unify_step strict sigs store.now.context mode (u_ref place) st) result (λ _. with_targets st (stack_at store.now targets.new.items)) }
 {
     let Some(top) = take_top(store, targets) else {
         return Err(Stop::Rule(K::UnifyRest));
@@ -95,7 +95,7 @@ fn refer(store: &Store, place: u32, heap: &[Id], targets: &mut Vec<Id>) -> Resul
     Ok(())
 }
 
-/// Whether the expression is a bound variable of the sort, in V of nothing whose variables the word tells.
+/// Whether the expression is a bound variable of the sort, in V of nothing whose variables the word names.
 #[inline(always)]
 fn is_fresh(store: &Store, sort: u32, id: Id, apart: u64) -> bool
     requires { IsIn store.now id.0 }
@@ -109,7 +109,7 @@ fn dummy(store: &Store, sort: u32, targets: &mut Vec<Id>, apart: &mut u64) -> Re
     requires { AreIn store.now targets.old.items }
     ensures ids { IfOk result (λ id. IsIn store.now id.0 × AreIn store.now targets.new.items) }
     ensures told { (sigs : List Signature) (es : List Tree) → IsOver sigs store.now → TellsAny store.now.context apart.old es → IfOk result (λ id. TellsAny store.now.context apart.new (es ++ tree_of store.now id.0 ∷ [])) }
-    ensures row { (sigs : List Signature) (mode : Mode) (st : UnifyState Tree) → IsOver sigs store.now → TellsAny store.now.context apart.old st.apart → st.targets ≡ stack_at store.now targets.old.items → IsRow (unify_row strict sigs store.now.context mode (u_dummy sort) st) result (λ id. record (with_targets st (stack_at store.now targets.new.items)) { heap = st.heap ++ tree_of store.now id.0 ∷ []; apart = st.apart ++ tree_of store.now id.0 ∷ [] }) }
+    ensures row { (sigs : List Signature) (mode : Mode) (st : UnifyState Tree) → IsOver sigs store.now → TellsAny store.now.context apart.old st.apart → st.targets ≡ stack_at store.now targets.old.items → IsRow (unify_step strict sigs store.now.context mode (u_dummy sort) st) result (λ id. record (with_targets st (stack_at store.now targets.new.items)) { heap = st.heap ++ tree_of store.now id.0 ∷ []; apart = st.apart ++ tree_of store.now id.0 ∷ [] }) }
 {
     let Some(top) = take_top(store, targets) else {
         return Err(Stop::Rule(K::UnifyRest));
@@ -159,7 +159,7 @@ fn hypothesis(
     requires { AreItemsIn store.now hyps.old.items }
     ensures ids { OnOk result (AreIn store.now targets.new.items × AreItemsIn store.now hyps.new.items) }
     ensures left { OnOk result (AreLeft hyps.old.items hyps.new.items 1) }
-    ensures row { (sigs : List Signature) (st : UnifyState Tree) → st.targets ≡ stack_at store.now targets.old.items → st.items ≡ items_at store.now hyps.old.items → IsRow (unify_row strict sigs store.now.context (mode_of mode) u_hyp st) result (λ _. record (with_targets st (stack_at store.now targets.new.items)) { items = items_at store.now hyps.new.items }) }
+    ensures row { (sigs : List Signature) (st : UnifyState Tree) → st.targets ≡ stack_at store.now targets.old.items → st.items ≡ items_at store.now hyps.old.items → IsRow (unify_step strict sigs store.now.context (mode_of mode) u_hyp st) result (λ _. record (with_targets st (stack_at store.now targets.new.items)) { items = items_at store.now hyps.new.items }) }
 {
     if !targets.is_empty() {
         return Err(Stop::Rule(K::UnifyRest));
@@ -187,7 +187,7 @@ fn nothing_left(store: &Store, mode: UnifyMode, hyps: &[Item]) -> bool
 /// Ends the stream: no targets are left, nor at an assertion's own end hypotheses.
 #[inline(always)]
 fn end(store: &Store, mode: UnifyMode, targets: &[Id], hyps: &[Item]) -> Result<(), Stop>
-    ensures { (sigs : List Signature) (st : UnifyState Tree) → st.targets ≡ stack_at store.now targets.now → st.items ≡ items_at store.now hyps.now → IsRow (unify_row strict sigs store.now.context (mode_of mode) u_end st) result (λ _. st) }
+    ensures { (sigs : List Signature) (st : UnifyState Tree) → st.targets ≡ stack_at store.now targets.now → st.items ≡ items_at store.now hyps.now → IsRow (unify_step strict sigs store.now.context (mode_of mode) u_end st) result (λ _. st) }
 {
     if !targets.is_empty() {
         return Err(Stop::Rule(K::UnifyRest));
@@ -215,7 +215,7 @@ pub(crate) fn step(
     requires hyps { AreItemsIn store.now hyps.old.items }
     ensures ids { OnOk result (AreIn store.now heap.new.items × AreIn store.now targets.new.items × AreItemsIn store.now hyps.new.items) }
     ensures left { OnOk result ((taken : ℕ) × (taken ≤ 1) × AreLeft hyps.old.items hyps.new.items taken) }
-    ensures row { (sigs : List Signature) (es : List Tree) → IsOver sigs store.now → TellsFor (mode_of mode) store.now.context apart.old es → MatchResult result (λ _. (fs : List Tree) × TellsFor (mode_of mode) store.now.context apart.new fs × (unify_row strict sigs store.now.context (mode_of mode) (command_of command) (state_at store.now heap.old.items es targets.old.items hyps.old.items) ≡ Ok (state_at store.now heap.new.items fs targets.new.items hyps.new.items))) (λ stop. StopsBy stop (λ k. unify_row strict sigs store.now.context (mode_of mode) (command_of command) (state_at store.now heap.old.items es targets.old.items hyps.old.items) ≡ Err k)) }
+    ensures row { (sigs : List Signature) (es : List Tree) → IsOver sigs store.now → TellsFor (mode_of mode) store.now.context apart.old es → MatchResult result (λ _. (fs : List Tree) × TellsFor (mode_of mode) store.now.context apart.new fs × (unify_step strict sigs store.now.context (mode_of mode) (command_of command) (state_at store.now heap.old.items es targets.old.items hyps.old.items) ≡ Ok (state_at store.now heap.new.items fs targets.new.items hyps.new.items))) (λ stop. StopsBy stop (λ k. unify_step strict sigs store.now.context (mode_of mode) (command_of command) (state_at store.now heap.old.items es targets.old.items hyps.old.items) ≡ Err k)) }
 {
     match command {
         Command::Term(term) => {

@@ -23,7 +23,7 @@ use std::sync::ledger::Ledger;
 /// apart against the operands, which are the heap at first.
 ///
 /// All ids are the store's, and `terms` has the meaning with which its expressions were made. The
-/// store tells all variables, or the operands are variables themselves. The stream has fewer than
+/// store names all variables, or the operands are variables themselves. The stream has fewer than
 /// 2^32 bytes. The top of `hyps` is its end.
 ///
 /// After `Done` the heap holds the operands, and then what was saved and what was met for dummies, in

@@ -10,7 +10,7 @@ use mz_store::Id;
 pub enum Stop {
     /// A premise fails.
     Rule(K),
-    /// Want of memory.
+    /// Out of memory.
     Mem,
 }
 

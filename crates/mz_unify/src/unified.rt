@@ -23,7 +23,7 @@ pub enum Unified {
     Done { taken: u32 },
     /// The first rule that fails, and the place of its command in the stream, in bytes.
     Refused { at: u32, rule: K },
-    /// Want of memory.
+    /// Out of memory.
     Mem,
 }
 

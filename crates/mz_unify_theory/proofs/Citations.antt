@@ -12,7 +12,7 @@ use Rattle.mz_unify_theory.specs.Streams.{UnifyCommand, u_hyp, u_end}
 use Rattle.mz_unify_theory.specs.Spells.{trees_of, Marks, SpellsHyps, variables_from, at_first, SpelledThm, SpellsThm}
 use Rattle.mz_unify_theory.specs.Profile.{strict, Item, expr, proof, obligation, conversion}
 use Rattle.mz_unify_theory.specs.Sorted.{Sorted, ItemsSorted}
-use Rattle.mz_unify_theory.specs.UnifyMachine.{in_citation, UnifyState, is_empty, next_hypothesis, unify_row, unify}
+use Rattle.mz_unify_theory.specs.UnifyMachine.{in_citation, UnifyState, is_empty, next_hypothesis, unify_step, unify}
 use Rattle.mz_unify_theory.proofs.Inverting.{from_bind, from_need, taken-is}
 use Rattle.mz_unify_theory.proofs.Trees.{operand-trees_of, instances-listed}
 use Rattle.mz_unify_theory.proofs.Matching.{run, run-from, Agrees, agrees-append, Matched, matched, Met, FreshList, met-none, met-both, met-length, run-grows, same-length}
@@ -57,15 +57,15 @@ module _ (sigs : List Signature) (ctx : List Binder) (n : ℕ) (f : Trees) (u : 
   hyps-matched : (rs : List Tree) (m last : Marks) (us : List UnifyCommand) (st : UnifyState Tree)
       → SpellsHyps n sigs m us rs last → run sigs ctx in_citation us st ≡ Ok u → ItemsSorted sigs ctx st.items
       → length m.trees ≡ length st.heap → ((size : ℕ) → Agrees f m.trees st.heap size) → length st.apart ≡ n + length m.dummies → (st.items ≡ map proof (map (instance f) rs) ++ u.items) × Met sigs ctx st.apart u.apart m.dummies last.dummies
-  unfolding unify_row Matched
+  unfolding unify_step Matched
   hyps-matched [] m last us st (us-are, m-is) ran sorted len agrees apart-len =
-      let ran' : unify_row strict sigs ctx in_citation u_end st ≡ Ok u = subst (λ (z : List UnifyCommand). run sigs ctx in_citation z st ≡ Ok u) us-are ran in
+      let ran' : unify_step strict sigs ctx in_citation u_end st ≡ Ok u = subst (λ (z : List UnifyCommand). run sigs ctx in_citation z st ≡ Ok u) us-are ran in
       from_need (is_empty st.targets && true) k.UnifyRest _ u ran' λ done e1.
       let same = taken-is st u e1 in
       (ap (λ (z : UnifyState Tree). z.items) same, subst (λ (z : UnifyState Tree). Met sigs ctx st.apart z.apart m.dummies last.dummies) same (subst (λ (z : Marks). Met sigs ctx st.apart st.apart m.dummies z.dummies) (sym m-is) (met-none sigs ctx st.apart m.dummies)))
   hyps-matched (h ∷ rs) m last us st (rest, mid, us', us-are, spells, others) ran sorted len agrees apart-len =
-      let ran' : (unify_row strict sigs ctx in_citation u_hyp st >>= run sigs ctx in_citation rest) ≡ Ok u = subst (λ (z : List UnifyCommand). run sigs ctx in_citation z st ≡ Ok u) us-are ran in
-      from_bind (unify_row strict sigs ctx in_citation u_hyp st) _ u ran' λ s row later.
+      let ran' : (unify_step strict sigs ctx in_citation u_hyp st >>= run sigs ctx in_citation rest) ≡ Ok u = subst (λ (z : List UnifyCommand). run sigs ctx in_citation z st ≡ Ok u) us-are ran in
+      from_bind (unify_step strict sigs ctx in_citation u_hyp st) _ u ran' λ s row later.
       from_need (is_empty st.targets) k.UnifyRest _ s row λ done e1.
       from_bind (next_hypothesis in_citation st.items) _ s e1 λ r next e2.
       let items-are = hypothesis-is st.items r next in

@@ -10,7 +10,7 @@ use Rattle.mz_unify_theory.specs.Steps.{◌>>=◌}
 use Rattle.mz_unify_theory.specs.Streams.{UnifyCommand, u_term, u_term_save, u_ref, u_dummy, u_hyp, u_end, StreamIs}
 use Rattle.mz_unify_theory.specs.Spells.{dummy_of, Marks, marked, with_dummy, Spells, SpellsAll, SpellsHyps}
 use Rattle.mz_unify_theory.specs.Profile.{strict, Item, proof}
-use Rattle.mz_unify_theory.specs.UnifyMachine.{UnifyMode, kind_of, UnifyState, nothing_left, is_fresh, unify_row, unify_from}
+use Rattle.mz_unify_theory.specs.UnifyMachine.{UnifyMode, kind_of, UnifyState, nothing_left, is_fresh, unify_step, unify_from}
 use Rattle.mz_unify_theory.proofs.Inverting.{from_bind}
 use Rattle.mz_unify_theory.proofs.Trees.{same_tree-refl}
 use Rattle.mz_unify_theory.proofs.Turning.{command-long, drop-less}
@@ -24,31 +24,31 @@ unfolding unify_from
 from-run sigs ctx mode zero at bytes [] st u (c, read, is) le ran = absurd (let (one, within) = command-long bytes c read in omega arith)
 from-run sigs ctx mode zero at bytes (v ∷ us) st u (c, read, is, _, stream) le ran = absurd (let (one, within) = command-long bytes c read in omega arith)
 from-run sigs ctx mode (suc n) at bytes [] st u (c, read, is) le ran =
-    let row : unify_row strict sigs ctx mode u_end st ≡ Ok u = ran in
+    let row : unify_step strict sigs ctx mode u_end st ≡ Ok u = ran in
     rw (read, is, row) refl
 from-run sigs ctx mode (suc n) at bytes (v ∷ us) st u (c, read, is, no-end, stream) le ran =
-    from_bind (unify_row strict sigs ctx mode v st) _ u ran λ s row later.
+    from_bind (unify_step strict sigs ctx mode v st) _ u ran λ s row later.
     rw (read, is, turn-goes sigs ctx mode c.len st v no-end, row)
     (from-run sigs ctx mode n (at + c.len) (drop c.len bytes) us s u stream (drop-less bytes c.len n (command-long bytes c read).0 le) later)
 
 -- ---- rows that go through
 
 module _ (sigs : List Signature) (ctx : List Binder) (mode : UnifyMode) where
-  ref-row : (i : ℕ) (st : UnifyState Tree) (t : Tree) (ts : List Tree) → st.targets ≡ t ∷ ts → slice_get st.heap i ≡ Some t → unify_row strict sigs ctx mode (u_ref i) st ≡ Ok (record st { targets = ts })
-  unfolding unify_row
+  ref-row : (i : ℕ) (st : UnifyState Tree) (t : Tree) (ts : List Tree) → st.targets ≡ t ∷ ts → slice_get st.heap i ≡ Some t → unify_step strict sigs ctx mode (u_ref i) st ≡ Ok (record st { targets = ts })
+  unfolding unify_step
   ref-row i st t ts top at = rw (top, at, same_tree-refl t) refl
 
-  term-row : (h : ℕ) (st : UnifyState Tree) (fs : Trees) (ts : List Tree) → st.targets ≡ app h fs ∷ ts → unify_row strict sigs ctx mode (u_term h) st ≡ Ok (record st { targets = listed fs ++ ts })
-  unfolding unify_row
+  term-row : (h : ℕ) (st : UnifyState Tree) (fs : Trees) (ts : List Tree) → st.targets ≡ app h fs ∷ ts → unify_step strict sigs ctx mode (u_term h) st ≡ Ok (record st { targets = listed fs ++ ts })
+  unfolding unify_step
   term-row h st fs ts top = rw (top, eq-eqb h h refl) refl
 
-  save-row : (h : ℕ) (st : UnifyState Tree) (fs : Trees) (ts : List Tree) → st.targets ≡ app h fs ∷ ts → unify_row strict sigs ctx mode (u_term_save h) st ≡ Ok (record st { targets = listed fs ++ ts; heap = st.heap ++ app h fs ∷ [] })
-  unfolding unify_row
+  save-row : (h : ℕ) (st : UnifyState Tree) (fs : Trees) (ts : List Tree) → st.targets ≡ app h fs ∷ ts → unify_step strict sigs ctx mode (u_term_save h) st ≡ Ok (record st { targets = listed fs ++ ts; heap = st.heap ++ app h fs ∷ [] })
+  unfolding unify_step
   save-row h st fs ts top = rw (top, eq-eqb h h refl) refl
 
   dummy-row : (s : ℕ) (st : UnifyState Tree) (t : Tree) (ts : List Tree) → st.targets ≡ t ∷ ts → is_fresh strict sigs ctx s t st.apart ≡ true
-      → unify_row strict sigs ctx mode (u_dummy s) st ≡ Ok (record st { targets = ts; heap = st.heap ++ t ∷ []; apart = st.apart ++ t ∷ [] })
-  unfolding unify_row
+      → unify_step strict sigs ctx mode (u_dummy s) st ≡ Ok (record st { targets = ts; heap = st.heap ++ t ∷ []; apart = st.apart ++ t ∷ [] })
+  unfolding unify_step
   dummy-row s st t ts top fresh = rw (top, fresh) refl
 
   -- ---- a pattern
@@ -202,15 +202,15 @@ module _ (sigs : List Signature) (ctx : List Binder) (mode : UnifyMode) where
         grew ∙ ap (λ (z : List Tree). z ++ map (instance f) new) heap ∙ sym (map-append (instance f) m.trees new) ∙ ap (map (instance f)) (sym marks)
 
     module _ (rest : List (Item Tree)) (end-is : nothing_left mode rest ≡ true) where
-      hyp-row : (st : UnifyState Tree) (t : Tree) (xs : List (Item Tree)) → st.targets ≡ [] → st.items ≡ proof t ∷ xs → unify_row strict sigs ctx mode u_hyp st ≡ Ok (record st { targets = t ∷ []; items = xs })
-      unfolding unify_row
+      hyp-row : (st : UnifyState Tree) (t : Tree) (xs : List (Item Tree)) → st.targets ≡ [] → st.items ≡ proof t ∷ xs → unify_step strict sigs ctx mode u_hyp st ≡ Ok (record st { targets = t ∷ []; items = xs })
+      unfolding unify_step
       hyp-row st t xs top items = rw (top, items) refl
 
       abbrev Ends : List UnifyCommand → UnifyState Tree → Marks → Type 0
       Ends us st last = (u : UnifyState Tree) × (run sigs ctx mode us st ≡ Ok u) × (u.heap ≡ map (instance f) last.trees) × (u.items ≡ rest)
 
-      end-row : (st : UnifyState Tree) → st.targets ≡ [] → st.items ≡ rest → unify_row strict sigs ctx mode u_end st ≡ Ok st
-      unfolding unify_row
+      end-row : (st : UnifyState Tree) → st.targets ≡ [] → st.items ≡ rest → unify_step strict sigs ctx mode u_end st ≡ Ok st
+      unfolding unify_step
       end-row st top items = rw (top, items, end-is) refl
 
       pub hyps-onward : (rs : List Tree) (m last : Marks) (us : List UnifyCommand) (st : UnifyState Tree) → SpellsHyps n sigs m us rs last → Within last → st.targets ≡ [] → st.items ≡ map proof (map (instance f) rs) ++ rest

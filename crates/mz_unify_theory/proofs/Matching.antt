@@ -18,18 +18,18 @@ use Rattle.mz_unify_theory.specs.Spells.{trees_of, dummy_of, Marks, marked, with
 use Rattle.mz_unify_theory.specs.Profile.{strict, tree_parts}
 use Rattle.mz_unify_theory.specs.Sorted.{Sorted, AllSorted}
 use Rattle.mz_unify_theory.specs.Tests.{same_tree, is_bound_at, is_bound_var}
-use Rattle.mz_unify_theory.specs.UnifyMachine.{UnifyMode, kind_of, UnifyState, top_target, is_empty, operands_of, next_hypothesis, nothing_left, within_any, is_fresh, unify_row, unify_turn_by, unify_from}
+use Rattle.mz_unify_theory.specs.UnifyMachine.{UnifyMode, kind_of, UnifyState, top_target, is_empty, operands_of, next_hypothesis, nothing_left, within_any, is_fresh, unify_step, unify_turn_by, unify_from}
 use Rattle.mz_unify_theory.proofs.Inverting.{from_bind, from_then, from_need, from_want, taken, taken-is, some_is}
 use Rattle.mz_unify_theory.proofs.Trees.{apart-is, same_tree-true, operands-sorted}
 
 -- ---- a run over commands that are read
 
 abbrev pub run : List Signature → List Binder → UnifyMode → List UnifyCommand → UnifyState Tree → Result (UnifyState Tree) K
-run sigs ctx mode [] st = unify_row strict sigs ctx mode u_end st
-run sigs ctx mode (u ∷ us) st = unify_row strict sigs ctx mode u st >>= run sigs ctx mode us
+run sigs ctx mode [] st = unify_step strict sigs ctx mode u_end st
+run sigs ctx mode (u ∷ us) st = unify_step strict sigs ctx mode u st >>= run sigs ctx mode us
 
 pub turn-goes : (sigs : List Signature) (ctx : List Binder) (mode : UnifyMode) (len : ℕ) (st : UnifyState Tree) (u : UnifyCommand) → (IsEnd u → ⊥)
-    → unify_turn_by strict sigs ctx mode len st (Some u) ≡ (unify_row strict sigs ctx mode u st >>= λ s. Ok (goes_on len s))
+    → unify_turn_by strict sigs ctx mode len st (Some u) ≡ (unify_step strict sigs ctx mode u st >>= λ s. Ok (goes_on len s))
 turn-goes sigs ctx mode len st u_end no-end = absurd (no-end tt)
 turn-goes sigs ctx mode len st u no-end = refl
 
@@ -41,13 +41,13 @@ pub run-from : (sigs : List Signature) (ctx : List Binder) (mode : UnifyMode) (n
     → StreamIs (kind_of mode) bytes us → unify_from strict sigs ctx mode n at bytes st ≡ Ok u → run sigs ctx mode us st ≡ Ok u
 unfolding unify_from
 run-from sigs ctx mode zero at bytes us st u stream e = absurd cc
-run-from sigs ctx mode (suc n) at bytes [] st u (c, read, is) e = go (unify_row strict sigs ctx mode u_end st) (rw (read, is) at e)
+run-from sigs ctx mode (suc n) at bytes [] st u (c, read, is) e = go (unify_step strict sigs ctx mode u_end st) (rw (read, is) at e)
   where
     go : (r : Result (UnifyState Tree) K) → follow (at_place at (r >>= λ s. Ok (over s))) (λ len s. unify_from strict sigs ctx mode n (at + len) (drop len bytes) s) ≡ Ok u → r ≡ Ok u
     go (Ok s) h = ap taken (same-ok s u (Ok s) refl h)
     go (Err f) h = absurd cc
 run-from sigs ctx mode (suc n) at bytes (v ∷ us) st u (c, read, is, no-end, stream) e =
-    go (unify_row strict sigs ctx mode v st) (rw (read, is, turn-goes sigs ctx mode c.len st v no-end) at e) (λ s h. run-from sigs ctx mode n (at + c.len) (drop c.len bytes) us s u stream h)
+    go (unify_step strict sigs ctx mode v st) (rw (read, is, turn-goes sigs ctx mode c.len st v no-end) at e) (λ s h. run-from sigs ctx mode n (at + c.len) (drop c.len bytes) us s u stream h)
   where
     go : (r : Result (UnifyState Tree) K) → follow (at_place at (r >>= λ s. Ok (goes_on c.len s))) (λ len s. unify_from strict sigs ctx mode n (at + len) (drop len bytes) s) ≡ Ok u
         → ((s : UnifyState Tree) → unify_from strict sigs ctx mode n (at + c.len) (drop c.len bytes) s ≡ Ok u → run sigs ctx mode us s ≡ Ok u) → (r >>= run sigs ctx mode us) ≡ Ok u
@@ -134,8 +134,8 @@ met-length sigs ctx from to before after n met len =
     ap length met.apart ∙ (omega (arith, length-append from (map var met.ys), length-map met.ys var, fresh-lengths sigs ctx from met.ys met.binders met.fresh, length-append before met.binders, len)) ∙ ap (λ (z : List Binder). n + length z) (sym met.dummies)
 
 -- a row adds to what dummies are kept apart from
-row-grows : (sigs : List Signature) (ctx : List Binder) (mode : UnifyMode) (v : UnifyCommand) (st s : UnifyState Tree) → unify_row strict sigs ctx mode v st ≡ Ok s → (more : List Tree) × (s.apart ≡ st.apart ++ more)
-unfolding unify_row
+row-grows : (sigs : List Signature) (ctx : List Binder) (mode : UnifyMode) (v : UnifyCommand) (st s : UnifyState Tree) → unify_step strict sigs ctx mode v st ≡ Ok s → (more : List Tree) × (s.apart ≡ st.apart ++ more)
+unfolding unify_step
 row-grows sigs ctx mode (u_term t) st s e =
     from_bind (top_target st.targets) _ s e λ r r-is e1.
     from_want (operands_of t (tree_parts r.0)) k.UnifyTerm _ s e1 λ es at e2.
@@ -164,7 +164,7 @@ row-grows sigs ctx mode u_end st s e =
 pub run-grows : (sigs : List Signature) (ctx : List Binder) (mode : UnifyMode) (us : List UnifyCommand) (st u : UnifyState Tree) → run sigs ctx mode us st ≡ Ok u → (more : List Tree) × (u.apart ≡ st.apart ++ more)
 run-grows sigs ctx mode [] st u e = row-grows sigs ctx mode u_end st u e
 run-grows sigs ctx mode (v ∷ us) st u e =
-    from_bind (unify_row strict sigs ctx mode v st) _ u e λ s row later.
+    from_bind (unify_step strict sigs ctx mode v st) _ u e λ s row later.
     let (a, a-is) = row-grows sigs ctx mode v st s row in
     let (b, b-is) = run-grows sigs ctx mode us s u later in
     (a ++ b, b-is ∙ ap (λ (z : List Tree). z ++ b) a-is ∙ append_assoc st.apart a b)
@@ -220,10 +220,10 @@ module _ (sigs : List Signature) (ctx : List Binder) (mode : UnifyMode) (n : ℕ
   matched-ref : (p : Tree) (m m' : Marks) (us us' : List UnifyCommand) (st : UnifyState Tree) (t : Tree) (ts : List Tree)
       → (i : ℕ) → us ≡ u_ref i ∷ us' → slice_get m.trees i ≡ Some p → m' ≡ m → run sigs ctx mode us st ≡ Ok u → st.targets ≡ t ∷ ts
       → Agrees f m.trees st.heap (size p) → Matched m m' us' st p t ts
-  unfolding Matched unify_row Agrees
+  unfolding Matched unify_step Agrees
   matched-ref p m m' us us' st t ts i us-are p-at m-is ran top agrees =
-      let ran' : (unify_row strict sigs ctx mode (u_ref i) st >>= run sigs ctx mode us') ≡ Ok u = subst (λ (z : List UnifyCommand). run sigs ctx mode z st ≡ Ok u) us-are ran in
-      from_bind (unify_row strict sigs ctx mode (u_ref i) st) _ u ran' λ s row later.
+      let ran' : (unify_step strict sigs ctx mode (u_ref i) st >>= run sigs ctx mode us') ≡ Ok u = subst (λ (z : List UnifyCommand). run sigs ctx mode z st ≡ Ok u) us-are ran in
+      from_bind (unify_step strict sigs ctx mode (u_ref i) st) _ u ran' λ s row later.
       from_bind (top_target st.targets) _ s row λ r r-is e1.
       from_want (slice_get st.heap i) k.UnifyReference _ s e1 λ x x-at e2.
       from_need (same_tree x r.0) k.UnifyReference _ s e2 λ same e3.
@@ -248,10 +248,10 @@ module _ (sigs : List Signature) (ctx : List Binder) (mode : UnifyMode) (n : ℕ
   matched-dummy : (x d : ℕ) (m m' : Marks) (us us' : List UnifyCommand) (st : UnifyState Tree) (t : Tree) (ts : List Tree)
       → us ≡ u_dummy d ∷ us' → x ≡ n + length m.dummies → m' ≡ with_dummy m x d
       → run sigs ctx mode us st ≡ Ok u → st.targets ≡ t ∷ ts → length st.apart ≡ n + length m.dummies → Matched m m' us' st (var x) t ts
-  unfolding Matched unify_row
+  unfolding Matched unify_step
   matched-dummy x d m m' us us' st t ts us-are x-is m-is ran top apart-len =
-      let ran' : (unify_row strict sigs ctx mode (u_dummy d) st >>= run sigs ctx mode us') ≡ Ok u = subst (λ (z : List UnifyCommand). run sigs ctx mode z st ≡ Ok u) us-are ran in
-      from_bind (unify_row strict sigs ctx mode (u_dummy d) st) _ u ran' λ s row later.
+      let ran' : (unify_step strict sigs ctx mode (u_dummy d) st >>= run sigs ctx mode us') ≡ Ok u = subst (λ (z : List UnifyCommand). run sigs ctx mode z st ≡ Ok u) us-are ran in
+      from_bind (unify_step strict sigs ctx mode (u_dummy d) st) _ u ran' λ s row later.
       from_bind (top_target st.targets) _ s row λ r r-is e1.
       from_need (is_fresh strict sigs ctx d r.0 st.apart) k.UnifyDummy _ s e1 λ test e2.
       let both : t ∷ ts ≡ r.0 ∷ r.1 = sym top ∙ top-is st.targets r r-is in
@@ -283,10 +283,10 @@ module _ (sigs : List Signature) (ctx : List Binder) (mode : UnifyMode) (n : ℕ
 
   pub opened-term : (h : ℕ) (us rest : List UnifyCommand) (st : UnifyState Tree) (t : Tree) (ts : List Tree)
       → us ≡ u_term h ∷ rest → run sigs ctx mode us st ≡ Ok u → st.targets ≡ t ∷ ts → Opened rest st t ts h st.heap
-  unfolding unify_row Opened
+  unfolding unify_step Opened
   opened-term h us rest st t ts us-are ran top =
-      let ran' : (unify_row strict sigs ctx mode (u_term h) st >>= run sigs ctx mode rest) ≡ Ok u = subst (λ (z : List UnifyCommand). run sigs ctx mode z st ≡ Ok u) us-are ran in
-      from_bind (unify_row strict sigs ctx mode (u_term h) st) _ u ran' λ s row later.
+      let ran' : (unify_step strict sigs ctx mode (u_term h) st >>= run sigs ctx mode rest) ≡ Ok u = subst (λ (z : List UnifyCommand). run sigs ctx mode z st ≡ Ok u) us-are ran in
+      from_bind (unify_step strict sigs ctx mode (u_term h) st) _ u ran' λ s row later.
       from_bind (top_target st.targets) _ s row λ r r-is e1.
       from_want (operands_of h (tree_parts r.0)) k.UnifyTerm _ s e1 λ es es-are e2.
       let both : t ∷ ts ≡ r.0 ∷ r.1 = sym top ∙ top-is st.targets r r-is in
@@ -299,10 +299,10 @@ module _ (sigs : List Signature) (ctx : List Binder) (mode : UnifyMode) (n : ℕ
 
   pub opened-save : (h : ℕ) (us rest : List UnifyCommand) (st : UnifyState Tree) (t : Tree) (ts : List Tree)
       → us ≡ u_term_save h ∷ rest → run sigs ctx mode us st ≡ Ok u → st.targets ≡ t ∷ ts → Opened rest st t ts h (st.heap ++ t ∷ [])
-  unfolding unify_row Opened
+  unfolding unify_step Opened
   opened-save h us rest st t ts us-are ran top =
-      let ran' : (unify_row strict sigs ctx mode (u_term_save h) st >>= run sigs ctx mode rest) ≡ Ok u = subst (λ (z : List UnifyCommand). run sigs ctx mode z st ≡ Ok u) us-are ran in
-      from_bind (unify_row strict sigs ctx mode (u_term_save h) st) _ u ran' λ s row later.
+      let ran' : (unify_step strict sigs ctx mode (u_term_save h) st >>= run sigs ctx mode rest) ≡ Ok u = subst (λ (z : List UnifyCommand). run sigs ctx mode z st ≡ Ok u) us-are ran in
+      from_bind (unify_step strict sigs ctx mode (u_term_save h) st) _ u ran' λ s row later.
       from_bind (top_target st.targets) _ s row λ r r-is e1.
       from_want (operands_of h (tree_parts r.0)) k.UnifyTerm _ s e1 λ es es-are e2.
       let both : t ∷ ts ≡ r.0 ∷ r.1 = sym top ∙ top-is st.targets r r-is in

@@ -13,7 +13,7 @@ use Rattle.mz_unify_theory.specs.Streams.{of_assertion, UnifyCommand, u_term, u_
 use Rattle.mz_unify_theory.specs.Spells.{Marks, marked, Spells, SpellsAll, SpellsHyps, at_first, SpellsText}
 use Rattle.mz_unify_theory.specs.Profile.{strict, tree_parts}
 use Rattle.mz_unify_theory.specs.Tests.{same_tree}
-use Rattle.mz_unify_theory.specs.UnifyMachine.{UnifyMode, UnifyState, top_target, is_empty, operands_of, next_hypothesis, nothing_left, unify_row}
+use Rattle.mz_unify_theory.specs.UnifyMachine.{UnifyMode, UnifyState, top_target, is_empty, operands_of, next_hypothesis, nothing_left, unify_step}
 use Rattle.mz_unify_theory.proofs.Inverting.{from_bind, from_then, from_need, from_want, taken-is}
 use Rattle.mz_unify_theory.proofs.Matching.{run}
 
@@ -66,8 +66,8 @@ plain-head u_hyp us h = (tt, h)
 plain-head u_end us h = (tt, h)
 
 -- a run without dummies keeps what they are kept apart from
-same-apart : (sigs : List Signature) (ctx : List Binder) (mode : UnifyMode) (v : UnifyCommand) (st s : UnifyState Tree) → NotDummy v → unify_row strict sigs ctx mode v st ≡ Ok s → s.apart ≡ st.apart
-unfolding unify_row NotDummy
+same-apart : (sigs : List Signature) (ctx : List Binder) (mode : UnifyMode) (v : UnifyCommand) (st s : UnifyState Tree) → NotDummy v → unify_step strict sigs ctx mode v st ≡ Ok s → s.apart ≡ st.apart
+unfolding unify_step NotDummy
 same-apart sigs ctx mode (u_term t) st s plain e =
     from_bind (top_target st.targets) _ s e λ r r-is e1.
     from_want (operands_of t (tree_parts r.0)) k.UnifyTerm _ s e1 λ es at e2.
@@ -94,7 +94,7 @@ pub plain-apart : (sigs : List Signature) (ctx : List Binder) (mode : UnifyMode)
 unfolding NotDummy
 plain-apart sigs ctx mode [] st u plain e = same-apart sigs ctx mode u_end st u tt e
 plain-apart sigs ctx mode (v ∷ us) st u plain e =
-    from_bind (unify_row strict sigs ctx mode v st) _ u e λ s row later.
+    from_bind (unify_step strict sigs ctx mode v st) _ u e λ s row later.
     let (head, rest) = plain-head v us plain in
     plain-apart sigs ctx mode us s u rest later ∙ same-apart sigs ctx mode v st s head row
 

@@ -13,7 +13,7 @@ use Rattle.mz_unify_theory.specs.Streams.{StreamKind, of_assertion, of_definitio
 use Rattle.mz_unify_theory.specs.Spells.{trees_of, Marks, Spells, SpellsHyps, variables_from, at_first, Text}
 use Rattle.mz_unify_theory.specs.Profile.{strict, Item, proof}
 use Rattle.mz_unify_theory.specs.Sorted.{Sorted, AllSorted}
-use Rattle.mz_unify_theory.specs.UnifyMachine.{at_end, in_definition, UnifyState, top_target, is_empty, next_hypothesis, nothing_left, unify_row, unify}
+use Rattle.mz_unify_theory.specs.UnifyMachine.{at_end, in_definition, UnifyState, top_target, is_empty, next_hypothesis, nothing_left, unify_step, unify}
 use Rattle.mz_unify_theory.proofs.Inverting.{from_bind, from_then, from_need, need-not, taken-is}
 use Rattle.mz_unify_theory.proofs.Trees.{listed-trees_of, apart-is, all-sorted-append}
 use Rattle.mz_unify_theory.proofs.Matching.{run, run-grows}
@@ -75,19 +75,19 @@ module _ (sigs : List Signature) (ctx : List Binder) (n : ℕ) (u : UnifyState T
 
   hyps-spelt : (rs : List Tree) (us : List UnifyCommand) (m : Marks) (st : UnifyState Tree)
       → Middle us → run sigs ctx at_end us st ≡ Ok u → st.targets ≡ [] → st.items ≡ map proof rs → AllSorted sigs ctx rs → m.trees ≡ map (renamed (place_from 0 u.apart)) st.heap → length st.apart ≡ n + length m.dummies → HypsSpelt m us rs
-  unfolding unify_row HypsSpelt
+  unfolding unify_step HypsSpelt
   hyps-spelt [] [] m st middle ran top items sorted marks long =
       from_then (need (is_empty st.targets && nothing_left at_end st.items) k.UnifyRest) _ u ran λ x done same.
       (m, (refl, refl), ap (λ (z : UnifyState Tree). length z.apart) (sym (taken-is st u same)) ∙ long)
   hyps-spelt (r ∷ rs) [] m st middle ran top items sorted marks long =
       absurd (need-not (is_empty st.targets && nothing_left at_end st.items) k.UnifyRest (Ok st) u (rw (top, items) refl) ran)
   hyps-spelt [] (u_hyp ∷ us) m st middle ran top items sorted marks long =
-      from_bind (unify_row strict sigs ctx at_end u_hyp st) _ u ran λ s row later.
+      from_bind (unify_step strict sigs ctx at_end u_hyp st) _ u ran λ s row later.
       from_need (is_empty st.targets) k.UnifyRest _ s row λ done e1.
       from_bind (next_hypothesis at_end st.items) _ s e1 λ x next e2.
       absurd (no-next st.items x items next)
   hyps-spelt (r ∷ rs) (u_hyp ∷ us) m st (_, middle) ran top items (sorted, all-sorted) marks long =
-      from_bind (unify_row strict sigs ctx at_end u_hyp st) _ u ran λ s row later.
+      from_bind (unify_step strict sigs ctx at_end u_hyp st) _ u ran λ s row later.
       from_need (is_empty st.targets) k.UnifyRest _ s row λ done e1.
       from_bind (next_hypothesis at_end st.items) _ s e1 λ x next e2.
       let next-is : (r, map proof rs) ≡ x = next-of st.items r rs x items next in
@@ -98,13 +98,13 @@ module _ (sigs : List Signature) (ctx : List Binder) (n : ℕ) (u : UnifyState T
       (last, (us, a.after, a.rest, refl, a.spells, spells), count)
   hyps-spelt rs (u_end ∷ us) m st (no-end, middle) ran top items sorted marks long = absurd (no-end tt)
   hyps-spelt rs (u_term t ∷ us) m st middle ran top items sorted marks long =
-      from_bind (unify_row strict sigs ctx at_end (u_term t) st) _ u ran λ s row later. from_bind (top_target st.targets) _ s row λ x x-is e1. absurd (no-target x st.targets top x-is)
+      from_bind (unify_step strict sigs ctx at_end (u_term t) st) _ u ran λ s row later. from_bind (top_target st.targets) _ s row λ x x-is e1. absurd (no-target x st.targets top x-is)
   hyps-spelt rs (u_term_save t ∷ us) m st middle ran top items sorted marks long =
-      from_bind (unify_row strict sigs ctx at_end (u_term_save t) st) _ u ran λ s row later. from_bind (top_target st.targets) _ s row λ x x-is e1. absurd (no-target x st.targets top x-is)
+      from_bind (unify_step strict sigs ctx at_end (u_term_save t) st) _ u ran λ s row later. from_bind (top_target st.targets) _ s row λ x x-is e1. absurd (no-target x st.targets top x-is)
   hyps-spelt rs (u_ref i ∷ us) m st middle ran top items sorted marks long =
-      from_bind (unify_row strict sigs ctx at_end (u_ref i) st) _ u ran λ s row later. from_bind (top_target st.targets) _ s row λ x x-is e1. absurd (no-target x st.targets top x-is)
+      from_bind (unify_step strict sigs ctx at_end (u_ref i) st) _ u ran λ s row later. from_bind (top_target st.targets) _ s row λ x x-is e1. absurd (no-target x st.targets top x-is)
   hyps-spelt rs (u_dummy d ∷ us) m st middle ran top items sorted marks long =
-      from_bind (unify_row strict sigs ctx at_end (u_dummy d) st) _ u ran λ s row later. from_bind (top_target st.targets) _ s row λ x x-is e1. absurd (no-target x st.targets top x-is)
+      from_bind (unify_step strict sigs ctx at_end (u_dummy d) st) _ u ran λ s row later. from_bind (top_target st.targets) _ s row λ x x-is e1. absurd (no-target x st.targets top x-is)
 
 pub sorted-reverse : (sigs : List Signature) (ctx : List Binder) (es : List Tree) → AllSorted sigs ctx es → AllSorted sigs ctx (reverse es)
 sorted-reverse sigs ctx [] h = h
@@ -149,11 +149,11 @@ first-kept g j (p ∷ ps) kept =
 
 -- nothing follows where no target is left
 pub nothing-follows : (sigs : List Signature) (ctx : List Binder) (us : List UnifyCommand) (st u : UnifyState Tree) → Middle us → run sigs ctx in_definition us st ≡ Ok u → st.targets ≡ [] → st.items ≡ [] → us ≡ []
-unfolding unify_row
+unfolding unify_step
 nothing-follows sigs ctx [] st u middle ran top items = refl
 nothing-follows sigs ctx (u_end ∷ us) st u (no-end, middle) ran top items = absurd (no-end tt)
 nothing-follows sigs ctx (u_hyp ∷ us) st u middle ran top items =
-    from_bind (unify_row strict sigs ctx in_definition u_hyp st) _ u ran λ s row later.
+    from_bind (unify_step strict sigs ctx in_definition u_hyp st) _ u ran λ s row later.
     from_need (is_empty st.targets) k.UnifyRest _ s row λ done e1.
     from_bind (next_hypothesis in_definition st.items) _ s e1 λ x next e2.
     absurd (none-next st.items x items next)
@@ -162,13 +162,13 @@ nothing-follows sigs ctx (u_hyp ∷ us) st u middle ran top items =
     none-next [] x e h = cc
     none-next (y ∷ ys) x e h = cc
 nothing-follows sigs ctx (u_term t ∷ us) st u middle ran top items =
-    from_bind (unify_row strict sigs ctx in_definition (u_term t) st) _ u ran λ s row later. from_bind (top_target st.targets) _ s row λ x x-is e1. absurd (no-target x st.targets top x-is)
+    from_bind (unify_step strict sigs ctx in_definition (u_term t) st) _ u ran λ s row later. from_bind (top_target st.targets) _ s row λ x x-is e1. absurd (no-target x st.targets top x-is)
 nothing-follows sigs ctx (u_term_save t ∷ us) st u middle ran top items =
-    from_bind (unify_row strict sigs ctx in_definition (u_term_save t) st) _ u ran λ s row later. from_bind (top_target st.targets) _ s row λ x x-is e1. absurd (no-target x st.targets top x-is)
+    from_bind (unify_step strict sigs ctx in_definition (u_term_save t) st) _ u ran λ s row later. from_bind (top_target st.targets) _ s row λ x x-is e1. absurd (no-target x st.targets top x-is)
 nothing-follows sigs ctx (u_ref i ∷ us) st u middle ran top items =
-    from_bind (unify_row strict sigs ctx in_definition (u_ref i) st) _ u ran λ s row later. from_bind (top_target st.targets) _ s row λ x x-is e1. absurd (no-target x st.targets top x-is)
+    from_bind (unify_step strict sigs ctx in_definition (u_ref i) st) _ u ran λ s row later. from_bind (top_target st.targets) _ s row λ x x-is e1. absurd (no-target x st.targets top x-is)
 nothing-follows sigs ctx (u_dummy d ∷ us) st u middle ran top items =
-    from_bind (unify_row strict sigs ctx in_definition (u_dummy d) st) _ u ran λ s row later. from_bind (top_target st.targets) _ s row λ x x-is e1. absurd (no-target x st.targets top x-is)
+    from_bind (unify_step strict sigs ctx in_definition (u_dummy d) st) _ u ran λ s row later. from_bind (top_target st.targets) _ s row λ x x-is e1. absurd (no-target x st.targets top x-is)
 
 -- what a definition's own stream matches is what it spells, its dummies named by their order
 pub definition-spelled : (sigs : List Signature) (ctx params : List Binder) (stream : List ℕ) (e : Tree) (u : UnifyState Tree)

@@ -14,7 +14,7 @@ use Rattle.mz_unify_theory.specs.Steps.{◌>>=◌, ◌>>◌, need, at_place, Tur
 use Rattle.mz_unify_theory.specs.Streams.{UnifyCommand, u_term, u_term_save, u_ref, u_dummy, u_hyp, u_end, unify_command}
 use Rattle.mz_unify_theory.specs.Tests.{var_within, is_bound_var}
 use Rattle.mz_unify_theory.specs.Profile.{plain, strict}
-use Rattle.mz_unify_theory.specs.UnifyMachine.{UnifyMode, kind_of, Matching, UnifyState, top_target, within_any, is_fresh, unify_row, unify_turn_by, unify_turn, unify_from, at_start, unify, unify_steps_from, unify_steps}
+use Rattle.mz_unify_theory.specs.UnifyMachine.{UnifyMode, kind_of, Matching, UnifyState, top_target, within_any, is_fresh, unify_step, unify_turn_by, unify_turn, unify_from, at_start, unify, unify_steps_from, unify_steps}
 use Rattle.mz_unify_theory.proofs.Turning.{follow-same, goes_to-same, if_read-same}
 
 pub bind-same : {A B F : Type 0} (r : Result A F) (f g : A → Result B F) → ((x : A) → f x ≡ g x) → (r >>= f) ≡ (r >>= g)
@@ -32,8 +32,8 @@ module _ (gaps : Bool) (sigs : List Signature) (ctx : List Binder) (mode : Unify
   fresh-plain : (s : ℕ) (e : Tree) (es : List Tree) → is_fresh (plain gaps) sigs ctx s e es ≡ is_fresh strict sigs ctx s e es
   fresh-plain s e es = ap (λ (b : Bool). is_bound_var ctx e && sort_of sigs ctx e == s && not b) (within-plain e es)
 
-  row-plain : (c : UnifyCommand) (st : UnifyState Tree) → unify_row (plain gaps) sigs ctx mode c st ≡ unify_row strict sigs ctx mode c st
-  unfolding unify_row
+  row-plain : (c : UnifyCommand) (st : UnifyState Tree) → unify_step (plain gaps) sigs ctx mode c st ≡ unify_step strict sigs ctx mode c st
+  unfolding unify_step
   row-plain (u_term t) st = refl
   row-plain (u_term_save t) st = refl
   row-plain (u_ref i) st = refl

@@ -15,7 +15,7 @@ use Rattle.mz_unify_theory.specs.Spells.{trees_of, dummy_of, Marks, marked, HasO
 use Rattle.mz_unify_theory.specs.Profile.{strict, Item, proof}
 use Rattle.mz_unify_theory.specs.Sorted.{Sorted, AllSorted, ItemSorted, ItemsSorted}
 use Rattle.mz_unify_theory.specs.Tests.{same_tree}
-use Rattle.mz_unify_theory.specs.UnifyMachine.{UnifyMode, in_citation, in_definition, UnifyState, top_target, is_empty, next_hypothesis, nothing_left, is_fresh, unify_row, unify}
+use Rattle.mz_unify_theory.specs.UnifyMachine.{UnifyMode, in_citation, in_definition, UnifyState, top_target, is_empty, next_hypothesis, nothing_left, is_fresh, unify_step, unify}
 use Rattle.mz_unify_theory.specs.Laws.{citing, unfolding_by}
 use Rattle.mz_unify_theory.proofs.Inverting.{from_bind, from_need, from_want, need-not, taken-is}
 use Rattle.mz_unify_theory.proofs.Trees.{same_tree-true, listed-trees_of, operand-trees_of, operands-sorted}
@@ -127,9 +127,9 @@ module _ (sigs : List Signature) (ctx : List Binder) (mode : UnifyMode) (n : ℕ
 
   some-ref : (t : Tree) (i : ℕ) (m : Marks) (us : List UnifyCommand) (st : UnifyState Tree) (ts : List Tree)
       → run sigs ctx mode (u_ref i ∷ us) st ≡ Ok u → st.targets ≡ t ∷ ts → length m.trees ≡ length st.heap → SomeSpelt (size t) m (u_ref i ∷ us) st ts
-  unfolding unify_row
+  unfolding unify_step
   some-ref t i m us st ts ran top len =
-      from_bind (unify_row strict sigs ctx mode (u_ref i) st) _ u ran λ s row later.
+      from_bind (unify_step strict sigs ctx mode (u_ref i) st) _ u ran λ s row later.
       from_bind (top_target st.targets) _ s row λ r r-is e1.
       from_want (slice_get st.heap i) k.UnifyReference _ s e1 λ x x-at e2.
       from_need (same_tree x r.0) k.UnifyReference _ s e2 λ same e3.
@@ -156,9 +156,9 @@ module _ (sigs : List Signature) (ctx : List Binder) (mode : UnifyMode) (n : ℕ
 
   some-dummy : (y d : ℕ) (m : Marks) (us : List UnifyCommand) (st : UnifyState Tree) (ts : List Tree)
       → run sigs ctx mode (u_dummy d ∷ us) st ≡ Ok u → st.targets ≡ var y ∷ ts → length m.trees ≡ length st.heap → SomeSpelt 1 m (u_dummy d ∷ us) st ts
-  unfolding unify_row
+  unfolding unify_step
   some-dummy y d m us st ts ran top len =
-      from_bind (unify_row strict sigs ctx mode (u_dummy d) st) _ u ran λ s row later.
+      from_bind (unify_step strict sigs ctx mode (u_dummy d) st) _ u ran λ s row later.
       from_bind (top_target st.targets) _ s row λ r r-is e1.
       from_need (is_fresh strict sigs ctx d r.0 st.apart) k.UnifyDummy _ s e1 λ test e2.
       let both : var y ∷ ts ≡ r.0 ∷ r.1 = sym top ∙ top-is st.targets r r-is in
@@ -190,7 +190,7 @@ module _ (sigs : List Signature) (ctx : List Binder) (mode : UnifyMode) (n : ℕ
   operands-all h es t is sorted = let (d, at, _, all, _) = operands-sorted sigs ctx t h es is sorted in all
 
   mutual
-    unfolding unify_row Opened
+    unfolding unify_step Opened
 
     pub some-spelt : (t : Tree) (us : List UnifyCommand) (m : Marks) (st : UnifyState Tree) (ts : List Tree)
         → run sigs ctx mode us st ≡ Ok u → st.targets ≡ t ∷ ts → Sorted sigs ctx t → length m.trees ≡ length st.heap → SomeSpelt (size t) m us st ts
@@ -199,9 +199,9 @@ module _ (sigs : List Signature) (ctx : List Binder) (mode : UnifyMode) (n : ℕ
     some-spelt (var y) (u_dummy d ∷ us) m st ts ran top sorted len = some-dummy y d m us st ts ran top len
     some-spelt (app h es) (u_dummy d ∷ us) m st ts ran top sorted len = absurd (no-app sigs ctx mode n u h es d us st ts ran top)
     some-spelt t (u_hyp ∷ us) m st ts ran top sorted len =
-        from_bind (unify_row strict sigs ctx mode u_hyp st) _ u ran λ s row later. absurd (need-not (is_empty st.targets) k.UnifyRest _ s (not-empty st.targets t ts top) row)
+        from_bind (unify_step strict sigs ctx mode u_hyp st) _ u ran λ s row later. absurd (need-not (is_empty st.targets) k.UnifyRest _ s (not-empty st.targets t ts top) row)
     some-spelt t (u_end ∷ us) m st ts ran top sorted len =
-        from_bind (unify_row strict sigs ctx mode u_end st) _ u ran λ s row later. absurd (need-not (is_empty st.targets && nothing_left mode st.items) k.UnifyRest (Ok st) s (rw (not-empty st.targets t ts top) refl) row)
+        from_bind (unify_step strict sigs ctx mode u_end st) _ u ran λ s row later. absurd (need-not (is_empty st.targets && nothing_left mode st.items) k.UnifyRest (Ok st) s (rw (not-empty st.targets t ts top) refl) row)
     some-spelt (var y) (u_term h ∷ us) m st ts ran top sorted len =
         let (es, bad, later) = opened-term sigs ctx mode n (trees_of u.apart) u (operand-trees_of u.apart) h (u_term h ∷ us) us st (var y) ts refl ran top in absurd cc
     some-spelt (var y) (u_term_save h ∷ us) m st ts ran top sorted len =
@@ -328,15 +328,15 @@ module _ (sigs : List Signature) (ctx : List Binder) (n : ℕ) (u : UnifyState T
 
   some-hyps : (items : List (Item Tree)) (us : List UnifyCommand) (m : Marks) (st : UnifyState Tree)
       → Middle us → run sigs ctx in_citation us st ≡ Ok u → st.targets ≡ [] → st.items ≡ items → ItemsSorted sigs ctx items → length m.trees ≡ length st.heap → SomeHyps m us st
-  unfolding unify_row
+  unfolding unify_step
   some-hyps items [] m st middle ran top are sorted len = ([], m, (refl, refl))
   some-hyps [] (u_hyp ∷ us) m st middle ran top are sorted len =
-      from_bind (unify_row strict sigs ctx in_citation u_hyp st) _ u ran λ s row later.
+      from_bind (unify_step strict sigs ctx in_citation u_hyp st) _ u ran λ s row later.
       from_need (is_empty st.targets) k.UnifyRest _ s row λ done e1.
       from_bind (next_hypothesis in_citation st.items) _ s e1 λ x next e2.
       absurd (no-next st.items x are next)
   some-hyps (x ∷ xs) (u_hyp ∷ us) m st (_, middle) ran top are (sorted, all-sorted) len =
-      from_bind (unify_row strict sigs ctx in_citation u_hyp st) _ u ran λ s row later.
+      from_bind (unify_step strict sigs ctx in_citation u_hyp st) _ u ran λ s row later.
       from_need (is_empty st.targets) k.UnifyRest _ s row λ done e1.
       from_bind (next_hypothesis in_citation st.items) _ s e1 λ r next e2.
       let both : x ∷ xs ≡ proof r.0 ∷ r.1 = sym are ∙ hypothesis-is st.items r next in
@@ -350,13 +350,13 @@ module _ (sigs : List Signature) (ctx : List Binder) (n : ℕ) (u : UnifyState T
       (a.pattern ∷ hs, last, (us, with_more m a.new a.met, a.rest, refl, a.spells m (alike-itself (size r.0) st.heap m), spells))
   some-hyps items (u_end ∷ us) m st (no-end, middle) ran top are sorted len = absurd (no-end tt)
   some-hyps items (u_term t ∷ us) m st middle ran top are sorted len =
-      from_bind (unify_row strict sigs ctx in_citation (u_term t) st) _ u ran λ s row later. from_bind (top_target st.targets) _ s row λ x x-is e1. absurd (no-target x st.targets top x-is)
+      from_bind (unify_step strict sigs ctx in_citation (u_term t) st) _ u ran λ s row later. from_bind (top_target st.targets) _ s row λ x x-is e1. absurd (no-target x st.targets top x-is)
   some-hyps items (u_term_save t ∷ us) m st middle ran top are sorted len =
-      from_bind (unify_row strict sigs ctx in_citation (u_term_save t) st) _ u ran λ s row later. from_bind (top_target st.targets) _ s row λ x x-is e1. absurd (no-target x st.targets top x-is)
+      from_bind (unify_step strict sigs ctx in_citation (u_term_save t) st) _ u ran λ s row later. from_bind (top_target st.targets) _ s row λ x x-is e1. absurd (no-target x st.targets top x-is)
   some-hyps items (u_ref i ∷ us) m st middle ran top are sorted len =
-      from_bind (unify_row strict sigs ctx in_citation (u_ref i) st) _ u ran λ s row later. from_bind (top_target st.targets) _ s row λ x x-is e1. absurd (no-target x st.targets top x-is)
+      from_bind (unify_step strict sigs ctx in_citation (u_ref i) st) _ u ran λ s row later. from_bind (top_target st.targets) _ s row λ x x-is e1. absurd (no-target x st.targets top x-is)
   some-hyps items (u_dummy d ∷ us) m st middle ran top are sorted len =
-      from_bind (unify_row strict sigs ctx in_citation (u_dummy d) st) _ u ran λ s row later. from_bind (top_target st.targets) _ s row λ x x-is e1. absurd (no-target x st.targets top x-is)
+      from_bind (unify_step strict sigs ctx in_citation (u_dummy d) st) _ u ran λ s row later. from_bind (top_target st.targets) _ s row λ x x-is e1. absurd (no-target x st.targets top x-is)
 
 -- ---- whole streams
 

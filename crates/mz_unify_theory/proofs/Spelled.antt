@@ -19,7 +19,7 @@ use Rattle.mz_unify_theory.specs.Spells.{trees_of, dummy_of, Marks, marked, with
 use Rattle.mz_unify_theory.specs.Profile.{strict}
 use Rattle.mz_unify_theory.specs.Sorted.{Sorted, AllSorted}
 use Rattle.mz_unify_theory.specs.Tests.{in_v, same_tree}
-use Rattle.mz_unify_theory.specs.UnifyMachine.{UnifyMode, kind_of, UnifyState, top_target, is_empty, nothing_left, within_any, is_fresh, unify_row, unify_turn_by, unify_turn, unify_from}
+use Rattle.mz_unify_theory.specs.UnifyMachine.{UnifyMode, kind_of, UnifyState, top_target, is_empty, nothing_left, within_any, is_fresh, unify_step, unify_turn_by, unify_turn, unify_from}
 use Rattle.mz_unify_theory.proofs.Inverting.{from_bind, from_need, from_want, need-not, taken, taken-is}
 use Rattle.mz_unify_theory.proofs.TestLaws.{not-in-v}
 use Rattle.mz_unify_theory.proofs.Trees.{listed-trees_of, operand-trees_of, same_tree-true}
@@ -51,7 +51,7 @@ reads sigs ctx mode (suc n) at bytes st u e = go (first_command bytes) refl e (�
     ended (Ok s) h = let same : s ≡ u = cc in ap taken same
     ended (Err f) h = absurd cc
 
-    goes : (c : Cmd) (v : UnifyCommand) (r : Result (UnifyState Tree) K) → first_command bytes ≡ Ok c → unify_command (kind_of mode) c.code c.value ≡ Some v → (IsEnd v → ⊥) → r ≡ unify_row strict sigs ctx mode v st
+    goes : (c : Cmd) (v : UnifyCommand) (r : Result (UnifyState Tree) K) → first_command bytes ≡ Ok c → unify_command (kind_of mode) c.code c.value ≡ Some v → (IsEnd v → ⊥) → r ≡ unify_step strict sigs ctx mode v st
         → follow (at_place at (r >>= λ s. Ok (goes_on c.len s))) later ≡ Ok u
         → ((s : UnifyState Tree) → unify_from strict sigs ctx mode n (at + c.len) (drop c.len bytes) s ≡ Ok u → Read sigs ctx mode (drop c.len bytes) s u) → Read sigs ctx mode bytes st u
     goes c v (Err f) read is end row h ih = absurd cc
@@ -65,8 +65,8 @@ reads sigs ctx mode (suc n) at bytes st u e = go (first_command bytes) refl e (�
     commands c None read is h ih = absurd cc
     commands c (Some v) read is h ih =
         elim (ending-or-not v) [
-          | inl end ↦ ([], (c, read, is ∙ ap (λ (z : UnifyCommand). Some z) end), ended (unify_row strict sigs ctx mode u_end st) (subst (λ (z : UnifyCommand). follow (at_place at (unify_turn_by strict sigs ctx mode c.len st (Some z))) later ≡ Ok u) end h))
-          | inr not-end ↦ goes c v (unify_row strict sigs ctx mode v st) read is not-end refl (rw (turn-goes sigs ctx mode c.len st v not-end) at h) ih
+          | inl end ↦ ([], (c, read, is ∙ ap (λ (z : UnifyCommand). Some z) end), ended (unify_step strict sigs ctx mode u_end st) (subst (λ (z : UnifyCommand). follow (at_place at (unify_turn_by strict sigs ctx mode c.len st (Some z))) later ≡ Ok u) end h))
+          | inr not-end ↦ goes c v (unify_step strict sigs ctx mode v st) read is not-end refl (rw (turn-goes sigs ctx mode c.len st v not-end) at h) ih
         ]
 
     go : (r : Result Cmd CmdFault) → first_command bytes ≡ r → follow (at_place at (unify_turn strict sigs ctx mode st r)) (λ len s. unify_from strict sigs ctx mode n (at + len) (drop len bytes) s) ≡ Ok u
@@ -175,9 +175,9 @@ module _ (sigs : List Signature) (ctx : List Binder) (mode : UnifyMode) (n : ℕ
 
   spelled-ref : (t : Tree) (i : ℕ) (m : Marks) (us : List UnifyCommand) (st : UnifyState Tree) (ts : List Tree)
       → run sigs ctx mode (u_ref i ∷ us) st ≡ Ok u → st.targets ≡ t ∷ ts → m.trees ≡ map (renamed name) st.heap → length st.apart ≡ n + length m.dummies → Spelt m (u_ref i ∷ us) (renamed name t) st ts
-  unfolding unify_row
+  unfolding unify_step
   spelled-ref t i m us st ts ran top marks long =
-      from_bind (unify_row strict sigs ctx mode (u_ref i) st) _ u ran λ s row later.
+      from_bind (unify_step strict sigs ctx mode (u_ref i) st) _ u ran λ s row later.
       from_bind (top_target st.targets) _ s row λ r r-is e1.
       from_want (slice_get st.heap i) k.UnifyReference _ s e1 λ x x-at e2.
       from_need (same_tree x r.0) k.UnifyReference _ s e2 λ same e3.
@@ -198,9 +198,9 @@ module _ (sigs : List Signature) (ctx : List Binder) (mode : UnifyMode) (n : ℕ
       }
 
   pub no-app : (h : ℕ) (es : Trees) (d : ℕ) (us : List UnifyCommand) (st : UnifyState Tree) (ts : List Tree) → run sigs ctx mode (u_dummy d ∷ us) st ≡ Ok u → st.targets ≡ app h es ∷ ts → ⊥
-  unfolding unify_row
+  unfolding unify_step
   no-app h es d us st ts ran top =
-      from_bind (unify_row strict sigs ctx mode (u_dummy d) st) _ u ran λ s row later.
+      from_bind (unify_step strict sigs ctx mode (u_dummy d) st) _ u ran λ s row later.
       from_bind (top_target st.targets) _ s row λ r r-is e1.
       from_need (is_fresh strict sigs ctx d r.0 st.apart) k.UnifyDummy _ s e1 λ test e2.
       let both : app h es ∷ ts ≡ r.0 ∷ r.1 = sym top ∙ top-is st.targets r r-is in
@@ -210,9 +210,9 @@ module _ (sigs : List Signature) (ctx : List Binder) (mode : UnifyMode) (n : ℕ
 
   spelled-dummy : (y d : ℕ) (m : Marks) (us : List UnifyCommand) (st : UnifyState Tree) (ts : List Tree)
       → run sigs ctx mode (u_dummy d ∷ us) st ≡ Ok u → st.targets ≡ var y ∷ ts → m.trees ≡ map (renamed name) st.heap → length st.apart ≡ n + length m.dummies → Spelt m (u_dummy d ∷ us) (renamed name (var y)) st ts
-  unfolding unify_row
+  unfolding unify_step
   spelled-dummy y d m us st ts ran top marks long =
-      from_bind (unify_row strict sigs ctx mode (u_dummy d) st) _ u ran λ s row later.
+      from_bind (unify_step strict sigs ctx mode (u_dummy d) st) _ u ran λ s row later.
       from_bind (top_target st.targets) _ s row λ r r-is e1.
       from_need (is_fresh strict sigs ctx d r.0 st.apart) k.UnifyDummy _ s e1 λ test e2.
       let both : var y ∷ ts ≡ r.0 ∷ r.1 = sym top ∙ top-is st.targets r r-is in
@@ -250,7 +250,7 @@ module _ (sigs : List Signature) (ctx : List Binder) (mode : UnifyMode) (n : ℕ
   operands-of h es (s, (d, at, is, fits)) = ((d, at, count-renamed name es ∙ count-fits sigs ctx es d.params fits), all-sorted sigs ctx es d.params fits)
 
   mutual
-    unfolding unify_row Opened
+    unfolding unify_step Opened
 
     pub spelled : (t : Tree) (us : List UnifyCommand) (m : Marks) (st : UnifyState Tree) (ts : List Tree)
         → run sigs ctx mode us st ≡ Ok u → st.targets ≡ t ∷ ts → Sorted sigs ctx t → m.trees ≡ map (renamed name) st.heap → length st.apart ≡ n + length m.dummies → Spelt m us (renamed name t) st ts
@@ -259,9 +259,9 @@ module _ (sigs : List Signature) (ctx : List Binder) (mode : UnifyMode) (n : ℕ
     spelled (var y) (u_dummy d ∷ us) m st ts ran top sorted marks long = spelled-dummy y d m us st ts ran top marks long
     spelled (app h es) (u_dummy d ∷ us) m st ts ran top sorted marks long = absurd (no-app h es d us st ts ran top)
     spelled t (u_hyp ∷ us) m st ts ran top sorted marks long =
-        from_bind (unify_row strict sigs ctx mode u_hyp st) _ u ran λ s row later. absurd (need-not (is_empty st.targets) k.UnifyRest _ s (not-empty st.targets t ts top) row)
+        from_bind (unify_step strict sigs ctx mode u_hyp st) _ u ran λ s row later. absurd (need-not (is_empty st.targets) k.UnifyRest _ s (not-empty st.targets t ts top) row)
     spelled t (u_end ∷ us) m st ts ran top sorted marks long =
-        from_bind (unify_row strict sigs ctx mode u_end st) _ u ran λ s row later. absurd (need-not (is_empty st.targets && nothing_left mode st.items) k.UnifyRest (Ok st) s (rw (not-empty st.targets t ts top) refl) row)
+        from_bind (unify_step strict sigs ctx mode u_end st) _ u ran λ s row later. absurd (need-not (is_empty st.targets && nothing_left mode st.items) k.UnifyRest (Ok st) s (rw (not-empty st.targets t ts top) refl) row)
     spelled (var y) (u_term h ∷ us) m st ts ran top sorted marks long = let (es, bad, later) = opened h (u_term h ∷ us) us st (var y) ts refl ran top in absurd cc
     spelled (var y) (u_term_save h ∷ us) m st ts ran top sorted marks long = let (es, bad, later) = opened-saved h (u_term_save h ∷ us) us st (var y) ts refl ran top in absurd cc
     spelled (app h es) (u_term t ∷ us) m st ts ran top sorted marks long =

@@ -13,7 +13,7 @@ use Rattle.mz_unify_theory.specs.Spells.{trees_of, Marks, variables_from, at_fir
 use Rattle.mz_unify_theory.specs.Profile.{strict}
 use Rattle.mz_unify_theory.specs.Sorted.{Sorted}
 use Rattle.mz_unify_theory.specs.Tests.{in_v}
-use Rattle.mz_unify_theory.specs.UnifyMachine.{in_definition, UnifyState, is_empty, within_any, unify_row, unify}
+use Rattle.mz_unify_theory.specs.UnifyMachine.{in_definition, UnifyState, is_empty, within_any, unify_step, unify}
 use Rattle.mz_unify_theory.proofs.Inverting.{from_need, taken-is}
 use Rattle.mz_unify_theory.proofs.TestLaws.{not-in-v}
 use Rattle.mz_unify_theory.proofs.Trees.{operand-trees_of, followed-by-variables}
@@ -83,14 +83,14 @@ pub unfolding-is : (sigs : List Signature) (ctx params : List Binder) (stream : 
     → Text of_definition sigs params stream none b dummies → length es ≡ length params → Sorted sigs ctx e
     → unify strict sigs ctx (record { mode = in_definition; stream = stream; operands = es; target = e; items = [] }) ≡ Ok u
     → (ys : List ℕ) × (u.apart ≡ es ++ map var ys) × FreshList sigs ctx es ys dummies × IsUnfolding ctx es e dummies b ys
-unfolding unify unify_row Matched
+unfolding unify unify_step Matched
 unfolding-is sigs ctx params stream dummies b es e u (last, (us, stream-is, mid, rest, spells, (rest-are, last-is)), dummies-are) len sorted done =
     let st : UnifyState Tree = record { heap = es; apart = es; targets = e ∷ []; items = [] } in
     let ran = run-from sigs ctx in_definition (length stream) 0 stream us st u stream-is done in
     let grown = run-grows sigs ctx in_definition us st u ran in
     let len-params : length (variables_from 0 params) ≡ length es = length-params 0 params ∙ sym len in
     let (x, e-is) = matched sigs ctx in_definition (length params) (trees_of u.apart) u (operand-trees_of u.apart) b (at_first params) mid us rest st e [] spells ran refl sorted len-params (start-agrees params es u.apart _ len grown) (omega arith) in
-    let ended : unify_row strict sigs ctx in_definition u_end x.state ≡ Ok u = subst (λ (z : List UnifyCommand). run sigs ctx in_definition z x.state ≡ Ok u) rest-are x.runs in
+    let ended : unify_step strict sigs ctx in_definition u_end x.state ≡ Ok u = subst (λ (z : List UnifyCommand). run sigs ctx in_definition z x.state ≡ Ok u) rest-are x.runs in
     from_need (is_empty x.state.targets && true) k.UnifyRest _ u ended λ left e1.
     let same : x.state ≡ u = taken-is x.state u e1 in
     let binders-are : x.met.binders ≡ dummies = sym x.met.dummies ∙ ap (λ (z : Marks). z.dummies) (sym last-is) ∙ dummies-are in

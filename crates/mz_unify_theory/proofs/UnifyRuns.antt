@@ -10,7 +10,7 @@ use Rattle.mz_logic_theory.specs.declared.binder.Binder.{Binder}
 use Rattle.mz_unify_theory.specs.Steps.{◌>>=◌, Turn, over, goes_on, goes_to}
 use Rattle.mz_unify_theory.specs.Streams.{UnifyCommand, u_end, unify_command}
 use Rattle.mz_unify_theory.specs.Profile.{Profile}
-use Rattle.mz_unify_theory.specs.UnifyMachine.{UnifyMode, kind_of, UnifyState, unify_row, unify_turn_by, unify_turn, unify_from, unify_steps_from}
+use Rattle.mz_unify_theory.specs.UnifyMachine.{UnifyMode, kind_of, UnifyState, unify_step, unify_turn_by, unify_turn, unify_from, unify_steps_from}
 use Rattle.mz_unify_theory.proofs.Turning.{command-long, follow-same, goes_to-le, if_read-le, goes_to-same, if_read-same, drop-less}
 
 module _ (P : Profile) (sigs : List Signature) (ctx : List Binder) (mode : UnifyMode) where
@@ -27,8 +27,8 @@ module _ (P : Profile) (sigs : List Signature) (ctx : List Binder) (mode : Unify
 
   by-len : (len len' : ℕ) (st s : UnifyState P.T) (u : Option UnifyCommand) → unify_turn_by P sigs ctx mode len st u ≡ Ok (goes_on len' s) → len ≡ len'
   by-len len len' st s None e = absurd cc
-  by-len len len' st s (Some u_end) e = absurd (no-over len' s (unify_row P sigs ctx mode u_end st) e)
-  by-len len len' st s (Some u) e = row-len len len' s (unify_row P sigs ctx mode u st) e
+  by-len len len' st s (Some u_end) e = absurd (no-over len' s (unify_step P sigs ctx mode u_end st) e)
+  by-len len len' st s (Some u) e = row-len len len' s (unify_step P sigs ctx mode u st) e
 
   turn-len : (r : Result Cmd CmdFault) (st s : UnifyState P.T) (len : ℕ) → unify_turn P sigs ctx mode st r ≡ Ok (goes_on len s) → (c : Cmd) × (r ≡ Ok c) × (c.len ≡ len)
   turn-len (Err f) st s len e = absurd cc

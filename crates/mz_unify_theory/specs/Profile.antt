@@ -7,7 +7,7 @@ use Rattle.mz_unify_theory.specs.Tests.{same_tree}
 
 -- How expressions are kept: what each is as a tree, how a variable and an application are made (the
 -- application by the command at a place), what an application's term and operands are, and when two are
--- the same. What a machine lets through beside the published table, and what it asks beyond it.
+-- the same. What a machine lets through beside the standard machine, and what it asks beyond it.
 pub record Profile : Type 1 where
   pub T : Type 0
   pub tree : T → Tree
@@ -38,7 +38,7 @@ plain gaps = record {
   portable = false;
 }
 
--- the published table
+-- the standard machine
 abbrev pub strict : Profile
 strict = plain false
 

@@ -84,37 +84,37 @@ nothing_left at_end items = is_empty items
 nothing_left in_definition items = true
 
 -- one clause a command: its premises in order, and the next state
-unfoldable pub unify_row : (P : Profile) → List Signature → List Binder → UnifyMode → UnifyCommand → UnifyState P.T → Result (UnifyState P.T) K
-unify_row P sigs ctx mode (u_term t) st = do
+unfoldable pub unify_step : (P : Profile) → List Signature → List Binder → UnifyMode → UnifyCommand → UnifyState P.T → Result (UnifyState P.T) K
+unify_step P sigs ctx mode (u_term t) st = do
   top ← top_target st.targets
   es ← want (operands_of t (P.parts top.0)) k.UnifyTerm
   Ok (record st { targets = es ++ top.1 })
-unify_row P sigs ctx mode (u_term_save t) st = do
+unify_step P sigs ctx mode (u_term_save t) st = do
   top ← top_target st.targets
   es ← want (operands_of t (P.parts top.0)) k.UnifyTerm
   Ok (record st { targets = es ++ top.1; heap = st.heap ++ top.0 ∷ []; apart = if P.portable then st.apart ++ top.0 ∷ [] else st.apart })
-unify_row P sigs ctx mode (u_ref i) st = do
+unify_step P sigs ctx mode (u_ref i) st = do
   top ← top_target st.targets
   e ← want (slice_get st.heap i) k.UnifyReference
   need (P.same e top.0) k.UnifyReference
   Ok (record st { targets = top.1 })
-unify_row P sigs ctx mode (u_dummy s) st = do
+unify_step P sigs ctx mode (u_dummy s) st = do
   top ← top_target st.targets
   need (is_fresh P sigs ctx s top.0 st.apart) k.UnifyDummy
   Ok (record st { targets = top.1; heap = st.heap ++ top.0 ∷ []; apart = st.apart ++ top.0 ∷ [] })
-unify_row P sigs ctx mode u_hyp st = do
+unify_step P sigs ctx mode u_hyp st = do
   need (is_empty st.targets) k.UnifyRest
   next ← next_hypothesis mode st.items
   Ok (record st { targets = next.0 ∷ []; items = next.1 })
-unify_row P sigs ctx mode u_end st = do
+unify_step P sigs ctx mode u_end st = do
   need (is_empty st.targets && nothing_left mode st.items) k.UnifyRest
   Ok st
 
 -- the command at the front: cut, unknown or of another stream, or its row
 abbrev pub unify_turn_by : (P : Profile) → List Signature → List Binder → UnifyMode → ℕ → UnifyState P.T → Option UnifyCommand → Result (Turn (UnifyState P.T)) K
 unify_turn_by P sigs ctx mode len st None = Err k.Command
-unify_turn_by P sigs ctx mode len st (Some u_end) = unify_row P sigs ctx mode u_end st >>= λ s. Ok (over s)
-unify_turn_by P sigs ctx mode len st (Some u) = unify_row P sigs ctx mode u st >>= λ s. Ok (goes_on len s)
+unify_turn_by P sigs ctx mode len st (Some u_end) = unify_step P sigs ctx mode u_end st >>= λ s. Ok (over s)
+unify_turn_by P sigs ctx mode len st (Some u) = unify_step P sigs ctx mode u st >>= λ s. Ok (goes_on len s)
 
 abbrev pub unify_turn : (P : Profile) → List Signature → List Binder → UnifyMode → UnifyState P.T → Result Cmd CmdFault → Result (Turn (UnifyState P.T)) K
 unify_turn P sigs ctx mode st (Err _) = Err k.Command

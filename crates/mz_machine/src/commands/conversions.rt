@@ -8,7 +8,7 @@ ghost use Rattle.mz_unify_theory.specs.Profile.{strict};
 ghost use Rattle.mz_unify.specs.Stored.{items_at, item_at, trees_at, AreItemsIn, IsItemIn};
 ghost use Rattle.mz_machine_theory.specs.Premises.{pop_sides};
 ghost use Rattle.mz_machine_theory.specs.MachineState.{RowsBefore, State};
-ghost use Rattle.mz_machine_theory.specs.ProofMachine.{proof_row, sides};
+ghost use Rattle.mz_machine_theory.specs.ProofMachine.{proof_step, sides};
 ghost use Rattle.mz_machine_theory.specs.Bodies.{row_steps};
 ghost use Rattle.mz_machine_env.specs.Before.{tables_of, signatures_of};
 ghost use Rattle.mz_machine.specs.OverStore.{with_stack, pop_unfolding, Gives, GivesRule, UnlessMem};
@@ -24,11 +24,11 @@ use std::sync::ledger::Ledger;
 
 /// From an expression and a proof below to a proof of the expression, which the obligation above is
 /// to pay. It takes no memory.
-#[tactic(auto, using(crate::proofs::Converting::put_in), unfolding(mz_machine_theory::specs::ProofMachine::proof_row))]
+#[tactic(auto, using(crate::proofs::Converting::put_in), unfolding(mz_machine_theory::specs::ProofMachine::proof_step))]
 pub(crate) fn conv(store: &Store, stack: &mut Vec<Item>) -> Result<(), K>
     requires { AreItemsIn store.now stack.old.items }
     ensures ids { OnOk result (AreItemsIn store.now stack.new.items) }
-    ensures row { (tables : RowsBefore) (at n : ℕ) (st : State Tree) → st.stack ≡ items_at store.now stack.old.items → GivesRule (proof_row strict tables at code.Conv n st) result (λ _. with_stack st (items_at store.now stack.new.items)) }
+    ensures row { (tables : RowsBefore) (at n : ℕ) (st : State Tree) → st.stack ≡ items_at store.now stack.old.items → GivesRule (proof_step strict tables at code.Conv n st) result (λ _. with_stack st (items_at store.now stack.new.items)) }
 {
     let proved = pop_proof(store, stack)?;
     let claimed = pop_expr(store, stack)?;
@@ -38,11 +38,11 @@ pub(crate) fn conv(store: &Store, stack: &mut Vec<Item>) -> Result<(), K>
 }
 
 /// Drops an obligation whose sides are the same. It takes no memory.
-#[tactic(auto, unfolding(mz_machine_theory::specs::ProofMachine::proof_row))]
+#[tactic(auto, unfolding(mz_machine_theory::specs::ProofMachine::proof_step))]
 pub(crate) fn refl(store: &Store, stack: &mut Vec<Item>) -> Result<(), K>
     requires { AreItemsIn store.now stack.old.items }
     ensures ids { OnOk result (AreItemsIn store.now stack.new.items) }
-    ensures row { (tables : RowsBefore) (at n : ℕ) (st : State Tree) → st.stack ≡ items_at store.now stack.old.items → GivesRule (proof_row strict tables at code.Refl n st) result (λ _. with_stack st (items_at store.now stack.new.items)) }
+    ensures row { (tables : RowsBefore) (at n : ℕ) (st : State Tree) → st.stack ≡ items_at store.now stack.old.items → GivesRule (proof_step strict tables at code.Refl n st) result (λ _. with_stack st (items_at store.now stack.new.items)) }
 {
     let (left, right) = pop_obligation(store, stack)?;
     if store.same(left, right) {
@@ -53,11 +53,11 @@ pub(crate) fn refl(store: &Store, stack: &mut Vec<Item>) -> Result<(), K>
 }
 
 /// Turns an obligation round. It takes no memory.
-#[tactic(auto, using(crate::proofs::Converting::put_in), unfolding(mz_machine_theory::specs::ProofMachine::proof_row))]
+#[tactic(auto, using(crate::proofs::Converting::put_in), unfolding(mz_machine_theory::specs::ProofMachine::proof_step))]
 pub(crate) fn symm(store: &Store, stack: &mut Vec<Item>) -> Result<(), K>
     requires { AreItemsIn store.now stack.old.items }
     ensures ids { OnOk result (AreItemsIn store.now stack.new.items) }
-    ensures row { (tables : RowsBefore) (at n : ℕ) (st : State Tree) → st.stack ≡ items_at store.now stack.old.items → GivesRule (proof_row strict tables at code.Symm n st) result (λ _. with_stack st (items_at store.now stack.new.items)) }
+    ensures row { (tables : RowsBefore) (at n : ℕ) (st : State Tree) → st.stack ≡ items_at store.now stack.old.items → GivesRule (proof_step strict tables at code.Symm n st) result (λ _. with_stack st (items_at store.now stack.new.items)) }
 {
     let (left, right) = pop_obligation(store, stack)?;
     put_back(stack, Item::Obligation(right, left));
@@ -66,11 +66,11 @@ pub(crate) fn symm(store: &Store, stack: &mut Vec<Item>) -> Result<(), K>
 
 /// From an obligation between two applications of one term to those between their operands, the
 /// first on top.
-#[tactic(auto, unfolding(mz_machine_theory::specs::ProofMachine::proof_row))]
+#[tactic(auto, unfolding(mz_machine_theory::specs::ProofMachine::proof_step))]
 pub(crate) fn cong(store: &Store, stack: &mut Vec<Item>) -> Result<(), Stop>
     requires { AreItemsIn store.now stack.old.items }
     ensures ids { OnOk result (AreItemsIn store.now stack.new.items) }
-    ensures row { (tables : RowsBefore) (at n : ℕ) (st : State Tree) → st.stack ≡ items_at store.now stack.old.items → Gives (proof_row strict tables at code.Cong n st) result (λ _. with_stack st (items_at store.now stack.new.items)) }
+    ensures row { (tables : RowsBefore) (at n : ℕ) (st : State Tree) → st.stack ≡ items_at store.now stack.old.items → Gives (proof_step strict tables at code.Cong n st) result (λ _. with_stack st (items_at store.now stack.new.items)) }
 {
     let (left, right) = match pop_obligation(store, stack) {
         Ok(sides) => sides,
@@ -104,7 +104,7 @@ fn push_sides(store: &Store, lefts: &[Id], rights: &[Id], stack: &mut Vec<Item>)
 
 /// From an obligation whose left side is a definition's application, and what it unfolds to, to the
 /// obligation between that and the right side. The definition's stream runs on what it unfolds to.
-#[tactic(auto, unfolding(mz_machine_theory::specs::ProofMachine::proof_row))]
+#[tactic(auto, unfolding(mz_machine_theory::specs::ProofMachine::proof_step))]
 pub(crate) fn unfold<L: Ledger>(
     earlier: &Earlier,
     store: &Store,
@@ -116,7 +116,7 @@ pub(crate) fn unfold<L: Ledger>(
     requires mode { store.now.mode ≡ All }
     requires stack { AreItemsIn store.now stack.old.items }
     ensures ids { OnOk result (AreItemsIn store.now stack.new.items) }
-    ensures row { (at n : ℕ) (st : State Tree) → st.ctx ≡ store.now.context → st.stack ≡ items_at store.now stack.old.items → Gives (proof_row strict (tables_of earlier.now) at code.Unfold n st) result (λ _. with_stack st (items_at store.now stack.new.items)) }
+    ensures row { (at n : ℕ) (st : State Tree) → st.ctx ≡ store.now.context → st.stack ≡ items_at store.now stack.old.items → Gives (proof_step strict (tables_of earlier.now) at code.Unfold n st) result (λ _. with_stack st (items_at store.now stack.new.items)) }
     ensures steps { (n : ℕ) (st : State Tree) → st.ctx ≡ store.now.context → st.stack ≡ items_at store.now stack.old.items → UnlessMem result (steps.new ≡ steps.old + row_steps strict (tables_of earlier.now) code.Unfold n st) }
     ensures most { steps.new ≤ steps.old + length earlier.now.file }
 {
@@ -184,11 +184,11 @@ fn pop_sides(store: &Store, stack: &mut Vec<Item>) -> Result<(Id, Id), K>
 }
 
 /// Puts the conversion that an obligation asks for below the obligation.
-#[tactic(auto, using(crate::proofs::Converting::put_in), unfolding(mz_machine_theory::specs::ProofMachine::proof_row))]
+#[tactic(auto, using(crate::proofs::Converting::put_in), unfolding(mz_machine_theory::specs::ProofMachine::proof_step))]
 pub(crate) fn conv_cut(store: &Store, stack: &mut Vec<Item>) -> Result<(), Stop>
     requires { AreItemsIn store.now stack.old.items }
     ensures ids { OnOk result (AreItemsIn store.now stack.new.items) }
-    ensures row { (tables : RowsBefore) (at n : ℕ) (st : State Tree) → st.stack ≡ items_at store.now stack.old.items → Gives (proof_row strict tables at code.ConvCut n st) result (λ _. with_stack st (items_at store.now stack.new.items)) }
+    ensures row { (tables : RowsBefore) (at n : ℕ) (st : State Tree) → st.stack ≡ items_at store.now stack.old.items → Gives (proof_step strict tables at code.ConvCut n st) result (λ _. with_stack st (items_at store.now stack.new.items)) }
 {
     let (left, right) = match pop_obligation(store, stack) {
         Ok(sides) => sides,
@@ -199,11 +199,11 @@ pub(crate) fn conv_cut(store: &Store, stack: &mut Vec<Item>) -> Result<(), Stop>
 }
 
 /// Takes a conversion from the stack, for the heap.
-#[tactic(auto, unfolding(mz_machine_theory::specs::ProofMachine::proof_row))]
+#[tactic(auto, unfolding(mz_machine_theory::specs::ProofMachine::proof_step))]
 pub(crate) fn conv_save(store: &Store, stack: &mut Vec<Item>) -> Result<Item, K>
     requires { AreItemsIn store.now stack.old.items }
     ensures ids { IfOk result (λ item. IsItemIn store.now item × AreItemsIn store.now stack.new.items) }
-    ensures row { (tables : RowsBefore) (at n : ℕ) (st : State Tree) → st.stack ≡ items_at store.now stack.old.items → GivesRule (proof_row strict tables at code.ConvSave n st) result (λ item. record (with_stack st (items_at store.now stack.new.items)) { heap = st.heap ++ item_at store.now item ∷ [] }) }
+    ensures row { (tables : RowsBefore) (at n : ℕ) (st : State Tree) → st.stack ≡ items_at store.now stack.old.items → GivesRule (proof_step strict tables at code.ConvSave n st) result (λ item. record (with_stack st (items_at store.now stack.new.items)) { heap = st.heap ++ item_at store.now item ∷ [] }) }
 {
     let (left, right) = pop_conversion(store, stack)?;
     Ok(Item::Conversion(left, right))

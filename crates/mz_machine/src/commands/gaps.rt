@@ -6,7 +6,7 @@ ghost use Rattle.mz_store.specs.Sharing.{IsOver};
 ghost use Rattle.mz_unify_theory.specs.Profile.{draft};
 ghost use Rattle.mz_unify.specs.Stored.{items_at, AreItemsIn};
 ghost use Rattle.mz_machine_theory.specs.MachineState.{State};
-ghost use Rattle.mz_machine_theory.specs.ProofMachine.{proof_row};
+ghost use Rattle.mz_machine_theory.specs.ProofMachine.{proof_step};
 ghost use Rattle.mz_machine_env.specs.Before.{tables_of, signatures_of};
 ghost use Rattle.mz_machine.specs.OverStore.{with_stack, GivesRule};
 
@@ -23,7 +23,7 @@ pub(crate) fn gap(earlier: &Earlier, store: &Store, stack: &mut Vec<Item>) -> Re
     requires over { IsOver (signatures_of earlier.now) store.now }
     requires stack { AreItemsIn store.now stack.old.items }
     ensures ids { OnOk result (AreItemsIn store.now stack.new.items) }
-    ensures row { (at n : ℕ) (st : State Tree) → st.ctx ≡ store.now.context → st.stack ≡ items_at store.now stack.old.items → GivesRule (proof_row draft (tables_of earlier.now) at code.Sorry n st) result (λ _. with_stack st (items_at store.now stack.new.items)) }
+    ensures row { (at n : ℕ) (st : State Tree) → st.ctx ≡ store.now.context → st.stack ≡ items_at store.now stack.old.items → GivesRule (proof_step draft (tables_of earlier.now) at code.Sorry n st) result (λ _. with_stack st (items_at store.now stack.new.items)) }
 {
     match pop(store, stack)? {
         Item::Expr(claim) => {

@@ -9,7 +9,7 @@ ghost use Rattle.mz_unify_theory.specs.Profile.{strict, expr, proof, conversion}
 ghost use Rattle.mz_unify.specs.Stored.{items_at, item_at, AreItemsIn, IsItemIn};
 ghost use Rattle.mz_machine_theory.specs.MachineState.{RowsBefore, State};
 ghost use Rattle.mz_machine_theory.specs.Premises.{is_provable_sort, may_be_dummy_sort};
-ghost use Rattle.mz_machine_theory.specs.ProofMachine.{proof_row, referred};
+ghost use Rattle.mz_machine_theory.specs.ProofMachine.{proof_step, referred};
 ghost use Rattle.mz_machine_env.specs.Before.{tables_of, signatures_of};
 ghost use Rattle.mz_machine.specs.OverStore.{heap_at, with_stack, Gives, GivesRule, NeverWants, Grows};
 
@@ -64,7 +64,7 @@ pub(crate) fn refer(
     requires heap { AreItemsIn store.now heap.now }
     requires stack { AreItemsIn store.now stack.old.items }
     ensures ids { OnOk result (AreItemsIn store.now stack.new.items) }
-    ensures row { (tables : RowsBefore) (at : ℕ) (st : State Tree) → st.heap ≡ heap_at store.now heap.now → st.stack ≡ items_at store.now stack.old.items → Gives (proof_row strict tables at code.Ref place st) result (λ _. with_stack st (items_at store.now stack.new.items)) }
+    ensures row { (tables : RowsBefore) (at : ℕ) (st : State Tree) → st.heap ≡ heap_at store.now heap.now → st.stack ≡ items_at store.now stack.old.items → Gives (proof_step strict tables at code.Ref place st) result (λ _. with_stack st (items_at store.now stack.new.items)) }
     ensures never { (l r : Id) → slice_get heap.now place ≡ Some (Conversion l r) → NeverWants result }
 {
     let Some(item) = kept_at(heap, place) else {
@@ -83,7 +83,7 @@ pub(crate) fn conv_refer(
     requires heap { AreItemsIn store.now heap.now }
     requires stack { AreItemsIn store.now stack.old.items }
     ensures ids { OnOk result (AreItemsIn store.now stack.new.items) }
-    ensures row { (tables : RowsBefore) (at : ℕ) (st : State Tree) → st.heap ≡ heap_at store.now heap.now → st.stack ≡ items_at store.now stack.old.items → GivesRule (proof_row strict tables at code.ConvRef place st) result (λ _. with_stack st (items_at store.now stack.new.items)) }
+    ensures row { (tables : RowsBefore) (at : ℕ) (st : State Tree) → st.heap ≡ heap_at store.now heap.now → st.stack ≡ items_at store.now stack.old.items → GivesRule (proof_step strict tables at code.ConvRef place st) result (λ _. with_stack st (items_at store.now stack.new.items)) }
 {
     let Some(item) = kept_at(heap, place) else {
         return Err(K::HeapIndex);
@@ -98,7 +98,7 @@ pub(crate) fn conv_refer(
 pub(crate) fn save(store: &Store, stack: &[Item]) -> Result<Item, K>
     requires { AreItemsIn store.now stack.now }
     ensures ids { IfOk result (λ item. IsItemIn store.now item) }
-    ensures row { (tables : RowsBefore) (at n : ℕ) (st : State Tree) → st.stack ≡ items_at store.now stack.now → GivesRule (proof_row strict tables at code.Save n st) result (λ item. record st { heap = st.heap ++ item_at store.now item ∷ [] }) }
+    ensures row { (tables : RowsBefore) (at n : ℕ) (st : State Tree) → st.stack ≡ items_at store.now stack.now → GivesRule (proof_step strict tables at code.Save n st) result (λ item. record st { heap = st.heap ++ item_at store.now item ∷ [] }) }
 {
     let Some(item) = top(stack) else {
         return Err(K::Underflow);
@@ -125,7 +125,7 @@ pub(crate) fn dummy(earlier: &Earlier, sort: u32, store: &mut Store) -> Result<I
     requires over { IsOver (signatures_of earlier.now) store.old }
     ensures grows { OnOk result (Grows (signatures_of earlier.now) store.old store.new) }
     ensures ids { IfOk result (λ id. IsIn store.new id.0) }
-    ensures row { (at : ℕ) (st : State Tree) → st.ctx ≡ store.old.context → Gives (proof_row strict (tables_of earlier.now) at code.Dummy sort st) result (λ id. record { ctx = store.new.context; heap = st.heap ++ expr (tree_of store.new id.0) ∷ []; stack = expr (tree_of store.new id.0) ∷ st.stack; hyps = st.hyps }) }
+    ensures row { (at : ℕ) (st : State Tree) → st.ctx ≡ store.old.context → Gives (proof_step strict (tables_of earlier.now) at code.Dummy sort st) result (λ id. record { ctx = store.new.context; heap = st.heap ++ expr (tree_of store.new id.0) ∷ []; stack = expr (tree_of store.new id.0) ∷ st.stack; hyps = st.hyps }) }
 {
     if !may_be_dummy(earlier, sort) {
         return Err(Stop::Rule(K::DummySort));
@@ -155,7 +155,7 @@ pub(crate) fn hyp(earlier: &Earlier, store: &Store, stack: &mut Vec<Item>) -> Re
     requires over { IsOver (signatures_of earlier.now) store.now }
     requires stack { AreItemsIn store.now stack.old.items }
     ensures ids { IfOk result (λ id. IsIn store.now id.0 × AreItemsIn store.now stack.new.items) }
-    ensures row { (at n : ℕ) (st : State Tree) → st.ctx ≡ store.now.context → st.stack ≡ items_at store.now stack.old.items → GivesRule (proof_row strict (tables_of earlier.now) at code.Hyp n st) result (λ id. record { ctx = st.ctx; heap = st.heap ++ proof (tree_of store.now id.0) ∷ []; stack = items_at store.now stack.new.items; hyps = st.hyps ++ tree_of store.now id.0 ∷ [] }) }
+    ensures row { (at n : ℕ) (st : State Tree) → st.ctx ≡ store.now.context → st.stack ≡ items_at store.now stack.old.items → GivesRule (proof_step strict (tables_of earlier.now) at code.Hyp n st) result (λ id. record { ctx = st.ctx; heap = st.heap ++ proof (tree_of store.now id.0) ∷ []; stack = items_at store.now stack.new.items; hyps = st.hyps ++ tree_of store.now id.0 ∷ [] }) }
 {
     let claim = pop_expr(store, stack)?;
     if is_provable(earlier, store.sort_of(claim)) {

@@ -9,7 +9,7 @@ ghost use Rattle.mz_unify_theory.specs.Profile.{strict, expr, proof};
 ghost use Rattle.mz_unify.specs.Stored.{items_at, matching_at, AreItemsIn};
 ghost use Rattle.mz_unify.specs.declared.unified.UnifyMode.TheVariants.{Use};
 ghost use Rattle.mz_machine_theory.specs.MachineState.{State};
-ghost use Rattle.mz_machine_theory.specs.ProofMachine.{proof_row, built, citation};
+ghost use Rattle.mz_machine_theory.specs.ProofMachine.{proof_step, built, citation};
 ghost use Rattle.mz_machine_theory.specs.Bodies.{row_steps};
 ghost use Rattle.mz_machine_env.specs.Before.{tables_of, signatures_of};
 ghost use Rattle.mz_machine.specs.OverStore.{with_stack, Gives, UnlessMem, Grows};
@@ -67,8 +67,8 @@ pub(crate) fn term(
     ensures grows { OnOk result (Grows (signatures_of earlier.now) store.old store.new) }
     ensures context { store.new.context ≡ store.old.context }
     ensures ids { IfOk result (λ id. IsIn store.new id.0 × AreItemsIn store.new stack.new.items) }
-    ensures plain { (at : ℕ) (st : State Tree) → st.ctx ≡ store.old.context → st.stack ≡ items_at store.old stack.old.items → Gives (proof_row strict (tables_of earlier.now) at code.Term t st) result (λ _. with_stack st (items_at store.new stack.new.items)) }
-    ensures saved { (at : ℕ) (st : State Tree) → st.ctx ≡ store.old.context → st.stack ≡ items_at store.old stack.old.items → Gives (proof_row strict (tables_of earlier.now) at code.TermSave t st) result (λ id. record (with_stack st (items_at store.new stack.new.items)) { heap = st.heap ++ expr (tree_of store.new id.0) ∷ [] }) }
+    ensures plain { (at : ℕ) (st : State Tree) → st.ctx ≡ store.old.context → st.stack ≡ items_at store.old stack.old.items → Gives (proof_step strict (tables_of earlier.now) at code.Term t st) result (λ _. with_stack st (items_at store.new stack.new.items)) }
+    ensures saved { (at : ℕ) (st : State Tree) → st.ctx ≡ store.old.context → st.stack ≡ items_at store.old stack.old.items → Gives (proof_step strict (tables_of earlier.now) at code.TermSave t st) result (λ id. record (with_stack st (items_at store.new stack.new.items)) { heap = st.heap ++ expr (tree_of store.new id.0) ∷ [] }) }
 {
     let made = build(earlier, t, store, stack, operands)?;
     push(stack, Item::Expr(made))?;
@@ -89,8 +89,8 @@ pub(crate) fn thm<L: Ledger>(
     requires mode { store.now.mode ≡ All }
     requires stack { AreItemsIn store.now stack.old.items }
     ensures ids { IfOk result (λ id. IsIn store.now id.0 × AreItemsIn store.now stack.new.items) }
-    ensures plain { (at : ℕ) (st : State Tree) → st.ctx ≡ store.now.context → st.stack ≡ items_at store.now stack.old.items → Gives (proof_row strict (tables_of earlier.now) at code.Thm t st) result (λ _. with_stack st (items_at store.now stack.new.items)) }
-    ensures saved { (at : ℕ) (st : State Tree) → st.ctx ≡ store.now.context → st.stack ≡ items_at store.now stack.old.items → Gives (proof_row strict (tables_of earlier.now) at code.ThmSave t st) result (λ id. record (with_stack st (items_at store.now stack.new.items)) { heap = st.heap ++ proof (tree_of store.now id.0) ∷ [] }) }
+    ensures plain { (at : ℕ) (st : State Tree) → st.ctx ≡ store.now.context → st.stack ≡ items_at store.now stack.old.items → Gives (proof_step strict (tables_of earlier.now) at code.Thm t st) result (λ _. with_stack st (items_at store.now stack.new.items)) }
+    ensures saved { (at : ℕ) (st : State Tree) → st.ctx ≡ store.now.context → st.stack ≡ items_at store.now stack.old.items → Gives (proof_step strict (tables_of earlier.now) at code.ThmSave t st) result (λ id. record (with_stack st (items_at store.now stack.new.items)) { heap = st.heap ++ proof (tree_of store.now id.0) ∷ [] }) }
     ensures steps { (st : State Tree) → st.ctx ≡ store.now.context → st.stack ≡ items_at store.now stack.old.items → UnlessMem result (steps.new ≡ steps.old + row_steps strict (tables_of earlier.now) code.Thm t st) }
     ensures most { steps.new ≤ steps.old + length earlier.now.file }
 {

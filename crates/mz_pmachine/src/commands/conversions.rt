@@ -5,7 +5,7 @@ ghost use Rattle.mz_pmachine_unify.specs.Numbering.{AreIn, IsIn, IsOver, expr_of
 ghost use Rattle.mz_pmachine_unify.specs.Stored.{items_at, item_at, exprs_at, AreItemsIn, IsItemIn};
 ghost use Rattle.mz_machine_theory.specs.Premises.{pop_sides};
 ghost use Rattle.mz_machine_theory.specs.MachineState.{RowsBefore, State};
-ghost use Rattle.mz_machine_theory.specs.ProofMachine.{proof_row, sides};
+ghost use Rattle.mz_machine_theory.specs.ProofMachine.{proof_step, sides};
 ghost use Rattle.mz_machine_theory.specs.Bodies.{row_steps};
 ghost use Rattle.mz_machine_env.specs.Before.{tables_of, signatures_of};
 ghost use Rattle.mz_machine.specs.OverStore.{GivesRule, Gives, UnlessMem};
@@ -24,11 +24,11 @@ use std::sync::ledger::Ledger;
 
 /// From an expression and a proof below to a proof of the expression, which the obligation above is
 /// to pay.
-#[tactic(auto, using(crate::proofs::Converting::put_in), unfolding(mz_machine_theory::specs::ProofMachine::proof_row))]
+#[tactic(auto, using(crate::proofs::Converting::put_in), unfolding(mz_machine_theory::specs::ProofMachine::proof_step))]
 pub(crate) fn conv(nodes: &Nodes, stack: &mut Vec<Item>) -> Result<(), K>
     requires { AreItemsIn nodes.now stack.old.items }
     ensures ids { OnOk result (AreItemsIn nodes.now stack.new.items) }
-    ensures row { (tables : RowsBefore) (at n : ℕ) (st : State Numbered) → st.stack ≡ items_at nodes.now stack.old.items → GivesRule (proof_row portable tables at code.Conv n st) result (λ _. with_stack st (items_at nodes.now stack.new.items)) }
+    ensures row { (tables : RowsBefore) (at n : ℕ) (st : State Numbered) → st.stack ≡ items_at nodes.now stack.old.items → GivesRule (proof_step portable tables at code.Conv n st) result (λ _. with_stack st (items_at nodes.now stack.new.items)) }
 {
     let proved = pop_proof(nodes, stack)?;
     let claimed = pop_expr(nodes, stack)?;
@@ -38,11 +38,11 @@ pub(crate) fn conv(nodes: &Nodes, stack: &mut Vec<Item>) -> Result<(), K>
 }
 
 /// Drops an obligation whose sides are the same.
-#[tactic(auto, unfolding(mz_machine_theory::specs::ProofMachine::proof_row))]
+#[tactic(auto, unfolding(mz_machine_theory::specs::ProofMachine::proof_step))]
 pub(crate) fn refl(nodes: &Nodes, stack: &mut Vec<Item>) -> Result<(), K>
     requires { AreItemsIn nodes.now stack.old.items }
     ensures ids { OnOk result (AreItemsIn nodes.now stack.new.items) }
-    ensures row { (tables : RowsBefore) (at n : ℕ) (st : State Numbered) → st.stack ≡ items_at nodes.now stack.old.items → GivesRule (proof_row portable tables at code.Refl n st) result (λ _. with_stack st (items_at nodes.now stack.new.items)) }
+    ensures row { (tables : RowsBefore) (at n : ℕ) (st : State Numbered) → st.stack ≡ items_at nodes.now stack.old.items → GivesRule (proof_step portable tables at code.Refl n st) result (λ _. with_stack st (items_at nodes.now stack.new.items)) }
 {
     let (left, right) = pop_obligation(nodes, stack)?;
     if nodes.same(left, right) {
@@ -53,11 +53,11 @@ pub(crate) fn refl(nodes: &Nodes, stack: &mut Vec<Item>) -> Result<(), K>
 }
 
 /// Turns an obligation round.
-#[tactic(auto, using(crate::proofs::Converting::put_in), unfolding(mz_machine_theory::specs::ProofMachine::proof_row))]
+#[tactic(auto, using(crate::proofs::Converting::put_in), unfolding(mz_machine_theory::specs::ProofMachine::proof_step))]
 pub(crate) fn symm(nodes: &Nodes, stack: &mut Vec<Item>) -> Result<(), K>
     requires { AreItemsIn nodes.now stack.old.items }
     ensures ids { OnOk result (AreItemsIn nodes.now stack.new.items) }
-    ensures row { (tables : RowsBefore) (at n : ℕ) (st : State Numbered) → st.stack ≡ items_at nodes.now stack.old.items → GivesRule (proof_row portable tables at code.Symm n st) result (λ _. with_stack st (items_at nodes.now stack.new.items)) }
+    ensures row { (tables : RowsBefore) (at n : ℕ) (st : State Numbered) → st.stack ≡ items_at nodes.now stack.old.items → GivesRule (proof_step portable tables at code.Symm n st) result (λ _. with_stack st (items_at nodes.now stack.new.items)) }
 {
     let (left, right) = pop_obligation(nodes, stack)?;
     put_back(stack, Item::Obligation(right, left));
@@ -66,11 +66,11 @@ pub(crate) fn symm(nodes: &Nodes, stack: &mut Vec<Item>) -> Result<(), K>
 
 /// From an obligation between two applications of one term to those between their operands, the
 /// first on top.
-#[tactic(auto, unfolding(mz_machine_theory::specs::ProofMachine::proof_row))]
+#[tactic(auto, unfolding(mz_machine_theory::specs::ProofMachine::proof_step))]
 pub(crate) fn cong(nodes: &Nodes, stack: &mut Vec<Item>) -> Result<(), Stop>
     requires { AreItemsIn nodes.now stack.old.items }
     ensures ids { OnOk result (AreItemsIn nodes.now stack.new.items) }
-    ensures row { (tables : RowsBefore) (at n : ℕ) (st : State Numbered) → st.stack ≡ items_at nodes.now stack.old.items → Gives (proof_row portable tables at code.Cong n st) result (λ _. with_stack st (items_at nodes.now stack.new.items)) }
+    ensures row { (tables : RowsBefore) (at n : ℕ) (st : State Numbered) → st.stack ≡ items_at nodes.now stack.old.items → Gives (proof_step portable tables at code.Cong n st) result (λ _. with_stack st (items_at nodes.now stack.new.items)) }
 {
     let (left, right) = match pop_obligation(nodes, stack) {
         Ok(sides) => sides,
@@ -104,7 +104,7 @@ fn push_sides(nodes: &Nodes, lefts: &[Id], rights: &[Id], stack: &mut Vec<Item>)
 
 /// From an obligation whose left side is a definition's application, and what it unfolds to, to the
 /// obligation between that and the right side. The definition's stream runs on what it unfolds to.
-#[tactic(auto, unfolding(mz_machine_theory::specs::ProofMachine::proof_row))]
+#[tactic(auto, unfolding(mz_machine_theory::specs::ProofMachine::proof_step))]
 pub(crate) fn unfold<L: Ledger>(
     earlier: &Earlier,
     nodes: &Nodes,
@@ -115,7 +115,7 @@ pub(crate) fn unfold<L: Ledger>(
     requires over { IsOver (signatures_of earlier.now) nodes.now }
     requires stack { AreItemsIn nodes.now stack.old.items }
     ensures ids { OnOk result (AreItemsIn nodes.now stack.new.items) }
-    ensures row { (at n : ℕ) (st : State Numbered) → st.ctx ≡ nodes.now.context → st.stack ≡ items_at nodes.now stack.old.items → Gives (proof_row portable (tables_of earlier.now) at code.Unfold n st) result (λ _. with_stack st (items_at nodes.now stack.new.items)) }
+    ensures row { (at n : ℕ) (st : State Numbered) → st.ctx ≡ nodes.now.context → st.stack ≡ items_at nodes.now stack.old.items → Gives (proof_step portable (tables_of earlier.now) at code.Unfold n st) result (λ _. with_stack st (items_at nodes.now stack.new.items)) }
     ensures steps { (n : ℕ) (st : State Numbered) → st.ctx ≡ nodes.now.context → st.stack ≡ items_at nodes.now stack.old.items → UnlessMem result (steps.new ≡ steps.old + row_steps portable (tables_of earlier.now) code.Unfold n st) }
     ensures most { steps.new ≤ steps.old + length earlier.now.file }
 {
@@ -178,11 +178,11 @@ fn pop_sides(nodes: &Nodes, stack: &mut Vec<Item>) -> Result<(Id, Id), K>
 }
 
 /// Puts the conversion that an obligation asks for below the obligation.
-#[tactic(auto, using(crate::proofs::Converting::put_in), unfolding(mz_machine_theory::specs::ProofMachine::proof_row))]
+#[tactic(auto, using(crate::proofs::Converting::put_in), unfolding(mz_machine_theory::specs::ProofMachine::proof_step))]
 pub(crate) fn conv_cut(nodes: &Nodes, stack: &mut Vec<Item>) -> Result<(), Stop>
     requires { AreItemsIn nodes.now stack.old.items }
     ensures ids { OnOk result (AreItemsIn nodes.now stack.new.items) }
-    ensures row { (tables : RowsBefore) (at n : ℕ) (st : State Numbered) → st.stack ≡ items_at nodes.now stack.old.items → Gives (proof_row portable tables at code.ConvCut n st) result (λ _. with_stack st (items_at nodes.now stack.new.items)) }
+    ensures row { (tables : RowsBefore) (at n : ℕ) (st : State Numbered) → st.stack ≡ items_at nodes.now stack.old.items → Gives (proof_step portable tables at code.ConvCut n st) result (λ _. with_stack st (items_at nodes.now stack.new.items)) }
 {
     let (left, right) = match pop_obligation(nodes, stack) {
         Ok(sides) => sides,
@@ -193,11 +193,11 @@ pub(crate) fn conv_cut(nodes: &Nodes, stack: &mut Vec<Item>) -> Result<(), Stop>
 }
 
 /// Takes a conversion from the stack, for the heap.
-#[tactic(auto, unfolding(mz_machine_theory::specs::ProofMachine::proof_row))]
+#[tactic(auto, unfolding(mz_machine_theory::specs::ProofMachine::proof_step))]
 pub(crate) fn conv_save(nodes: &Nodes, stack: &mut Vec<Item>) -> Result<Item, K>
     requires { AreItemsIn nodes.now stack.old.items }
     ensures ids { IfOk result (λ item. IsItemIn nodes.now item × AreItemsIn nodes.now stack.new.items) }
-    ensures row { (tables : RowsBefore) (at n : ℕ) (st : State Numbered) → st.stack ≡ items_at nodes.now stack.old.items → GivesRule (proof_row portable tables at code.ConvSave n st) result (λ item. record (with_stack st (items_at nodes.now stack.new.items)) { heap = st.heap ++ item_at nodes.now item ∷ [] }) }
+    ensures row { (tables : RowsBefore) (at n : ℕ) (st : State Numbered) → st.stack ≡ items_at nodes.now stack.old.items → GivesRule (proof_step portable tables at code.ConvSave n st) result (λ item. record (with_stack st (items_at nodes.now stack.new.items)) { heap = st.heap ++ item_at nodes.now item ∷ [] }) }
 {
     let (left, right) = pop_conversion(nodes, stack)?;
     Ok(Item::Conversion(left, right))

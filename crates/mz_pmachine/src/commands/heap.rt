@@ -8,7 +8,7 @@ ghost use Rattle.mz_unify_theory.specs.Profile.{expr, proof, conversion};
 ghost use Rattle.mz_pmachine_unify.specs.Stored.{items_at, item_at, AreItemsIn, IsItemIn};
 ghost use Rattle.mz_machine_theory.specs.MachineState.{RowsBefore, State};
 ghost use Rattle.mz_machine_theory.specs.Premises.{is_provable_sort, may_be_dummy_sort};
-ghost use Rattle.mz_machine_theory.specs.ProofMachine.{proof_row, referred};
+ghost use Rattle.mz_machine_theory.specs.ProofMachine.{proof_step, referred};
 ghost use Rattle.mz_machine_env.specs.Before.{tables_of, signatures_of};
 ghost use Rattle.mz_machine.specs.OverStore.{GivesRule, Gives};
 ghost use Rattle.mz_pmachine.specs.OverNodes.{heap_at, with_stack, Grows};
@@ -62,7 +62,7 @@ pub(crate) fn refer(
     requires heap { AreItemsIn nodes.now heap.now }
     requires stack { AreItemsIn nodes.now stack.old.items }
     ensures ids { OnOk result (AreItemsIn nodes.now stack.new.items) }
-    ensures row { (tables : RowsBefore) (at : ℕ) (st : State Numbered) → st.heap ≡ heap_at nodes.now heap.now → st.stack ≡ items_at nodes.now stack.old.items → Gives (proof_row portable tables at code.Ref place st) result (λ _. with_stack st (items_at nodes.now stack.new.items)) }
+    ensures row { (tables : RowsBefore) (at : ℕ) (st : State Numbered) → st.heap ≡ heap_at nodes.now heap.now → st.stack ≡ items_at nodes.now stack.old.items → Gives (proof_step portable tables at code.Ref place st) result (λ _. with_stack st (items_at nodes.now stack.new.items)) }
 {
     let Some(item) = kept_at(heap, place) else {
         return Err(Stop::Rule(K::HeapIndex));
@@ -74,7 +74,7 @@ pub(crate) fn refer(
 pub(crate) fn save(nodes: &Nodes, stack: &[Item]) -> Result<Item, K>
     requires { AreItemsIn nodes.now stack.now }
     ensures ids { IfOk result (λ item. IsItemIn nodes.now item) }
-    ensures row { (tables : RowsBefore) (at n : ℕ) (st : State Numbered) → st.stack ≡ items_at nodes.now stack.now → GivesRule (proof_row portable tables at code.Save n st) result (λ item. record st { heap = st.heap ++ item_at nodes.now item ∷ [] }) }
+    ensures row { (tables : RowsBefore) (at n : ℕ) (st : State Numbered) → st.stack ≡ items_at nodes.now stack.now → GivesRule (proof_step portable tables at code.Save n st) result (λ item. record st { heap = st.heap ++ item_at nodes.now item ∷ [] }) }
 {
     let Some(item) = top(stack) else {
         return Err(K::Underflow);
@@ -102,7 +102,7 @@ pub(crate) fn dummy(earlier: &Earlier, sort: u32, nodes: &mut Nodes) -> Result<I
     ensures grows { OnOk result (Grows (signatures_of earlier.now) nodes.old nodes.new) }
     ensures next { OnOk result (nodes.new.next ≡ nodes.old.next) }
     ensures ids { IfOk result (λ id. IsIn nodes.new id.0) }
-    ensures row { (at : ℕ) (st : State Numbered) → st.ctx ≡ nodes.old.context → Gives (proof_row portable (tables_of earlier.now) at code.Dummy sort st) result (λ id. record { ctx = nodes.new.context; heap = st.heap ++ expr (expr_of nodes.new id.0) ∷ []; stack = expr (expr_of nodes.new id.0) ∷ st.stack; hyps = st.hyps }) }
+    ensures row { (at : ℕ) (st : State Numbered) → st.ctx ≡ nodes.old.context → Gives (proof_step portable (tables_of earlier.now) at code.Dummy sort st) result (λ id. record { ctx = nodes.new.context; heap = st.heap ++ expr (expr_of nodes.new id.0) ∷ []; stack = expr (expr_of nodes.new id.0) ∷ st.stack; hyps = st.hyps }) }
 {
     if !may_be_dummy(earlier, sort) {
         return Err(Stop::Rule(K::DummySort));
@@ -132,7 +132,7 @@ pub(crate) fn hyp(earlier: &Earlier, nodes: &Nodes, stack: &mut Vec<Item>) -> Re
     requires over { IsOver (signatures_of earlier.now) nodes.now }
     requires stack { AreItemsIn nodes.now stack.old.items }
     ensures ids { IfOk result (λ id. IsIn nodes.now id.0 × AreItemsIn nodes.now stack.new.items) }
-    ensures row { (at n : ℕ) (st : State Numbered) → st.ctx ≡ nodes.now.context → st.stack ≡ items_at nodes.now stack.old.items → GivesRule (proof_row portable (tables_of earlier.now) at code.Hyp n st) result (λ id. record { ctx = st.ctx; heap = st.heap ++ proof (expr_of nodes.now id.0) ∷ []; stack = items_at nodes.now stack.new.items; hyps = st.hyps ++ expr_of nodes.now id.0 ∷ [] }) }
+    ensures row { (at n : ℕ) (st : State Numbered) → st.ctx ≡ nodes.now.context → st.stack ≡ items_at nodes.now stack.old.items → GivesRule (proof_step portable (tables_of earlier.now) at code.Hyp n st) result (λ id. record { ctx = st.ctx; heap = st.heap ++ proof (expr_of nodes.now id.0) ∷ []; stack = items_at nodes.now stack.new.items; hyps = st.hyps ++ expr_of nodes.now id.0 ∷ [] }) }
 {
     let claim = pop_expr(nodes, stack)?;
     if is_provable(earlier, nodes.sort_of(claim)) {

@@ -7,7 +7,7 @@ ghost use Rattle.mz_unify_theory.specs.Profile.{expr, proof};
 ghost use Rattle.mz_pmachine_unify.specs.Stored.{items_at, matching_at, AreItemsIn};
 ghost use Rattle.mz_unify.specs.declared.unified.UnifyMode.TheVariants.{Use};
 ghost use Rattle.mz_machine_theory.specs.MachineState.{State};
-ghost use Rattle.mz_machine_theory.specs.ProofMachine.{proof_row, built, citation};
+ghost use Rattle.mz_machine_theory.specs.ProofMachine.{proof_step, built, citation};
 ghost use Rattle.mz_machine_theory.specs.Bodies.{row_steps};
 ghost use Rattle.mz_machine_env.specs.Before.{tables_of, signatures_of};
 ghost use Rattle.mz_pmachine.specs.OverNodes.{with_stack, Grows};
@@ -74,8 +74,8 @@ pub(crate) fn term(
     ensures next { OnOk result (nodes.new.next ≤ at + 1) }
     ensures context { nodes.new.context ≡ nodes.old.context }
     ensures ids { IfOk result (λ id. IsIn nodes.new id.0 × AreItemsIn nodes.new stack.new.items) }
-    ensures plain { (st : State Numbered) → st.ctx ≡ nodes.old.context → st.stack ≡ items_at nodes.old stack.old.items → Gives (proof_row portable (tables_of earlier.now) at code.Term t st) result (λ _. with_stack st (items_at nodes.new stack.new.items)) }
-    ensures saved { (st : State Numbered) → st.ctx ≡ nodes.old.context → st.stack ≡ items_at nodes.old stack.old.items → Gives (proof_row portable (tables_of earlier.now) at code.TermSave t st) result (λ id. record (with_stack st (items_at nodes.new stack.new.items)) { heap = st.heap ++ expr (expr_of nodes.new id.0) ∷ [] }) }
+    ensures plain { (st : State Numbered) → st.ctx ≡ nodes.old.context → st.stack ≡ items_at nodes.old stack.old.items → Gives (proof_step portable (tables_of earlier.now) at code.Term t st) result (λ _. with_stack st (items_at nodes.new stack.new.items)) }
+    ensures saved { (st : State Numbered) → st.ctx ≡ nodes.old.context → st.stack ≡ items_at nodes.old stack.old.items → Gives (proof_step portable (tables_of earlier.now) at code.TermSave t st) result (λ id. record (with_stack st (items_at nodes.new stack.new.items)) { heap = st.heap ++ expr (expr_of nodes.new id.0) ∷ [] }) }
 {
     let made = build(earlier, at, t, nodes, stack, operands)?;
     push(stack, Item::Expr(made))?;
@@ -95,8 +95,8 @@ pub(crate) fn thm<L: Ledger>(
     requires over { IsOver (signatures_of earlier.now) nodes.now }
     requires stack { AreItemsIn nodes.now stack.old.items }
     ensures ids { IfOk result (λ id. IsIn nodes.now id.0 × AreItemsIn nodes.now stack.new.items) }
-    ensures plain { (at : ℕ) (st : State Numbered) → st.ctx ≡ nodes.now.context → st.stack ≡ items_at nodes.now stack.old.items → Gives (proof_row portable (tables_of earlier.now) at code.Thm t st) result (λ _. with_stack st (items_at nodes.now stack.new.items)) }
-    ensures saved { (at : ℕ) (st : State Numbered) → st.ctx ≡ nodes.now.context → st.stack ≡ items_at nodes.now stack.old.items → Gives (proof_row portable (tables_of earlier.now) at code.ThmSave t st) result (λ id. record (with_stack st (items_at nodes.now stack.new.items)) { heap = st.heap ++ proof (expr_of nodes.now id.0) ∷ [] }) }
+    ensures plain { (at : ℕ) (st : State Numbered) → st.ctx ≡ nodes.now.context → st.stack ≡ items_at nodes.now stack.old.items → Gives (proof_step portable (tables_of earlier.now) at code.Thm t st) result (λ _. with_stack st (items_at nodes.now stack.new.items)) }
+    ensures saved { (at : ℕ) (st : State Numbered) → st.ctx ≡ nodes.now.context → st.stack ≡ items_at nodes.now stack.old.items → Gives (proof_step portable (tables_of earlier.now) at code.ThmSave t st) result (λ id. record (with_stack st (items_at nodes.now stack.new.items)) { heap = st.heap ++ proof (expr_of nodes.now id.0) ∷ [] }) }
     ensures steps { (st : State Numbered) → st.ctx ≡ nodes.now.context → st.stack ≡ items_at nodes.now stack.old.items → UnlessMem result (steps.new ≡ steps.old + row_steps portable (tables_of earlier.now) code.Thm t st) }
     ensures most { steps.new ≤ steps.old + length earlier.now.file }
 {

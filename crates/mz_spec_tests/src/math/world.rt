@@ -47,7 +47,7 @@ pub enum Step<'a> {
     Defines(u32, &'a str),
 }
 
-/// What is declared, and what has been told of it.
+/// What is declared, and what has been reported of it.
 #[derive(Drop)]
 pub struct World {
     alloc: Global,
@@ -343,7 +343,7 @@ impl World {
     }
 }
 
-/// What is told of strings, and of statements that add nothing, step after step.
+/// What is said of strings, and of statements that add nothing, step after step.
 #[derive(Clone, Copy)]
 pub struct Case<'a> {
     pub table: &'a [Step<'a>],

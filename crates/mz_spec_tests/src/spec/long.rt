@@ -1,7 +1,7 @@
 // Long math strings.
 use super::page::{Long, compare_long};
 
-/// Many tokens: the rule that is told, the statement and the place; three times 0 where none is.
+/// Many tokens: the rule that is reported, the statement and the place; three times 0 where none is.
 const TOKENS: &[(Long, (u32, u32, u32))] = &[
     (
         Long {

@@ -1,4 +1,4 @@
-// Statements that break several rules: the one that comes first in the order is told.
+// Statements that break several rules: the one that comes first in the order is reported.
 use super::page::compare;
 
 /// Sorts of each kind, terms, an operator and an axiom that stand before a text.

@@ -1,4 +1,4 @@
-// Words that ask for nothing, files and outputs that fail, and want of memory.
+// Words that ask for nothing, files and outputs that fail, and out of memory.
 use crate::expect::{expect_of, expect_that};
 use crate::program::files::{DUMMY, ONE, ONE_SPEC};
 use crate::program::{ended, expect, folder_of, words_of};

@@ -1,4 +1,4 @@
-// Files as verifiers see them that compare addresses: what the published table accepts, and what they refuse of it.
+// Files as verifiers see them that compare addresses: what the standard machine accepts, and what they refuse of it.
 use crate::program::change::Change::{Front, Put, Then};
 use crate::program::change::{Change, changed};
 use crate::program::files::{
@@ -175,7 +175,7 @@ const CASES: &[Case] = &[
         &[],
         "refused: binary statement 5 at byte 174: K25 disjoint",
         "refused: binary statement 5 at byte 174: K25 disjoint",
-        "what the published table refuses",
+        "what the standard machine refuses",
     ),
     (
         "sort wff;",
@@ -196,7 +196,7 @@ const CASES: &[Case] = &[
 ];
 
 #[test]
-fn files_are_judged_by_address(rt: HostRuntime) {
+fn files_are_judged_by_identity(rt: HostRuntime) {
     for (spec, file, changes, published, portable, what) in CASES {
         let spec = spec.as_bytes();
         let bin = changed(&rt, file, changes);

@@ -6,6 +6,6 @@ use Rattle.mz_pmachine_unify.specs.Stored.{exprs_at}
 use Rattle.mz_unify.specs.Rows.{TellsAny}
 use Rattle.mz_pmachine_unify.proofs.rows.variables.Given as goal
 
--- the word tells the variables of those before
+-- the word names the variables of those before
 abbrev pub invariant-loop-id : goal.invariant-loop-id
 invariant-loop-id l = (sigs : List Signature) → IsOver sigs l.nodes → TellsAny l.nodes.context l.word (map tree_of (exprs_at l.nodes (take l.id-index l.ids)))

@@ -69,7 +69,7 @@ commands-preserved g c =
           (not-end c.in-Some.next c.in_default-next.not-End) (λ es told. c.in_default-step.ensures.row sigs es over told));
     }
 
--- ---- what is told of want of memory and refusals is nothing
+-- ---- what is said of running out of memory and refusals is nothing
 
 pub returns-in_default-clause-taken : goal.returns-in_default-clause-taken
 returns-in_default-clause-taken g c = rw c.stopped.ensures tt

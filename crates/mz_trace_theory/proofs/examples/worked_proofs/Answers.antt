@@ -1,12 +1,12 @@
 use Rattle.std.proofs.Common.{refl}
-use Rattle.mz_unify_theory.specs.UnifyMachine.{unify_row, unify_from, unify}
-use Rattle.mz_machine_theory.specs.ProofMachine.{built, citation, cited, unfolding_of, proof_row, ends_with, proof_end}
+use Rattle.mz_unify_theory.specs.UnifyMachine.{unify_step, unify_from, unify}
+use Rattle.mz_machine_theory.specs.ProofMachine.{built, citation, cited, unfolding_of, proof_step, ends_with, proof_end}
 use Rattle.mz_machine_theory.specs.Bodies.{body_from}
 use Rattle.mz_trace_theory.specs.Traces.{traced, trace_from}
 use Rattle.mz_trace_theory.proofs.examples.worked_proofs.Goals as goal
 
 pub returns : goal.returns
-unfolding unify_row unify_from unify built citation cited unfolding_of proof_row ends_with proof_end body_from traced trace_from
+unfolding unify_step unify_from unify built citation cited unfolding_of proof_step ends_with proof_end body_from traced trace_from
 returns c = record {
   citations = ((refl, refl), (refl, refl), (refl, refl), (refl, refl));
   unfoldings = ((refl, refl), (refl, refl));

@@ -5,6 +5,6 @@ use Rattle.mz_unify.specs.Stored.{trees_at}
 use Rattle.mz_unify.specs.Rows.{TellsAny}
 use Rattle.mz_unify.proofs.rows.variables.Given as goal
 
--- the word tells the variables of those before
+-- the word names the variables of those before
 abbrev pub invariant-loop-id : goal.invariant-loop-id
 invariant-loop-id l = (sigs : List Signature) → IsOver sigs l.store → TellsAny l.store.context l.word (trees_at l.store (take l.id-index l.ids))

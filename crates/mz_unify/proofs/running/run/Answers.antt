@@ -68,7 +68,7 @@ commands-preserved g c =
 pub step-requires-clause-stands : goal.step-requires-clause-stands
 step-requires-clause-stands g c sort same = dummy-stands (mode_of c.args.mode) c.in-Ok.cmd.code c.in-Ok.cmd.value sort c.in-Some.next c.in-Some.ensures.some same
 
--- ---- what is told of want of memory and refusals is nothing
+-- ---- what is said of running out of memory and refusals is nothing
 
 pub returns-in_default-clause-taken : goal.returns-in_default-clause-taken
 returns-in_default-clause-taken g c = rw c.stopped.ensures tt

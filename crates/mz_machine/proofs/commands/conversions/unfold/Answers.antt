@@ -1,7 +1,7 @@
 use Rattle.std.proofs.Common.{◌≡◌, ◌∙◌, ◌+◌, ◌++◌, Err, ap, sym, subst, arith}
 use Rattle.std.proofs.lemmas.Result.{err_from_is_err_and}
 use Rattle.mz_cmd.specs.declared.code.ProofCode.TheVariants as code
-use Rattle.mz_machine_theory.specs.ProofMachine.{proof_row}
+use Rattle.mz_machine_theory.specs.ProofMachine.{proof_step}
 use Rattle.mz_machine_theory.specs.Bodies.{row_steps}
 use Rattle.mz_machine_env.specs.Before.{tables_of}
 use Rattle.mz_store.specs.Sharing.{IsOver, tree_of}
@@ -96,7 +96,7 @@ returns-in_err-through-clause-row g c at n st ctx is =
     let ops = c.in-Ok-extend_from_slice.ensures.items ∙ ap (λ is. is ++ c.args-2.result.now) c.clear.ensures.items in
     let are = ap (trees_at s) ops ∙ operand-trees s c.args-2.result.now l c.args-2.ensures.trees in
     let p = err_from_is_err_and c.from_residual.result c.from_residual.ensures.1 in
-    rw (p.1, p.2) (stopped-through c.unify_in.result _ _ (λ d. proof_row strict (tables_of E) at code.Unfold n st ≡ Err d) c.in_err-through.field-0.0 c.in_err-through.ensures c.unify_in.ensures.run
+    rw (p.1, p.2) (stopped-through c.unify_in.result _ _ (λ d. proof_step strict (tables_of E) at code.Unfold n st ≡ Err d) c.in_err-through.field-0.0 c.in_err-through.ensures c.unify_in.ensures.run
     (λ place d stopped. unfold-refused strict _ st _ _ _ m at n place d (same-run E s st.ctx ctx t l c.in-Ok.items.0 _ _ _ c.stream_of_term-stream.ensures.stream are c.clear-2.ensures.items ∙ stopped)))
 
 pub returns-in_err-through-clause-steps : goal.returns-in_err-through-clause-steps

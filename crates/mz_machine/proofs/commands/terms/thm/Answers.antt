@@ -5,7 +5,7 @@ use Rattle.mz_store.specs.Sharing.{IsOver, tree_of}
 use Rattle.mz_store.specs.declared.item.Item.TheVariants.{Proof}
 use Rattle.mz_unify_theory.specs.Profile.{strict, proof}
 use Rattle.mz_unify.proofs.Offered.{items-push, items-in-both, stopped-through, went-through}
-use Rattle.mz_machine_theory.specs.ProofMachine.{proof_row}
+use Rattle.mz_machine_theory.specs.ProofMachine.{proof_step}
 use Rattle.mz_machine_theory.specs.Bodies.{row_steps}
 use Rattle.mz_machine_env.specs.Before.{tables_of}
 use Rattle.mz_machine.specs.OverStore.{with_stack}
@@ -20,13 +20,13 @@ use Rattle.mz_machine.proofs.commands.terms.thm.Goals as goal
 pub returns-in_err-target-clause-plain : goal.returns-in_err-target-clause-plain
 returns-in_err-target-clause-plain g c at st ctx is =
     let p = err_from_is_err_and c.from_residual.result c.from_residual.ensures.1 in
-    rw (p.1, p.2) (stops-as c.in_err-target.field-0.0 _ (λ k. proof_row strict (tables_of c.args.earlier.now) at code.Thm c.args.t st ≡ Err k)
+    rw (p.1, p.2) (stops-as c.in_err-target.field-0.0 _ (λ k. proof_step strict (tables_of c.args.earlier.now) at code.Thm c.args.t st ≡ Err k)
     (λ k h. thm-stopped strict (tables_of c.args.earlier.now) at c.args.t st k h) (c.in_err-target.ensures.taken st ctx is))
 
 pub returns-in_err-target-clause-saved : goal.returns-in_err-target-clause-saved
 returns-in_err-target-clause-saved g c at st ctx is =
     let p = err_from_is_err_and c.from_residual.result c.from_residual.ensures.1 in
-    rw (p.1, p.2) (stops-as c.in_err-target.field-0.0 _ (λ k. proof_row strict (tables_of c.args.earlier.now) at code.ThmSave c.args.t st ≡ Err k)
+    rw (p.1, p.2) (stops-as c.in_err-target.field-0.0 _ (λ k. proof_step strict (tables_of c.args.earlier.now) at code.ThmSave c.args.t st ≡ Err k)
     (λ k h. thm-save-stopped strict (tables_of c.args.earlier.now) at c.args.t st k h) (c.in_err-target.ensures.taken st ctx is))
 
 pub returns-in_err-target-clause-steps : goal.returns-in_err-target-clause-steps
@@ -41,13 +41,13 @@ unify_in-requires-clause-over g c = subst (λ sigs. IsOver sigs c.args.store.now
 pub returns-in_err-through-clause-plain : goal.returns-in_err-through-clause-plain
 returns-in_err-through-clause-plain g c at st ctx is =
     let p = err_from_is_err_and c.from_residual-in_err-through.result c.from_residual-in_err-through.ensures.1 in
-    rw (p.1, p.2) (stopped-through c.unify_in.result _ _ (λ k. proof_row strict (tables_of c.args.earlier.now) at code.Thm c.args.t st ≡ Err k) c.in_err-through.field-0.0 c.in_err-through.ensures c.unify_in.ensures.run
+    rw (p.1, p.2) (stopped-through c.unify_in.result _ _ (λ k. proof_step strict (tables_of c.args.earlier.now) at code.Thm c.args.t st ≡ Err k) c.in_err-through.field-0.0 c.in_err-through.ensures c.unify_in.ensures.run
     (λ place k h. thm-refused strict (tables_of c.args.earlier.now) at c.args.t st _ (c.in_ok-target.ensures.taken st ctx is) place k (cited-run c.args.earlier.now c.args.store.now st ctx c.args.t c.stream_of_thm-stream.result.now c.stream_of_thm-stream.ensures.stream c.take_citation.new.spare.operands.items c.in_ok-target.target c.take_citation.new.stack.items ∙ h)))
 
 pub returns-in_err-through-clause-saved : goal.returns-in_err-through-clause-saved
 returns-in_err-through-clause-saved g c at st ctx is =
     let p = err_from_is_err_and c.from_residual-in_err-through.result c.from_residual-in_err-through.ensures.1 in
-    rw (p.1, p.2) (stopped-through c.unify_in.result _ _ (λ k. proof_row strict (tables_of c.args.earlier.now) at code.ThmSave c.args.t st ≡ Err k) c.in_err-through.field-0.0 c.in_err-through.ensures c.unify_in.ensures.run
+    rw (p.1, p.2) (stopped-through c.unify_in.result _ _ (λ k. proof_step strict (tables_of c.args.earlier.now) at code.ThmSave c.args.t st ≡ Err k) c.in_err-through.field-0.0 c.in_err-through.ensures c.unify_in.ensures.run
     (λ place k h. thm-save-refused strict (tables_of c.args.earlier.now) at c.args.t st _ (c.in_ok-target.ensures.taken st ctx is) place k (cited-run c.args.earlier.now c.args.store.now st ctx c.args.t c.stream_of_thm-stream.result.now c.stream_of_thm-stream.ensures.stream c.take_citation.new.spare.operands.items c.in_ok-target.target c.take_citation.new.stack.items ∙ h)))
 
 pub returns-in_err-through-clause-steps : goal.returns-in_err-through-clause-steps

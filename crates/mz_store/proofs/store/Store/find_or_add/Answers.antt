@@ -9,8 +9,8 @@ use Rattle.mz_store.proofs.store.Store.find_or_add.Goals as goal
 pub find-there-requires : goal.find-there-requires
 find-there-requires g c =
     chain-here c.self.inside.factor c.self.inside.expressions (get nat_eq c.self.inside.newest) c.args.t c.args.args.now
-    c.deref-in-Occupied.result.now c.deref.result.now (Some c.get.result.now) c.print_of.result
-    c.self.invariant c.deref-in-Occupied.ensures.value c.deref.ensures.value c.print_of.ensures (sym c.get.ensures ∙ ap entry_value (sym c.in-Occupied.is) ∙ c.in_ok-place.ensures.value)
+    c.deref-in-Occupied.result.now c.deref.result.now (Some c.get.result.now) c.hash_of.result
+    c.self.invariant c.deref-in-Occupied.ensures.value c.deref.ensures.value c.hash_of.ensures (sym c.get.ensures ∙ ap entry_value (sym c.in-Occupied.is) ∙ c.in_ok-place.ensures.value)
 
 pub add-requires-clause-kept : goal.add-requires-clause-kept
 add-requires-clause-kept g c = c.self.invariant.0
@@ -52,12 +52,12 @@ returns-in_err-id-in-Occupied-clause-err g c = on-err _ c.from_residual-in_err-i
 
 pub invariant_of-self-in-Occupied : goal.invariant_of-self-in-Occupied
 invariant_of-self-in-Occupied g c =
-    placed-kept c.self.inside.factor (g.T.Terms.all_terms c.args.terms.now) c.self.inside.expressions c.add.new.self (get nat_eq c.self.inside.newest) _ c.args.self.now c.args.t c.args.args.now (Some c.get.result.now) c.print_of.result c.in_ok-id-in-Occupied.id
+    placed-kept c.self.inside.factor (g.T.Terms.all_terms c.args.terms.now) c.self.inside.expressions c.add.new.self (get nat_eq c.self.inside.newest) _ c.args.self.now c.args.t c.args.args.now (Some c.get.result.now) c.hash_of.result c.in_ok-id-in-Occupied.id
     c.self.invariant c.self.view_is c.in_ok-id-in-Occupied.ensures.ok c.requires.ids
     (missing-fresh c.self.inside.factor c.self.inside.expressions (get nat_eq c.self.inside.newest) c.args.self.now c.args.t c.args.args.now c.deref-in-Occupied.result.now c.deref.result.now
     c.self.invariant c.self.view_is c.requires.ids c.deref-in-Occupied.ensures.value c.deref.ensures.value c.in_default.ensures.none)
-    c.print_of.ensures (sym c.get.ensures ∙ ap entry_value (sym c.in-Occupied.is) ∙ c.in_ok-place.ensures.value) c.in_ok-id-in-Occupied.ensures.id
-    (λ q. grind (arith, c.insert.ensures.written.1, ((subst (IsEntryFor nat_eq c.self.inside.newest c.print_of.result) c.in-Occupied.is c.in_ok-place.ensures.update).0 c.in_ok-id-in-Occupied.id).0 q))
+    c.hash_of.ensures (sym c.get.ensures ∙ ap entry_value (sym c.in-Occupied.is) ∙ c.in_ok-place.ensures.value) c.in_ok-id-in-Occupied.ensures.id
+    (λ q. grind (arith, c.insert.ensures.written.1, ((subst (IsEntryFor nat_eq c.self.inside.newest c.hash_of.result) c.in-Occupied.is c.in_ok-place.ensures.update).0 c.in_ok-id-in-Occupied.id).0 q))
 
 pub invariant_of-self-in_err-id-in-Vacant : goal.invariant_of-self-in_err-id-in-Vacant
 invariant_of-self-in_err-id-in-Vacant g c =
@@ -70,12 +70,12 @@ returns-in_err-id-in-Vacant-clause-err g c = on-err _ c.from_residual-in_err-id-
 
 pub invariant_of-self-in-Vacant : goal.invariant_of-self-in-Vacant
 invariant_of-self-in-Vacant g c =
-    let lacks = subst (λ e. MatchEntry e (ContainsKey nat_eq c.self.inside.newest c.print_of.result × (get_key nat_eq c.self.inside.newest c.print_of.result ≡ Some (entry_key e))) (get nat_eq c.self.inside.newest c.print_of.result ≡ None)) c.in-Vacant.is c.in_ok-place.ensures.found in
-    placed-kept c.self.inside.factor (g.T.Terms.all_terms c.args.terms.now) c.self.inside.expressions c.add-in-Vacant.new.self (get nat_eq c.self.inside.newest) _ c.args.self.now c.args.t c.args.args.now None c.print_of.result c.in_ok-id-in-Vacant.id
+    let lacks = subst (λ e. MatchEntry e (ContainsKey nat_eq c.self.inside.newest c.hash_of.result × (get_key nat_eq c.self.inside.newest c.hash_of.result ≡ Some (entry_key e))) (get nat_eq c.self.inside.newest c.hash_of.result ≡ None)) c.in-Vacant.is c.in_ok-place.ensures.found in
+    placed-kept c.self.inside.factor (g.T.Terms.all_terms c.args.terms.now) c.self.inside.expressions c.add-in-Vacant.new.self (get nat_eq c.self.inside.newest) _ c.args.self.now c.args.t c.args.args.now None c.hash_of.result c.in_ok-id-in-Vacant.id
     c.self.invariant c.self.view_is c.in_ok-id-in-Vacant.ensures.ok c.requires.ids
-    (none-holds c.self.inside.factor c.self.inside.expressions (get nat_eq c.self.inside.newest) c.args.self.now c.args.t c.args.args.now c.self.invariant c.self.view_is c.requires.ids (ap (get nat_eq c.self.inside.newest) (sym c.print_of.ensures) ∙ lacks))
-    c.print_of.ensures (sym lacks) c.in_ok-id-in-Vacant.ensures.id
-    (λ q. grind (arith, ((subst (IsEntryFor nat_eq c.self.inside.newest c.print_of.result) c.in-Vacant.is c.in_ok-place.ensures.update).0 c.in_ok-id-in-Vacant.id).0 q))
+    (none-holds c.self.inside.factor c.self.inside.expressions (get nat_eq c.self.inside.newest) c.args.self.now c.args.t c.args.args.now c.self.invariant c.self.view_is c.requires.ids (ap (get nat_eq c.self.inside.newest) (sym c.hash_of.ensures) ∙ lacks))
+    c.hash_of.ensures (sym lacks) c.in_ok-id-in-Vacant.ensures.id
+    (λ q. grind (arith, ((subst (IsEntryFor nat_eq c.self.inside.newest c.hash_of.result) c.in-Vacant.is c.in_ok-place.ensures.update).0 c.in_ok-id-in-Vacant.id).0 q))
 
 pub returns-in_ok-id-in-Occupied-clause-ok : goal.returns-in_ok-id-in-Occupied-clause-ok
 returns-in_ok-id-in-Occupied-clause-ok g c =
