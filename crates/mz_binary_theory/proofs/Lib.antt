@@ -16,4 +16,9 @@ pub mod FileSteps
 pub mod ListBounds
 pub mod GappedBodies
 pub mod GapFree
+pub mod OtherStandard
+pub mod GaplessBodies
+pub mod FinishedDrafts
+pub mod DraftLists
+pub mod Fronts
 pub mod Offered

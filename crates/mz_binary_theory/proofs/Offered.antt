@@ -4,7 +4,9 @@ pub use Rattle.mz_binary_theory.proofs.ChainLaws.{chain-declares, chain-more}
 pub use Rattle.mz_binary_theory.proofs.Declared.{assertions-many, sorts-many, terms-many}
 pub use Rattle.mz_binary_theory.proofs.Entries.{body_of, entry-good}
 pub use Rattle.mz_binary_theory.proofs.Following.{FollowedBy, followed, rows-after, same-taken}
+pub use Rattle.mz_binary_theory.proofs.FinishedDrafts.{finished-good}
 pub use Rattle.mz_binary_theory.proofs.FreshCounts.{Among, fresh-fewer, words-bound}
+pub use Rattle.mz_binary_theory.proofs.Fronts.{steps-here, steps-rest}
 pub use Rattle.mz_binary_theory.proofs.GapFree.{ungapped-free}
 pub use Rattle.mz_binary_theory.proofs.GappedBodies.{bodies-many, bodies-more, gapped-back, gapped-on, gapped-within, marks-with, new-gapped, no-marks}
 pub use Rattle.mz_binary_theory.proofs.Heads.{IsHeadAt, code-of, head-at}

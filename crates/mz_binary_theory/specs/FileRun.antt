@@ -263,6 +263,10 @@ abbrev pub steps_after : Passing → ℕ → ℕ
 steps_after (Err r) n = 0
 steps_after (Ok x) n = n
 
--- the proof and unify commands executed in a whole file, up to its first fault
+-- the proof and unify commands executed in the first n statements of a file, up to its first fault
+abbrev pub steps_through : Standard → List ℕ → ℕ → ℕ
+steps_through standard file n = steps_after (test_layout file) (list_steps standard file n nothing_taken (list_at file))
+
+-- in a whole file, each of whose statements takes a byte
 abbrev pub file_steps : Standard → List ℕ → ℕ
-file_steps standard file = steps_after (test_layout file) (list_steps standard file (length file + 1) nothing_taken (list_at file))
+file_steps standard file = steps_through standard file (length file + 1)

@@ -62,6 +62,10 @@ pub data IsGapped (bodies : List AssertionBody) : ℕ → Type 0 where
 abbrev pub GappedIn : List ℕ → List Statement → ℕ → Type 0
 GappedIn file ss T = IsGapped (bodies_of file ss) T
 
+-- no theorem is, local or not
+abbrev pub NoneIsGapped : List ℕ → List Statement → Type 0
+NoneIsGapped file ss = (T : ℕ) → GappedIn file ss T → ⊥
+
 -- each theorem that isn't gapped has a derivation without gaps, over the statements before it, that cites no gapped theorem
 abbrev pub AreFreeUnlessGapped : List ℕ → List Statement → Type 0
 AreFreeUnlessGapped file ss = (before after : List Statement) (s : Statement) (a : Assertion) → ss ≡ before ++ s ∷ after → s.decl ≡ assertion_decl a → a.is_axiom ≡ false

@@ -7,6 +7,7 @@ pub mod FileRun
 pub mod Gapped
 pub mod Laws
 pub mod WholeLaws
+pub mod DraftLaws
 pub mod Files
 pub mod WholeExamples
 pub mod RefusalLine

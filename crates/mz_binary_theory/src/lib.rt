@@ -5,12 +5,14 @@
 //! file is good and what its first fault is, held to a [`Standard`]. Nothing here reads a file.
 #![tactic(auto)]
 
+mod draft_laws;
 mod examples;
 mod laws;
 mod standard;
 mod statement;
 mod whole_laws;
 
+pub use draft_laws::{drafts_are_legally_declared, finished_drafts_are_good};
 pub use examples::worked_files;
 pub use laws::good_statements_have_rows;
 pub use standard::Standard;

@@ -20,7 +20,7 @@ use Rattle.mz_match.specs.Drafts.{IsGapOf, IsGapHere, ListsGaps, ListsGapsOf, Is
 use Rattle.mz_spec_proved_theory.specs.Match.{publics}
 use Rattle.mz_match.specs.Told.{IsMatched}
 use Rattle.mz_match.proofs.UnnamedFollow.{unnamed-follow}
-use Rattle.mz_match_theory.specs.Verdict.{AcceptsBy, IsDifference, IsVerdictBy}
+use Rattle.mz_match_theory.specs.Verdict.{AcceptsBy, IsDifferenceAt, IsVerdictBy}
 use Rattle.mz_binary_theory.specs.declared.standard.Standard.{Standard}
 use Rattle.mz_binary_theory.specs.Standards.{lets_gaps, draft_standard}
 
@@ -146,12 +146,12 @@ judged-verdict standard spec bin (verdicts.Match declaration statement rule) pla
 judged-verdict standard spec bin verdicts.Mem places h = tt
 
 -- a difference, whatever the places
-pub stop-judged : (standard : Standard) (spec bin : List ℕ) (v : Verdict) (places : List ℕ) → IsDifference v → IsVerdictBy standard spec bin v → IsJudged standard spec bin v places
-stop-judged standard spec bin (verdicts.Accepted counts) places other h = absurd other
-stop-judged standard spec bin (verdicts.Spec refusal) places other h = absurd other
-stop-judged standard spec bin (verdicts.Binary refusal) places other h = absurd other
-stop-judged standard spec bin (verdicts.Match declaration statement rule) places other h = h
-stop-judged standard spec bin verdicts.Mem places other h = tt
+pub stop-judged : (standard : Standard) (spec bin : List ℕ) (n : ℕ) (v : Verdict) (places : List ℕ) → IsDifferenceAt n v → IsVerdictBy standard spec bin v → IsJudged standard spec bin v places
+stop-judged standard spec bin n (verdicts.Accepted counts) places other h = absurd other
+stop-judged standard spec bin n (verdicts.Spec refusal) places other h = absurd other
+stop-judged standard spec bin n (verdicts.Binary refusal) places other h = absurd other
+stop-judged standard spec bin n (verdicts.Match declaration statement rule) places other h = h
+stop-judged standard spec bin n verdicts.Mem places other h = tt
 
 pub draft-verdict : (spec bin : List ℕ) (d : Draft) → IsDraft spec bin d → IsVerdictBy draft_standard spec bin (verdict_of d)
 draft-verdict spec bin (drafts.Accepted counts gaps) (accepts, is, lists) = (accepts, is)

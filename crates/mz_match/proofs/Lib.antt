@@ -2,3 +2,4 @@ mod ToldRows
 pub mod Pairing
 pub mod UnnamedFollow
 pub mod GapPlaces
+pub mod OneDraft

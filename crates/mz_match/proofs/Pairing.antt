@@ -1,25 +1,26 @@
 -- One statement more, beside the declarations.
-use Rattle.std.proofs.Common.{◌≡◌, ◌<◌, ◌≤◌, ◌+◌, ◌^◌, ◌∙◌, ℕ, zero, suc, Bool, true, false, List, [], ◌∷◌, ◌++◌, length, drop, Ok, refl, sym, ap, subst, inl, inr, arith, length-append}
+use Rattle.std.proofs.Common.{◌≡◌, ◌<◌, ◌≤◌, ◌+◌, ◌^◌, ◌∙◌, ℕ, zero, suc, Bool, true, false, List, [], ◌∷◌, ◌++◌, length, drop, Ok, refl, sym, ap, ap₂, subst, inl, inr, arith, length-append}
 use Rattle.std.specs.Prelude.{if◌then◌else◌}
 use Rattle.std.proofs.lemmas.List.{append-nil}
 use Rattle.mz_base_theory.specs.Checks.{AllHold, FailsFirst}
 use Rattle.mz_cmd.specs.declared.rule.Refusal.{Refusal}
 use Rattle.mz_cmd.specs.declared.statement.StmtAt.TheVariants.{End}
-use Rattle.mz_logic_theory.specs.Declaration.{Declaration, sort_decl, term_decl, assertion_decl, terms}
+use Rattle.mz_logic_theory.specs.Declaration.{Declaration, sort_decl, term_decl, assertion_decl, sorts, terms}
 use Rattle.mz_logic_theory.specs.LegalLists.{Statement, declarations}
 use Rattle.mz_layout_tables.specs.Layout.{Layout}
 use Rattle.mz_layout_tables.specs.Tables.{list_at}
 use Rattle.mz_layout_tables.proofs.Offered.{parts-of_layout}
-use Rattle.mz_machine_theory.specs.FileRows.{taken_by}
+use Rattle.mz_layout_tables.specs.RowWords.{first_sorts}
+use Rattle.mz_machine_theory.specs.FileRows.{Taken, taken_by}
 use Rattle.mz_layout_tables.specs.Heads.{AllTaken}
 use Rattle.mz_binary_theory.specs.Checking.{counts, checks_of}
 use Rattle.mz_binary_theory.specs.Chains.{IsGoodStatement, GoodTo}
 use Rattle.mz_binary_theory.specs.Good.{Good, FailsAfter}
 use Rattle.mz_binary_theory.specs.declared.statement.Statement.{Statement as Told}
-use Rattle.mz_binary.specs.Progress.{Progress, HasPassed, Tells, kind_code, row_after}
+use Rattle.mz_binary.specs.Progress.{Progress, HasPassed, Tells, kind_code, next_steps, row_after, steps_left}
 use Rattle.mz_binary.specs.Judging.{Passes}
-use Rattle.mz_binary_theory.specs.FileRun.{file_steps}
-use Rattle.mz_binary_theory.proofs.Offered.{chain-declares}
+use Rattle.mz_binary_theory.specs.FileRun.{find_at, found_steps, list_steps, file_steps, steps_through}
+use Rattle.mz_binary_theory.proofs.Offered.{chain-declares, chain-sorts, same-taken, steps-here, steps-rest}
 use Rattle.mz_spec_theory.specs.Spec.{SpecMakes}
 use Rattle.mz_spec_theory.specs.State.{Entry, env_of}
 use Rattle.mz_match.specs.declared.matching.Matching.{Matching}
@@ -30,7 +31,7 @@ use Rattle.mz_match_theory.specs.declared.verdict.Verdict.TheVariants as verdict
 use Rattle.mz_spec_proved_theory.specs.Match.{partner_of, publics_after, publics, term_row_of, term_rows, Agrees, Leaves, partner_checks}
 use Rattle.mz_match.specs.Drafts.{ListsGapsOf, IsJudged}
 use Rattle.mz_match.specs.Told.{IsTold, IsMatched}
-use Rattle.mz_match_theory.specs.Verdict.{IsDifference, TicksBy, counts_of, IsSoundIfAccepted, IsVerdict, IsVerdictBy}
+use Rattle.mz_match_theory.specs.Verdict.{IsDifferenceAt, TicksBy, counts_of, IsSoundIfAccepted, IsVerdict, IsVerdictBy}
 use Rattle.mz_spec_proved_theory.proofs.Offered.{publics-append, publics-local, publics-public, term_rows-append, drop-further, drop-past, kinds-total, length-declarations, length-env, leaves-nothing, leaves-local, leaves-public, partner-there}
 use Rattle.mz_match_theory.proofs.Offered.{accepted-sound}
 use Rattle.mz_binary_theory.specs.declared.standard.Standard.{Standard}
@@ -229,9 +230,36 @@ sound spec bin verdicts.Mem is = tt
 
 -- ---- steps
 
-pub stop-ticks : (standard : Standard) (bin : List ℕ) (old new : ℕ) (v : Verdict) → IsDifference v → new ≤ old + file_steps standard bin → TicksBy standard bin old new v
-stop-ticks standard bin old new (verdicts.Accepted counts) is few = absurd is
-stop-ticks standard bin old new (verdicts.Spec refusal) is few = absurd is
-stop-ticks standard bin old new (verdicts.Binary refusal) is few = absurd is
-stop-ticks standard bin old new (verdicts.Match declaration statement rule) is few = few
-stop-ticks standard bin old new verdicts.Mem is few = tt
+-- the rows that the statements passed have taken
+taken-before : (p : Progress) (ss : List Statement) (env : List Declaration) → HasPassed p ss env
+    → taken_by env ≡ record { sorts = first_sorts p.file p.rows.sorts; terms = p.rows.terms; thms = p.rows.thms }
+taken-before p ss env before =
+    let declared : sorts env ≡ first_sorts p.file p.rows.sorts = chain-sorts p.standard p.file [] (list_at p.file) ss env p.at before.statements refl ∙ ap (first_sorts p.file) (sym before.rows.sorts_are) in
+    same-taken (taken_by env) (record { sorts = first_sorts p.file p.rows.sorts; terms = p.rows.terms; thms = p.rows.thms }) declared (sym before.rows.terms_are) (sym before.rows.thms_are)
+
+-- what is counted with the next statement's commands
+pub steps-next : (p : Progress) (ss : List Statement) (env : List Declaration) → Layout p.file → HasPassed p ss env
+    → (old now : ℕ) → now + steps_left p ≡ old + file_steps p.standard p.file → now + next_steps p ≡ old + steps_through p.standard p.file (length ss + 1)
+steps-next p ss env layout passed old now counted =
+    let taken = taken-before p ss env passed in
+    let rest = steps-rest p.standard p.file layout ss env p.at passed.statements in
+    let here = steps-here p.standard p.file layout ss env p.at passed.statements in
+    let left : list_steps p.standard p.file (length p.file + 1) (taken_by env) p.at ≡ steps_left p = ap (λ (t : Taken). list_steps p.standard p.file (length p.file + 1) t p.at) taken in
+    let next : found_steps p.standard p.file (taken_by env) (find_at p.file (taken_by env) p.at) ≡ next_steps p = ap (λ (t : Taken). found_steps p.standard p.file t (find_at p.file t p.at)) taken in
+    omega (arith, counted, rest, here, left, next)
+
+-- of a checker of this file, by this standard
+pub counted-next : (standard : Standard) (bin : List ℕ) (p : Progress) (m : Matching) (ds : List Declaration) (ss : List Statement) (env : List Declaration) → p.standard ≡ standard → p.file ≡ bin → IsMatched p ds m ss env
+    → (old now : ℕ) → now + steps_left p ≡ old + file_steps standard bin → now + next_steps p ≡ old + steps_through standard bin (length ss + 1)
+counted-next standard bin p m ds ss env same_standard same_file matched old now counted =
+    let whole : file_steps p.standard p.file ≡ file_steps standard bin = ap₂ file_steps same_standard same_file in
+    let front : steps_through p.standard p.file (length ss + 1) ≡ steps_through standard bin (length ss + 1) = ap₂ (λ (b : Standard) (f : List ℕ). steps_through b f (length ss + 1)) same_standard same_file in
+    let next = steps-next p ss env matched.layout matched.passed old now (counted ∙ ap (λ (k : ℕ). old + k) (sym whole)) in
+    omega (arith, next, front)
+
+pub stop-ticks : (standard : Standard) (bin : List ℕ) (old new n : ℕ) (v : Verdict) → IsDifferenceAt n v → new ≡ old + steps_through standard bin n → TicksBy standard bin old new v
+stop-ticks standard bin old new n (verdicts.Accepted counts) is count = absurd is
+stop-ticks standard bin old new n (verdicts.Spec refusal) is count = absurd is
+stop-ticks standard bin old new n (verdicts.Binary refusal) is count = absurd is
+stop-ticks standard bin old new n (verdicts.Match declaration statement rule) is count = count ∙ ap (λ (k : ℕ). old + steps_through standard bin k) (sym is)
+stop-ticks standard bin old new n verdicts.Mem is count = tt

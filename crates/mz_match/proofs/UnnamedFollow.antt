@@ -9,7 +9,7 @@ use Rattle.mz_logic_theory.proofs.Offered.{closed_unless}
 use Rattle.mz_binary_theory.specs.Gapped.{GappedIn, AreFreeUnlessGapped}
 use Rattle.mz_spec_proved_theory.specs.Headline.{stated}
 use Rattle.mz_spec_proved_theory.specs.Match.{publics, Agrees}
-use Rattle.mz_spec_proved_theory.proofs.Offered.{follows-where}
+use Rattle.mz_spec_proved_theory.proofs.Offered.{ungapped-proved}
 use Rattle.mz_match.specs.Drafts.{IsGapOf, IsGapHere, ListsGaps, ListsGapsOf, UnnamedFollow}
 
 -- a public theorem with G is named
@@ -35,7 +35,7 @@ named G before (s ∷ mid) after a places (here, rest, is, gap, more) has =
 pub unnamed-follow : (bin : List ℕ) (ds : List Declaration) (ss : List Statement) → DraftLegal ss → AreFreeUnlessGapped bin ss → Agrees ds (publics ss)
     → (places : List ℕ) → ListsGapsOf bin ss places → UnnamedFollow ds ss places
 unnamed-follow bin ds ss legal free agrees places lists i a at theorem none =
-    follows-where ds ss legal agrees i a at theorem (λ before after proved among is_theorem place.
+    ungapped-proved ds ss legal agrees i a at theorem (λ before after proved among is_theorem place.
     closed_unless (GappedIn bin ss) ss legal free before after (stated proved) proved among refl is_theorem
     (λ has. none (subst (Contains places) place
     (named (GappedIn bin ss) [] before after proved places (subst (λ xs. ListsGaps (GappedIn bin ss) [] xs places) among lists) has))))

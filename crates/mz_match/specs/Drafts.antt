@@ -10,7 +10,7 @@ use Rattle.mz_match.specs.declared.draft.Draft.TheVariants as drafts
 use Rattle.mz_match_theory.specs.declared.verdict.Counts.{Counts}
 use Rattle.mz_match_theory.specs.declared.verdict.Verdict.{Verdict}
 use Rattle.mz_match_theory.specs.declared.verdict.Verdict.TheVariants as verdicts
-use Rattle.mz_spec_proved_theory.specs.Headline.{Follows}
+use Rattle.mz_spec_proved_theory.specs.Proved.{ProvesUngapped}
 use Rattle.mz_spec_proved_theory.specs.Match.{publics, Agrees}
 use Rattle.mz_match_theory.specs.Verdict.{AcceptsBy, IsVerdictBy, counts_of}
 use Rattle.mz_binary_theory.specs.declared.standard.Standard.{Standard}
@@ -59,13 +59,13 @@ IsDraft spec bin (drafts.Binary refusal) = IsVerdictBy draft_standard spec bin (
 IsDraft spec bin (drafts.Match declaration statement rule) = IsVerdictBy draft_standard spec bin (verdicts.Match declaration statement rule)
 IsDraft spec bin drafts.Mem = ⊤
 
--- each theorem among the declarations whose place isn't one of these follows from the axioms that are declared before it
+-- each theorem among the declarations whose place isn't one of these is proved from the axioms that are declared before it
 abbrev pub UnnamedFollow : List Declaration → List Statement → List ℕ → Type 0
-UnnamedFollow ds ss places = (i : ℕ) (a : Assertion) → slice_get ds i ≡ Some (assertion_decl a) → a.is_axiom ≡ false → (Contains places i → ⊥) → Follows ds ss i a
+UnnamedFollow ds ss places = (i : ℕ) (a : Assertion) → slice_get ds i ≡ Some (assertion_decl a) → a.is_axiom ≡ false → (Contains places i → ⊥) → ProvesUngapped ds ss i a
 
 -- The specification and the binary's statements agree. These are a legal draft (its declarations are legal, and what is
 -- local may be), and each of its theorems that isn't gapped has a derivation without gaps, over the statements before it,
--- that cites no gapped theorem. And each theorem of the specification follows from its axioms before it, in the words of
+-- that cites no gapped theorem. And each theorem of the specification is proved from its axioms before it, in the words of
 -- what is promised of a finished binary, but for those whose places are named.
 pub record IsDraftSound (spec bin : List ℕ) : Type 0 where
   pub declared : List Declaration

@@ -5,12 +5,14 @@
 #![tactic(auto)]
 
 mod draft;
+mod laws;
 mod line;
 mod matching;
 mod pair;
 mod verify;
 
 pub use draft::{Draft, Gaps, draft_bytes};
+pub use laws::each_pair_has_one_draft;
 pub use line::verdict_line;
 pub use mz_match_rows::Publics;
 pub use pair::match_statement;

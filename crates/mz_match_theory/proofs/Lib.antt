@@ -4,3 +4,4 @@ pub mod AcceptedSound
 pub mod SomeVerdict
 pub mod Counting
 pub mod Offered
+pub mod FinishedDrafts

@@ -1,5 +1,5 @@
 -- What is said of a specification and a binary together (this project's own, of mm0.md's and the .mmb format's parts).
-use Rattle.std.specs.Prelude.{◌≡◌, ◌≤◌, ◌⊎◌, ◌+◌, ⊤, ℕ, List, [], ◌∷◌, length, false, if◌then◌else◌}
+use Rattle.std.specs.Prelude.{◌≡◌, ◌⊎◌, ◌+◌, ⊤, ℕ, List, [], ◌∷◌, length, false, if◌then◌else◌}
 use Rattle.mz_base_theory.specs.Checks.{FailsFirst}
 use Rattle.mz_cmd.specs.declared.rule.Refusal.{Refusal}
 use Rattle.mz_logic_theory.specs.Declaration.{Declaration}
@@ -8,7 +8,7 @@ use Rattle.mz_logic_theory.specs.Closed.{TheoremsClosed}
 use Rattle.mz_layout_tables.specs.Layout.{Layout, layout_checks}
 use Rattle.mz_layout_tables.specs.Tables.{list_at}
 use Rattle.mz_binary_theory.specs.Chains.{Statements, IsGoodStatement, GoodTo, EndsAt}
-use Rattle.mz_binary_theory.specs.FileRun.{file_steps}
+use Rattle.mz_binary_theory.specs.FileRun.{steps_through, file_steps}
 use Rattle.mz_binary_theory.specs.Good.{Good, FailsAfter}
 use Rattle.mz_spec_theory.specs.Spec.{SpecOf, SpecFault}
 use Rattle.mz_spec_proved_theory.specs.declared.kind.Kind.{Kind}
@@ -141,22 +141,22 @@ line_of verdicts.Mem = []
 
 -- ---- steps
 
--- the commands executed: none before the binary, then all of it up to its first fault, and no more than these at a
--- difference; where memory is wanting only the bound on the whole file holds
+-- the commands executed: none before the binary, then all of it up to its first fault; at a difference those of the
+-- statements up to the one that it names; where memory is wanting only the bound on the whole file holds
 abbrev pub TicksBy : Standard → List ℕ → (old new : ℕ) → Verdict → Type 0
 TicksBy standard bin old new (verdicts.Accepted counts) = new ≡ old + file_steps standard bin
 TicksBy standard bin old new (verdicts.Spec refusal) = new ≡ old
 TicksBy standard bin old new (verdicts.Binary refusal) = new ≡ old + file_steps standard bin
-TicksBy standard bin old new (verdicts.Match declaration statement rule) = new ≤ old + file_steps standard bin
+TicksBy standard bin old new (verdicts.Match declaration statement rule) = new ≡ old + steps_through standard bin statement
 TicksBy standard bin old new verdicts.Mem = ⊤
 
 abbrev pub Ticks : List ℕ → (old new : ℕ) → Verdict → Type 0
 Ticks bin old new verdict = TicksBy strict_standard bin old new verdict
 
--- a difference, or out of memory
-abbrev pub IsDifference : Verdict → Type 0
-IsDifference (verdicts.Accepted counts) = ⊥
-IsDifference (verdicts.Spec refusal) = ⊥
-IsDifference (verdicts.Binary refusal) = ⊥
-IsDifference (verdicts.Match declaration statement rule) = ⊤
-IsDifference verdicts.Mem = ⊤
+-- a difference at the n-th statement, or out of memory
+abbrev pub IsDifferenceAt : ℕ → Verdict → Type 0
+IsDifferenceAt n (verdicts.Accepted counts) = ⊥
+IsDifferenceAt n (verdicts.Spec refusal) = ⊥
+IsDifferenceAt n (verdicts.Binary refusal) = ⊥
+IsDifferenceAt n (verdicts.Match declaration statement rule) = statement ≡ n
+IsDifferenceAt n verdicts.Mem = ⊤

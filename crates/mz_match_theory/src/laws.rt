@@ -10,7 +10,9 @@ ghost use Rattle.mz_match_theory.specs.declared.verdict.Verdict.{Verdict};
 ghost use Rattle.mz_spec_proved_theory.specs.declared.kind.Kind.TheVariants as kinds;
 ghost use Rattle.mz_spec_proved_theory.specs.Match.{kind_of, publics, Agrees};
 ghost use Rattle.mz_spec_proved_theory.specs.Headline.{IsConcrete, Proves};
-ghost use Rattle.mz_match_theory.specs.Verdict.{Accepts, AcceptsWith, FirstRefusal, IsSound};
+ghost use Rattle.mz_binary_theory.specs.Gapped.{NoneIsGapped};
+ghost use Rattle.mz_binary_theory.specs.Standards.{draft_standard};
+ghost use Rattle.mz_match_theory.specs.Verdict.{Accepts, AcceptsBy, AcceptsWith, AcceptsWithBy, FirstRefusal, FirstRefusalBy, IsSound, counts_of};
 
 /// Each specification and binary are accepted, with one number of declarations of each kind, or have
 /// exactly one first refusal, and never both.
@@ -19,6 +21,20 @@ pub fn each_pair_has_one_verdict()
     ensures not_both { (spec bin : List ℕ) (counts : Counts) (verdict : Verdict) → AcceptsWith spec bin counts → FirstRefusal spec bin verdict → ⊥ }
     ensures one_count { (spec bin : List ℕ) (counts other : Counts) → AcceptsWith spec bin counts → AcceptsWith spec bin other → counts ≡ other }
     ensures one_refusal { (spec bin : List ℕ) (verdict other : Verdict) → FirstRefusal spec bin verdict → FirstRefusal spec bin other → verdict ≡ other }
+{}
+
+/// And so of drafts, whose proofs may have gaps.
+pub fn each_pair_has_one_draft_verdict()
+    ensures either { (spec bin : List ℕ) → ((counts : Counts) × AcceptsWithBy draft_standard spec bin counts) ⊎ ((verdict : Verdict) × FirstRefusalBy draft_standard spec bin verdict) }
+    ensures not_both { (spec bin : List ℕ) (counts : Counts) (verdict : Verdict) → AcceptsWithBy draft_standard spec bin counts → FirstRefusalBy draft_standard spec bin verdict → ⊥ }
+    ensures one_count { (spec bin : List ℕ) (counts other : Counts) → AcceptsWithBy draft_standard spec bin counts → AcceptsWithBy draft_standard spec bin other → counts ≡ other }
+    ensures one_refusal { (spec bin : List ℕ) (verdict other : Verdict) → FirstRefusalBy draft_standard spec bin verdict → FirstRefusalBy draft_standard spec bin other → verdict ≡ other }
+{}
+
+/// A pair is accepted, with these counts, exactly where it is accepted with them as a draft none of
+/// whose theorems is gapped, local ones among them.
+pub fn finished_drafts_are_accepted()
+    ensures { (spec bin : List ℕ) (counts : Counts) → AcceptsWith spec bin counts ↔ ((draft : AcceptsBy draft_standard spec bin) × (counts ≡ counts_of draft.declared) × NoneIsGapped bin draft.statements) }
 {}
 
 /// What the definitions accept is sound, whatever program decides it: each theorem of the

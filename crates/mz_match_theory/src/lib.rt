@@ -7,5 +7,8 @@
 mod laws;
 mod verdict;
 
-pub use laws::{accepted_pairs_are_sound, accepted_pairs_prove, each_pair_has_one_verdict};
+pub use laws::{
+    accepted_pairs_are_sound, accepted_pairs_prove, each_pair_has_one_draft_verdict,
+    each_pair_has_one_verdict, finished_drafts_are_accepted,
+};
 pub use verdict::{Counts, Verdict};

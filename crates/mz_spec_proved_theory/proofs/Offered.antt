@@ -2,6 +2,6 @@
 pub use Rattle.mz_spec_proved_theory.proofs.Grounded.{needs-axiom}
 pub use Rattle.mz_spec_proved_theory.proofs.Lists.{drop-entry, drop-further, drop-past, kinds-total, leaves-local, leaves-nothing, leaves-public, left-next, left-same, length-declarations, length-env, partner-there, publics-append, publics-local, publics-public, term_rows-append}
 pub use Rattle.mz_spec_proved_theory.proofs.OwnBodies.{own_pairs, paired-own, pairs-own}
-pub use Rattle.mz_spec_proved_theory.proofs.ProvingTheorems.{follows-where, never-local, theorems-proved}
+pub use Rattle.mz_spec_proved_theory.proofs.ProvingTheorems.{never-local, theorems-proved, ungapped-proved}
 pub use Rattle.mz_spec_proved_theory.proofs.Renaming.{SaysNothing, complete, no-dummy, no-pairs, says-nothing, sound, weaker}
 pub use Rattle.mz_spec_proved_theory.proofs.SameDecided.{same-body-decided, same-tree-decided, same-trees-decided}

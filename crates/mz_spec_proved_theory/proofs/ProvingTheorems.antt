@@ -10,8 +10,8 @@ use Rattle.mz_logic_theory.specs.LegalLists.{Statement, declarations, gap_free, 
 use Rattle.mz_logic_theory.proofs.Offered.{legal_at, legal_list_is_closed}
 use Rattle.mz_spec_proved_theory.specs.declared.kind.Kind.TheVariants as kinds
 use Rattle.mz_spec_proved_theory.specs.Match.{Partner, partner_of, publics_after, publics, kind_of, kind_of_form, match_checks, Agrees}
-use Rattle.mz_spec_proved_theory.specs.Headline.{AxiomsAreDeclared, stated, Follows}
-use Rattle.mz_spec_proved_theory.specs.Proved.{TheoremsAreProved}
+use Rattle.mz_spec_proved_theory.specs.Headline.{AxiomsAreDeclared, stated}
+use Rattle.mz_spec_proved_theory.specs.Proved.{ProvesUngapped, TheoremsAreProved}
 use Rattle.mz_spec_proved_theory.proofs.Lists.{publics-append, publics-public}
 
 -- ---- fronts
@@ -184,18 +184,23 @@ length-taken [] i d at = absurd cc
 length-taken (e ∷ ds) zero d at = refl
 length-taken (e ∷ ds) (suc i) d at = ap suc (length-taken ds i d at)
 
--- of a draft that agrees each theorem follows that has a derivation from axioms alone where it stands
-pub follows-where : (ds : List Declaration) (ss : List Statement) → DraftLegal ss → Agrees ds (publics ss) → (i : ℕ) (a : Assertion) → slice_get ds i ≡ Some (assertion_decl a)
+-- of a draft that agrees each theorem is proved that has a derivation from axioms alone where it stands
+pub ungapped-proved : (ds : List Declaration) (ss : List Statement) → DraftLegal ss → Agrees ds (publics ss) → (i : ℕ) (a : Assertion) → slice_get ds i ≡ Some (assertion_decl a)
     → a.is_axiom ≡ false → ((before after : List Statement) (proved : Assertion) → ss ≡ before ++ stated proved ∷ after → proved.is_axiom ≡ false → length (publics before) ≡ i
-    → IsClosed (declarations before) proved) → Follows ds ss i a
-follows-where ds ss legal agrees i a at theorem closes =
+    → IsClosed (declarations before) proved) → ProvesUngapped ds ss i a
+ungapped-proved ds ss legal agrees i a at theorem closes =
     let (before, proved, after, among, same, is_theorem, fewer, more) = standing ds ss agrees i a at theorem in
+    let whole : DraftLegal (before ++ stated proved ∷ after) = subst DraftLegal among legal in
     record {
-      before = before;
-      proved = proved;
-      after = after;
-      among = among;
-      same = same;
-      axioms = axioms-declared any_derivation (take i ds) before (legal-front any_derivation [] before (stated proved ∷ after) (subst DraftLegal among legal)) fewer;
-      closed = closes before after proved among is_theorem (length-agrees (take i ds) (publics before) fewer ∙ length-taken ds i (assertion_decl a) at);
+      follows = record {
+        before = before;
+        proved = proved;
+        after = after;
+        among = among;
+        same = same;
+        axioms = axioms-declared any_derivation (take i ds) before (legal-front any_derivation [] before (stated proved ∷ after) whole) fewer;
+        closed = closes before after proved among is_theorem (length-agrees (take i ds) (publics before) fewer ∙ length-taken ds i (assertion_decl a) at);
+      };
+      legal = legal-front any_derivation [] (before ++ stated proved ∷ []) after (subst DraftLegal (sym (append_assoc before (stated proved ∷ []) after)) whole);
+      agrees = more;
     }

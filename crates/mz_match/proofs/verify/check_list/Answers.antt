@@ -2,6 +2,7 @@ use Rattle.std.proofs.Common.{◌≡◌, ◌≤◌, ◌<◌, ◌^◌, ℕ, List,
 use Rattle.std.proofs.lemmas.Bool.{cases_lt}
 use Rattle.mz_layout_tables.specs.Layout.{Layout}
 use Rattle.mz_spec_theory.specs.State.{env_of}
+use Rattle.mz_binary_theory.specs.FileRun.{steps_through}
 use Rattle.mz_binary_theory.specs.Good.{Good}
 use Rattle.mz_binary.specs.Judging.{Passes}
 use Rattle.mz_binary.specs.Progress.{most_left}
@@ -15,7 +16,7 @@ use Rattle.mz_match.specs.Drafts.{IsJudged, ListsGapsOf, places_past}
 use Rattle.mz_match_theory.specs.Verdict.{TicksBy}
 use Rattle.mz_spec_proved_theory.proofs.Offered.{length-env}
 use Rattle.mz_match.proofs.GapPlaces.{noted, stop-judged}
-use Rattle.mz_match.proofs.Pairing.{stop-ticks, fails-here, missing-here, accepted-here, few-statements}
+use Rattle.mz_match.proofs.Pairing.{counted-next, stop-ticks, fails-here, missing-here, accepted-here, few-statements}
 use Rattle.mz_match.proofs.verify.check_list.Goals as goal
 use Rattle.mz_binary_theory.specs.Standards.{lets_gaps}
 use Rattle.mz_binary_theory.specs.declared.standard.Standard.{Standard}
@@ -85,26 +86,32 @@ returns-in-Err-clause-verdict g c = λ text makes.
     let passes = c.in-Statement.ensures.next so_far.0 so_far.1 so_far.2.passed in
     let stops = c.in-Err.ensures.stops p c.in-Statement.after so_far.0 so_far.1 c.statements.invariant.same_file so_far.2 passes text makes in
     subst (λ (b : Standard). IsJudged b text c.args.mmb.now c.in-Err.verdict c.statements.places.items) c.statements.invariant.same_standard
-    (stop-judged p.standard text c.args.mmb.now c.in-Err.verdict c.statements.places.items c.in-Err.ensures.kind stops)
+    (stop-judged p.standard text c.args.mmb.now c.in-Statement.told.number c.in-Err.verdict c.statements.places.items c.in-Err.ensures.kind stops)
 
 pub returns-in-Err-clause-steps : goal.returns-in-Err-clause-steps
 returns-in-Err-clause-steps g c =
-    let counted = c.statements.invariant.counted in
+    let so_far = c.statements.invariant.so_far in
+    let p = c.statements.checker in
     let steps = c.in-Statement.ensures.steps in
-    let left = c.in-Statement.ensures.left in
-    stop-ticks g.B.Bodies.STANDARD c.args.mmb.now c.args.steps.now c.check_next.new.steps c.in-Err.verdict c.in-Err.ensures.kind (omega (arith, counted, steps, left))
+    let passes = c.in-Statement.ensures.next so_far.0 so_far.1 so_far.2.passed in
+    let next = counted-next g.B.Bodies.STANDARD c.args.mmb.now p c.statements.matching (env_of c.args.spec.now) so_far.0 so_far.1 c.statements.invariant.same_standard c.statements.invariant.same_file so_far.2 c.args.steps.now c.statements.steps c.statements.invariant.counted in
+    let number : steps_through g.B.Bodies.STANDARD c.args.mmb.now c.in-Statement.told.number ≡ steps_through g.B.Bodies.STANDARD c.args.mmb.now (length so_far.0 + 1) = ap (steps_through g.B.Bodies.STANDARD c.args.mmb.now) passes.tells.number in
+    stop-ticks g.B.Bodies.STANDARD c.args.mmb.now c.args.steps.now c.check_next.new.steps c.in-Statement.told.number c.in-Err.verdict c.in-Err.ensures.kind (omega (arith, steps, next, number))
 
 pub returns-in-End-clause-steps : goal.returns-in-End-clause-steps
 returns-in-End-clause-steps g c =
+    let so_far = c.statements.invariant.so_far in
+    let p = c.statements.checker in
     let counted = c.statements.invariant.counted in
     let steps = c.in-End.ensures.steps in
     let left = c.in-End.ensures.left in
     let m = c.statements.matching in
-    let within = c.statements.invariant.so_far.2.within in
+    let next = counted-next g.B.Bodies.STANDARD c.args.mmb.now p m (env_of c.args.spec.now) so_far.0 so_far.1 c.statements.invariant.same_standard c.statements.invariant.same_file so_far.2 c.args.steps.now c.statements.steps counted in
+    let number : steps_through g.B.Bodies.STANDARD c.args.mmb.now (m.passed + 1) ≡ steps_through g.B.Bodies.STANDARD c.args.mmb.now (length so_far.0 + 1) = ap (λ (n : ℕ). steps_through g.B.Bodies.STANDARD c.args.mmb.now (n + 1)) so_far.2.passed_is in
     elim (cases_lt m.done (length c.args.spec.now)) [
-      | inl short ↦ subst (TicksBy g.B.Bodies.STANDARD c.args.mmb.now c.args.steps.now c.check_next.new.steps) (sym (c.end.ensures.missing short)) (omega (arith, counted, steps, left))
+      | inl short ↦ subst (TicksBy g.B.Bodies.STANDARD c.args.mmb.now c.args.steps.now c.check_next.new.steps) (sym (c.end.ensures.missing short)) (omega (arith, steps, next, number))
       | inr long ↦ (
-          let all : m.done ≡ length c.args.spec.now = omega (arith, long, within, length-env c.args.spec.now) in
+          let all : m.done ≡ length c.args.spec.now = omega (arith, long, so_far.2.within, length-env c.args.spec.now) in
           subst (TicksBy g.B.Bodies.STANDARD c.args.mmb.now c.args.steps.now c.check_next.new.steps) (sym (c.end.ensures.accepted all)) (omega (arith, counted, steps, left)))
     ]
 
