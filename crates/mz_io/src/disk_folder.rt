@@ -1,6 +1,8 @@
 //! The files of the system: a thin adapter, which tells its calls, and nothing of content.
-ghost use Rattle.std.specs.Prelude.{◌≡◌, ◌≤◌, [], length, IfOk};
+ghost use Rattle.std.specs.Prelude.{◌≡◌, ◌≤◌, [], length, IfOk, OnOk};
+ghost use Rattle.std.specs.Io.KnownBytes.{Appends};
 ghost use Rattle.mz_io.specs.Outside.{HasCause};
+ghost use Rattle.mz_io.specs.Streams.{IsPulled, left_of};
 
 use crate::log::{Log, Note};
 use crate::{Failed, Folder};
@@ -58,6 +60,7 @@ impl<R: Files + Alloc> DiskFolder<R> {
     /// Has the system read from the started file, or counts a fault.
     fn read(&mut self, buf: &mut [u8]) -> Result<usize, Failed>
         ensures bound { IfOk result (λ n. n ≤ length buf.new) }
+        ensures bytes { IsPulled (left_of R.File.remaining self.old.started) (left_of R.File.remaining self.new.started) result buf.new }
         ensures cause { HasCause self.old.faults self.new.faults result }
         ensures put_faults { self.new.put_faults ≡ self.old.put_faults }
         ensures log { self.new.log ≡ self.old.log }
@@ -93,8 +96,10 @@ fn create_beside<R: Files + Alloc>(rt: &R, name: &str) -> io::Result<(String<R::
     Err(io::Error::from(ErrorKind::AlreadyExists))
 }
 
-/// Writes all bytes into a new file, and has the system keep them.
-fn fill<F: Write + OpenFile + Drop>(mut file: F, bytes: &[u8]) -> io::Result<()> {
+/// Writes all bytes behind what the file holds, and has the system keep them.
+fn fill<F: Write + OpenFile>(file: &mut F, bytes: &[u8]) -> io::Result<()>
+    ensures { OnOk result (Appends (F.contents file.old) (F.contents file.new) bytes.now) }
+{
     file.write_all(bytes)?;
     file.sync_all()
 }
@@ -102,8 +107,9 @@ fn fill<F: Write + OpenFile + Drop>(mut file: F, bytes: &[u8]) -> io::Result<()>
 /// Puts a new file, once it is whole, in the place of the one of this name. After an error nothing of
 /// it is left.
 fn replace<R: Files + Alloc>(rt: &R, name: &str, bytes: &[u8]) -> io::Result<()> {
-    let (beside, file) = create_beside(rt, name)?;
-    let mut done = fill(file, bytes);
+    let (beside, mut file) = create_beside(rt, name)?;
+    let mut done = fill(&mut file, bytes);
+    drop(file);
     if done.is_ok() {
         done = fs::rename(rt, beside.as_str(), name);
     }

@@ -1,5 +1,6 @@
 //! The output of the system: a thin adapter, which tells its calls, and nothing of content.
 ghost use Rattle.std.specs.Prelude.{◌≡◌, ◌≤◌, ◌<◌, [], length, IfSome};
+ghost use Rattle.mz_io.specs.Streams.{IsTaken};
 
 use crate::log::{Log, Note};
 use crate::{Failed, Sink};
@@ -33,6 +34,7 @@ impl<W: Write> StdSink<W> {
     fn write_some(&mut self, piece: &[u8]) -> Option<usize>
         ensures bound { IfSome result (λ n. n ≤ length piece.now) }
         ensures some { IfSome result (λ n. 0 < length piece.now → 0 < n) }
+        ensures taken { IsTaken (W.contents self.old.inner) (W.contents self.new.inner) result piece.now }
         ensures faults { self.new.faults ≡ self.old.faults }
         ensures log { self.new.log ≡ self.old.log }
     {

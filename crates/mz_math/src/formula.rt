@@ -5,7 +5,7 @@ ghost use Rattle.mz_logic_theory.specs.Modifiers.{MayBeClaimSort};
 ghost use Rattle.mz_logic_theory.specs.View.{tree};
 ghost use Rattle.mz_math_theory.specs.FormulaAnswers.{IsClaimRead, IsFirstUnknown, IsJudged, IsTreeOfFew, settled};
 ghost use Rattle.mz_math_theory.specs.Coercions.{IsPath, OnePath, Reaches};
-ghost use Rattle.mz_math_theory.specs.Formula.{IsParsed, Reader, words as words_lem};
+ghost use Rattle.mz_math_theory.specs.Formula.{IsParsed, Reader, most, words as words_lem};
 ghost use Rattle.mz_math_theory.specs.Meaning.{IsGoal};
 ghost use Rattle.mz_math_theory.specs.declared.wanted.Wanted.{Wanted};
 ghost use Rattle.mz_math_theory.specs.Readable.{IsReadable};
@@ -64,10 +64,11 @@ pub fn parse_formula(
     }
 }
 
-/// The tree of the tokens, where they aren't too many.
+/// The tree of the tokens, where they aren't too many; else no memory is taken.
 fn parse_few(alloc: Global, words: &Vocabulary<'_>, tokens: &Tokens<'_>) -> Syntax
     requires { IsReadable words.now }
-    ensures { IsTreeOfFew words.now tokens.now result }
+    ensures tree { IsTreeOfFew words.now tokens.now result }
+    ensures many { most < length tokens.now → result ≡ Syntax.No }
 {
     if tokens.len() > MOST {
         return Syntax::No;

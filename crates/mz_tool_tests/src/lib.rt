@@ -7,6 +7,8 @@ mod asm;
 #[cfg(test)]
 mod expect;
 #[cfg(test)]
+mod failing_system;
+#[cfg(test)]
 mod io;
 #[cfg(test)]
 mod program;

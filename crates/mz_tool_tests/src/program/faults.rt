@@ -143,6 +143,7 @@ const COMMANDS: &[&str] = &[
     "axioms spec bin",
     "draft spec bin",
     "portable spec bin",
+    "spec text out",
     "decompile spec bin out",
     "sample 1",
 ];
@@ -189,7 +190,7 @@ fn expect_memory_told(rt: &(impl Abort + AllocGlobal), line: &str) -> bool {
 }
 
 #[test]
-fn want_of_memory_is_told(rt: HostRuntime) {
+fn out_of_memory_is_reported(rt: HostRuntime) {
     for line in COMMANDS {
         if !expect_memory_told(&rt, line) {
             return;

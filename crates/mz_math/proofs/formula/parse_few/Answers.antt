@@ -11,8 +11,11 @@ few-parsed ws tokens (syntax.Tree e) few tree none = (few, tree)
 few-parsed ws tokens syntax.No few tree none = λ _. none
 few-parsed ws tokens syntax.Mem few tree none = tt
 
-pub returns-then-len-gt-MOST : goal.returns-then-len-gt-MOST
-returns-then-len-gt-MOST c = λ few. absurd (omega (arith, few, c.len.ensures, c.if-len-gt-MOST.true))
+pub returns-then-len-gt-MOST-clause-tree : goal.returns-then-len-gt-MOST-clause-tree
+returns-then-len-gt-MOST-clause-tree c = λ few. absurd (omega (arith, few, c.len.ensures, c.if-len-gt-MOST.true))
 
-pub returns : goal.returns
-returns c = few-parsed c.args.words.now c.args.tokens.now c.parse.result (omega (arith, c.len.ensures, c.if-len-gt-MOST.false)) c.parse.ensures.tree c.parse.ensures.no
+pub returns-clause-many : goal.returns-clause-many
+returns-clause-many c = λ many. absurd (omega (arith, many, c.len.ensures, c.if-len-gt-MOST.false))
+
+pub returns-clause-tree : goal.returns-clause-tree
+returns-clause-tree c = few-parsed c.args.words.now c.args.tokens.now c.parse.result (omega (arith, c.len.ensures, c.if-len-gt-MOST.false)) c.parse.ensures.tree c.parse.ensures.no

@@ -30,7 +30,7 @@ unread-requires-clause-within c =
 pub unread-requires-clause-no_tree : goal.unread-requires-clause-no_tree
 unread-requires-clause-no_tree c =
     subst (λ (ts : List (List ℕ)). IsTreeOfFew c.new-words.result ts syntax.No)
-    (c.new-tokens.ensures ∙ ap (piece_texts c.args.text.now) (c.deref.ensures.value ∙ sym c.deref-in-No.ensures.value)) c.in-No.ensures
+    (c.new-tokens.ensures ∙ ap (piece_texts c.args.text.now) (c.deref.ensures.value ∙ sym c.deref-in-No.ensures.value)) c.in-No.ensures.tree
 
 pub returns-in-No : goal.returns-in-No
 returns-in-No c =
@@ -47,6 +47,6 @@ returns c =
     let pieces : Pieces c.args.notations.now.delimiters text items = subst (λ (d : Delimiters). Pieces d text items) c.delimiters.ensures.delimiters c.in-Ok.ensures in
     let tokens : c.new-tokens.result ≡ piece_texts text items = c.new-tokens.ensures ∙ ap (piece_texts text) c.deref.ensures.value in
     let read : (length (piece_texts text items) ≤ most) × Exp c.new-words.result 0 (tree c.in-Tree.tree) (piece_texts text items) =
-    subst (λ (ts : List (List ℕ)). (length ts ≤ most) × Exp c.new-words.result 0 (tree c.in-Tree.tree) ts) tokens c.in-Tree.ensures in
+    subst (λ (ts : List (List ℕ)). (length ts ≤ most) × Exp c.new-words.result 0 (tree c.in-Tree.tree) ts) tokens c.in-Tree.ensures.tree in
     let exp : Exp (words r) 0 (tree c.in-Tree.tree) (piece_texts text items) = subst (λ (ws : Words). Exp ws 0 (tree c.in-Tree.tree) (piece_texts text items)) c.new-words.ensures read.1 in
     known-all r c.args.wanted text items pieces (read-known (words r) text items 0 (tree c.in-Tree.tree) exp) c.meaning_of.result (c.meaning_of.ensures (piece_texts text items) read.0 exp)
