@@ -1,5 +1,5 @@
 -- A command on the parts of a machine, in the words of the machine that they make.
-use Rattle.std.specs.Prelude.{OnOk, ◌||◌}
+use Rattle.std.specs.Prelude.{OnOk, ◌||◌, reverse}
 use Rattle.std.proofs.Common.{◌≡◌, ◌+◌, ◌<◌, ◌^◌, ℕ, length, Result, Ok, Err, refl, sym, ◌∙◌, subst}
 use Rattle.mz_cmd.specs.declared.command.Cmd.{Cmd}
 use Rattle.mz_cmd.specs.declared.rule.K.{K}
@@ -8,13 +8,14 @@ use Rattle.mz_base.specs.Gaps.{gaps_of}
 use Rattle.mz_logic_theory.specs.Tree.{Tree}
 use Rattle.mz_store.specs.Sharing.{AreIn}
 use Rattle.mz_unify_theory.specs.Profile.{plain}
-use Rattle.mz_unify.specs.Stored.{AreItemsIn}
+use Rattle.mz_unify.specs.Stored.{AreItemsIn, items_at}
 use Rattle.mz_machine_theory.specs.MachineState.{Kind, State}
 use Rattle.mz_machine_theory.specs.Bodies.{body_command}
 use Rattle.mz_machine_env.specs.Before.{signatures_of, tables_of}
 use Rattle.mz_machine_env.specs.OwnRow.{byte_of, kind_of}
 use Rattle.mz_machine_theory.specs.Headings.{kind_at, heading_of}
 use Rattle.mz_machine.specs.OverStore.{Gives, Grows, NeverWants, UnlessMem}
+use Rattle.mz_machine.specs.OpenEquations.{AreSettled}
 use Rattle.mz_machine.specs.Running.{IsRunning, machine_of}
 use Rattle.mz_machine.specs.Stepping.{IsStepped, stepped_to}
 use Rattle.mz_machine.specs.Steps.{row_by, steps_by, steps_for, heading_for, is_sorry, TakesNone}
@@ -30,10 +31,11 @@ module _ (t : Setting) (p q : Parts) where
   row-kind = kind-is t.earlier.file t.row (kind_at (byte_of t.kind)) ∙ kind-byte t.kind
 
   pub keeps : {A : Type 0} (result : Result A Stop) → IsRunning t p → OnOk result (Grows (signatures_of t.earlier) p.store q.store)
-      → OnOk result (AreItemsIn q.store q.heap.items × AreItemsIn q.store q.stack.items × AreIn q.store q.hyps.items) → OnOk result (length q.hyps.items < 2 ^ 32) → OnOk result (IsRunning t q)
-  keeps (Ok x) was grows ids few =
-      (goes-on t.earlier.file (byte_of t.kind) t.row t.earlier.rows p.store q.store p.heap.items p.stack.items q.heap.items q.stack.items p.hyps.items q.hyps.items was.0 grows ids.0 ids.1 ids.2 few, was.1)
-  keeps (Err stop) was grows ids few = tt
+      → OnOk result (AreItemsIn q.store q.heap.items × AreItemsIn q.store q.stack.items × AreIn q.store q.hyps.items) → OnOk result (length q.hyps.items < 2 ^ 32)
+      → OnOk result (AreSettled q.store (reverse q.equations.items) (items_at q.store q.stack.items)) → OnOk result (IsRunning t q)
+  keeps (Ok x) was grows ids few settled =
+      (goes-on t.earlier.file (byte_of t.kind) t.row t.earlier.rows p.store q.store p.heap.items p.stack.items q.heap.items q.stack.items p.hyps.items q.hyps.items was.0 grows ids.0 ids.1 ids.2 few, was.1, settled)
+  keeps (Err stop) was grows ids few settled = tt
 
   module _ (c : Cmd) where
     abbrev by_kind : ℕ → Kind → Result (State Tree) K

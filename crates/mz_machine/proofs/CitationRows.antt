@@ -28,17 +28,17 @@ module _ (P : Profile) (trees : List P.T → List Tree) (trees-are : (es : List 
     unknown h = rw h refl
 
     module _ (row : SpelledThm) (there : slice_get tables.thms t ≡ Some row) where
-      few : nat_le (suc (length row.params)) (length st.stack) ≡ false → citation P tables t st ≡ Err k.Underflow
+      pub few : nat_le (suc (length row.params)) (length st.stack) ≡ false → citation P tables t st ≡ Err k.Underflow
       unfolding citation
       few h = rw (there, h) refl
 
       module _ (enough : nat_le (suc (length row.params)) (length st.stack) ≡ true) where
-        no-target : (rule : K) → pop_expr st.stack ≡ Err rule → citation P tables t st ≡ Err rule
+        pub no-target : (rule : K) → pop_expr st.stack ≡ Err rule → citation P tables t st ≡ Err rule
         unfolding citation
         no-target rule h = rw (there, enough, h) refl
 
         module _ (e : P.T) (ys : List (Item P.T)) (popped : pop_expr st.stack ≡ Ok (e, ys)) where
-          no-operands : (rule : K) → pop_operands (length row.params) ys ≡ Err rule → citation P tables t st ≡ Err rule
+          pub no-operands : (rule : K) → pop_operands (length row.params) ys ≡ Err rule → citation P tables t st ≡ Err rule
           unfolding citation
           no-operands rule h = rw (there, enough, popped, h) refl
 

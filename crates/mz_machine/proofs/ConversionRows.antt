@@ -96,7 +96,7 @@ module _ (P : Profile) (tables : RowsBefore) (at n : ℕ) (st : State P.T) where
 
 -- ---- the sides of operands
 
-no-right : {T : Type 0} (es : List T) (xs : List (Item T)) → sides es [] xs ≡ xs
+pub no-right : {T : Type 0} (es : List T) (xs : List (Item T)) → sides es [] xs ≡ xs
 no-right [] xs = refl
 no-right (e ∷ es) xs = refl
 

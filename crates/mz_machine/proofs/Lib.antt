@@ -23,4 +23,13 @@ pub mod BodyRunning
 pub mod Dummies
 pub mod Machines
 pub mod Beginning
+mod Barred
+mod UnifyBelow
+mod BarredRows
+mod OpenStacks
+mod WholeRows
+mod LackRows
+mod WholeEnds
+mod Opening
+mod Proceeding
 pub mod Offered

@@ -57,10 +57,10 @@ only is_definition (Converts converting.ConvSave) stands theorem = absurd cc
 only is_definition (Converts converting.Sorry) stands theorem = absurd cc
 only is_definition (Keeps c) stands theorem = absurd cc
 
-same-command : (k c : ProofCode) (v w : ℕ) → proves k v ≡ proves c w → k ≡ c
+pub same-command : (k c : ProofCode) (v w : ℕ) → proves k v ≡ proves c w → k ≡ c
 same-command k c v w e = cc
 
-some-command : (x y : BodyCommand) → Some x ≡ Some y → x ≡ y
+pub some-command : (x y : BodyCommand) → Some x ≡ Some y → x ≡ y
 some-command x y e = cc
 
 stands : (kind : Kind) (byte value : ℕ) (c : ProofCode) → body_command strict kind byte value ≡ Some (proves c value) → stands_in strict kind c ≡ true

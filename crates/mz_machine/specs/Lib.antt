@@ -1,4 +1,5 @@
 pub mod OverStore
+pub mod OpenEquations
 pub mod Steps
 pub mod BodyAnswers
 pub mod Endings

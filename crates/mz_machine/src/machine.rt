@@ -1,23 +1,26 @@
 //! A machine that takes the commands of one body.
-ghost use Rattle.std.specs.Prelude.{◌≡◌, ◌≤◌, ◌<◌, ◌+◌, ◌^◌, ◌&&◌, ◌||◌, ℕ, IfOk, OnOk, Some, length};
+ghost use Rattle.std.specs.Prelude.{◌≡◌, ◌≤◌, ◌<◌, ◌+◌, ◌^◌, ◌&&◌, ◌||◌, ℕ, IfOk, OnOk, Some, None, length, reverse, vec_capacity};
 ghost use Rattle.mz_base.specs.Gaps.{gaps_of};
 ghost use Rattle.mz_cmd.specs.Codes.{proof_code};
 ghost use Rattle.mz_store.specs.Bits.{bound_vars};
 ghost use Rattle.mz_store.specs.Sharing.{AreIn, IsOver};
 ghost use Rattle.mz_unify_theory.specs.Profile.{plain};
-ghost use Rattle.mz_unify.specs.Stored.{AreItemsIn};
+ghost use Rattle.mz_unify.specs.Stored.{AreItemsIn, items_at};
 ghost use Rattle.mz_machine_theory.specs.Bodies.{body_command};
 ghost use Rattle.mz_machine_env.specs.OwnRow.{MayRun, byte_of, kind_of, mode_for};
 ghost use Rattle.mz_machine_env.specs.Before.{tables_of, signatures_of};
 ghost use Rattle.mz_machine.specs.OverStore.{state_at, code_of, Gives, NeverWants, Grows, UnlessMem as OrMem};
 ghost use Rattle.mz_machine.specs.Steps.{heading_for, tables_for, steps_for, row_by, steps_by, end_steps, is_sorry, TakesNone};
 ghost use Rattle.mz_machine.specs.Stepping.{IsBegun, IsStepped, IsFinished, stepped_to, UnlessMem, UnlessEndMem};
+ghost use Rattle.mz_machine.specs.OpenEquations.{AreSettled, IsOpenedBy, opened_state, whole_state};
 ghost use Rattle.mz_machine.specs.Running.{IsRunning, machine_of};
 
 use crate::body::BodyEnd;
 use crate::command::{Command, decoded};
 use crate::commands::{execute, gap};
 use crate::end::end;
+use crate::equations::{Equation, resume};
+use crate::lack::lack;
 use mz_base::Mode;
 use mz_cmd::{Cmd, K, ProofCode, Steps};
 use mz_layout_tables::{Mmb, Rows};
@@ -50,6 +53,7 @@ pub(crate) struct Parts {
     store: Store,
     heap: Vec<Item>,
     stack: Vec<Item>,
+    equations: Vec<Equation>,
     hyps: Vec<Id>,
     sorry: bool,
     spare: Spare,
@@ -162,6 +166,7 @@ impl Parts {
             store: Store::seeded(alloc, seed),
             heap: Vec::new(alloc),
             stack: Vec::new(alloc),
+            equations: Vec::new(alloc),
             hyps: Vec::new(alloc),
             sorry: false,
             spare: Spare::new(alloc),
@@ -200,6 +205,7 @@ impl<'a> Setting<'a> {
         parts.store.begin(words.as_slice(), deps_mode(kind))?;
         first_items(&mut parts.heap, words.len())?;
         parts.stack.clear();
+        parts.equations.clear();
         parts.hyps.clear();
         parts.sorry = false;
         let bound_params = parts.store.bound_count();
@@ -228,7 +234,7 @@ impl<'a> Setting<'a> {
         ensures most { steps.new ≤ steps.old + (1 + length self.now.earlier.file) }
     {
         parts.sorry = has_gap(parts.sorry, cmd.code);
-        obey(
+        proceed(
             &self.earlier,
             self.mode,
             self.kind,
@@ -236,6 +242,7 @@ impl<'a> Setting<'a> {
             &mut parts.store,
             &mut parts.heap,
             &mut parts.stack,
+            &mut parts.equations,
             &mut parts.hyps,
             &mut parts.spare,
             steps,
@@ -272,8 +279,51 @@ impl<'a> Setting<'a> {
     }
 }
 
+/// Executes a command other than END, as `obey` does, over all that stands on the stack: the items that
+/// are written out, and the obligations still to come. Behind it the obligation in hand is written out.
+#[inline(always)]
+fn proceed<L: Ledger>(
+    earlier: &Earlier,
+    mode: Mode,
+    kind: BodyKind,
+    cmd: Cmd,
+    store: &mut Store,
+    heap: &mut Vec<Item>,
+    stack: &mut Vec<Item>,
+    equations: &mut Vec<Equation>,
+    hyps: &mut Vec<Id>,
+    spare: &mut Spare,
+    steps: &mut Steps<L>,
+) -> Result<(), Stop>
+    requires code { cmd.code ≡ 0 → ⊥ }
+    requires over { IsOver (signatures_of earlier.now) store.old }
+    requires told { store.old.mode ≡ mode_for (kind_of kind) }
+    requires heap { AreItemsIn store.old heap.old.items }
+    requires stack { AreItemsIn store.old stack.old.items }
+    requires settled { AreSettled store.old (reverse equations.old.items) (items_at store.old stack.old.items) }
+    requires hyps { AreIn store.old hyps.old.items }
+    requires few { length hyps.old.items < 2 ^ 32 }
+    ensures grows { OnOk result (Grows (signatures_of earlier.now) store.old store.new) }
+    ensures ids { OnOk result (AreItemsIn store.new heap.new.items × AreItemsIn store.new stack.new.items × AreIn store.new hyps.new.items) }
+    ensures settled { OnOk result (AreSettled store.new (reverse equations.new.items) (items_at store.new stack.new.items)) }
+    ensures few { OnOk result (length hyps.new.items < 2 ^ 32) }
+    ensures row { (at : ℕ) → Gives (row_by (gaps_of mode) (tables_of earlier.now) at (whole_state store.old heap.old.items equations.old.items stack.old.items hyps.old.items) (body_command (plain (gaps_of mode)) (kind_of kind) cmd.code cmd.value)) result (λ _. whole_state store.new heap.new.items equations.new.items stack.new.items hyps.new.items) }
+    ensures never { TakesNone (whole_state store.old heap.old.items equations.old.items stack.old.items hyps.old.items) (body_command (plain (gaps_of mode)) (kind_of kind) cmd.code cmd.value) → NeverWants result }
+    ensures steps { OrMem result (steps.new ≡ steps.old + steps_by (gaps_of mode) (tables_of earlier.now) (whole_state store.old heap.old.items equations.old.items stack.old.items hyps.old.items) (body_command (plain (gaps_of mode)) (kind_of kind) cmd.code cmd.value)) }
+    ensures most { steps.new ≤ steps.old + (1 + length earlier.now.file) }
+{
+    if let Some(rule) = lack(earlier, kind, cmd, store, stack.len(), equations) {
+        steps.tick();
+        return Err(Stop::Rule(rule));
+    }
+    let opened = obey(
+        earlier, mode, kind, cmd, store, heap, stack, hyps, spare, steps,
+    )?;
+    resume(store, stack, equations, opened)
+}
+
 /// Executes a command other than END, if it stands in bodies of the kind, and counts its steps. A
-/// draft's gap is let through.
+/// draft's gap is let through. What it answers is the equation that the command opens, if it does.
 #[inline(always)]
 fn obey<L: Ledger>(
     earlier: &Earlier,
@@ -286,7 +336,7 @@ fn obey<L: Ledger>(
     hyps: &mut Vec<Id>,
     spare: &mut Spare,
     steps: &mut Steps<L>,
-) -> Result<(), Stop>
+) -> Result<Option<(Id, Id)>, Stop>
     requires code { cmd.code ≡ 0 → ⊥ }
     requires over { IsOver (signatures_of earlier.now) store.old }
     requires told { store.old.mode ≡ mode_for (kind_of kind) }
@@ -297,8 +347,10 @@ fn obey<L: Ledger>(
     ensures grows { OnOk result (Grows (signatures_of earlier.now) store.old store.new) }
     ensures ids { OnOk result (AreItemsIn store.new heap.new.items × AreItemsIn store.new stack.new.items × AreIn store.new hyps.new.items) }
     ensures few { OnOk result (length hyps.new.items < 2 ^ 32) }
-    ensures row { (at : ℕ) → Gives (row_by (gaps_of mode) (tables_of earlier.now) at (state_at store.old heap.old.items stack.old.items hyps.old.items) (body_command (plain (gaps_of mode)) (kind_of kind) cmd.code cmd.value)) result (λ _. state_at store.new heap.new.items stack.new.items hyps.new.items) }
+    ensures opened { IfOk result (λ opened. IsOpenedBy store.new opened stack.old.items stack.new.items) }
+    ensures row { (at : ℕ) → Gives (row_by (gaps_of mode) (tables_of earlier.now) at (state_at store.old heap.old.items stack.old.items hyps.old.items) (body_command (plain (gaps_of mode)) (kind_of kind) cmd.code cmd.value)) result (λ opened. opened_state store.new heap.new.items opened stack.new.items hyps.new.items) }
     ensures never { TakesNone (state_at store.old heap.old.items stack.old.items hyps.old.items) (body_command (plain (gaps_of mode)) (kind_of kind) cmd.code cmd.value) → NeverWants result }
+    ensures none { TakesNone (state_at store.old heap.old.items stack.old.items hyps.old.items) (body_command (plain (gaps_of mode)) (kind_of kind) cmd.code cmd.value) → IfOk result (λ opened. opened ≡ None) × (vec_capacity stack.old ≤ vec_capacity stack.new) }
     ensures steps { OrMem result (steps.new ≡ steps.old + steps_by (gaps_of mode) (tables_of earlier.now) (state_at store.old heap.old.items stack.old.items hyps.old.items) (body_command (plain (gaps_of mode)) (kind_of kind) cmd.code cmd.value)) }
     ensures most { steps.new ≤ steps.old + (1 + length earlier.now.file) }
 {
@@ -308,7 +360,7 @@ fn obey<L: Ledger>(
     };
     if leaves_gap(mode, command) {
         gap(earlier, store, stack)?;
-        return Ok(());
+        return Ok(None);
     }
     execute(
         earlier, command, cmd.value, store, heap, stack, hyps, spare, steps,

@@ -1,7 +1,7 @@
 //! What a command takes from the stack, whose top is its last item.
 ghost use Rattle.std.specs.Prelude.{◌≡◌, ◌≤◌, ◌<◌, ◌-◌, ◌+◌, ◌++◌, ◌∷◌, [], false, IfOk, OnOk, IfSome, IfNone, vec_len, vec_capacity};
 ghost use Rattle.mz_store.specs.Sharing.{Sharing, IsIn, tree_of};
-ghost use Rattle.mz_store.specs.declared.item.Item.TheVariants.{Conversion};
+ghost use Rattle.mz_store.specs.declared.item.Item.TheVariants.{Obligation, Conversion};
 ghost use Rattle.mz_unify.specs.Stored.{items_at, item_at, AreItemsIn, IsItemIn};
 ghost use Rattle.mz_machine_theory.specs.Premises.{pop, pop_expr, pop_proof, pop_obligation, pop_conversion, is_conversion};
 ghost use Rattle.mz_machine.specs.OverStore.{GivesRule};
@@ -60,6 +60,7 @@ pub(crate) fn pop_proof(store: &Store, stack: &mut Vec<Item>) -> Result<Id, K>
 pub(crate) fn pop_obligation(store: &Store, stack: &mut Vec<Item>) -> Result<(Id, Id), K>
     requires { AreItemsIn store.now stack.old.items }
     ensures ids { IfOk result (λ ids. IsIn store.now ids.0.0 × IsIn store.now ids.1.0 × AreItemsIn store.now stack.new.items) }
+    ensures items { IfOk result (λ ids. stack.old.items ≡ stack.new.items ++ Obligation ids.0 ids.1 ∷ []) }
     ensures taken { GivesRule (pop_obligation (items_at store.now stack.old.items)) result (λ ids. (tree_of store.now ids.0.0, tree_of store.now ids.1.0, items_at store.now stack.new.items)) }
     ensures room { OnOk result (vec_len stack.new + 1 ≤ vec_len stack.old) }
     ensures capacity { vec_capacity stack.new ≡ vec_capacity stack.old }

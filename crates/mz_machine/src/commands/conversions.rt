@@ -1,18 +1,19 @@
 //! Conversions: obligations that two expressions are convertible, and how they are paid.
-ghost use Rattle.std.specs.Prelude.{ℕ, ◌≡◌, ◌≤◌, ◌++◌, ◌∷◌, ◌+◌, ⊤, [], IfOk, OnOk, MatchResult, length};
+ghost use Rattle.std.specs.Prelude.{ℕ, ◌≡◌, ◌≤◌, ◌++◌, ◌∷◌, ◌+◌, [], Some, IfOk, OnOk, length, vec_capacity};
 ghost use Rattle.mz_cmd.specs.declared.code.ProofCode.TheVariants as code;
 ghost use Rattle.mz_logic_theory.specs.Tree.{Tree};
-ghost use Rattle.mz_store.specs.Sharing.{AreIn, IsIn, IsOver, tree_of};
+ghost use Rattle.mz_store.specs.Sharing.{IsIn, IsOver, tree_of};
+ghost use Rattle.mz_store.specs.declared.item.Item.TheVariants.{Obligation};
 ghost use Rattle.mz_store.specs.declared.item.DepsMode.TheVariants.{All};
 ghost use Rattle.mz_unify_theory.specs.Profile.{strict};
-ghost use Rattle.mz_unify.specs.Stored.{items_at, item_at, trees_at, AreItemsIn, IsItemIn};
+ghost use Rattle.mz_unify.specs.Stored.{items_at, item_at, AreItemsIn, IsItemIn};
 ghost use Rattle.mz_machine_theory.specs.Premises.{pop_sides};
 ghost use Rattle.mz_machine_theory.specs.MachineState.{RowsBefore, State};
-ghost use Rattle.mz_machine_theory.specs.ProofMachine.{proof_step, sides};
+ghost use Rattle.mz_machine_theory.specs.ProofMachine.{proof_step};
 ghost use Rattle.mz_machine_theory.specs.Bodies.{row_steps};
 ghost use Rattle.mz_machine_env.specs.Before.{tables_of, signatures_of};
 ghost use Rattle.mz_machine.specs.OverStore.{with_stack, pop_unfolding, Gives, GivesRule, UnlessMem};
-ghost use Rattle.mz_unify.specs.Rows.{StopsBy};
+ghost use Rattle.mz_machine.specs.OpenEquations.{opened_on};
 
 use crate::stack::{pop, pop_conversion, pop_expr, pop_obligation, pop_proof};
 use mz_cmd::{K, Steps};
@@ -29,6 +30,7 @@ pub(crate) fn conv(store: &Store, stack: &mut Vec<Item>) -> Result<(), K>
     requires { AreItemsIn store.now stack.old.items }
     ensures ids { OnOk result (AreItemsIn store.now stack.new.items) }
     ensures row { (tables : RowsBefore) (at n : ℕ) (st : State Tree) → st.stack ≡ items_at store.now stack.old.items → GivesRule (proof_step strict tables at code.Conv n st) result (λ _. with_stack st (items_at store.now stack.new.items)) }
+    ensures capacity { vec_capacity stack.old ≤ vec_capacity stack.new }
 {
     let proved = pop_proof(store, stack)?;
     let claimed = pop_expr(store, stack)?;
@@ -43,6 +45,7 @@ pub(crate) fn refl(store: &Store, stack: &mut Vec<Item>) -> Result<(), K>
     requires { AreItemsIn store.now stack.old.items }
     ensures ids { OnOk result (AreItemsIn store.now stack.new.items) }
     ensures row { (tables : RowsBefore) (at n : ℕ) (st : State Tree) → st.stack ≡ items_at store.now stack.old.items → GivesRule (proof_step strict tables at code.Refl n st) result (λ _. with_stack st (items_at store.now stack.new.items)) }
+    ensures capacity { vec_capacity stack.old ≤ vec_capacity stack.new }
 {
     let (left, right) = pop_obligation(store, stack)?;
     if store.same(left, right) {
@@ -58,48 +61,30 @@ pub(crate) fn symm(store: &Store, stack: &mut Vec<Item>) -> Result<(), K>
     requires { AreItemsIn store.now stack.old.items }
     ensures ids { OnOk result (AreItemsIn store.now stack.new.items) }
     ensures row { (tables : RowsBefore) (at n : ℕ) (st : State Tree) → st.stack ≡ items_at store.now stack.old.items → GivesRule (proof_step strict tables at code.Symm n st) result (λ _. with_stack st (items_at store.now stack.new.items)) }
+    ensures capacity { vec_capacity stack.old ≤ vec_capacity stack.new }
 {
     let (left, right) = pop_obligation(store, stack)?;
     put_back(stack, Item::Obligation(right, left));
     Ok(())
 }
 
-/// From an obligation between two applications of one term to those between their operands, the
-/// first on top.
+/// Takes an obligation between two applications of one term, in place of which those between their
+/// operands are to come, the first on top. It takes no memory.
 #[tactic(auto, unfolding(mz_machine_theory::specs::ProofMachine::proof_step))]
-pub(crate) fn cong(store: &Store, stack: &mut Vec<Item>) -> Result<(), Stop>
+pub(crate) fn cong(store: &Store, stack: &mut Vec<Item>) -> Result<(Id, Id), K>
     requires { AreItemsIn store.now stack.old.items }
-    ensures ids { OnOk result (AreItemsIn store.now stack.new.items) }
-    ensures row { (tables : RowsBefore) (at n : ℕ) (st : State Tree) → st.stack ≡ items_at store.now stack.old.items → Gives (proof_step strict tables at code.Cong n st) result (λ _. with_stack st (items_at store.now stack.new.items)) }
+    ensures ids { IfOk result (λ ids. IsIn store.now ids.0.0 × IsIn store.now ids.1.0 × AreItemsIn store.now stack.new.items) }
+    ensures items { IfOk result (λ ids. stack.old.items ≡ stack.new.items ++ Obligation ids.0 ids.1 ∷ []) }
+    ensures row { (tables : RowsBefore) (at n : ℕ) (st : State Tree) → st.stack ≡ items_at store.now stack.old.items → GivesRule (proof_step strict tables at code.Cong n st) result (λ ids. with_stack st (opened_on store.now (Some ids) (items_at store.now stack.new.items))) }
 {
-    let (left, right) = match pop_obligation(store, stack) {
-        Ok(sides) => sides,
-        Err(rule) => return Err(Stop::Rule(rule)),
-    };
+    let (left, right) = pop_obligation(store, stack)?;
     let Some(term) = store.head(left) else {
-        return Err(Stop::Rule(K::Cong));
+        return Err(K::Cong);
     };
     if store.head(right) != Some(term) {
-        return Err(Stop::Rule(K::Cong));
+        return Err(K::Cong);
     }
-    push_sides(store, store.args(left), store.args(right), stack)
-}
-
-/// Puts the obligations between the operands on the stack, the first one last.
-fn push_sides(store: &Store, lefts: &[Id], rights: &[Id], stack: &mut Vec<Item>) -> Result<(), Stop>
-    requires lefts { AreIn store.now lefts.now }
-    requires rights { AreIn store.now rights.now }
-    requires stack { AreItemsIn store.now stack.old.items }
-    ensures ids { OnOk result (AreItemsIn store.now stack.new.items) }
-    ensures sides { OnOk result (items_at store.now stack.new.items ≡ sides (trees_at store.now lefts.now) (trees_at store.now rights.now) (items_at store.now stack.old.items)) }
-    ensures err { MatchResult result (λ _. ⊤) (λ stop. StopsBy stop (λ _. ⊥)) }
-{
-    let mut at = lefts.len().min(rights.len());
-    'operands: while at > 0 {
-        at -= 1;
-        push(stack, Item::Obligation(lefts[at], rights[at]))?;
-    }
-    Ok(())
+    Ok((left, right))
 }
 
 /// From an obligation whose left side is a definition's application, and what it unfolds to, to the

@@ -1,5 +1,5 @@
 //! Gaps in proofs, where they are let through.
-ghost use Rattle.std.specs.Prelude.{ℕ, ◌≡◌, OnOk};
+ghost use Rattle.std.specs.Prelude.{ℕ, ◌≡◌, ◌≤◌, OnOk, vec_capacity};
 ghost use Rattle.mz_cmd.specs.declared.code.ProofCode.TheVariants as code;
 ghost use Rattle.mz_logic_theory.specs.Tree.{Tree};
 ghost use Rattle.mz_store.specs.Sharing.{IsOver};
@@ -24,6 +24,7 @@ pub(crate) fn gap(earlier: &Earlier, store: &Store, stack: &mut Vec<Item>) -> Re
     requires stack { AreItemsIn store.now stack.old.items }
     ensures ids { OnOk result (AreItemsIn store.now stack.new.items) }
     ensures row { (at n : ℕ) (st : State Tree) → st.ctx ≡ store.now.context → st.stack ≡ items_at store.now stack.old.items → GivesRule (proof_step draft (tables_of earlier.now) at code.Sorry n st) result (λ _. with_stack st (items_at store.now stack.new.items)) }
+    ensures capacity { vec_capacity stack.old ≤ vec_capacity stack.new }
 {
     match pop(store, stack)? {
         Item::Expr(claim) => {

@@ -1,5 +1,5 @@
 //! The heap: references to it, and what is kept there.
-ghost use Rattle.std.specs.Prelude.{ℕ, ◌≡◌, ◌<◌, ◌++◌, ◌∷◌, [], IfOk, OnOk, slice_get, Some};
+ghost use Rattle.std.specs.Prelude.{ℕ, ◌≡◌, ◌≤◌, ◌<◌, ◌++◌, ◌∷◌, [], IfOk, OnOk, slice_get, Some, vec_capacity};
 ghost use Rattle.mz_cmd.specs.declared.code.ProofCode.TheVariants as code;
 ghost use Rattle.mz_logic_theory.specs.Tree.{Tree};
 ghost use Rattle.mz_store.specs.Sharing.{IsIn, IsOver, tree_of};
@@ -28,6 +28,7 @@ fn pay(store: &Store, left: Id, right: Id, stack: &mut Vec<Item>) -> Result<(), 
     requires stack { AreItemsIn store.now stack.old.items }
     ensures ids { OnOk result (AreItemsIn store.now stack.new.items) }
     ensures row { (st : State Tree) → st.stack ≡ items_at store.now stack.old.items → GivesRule (referred strict (conversion (tree_of store.now left.0) (tree_of store.now right.0)) st) result (λ _. with_stack st (items_at store.now stack.new.items)) }
+    ensures capacity { vec_capacity stack.new ≡ vec_capacity stack.old }
 {
     let (owed_left, owed_right) = pop_obligation(store, stack)?;
     if store.same(left, owed_left) && store.same(right, owed_right) {
@@ -45,6 +46,7 @@ fn refer_to(store: &Store, item: Item, stack: &mut Vec<Item>) -> Result<(), Stop
     ensures ids { OnOk result (AreItemsIn store.now stack.new.items) }
     ensures row { (st : State Tree) → st.stack ≡ items_at store.now stack.old.items → Gives (referred strict (item_at store.now item) st) result (λ _. with_stack st (items_at store.now stack.new.items)) }
     ensures never { (l r : Id) → item ≡ Conversion l r → NeverWants result }
+    ensures capacity { (l r : Id) → item ≡ Conversion l r → vec_capacity stack.old ≤ vec_capacity stack.new }
 {
     let Some((left, right)) = conversion_of(item) else {
         return push(stack, item);
@@ -66,6 +68,7 @@ pub(crate) fn refer(
     ensures ids { OnOk result (AreItemsIn store.now stack.new.items) }
     ensures row { (tables : RowsBefore) (at : ℕ) (st : State Tree) → st.heap ≡ heap_at store.now heap.now → st.stack ≡ items_at store.now stack.old.items → Gives (proof_step strict tables at code.Ref place st) result (λ _. with_stack st (items_at store.now stack.new.items)) }
     ensures never { (l r : Id) → slice_get heap.now place ≡ Some (Conversion l r) → NeverWants result }
+    ensures capacity { (l r : Id) → slice_get heap.now place ≡ Some (Conversion l r) → vec_capacity stack.old ≤ vec_capacity stack.new }
 {
     let Some(item) = kept_at(heap, place) else {
         return Err(Stop::Rule(K::HeapIndex));
@@ -84,6 +87,7 @@ pub(crate) fn conv_refer(
     requires stack { AreItemsIn store.now stack.old.items }
     ensures ids { OnOk result (AreItemsIn store.now stack.new.items) }
     ensures row { (tables : RowsBefore) (at : ℕ) (st : State Tree) → st.heap ≡ heap_at store.now heap.now → st.stack ≡ items_at store.now stack.old.items → GivesRule (proof_step strict tables at code.ConvRef place st) result (λ _. with_stack st (items_at store.now stack.new.items)) }
+    ensures capacity { vec_capacity stack.new ≡ vec_capacity stack.old }
 {
     let Some(item) = kept_at(heap, place) else {
         return Err(K::HeapIndex);

@@ -1,4 +1,4 @@
-use Rattle.std.proofs.Common.{◌∙◌, [], ◌∷◌, Ok, refl, sym, ap}
+use Rattle.std.proofs.Common.{◌∙◌, [], ◌∷◌, Ok, refl, sym, ap, arith}
 use Rattle.std.proofs.lemmas.Result.{on_ok_weaker}
 use Rattle.mz_unify.proofs.Offered.{items-in-both}
 use Rattle.mz_unify_theory.specs.Profile.{strict}
@@ -58,20 +58,6 @@ returns-in-Symm-clause-never g c value hyps none = ruled-never c.symm.result c.b
 
 pub returns-in-Symm-clause-steps : goal.returns-in-Symm-clause-steps
 returns-in-Symm-clause-steps g c value hyps = rw c.in-Symm.is (unless-mem c.by_rule-in-Symm.result (no-more _ _ refl))
-
-pub returns-in-Cong-clause-ids : goal.returns-in-Cong-clause-ids
-returns-in-Cong-clause-ids g c = on_ok_weaker c.cong.result (λ stack. (c.requires.heap, stack)) c.cong.ensures.ids
-
-pub returns-in-Cong-clause-row : goal.returns-in-Cong-clause-row
-returns-in-Cong-clause-row g c at value hyps =
-    rw c.in-Cong.is (c.cong.ensures.row (tables_of c.args.earlier.now) at value (state_at c.args.store.now c.args.heap.now.items c.args.stack.now.items hyps) refl)
-
-pub returns-in-Cong-clause-steps : goal.returns-in-Cong-clause-steps
-returns-in-Cong-clause-steps g c value hyps = rw c.in-Cong.is (unless-mem c.cong.result (no-more _ _ refl))
-
-pub returns-in-Cong-clause-never : goal.returns-in-Cong-clause-never
-returns-in-Cong-clause-never g c value hyps none =
-    absurd (true-false (sym none ∙ ap (λ k. takes_none (code_of_converting k) value (state_at c.args.store.now c.args.heap.now.items c.args.stack.now.items hyps)) c.in-Cong.is))
 
 pub returns-in-Unfold-clause-ids : goal.returns-in-Unfold-clause-ids
 returns-in-Unfold-clause-ids g c = on_ok_weaker c.unfold.result (λ stack. (c.requires.heap, stack)) c.unfold.ensures.ids
@@ -158,9 +144,6 @@ refl-requires g c = c.requires.stack
 pub symm-requires : goal.symm-requires
 symm-requires g c = c.requires.stack
 
-pub cong-requires : goal.cong-requires
-cong-requires g c = c.requires.stack
-
 pub conv_cut-requires : goal.conv_cut-requires
 conv_cut-requires g c = c.requires.stack
 
@@ -175,3 +158,33 @@ unfold-requires-clause-stack g c = c.requires.stack
 
 pub unfold-requires-clause-mode : goal.unfold-requires-clause-mode
 unfold-requires-clause-mode g c = c.requires.mode
+
+-- ---- room
+
+pub returns-in-Conv-clause-capacity : goal.returns-in-Conv-clause-capacity
+returns-in-Conv-clause-capacity g c value hyps none = omega (arith, c.conv.ensures.capacity)
+
+pub returns-in-Refl-clause-capacity : goal.returns-in-Refl-clause-capacity
+returns-in-Refl-clause-capacity g c value hyps none = omega (arith, c.refl.ensures.capacity)
+
+pub returns-in-Symm-clause-capacity : goal.returns-in-Symm-clause-capacity
+returns-in-Symm-clause-capacity g c value hyps none = omega (arith, c.symm.ensures.capacity)
+
+pub returns-in-Unfold-clause-capacity : goal.returns-in-Unfold-clause-capacity
+returns-in-Unfold-clause-capacity g c value hyps none =
+    absurd (true-false (sym none ∙ ap (λ k. takes_none (code_of_converting k) value (state_at c.args.store.now c.args.heap.now.items c.args.stack.now.items hyps)) c.in-Unfold.is))
+
+pub returns-in-ConvCut-clause-capacity : goal.returns-in-ConvCut-clause-capacity
+returns-in-ConvCut-clause-capacity g c value hyps none =
+    absurd (true-false (sym none ∙ ap (λ k. takes_none (code_of_converting k) value (state_at c.args.store.now c.args.heap.now.items c.args.stack.now.items hyps)) c.in-ConvCut.is))
+
+pub returns-in-Ok-clause-capacity : goal.returns-in-Ok-clause-capacity
+returns-in-Ok-clause-capacity g c value hyps none =
+    absurd (true-false (sym none ∙ ap (λ k. takes_none (code_of_converting k) value (state_at c.args.store.now c.args.heap.now.items c.args.stack.now.items hyps)) c.in-ConvSave.is))
+
+pub returns-in-Err-clause-capacity : goal.returns-in-Err-clause-capacity
+returns-in-Err-clause-capacity g c value hyps none =
+    absurd (true-false (sym none ∙ ap (λ k. takes_none (code_of_converting k) value (state_at c.args.store.now c.args.heap.now.items c.args.stack.now.items hyps)) c.in-ConvSave.is))
+
+pub returns-in-Sorry-clause-capacity : goal.returns-in-Sorry-clause-capacity
+returns-in-Sorry-clause-capacity g c value hyps none = omega arith

@@ -1,4 +1,4 @@
-use Rattle.std.proofs.Common.{◌∙◌, [], ◌∷◌, Ok, refl, sym, ap}
+use Rattle.std.proofs.Common.{◌∙◌, [], ◌∷◌, Ok, refl, sym, ap, arith}
 use Rattle.std.specs.Prelude.{slice_get}
 use Rattle.std.proofs.lemmas.Result.{err_from_is_err_and, on_ok_weaker}
 use Rattle.mz_store.specs.declared.item.Item.TheVariants.{Expr, Proof}
@@ -230,3 +230,47 @@ assume-requires c = record { few = c.requires.few }
 
 pub conv_refer-requires-clause-stack : goal.conv_refer-requires-clause-stack
 conv_refer-requires-clause-stack c = c.requires.stack
+
+-- ---- room
+
+pub returns-in-Ref-clause-capacity : goal.returns-in-Ref-clause-capacity
+returns-in-Ref-clause-capacity c none =
+    let there = conversion-there c.args.store.now c.args.heap.now.items c.args.value
+    (sym (ap (λ k. takes_none (code_of_keeping k) c.args.value (state_at c.args.store.now c.args.heap.now.items c.args.stack.now.items c.args.hyps.now.items)) c.in-Ref.is) ∙ none) in
+    c.refer.ensures.capacity there.0 there.1 (ap (λ xs. slice_get xs c.args.value) c.deref.ensures.value ∙ there.2)
+
+pub returns-in-ConvRef-clause-capacity : goal.returns-in-ConvRef-clause-capacity
+returns-in-ConvRef-clause-capacity c none =
+    omega (arith, c.conv_refer.ensures.capacity)
+
+pub returns-in-Ok-clause-capacity : goal.returns-in-Ok-clause-capacity
+returns-in-Ok-clause-capacity c none =
+    absurd (true-false (sym none ∙ ap (λ k. takes_none (code_of_keeping k) c.args.value (state_at c.args.store.now c.args.heap.now.items c.args.stack.now.items c.args.hyps.now.items)) c.in-Hyp.is))
+
+pub returns-in-Err-clause-capacity : goal.returns-in-Err-clause-capacity
+returns-in-Err-clause-capacity c none =
+    absurd (true-false (sym none ∙ ap (λ k. takes_none (code_of_keeping k) c.args.value (state_at c.args.store.now c.args.heap.now.items c.args.stack.now.items c.args.hyps.now.items)) c.in-Hyp.is))
+
+pub returns-in-Ok-save-clause-capacity : goal.returns-in-Ok-save-clause-capacity
+returns-in-Ok-save-clause-capacity c none =
+    absurd (true-false (sym none ∙ ap (λ k. takes_none (code_of_keeping k) c.args.value (state_at c.args.store.now c.args.heap.now.items c.args.stack.now.items c.args.hyps.now.items)) c.in-Save.is))
+
+pub returns-in-Err-save-clause-capacity : goal.returns-in-Err-save-clause-capacity
+returns-in-Err-save-clause-capacity c none =
+    absurd (true-false (sym none ∙ ap (λ k. takes_none (code_of_keeping k) c.args.value (state_at c.args.store.now c.args.heap.now.items c.args.stack.now.items c.args.hyps.now.items)) c.in-Save.is))
+
+pub returns-in_err-made-in-Dummy-clause-capacity : goal.returns-in_err-made-in-Dummy-clause-capacity
+returns-in_err-made-in-Dummy-clause-capacity c none =
+    absurd (true-false (sym none ∙ ap (λ k. takes_none (code_of_keeping k) c.args.value (state_at c.args.store.now c.args.heap.now.items c.args.stack.now.items c.args.hyps.now.items)) c.in-Dummy.is))
+
+pub returns-in_err-push-in-Dummy-clause-capacity : goal.returns-in_err-push-in-Dummy-clause-capacity
+returns-in_err-push-in-Dummy-clause-capacity c none =
+    absurd (true-false (sym none ∙ ap (λ k. takes_none (code_of_keeping k) c.args.value (state_at c.args.store.now c.args.heap.now.items c.args.stack.now.items c.args.hyps.now.items)) c.in-Dummy.is))
+
+pub returns-in_err-push-in-Dummy-2-clause-capacity : goal.returns-in_err-push-in-Dummy-2-clause-capacity
+returns-in_err-push-in-Dummy-2-clause-capacity c none =
+    absurd (true-false (sym none ∙ ap (λ k. takes_none (code_of_keeping k) c.args.value (state_at c.args.store.now c.args.heap.now.items c.args.stack.now.items c.args.hyps.now.items)) c.in-Dummy.is))
+
+pub returns-in_ok-push-in-Dummy-2-clause-capacity : goal.returns-in_ok-push-in-Dummy-2-clause-capacity
+returns-in_ok-push-in-Dummy-2-clause-capacity c none =
+    absurd (true-false (sym none ∙ ap (λ k. takes_none (code_of_keeping k) c.args.value (state_at c.args.store.now c.args.heap.now.items c.args.stack.now.items c.args.hyps.now.items)) c.in-Dummy.is))

@@ -74,6 +74,15 @@ returns-clause-ids g c = c.execute.ensures.ids
 pub returns-clause-few : goal.returns-clause-few
 returns-clause-few g c = c.execute.ensures.few
 
+pub returns-clause-opened : goal.returns-clause-opened
+returns-clause-opened g c = c.execute.ensures.opened
+
+pub returns-clause-none : goal.returns-clause-none
+returns-clause-none g c none =
+    let here = c.in-Some.ensures.some c.args.cmd.value in
+    let st = state_at c.args.store.now c.args.heap.now.items c.args.stack.now.items c.args.hyps.now.items in
+    c.execute.ensures.none (subst (TakesNone st) (stands-here (gaps_of c.args.mode) (tables_of c.args.earlier.now) (kind_of c.args.kind) c.args.cmd.code c.args.cmd.value (code_of c.in-Some.command) here) none)
+
 -- ---- no command of such bodies
 
 pub returns-in_default-clause-row : goal.returns-in_default-clause-row
@@ -92,6 +101,9 @@ returns-in_default-clause-steps g c =
           (c.in_default.ensures.none c.args.cmd.value),
       c.tick.ensures,
     )
+
+pub returns-in_default-clause-none : goal.returns-in_default-clause-none
+returns-in_default-clause-none g c none = (tt, omega arith)
 
 pub returns-in_default-clause-most : goal.returns-in_default-clause-most
 returns-in_default-clause-most g c = omega (arith, c.tick.ensures)
@@ -112,6 +124,12 @@ returns-in_err-gap-clause-never g c none =
     let p = err_from_is_err_and c.from_residual.result c.from_residual.ensures.1 in
     rw (p.1, p.2) (rule-not-mem _)
 
+pub returns-in_err-gap-clause-opened : goal.returns-in_err-gap-clause-opened
+returns-in_err-gap-clause-opened g c = rw (err_from_is_err_and c.from_residual.result c.from_residual.ensures.1).1 tt
+
+pub returns-in_err-gap-clause-none : goal.returns-in_err-gap-clause-none
+returns-in_err-gap-clause-none g c none = rw (err_from_is_err_and c.from_residual.result c.from_residual.ensures.1).1 (tt, c.gap.ensures.capacity)
+
 pub returns-in_err-gap-clause-most : goal.returns-in_err-gap-clause-most
 returns-in_err-gap-clause-most g c = omega (arith, c.tick.ensures)
 
@@ -123,6 +141,9 @@ returns-then-leaves_gap-clause-few g c = c.requires.few
 
 pub returns-then-leaves_gap-clause-never : goal.returns-then-leaves_gap-clause-never
 returns-then-leaves_gap-clause-never g c none = tt
+
+pub returns-then-leaves_gap-clause-none : goal.returns-then-leaves_gap-clause-none
+returns-then-leaves_gap-clause-none g c none = (refl, c.gap.ensures.capacity)
 
 pub returns-then-leaves_gap-clause-most : goal.returns-then-leaves_gap-clause-most
 returns-then-leaves_gap-clause-most g c = omega (arith, c.tick.ensures)

@@ -30,3 +30,7 @@ returns-clause-row c st is = rw c.in-Some.ensures.some (ruled-gives c.pay.result
 
 pub returns-clause-never : goal.returns-clause-never
 returns-clause-never c l r is = ruled-never c.pay.result c.by_rule.result c.by_rule.ensures
+
+pub returns-in_default-clause-capacity : goal.returns-in_default-clause-capacity
+returns-in_default-clause-capacity c l r is =
+    absurd (true-false (ap (λ x. is_conversion (item_at c.args.store.now x)) (sym is) ∙ c.in_default.ensures.none c.args.store.now))

@@ -1,0 +1,70 @@
+-- A command on the items that are written out, in the words of the whole stack.
+use Rattle.std.proofs.Common.{◌≡◌, ◌≤◌, ◌+◌, ℕ, Bool, List, [], ◌∷◌, length, Option, Some, None, Result, Ok, Err, refl, sym, subst, ◌∙◌, arith}
+use Rattle.std.specs.Prelude.{reverse, IfSome}
+use Rattle.mz_cmd.specs.declared.rule.K.{K}
+use Rattle.mz_logic_theory.specs.Tree.{Tree}
+use Rattle.mz_store.specs.Sharing.{Sharing, IsIn, KeepsIds}
+use Rattle.mz_store.specs.declared.item.Id.{Id}
+use Rattle.mz_store.specs.declared.item.Item.{Item as Kept}
+use Rattle.mz_store.specs.declared.item.Item.TheVariants.{Obligation}
+use Rattle.mz_unify.specs.Stored.{item_at, items_at, AreItemsIn}
+use Rattle.mz_unify.specs.declared.stop.Stop.{Stop}
+use Rattle.mz_machine_theory.specs.MachineState.{RowsBefore, State}
+use Rattle.mz_machine_theory.specs.Bodies.{BodyCommand, proves}
+use Rattle.std.proofs.lemmas.List.{append-nil}
+use Rattle.mz_cmd.specs.declared.code.ProofCode.{ProofCode}
+use Rattle.mz_machine.specs.Steps.{row_by, steps_by, TakesNone}
+use Rattle.mz_machine.specs.OverStore.{state_at, UnlessMem}
+use Rattle.mz_machine.specs.OpenEquations.{asked_by, whole_stack, whole_state, IsInHand, AreOpen, AreSettled, opened_on, opened_state, IsOpenedBy}
+use Rattle.mz_machine.specs.declared.equations.Equation.{Equation}
+use Rattle.mz_machine.proofs.BarredRows.{stacked}
+use Rattle.mz_machine.proofs.LackRows.{takes-same}
+use Rattle.mz_machine.proofs.Popping.{items-popped}
+use Rattle.mz_machine.proofs.TermResults.{items-kept}
+use Rattle.mz_machine.proofs.WholeRows.{Asks, StoodOn, WholeAfter, whole-by, steps-whole}
+
+stays : (s : Sharing) → KeepsIds s s
+stays s = ([], sym (append-nil s.entries), omega arith)
+
+-- so many items are above
+pub in-hand-more : (es : List Equation) (n m : ℕ) → IsInHand es n → n ≤ m → IsInHand es m
+in-hand-more [] n m is le = tt
+in-hand-more (e ∷ es) n m is le = omega (arith, is, le)
+
+pub sides-in : (s : Sharing) (o : Option (Id × Id)) (before after : List Kept) → IsOpenedBy s o before after → IfSome o (λ e. IsIn s e.0.0 × IsIn s e.1.0)
+sides-in s None before after is = tt
+sides-in s (Some e) before after is = (is.0, is.1)
+
+module _ (gaps : Bool) (tables : RowsBefore) (s : Sharing) (heap stack : List Kept) (hyps : List Id) (es : List Equation) (u : Option BodyCommand) where
+  abbrev st : State Tree
+  st = state_at s heap stack hyps
+
+  abbrev pub AsksWithin : Type 0
+  AsksWithin = (c : ProofCode) (n : ℕ) → u ≡ Some (proves c n) → Asks gaps tables st (reverse es) (asked_by tables c n) (length (items_at s stack))
+
+  module _ (settled : AreSettled s (reverse es) (items_at s stack)) (asks : AsksWithin) where
+    -- what is refused is refused
+    pub still-refused : (at : ℕ) (d : K) → row_by gaps tables at st u ≡ Err d → row_by gaps tables at (whole_state s heap es stack hyps) u ≡ Err d
+    still-refused at d is =
+        subst (λ (r : Result (State Tree) K). WholeAfter gaps tables st s s (stays s) (reverse es) (items_at s stack) r (row_by gaps tables at (whole_state s heap es stack hyps) u)) is
+        (whole-by gaps tables st s s (stays s) (reverse es) (items_at s stack) settled at u asks)
+
+    pub as-counted : (A : Type 0) (result : Result A Stop) (old new : ℕ) → UnlessMem result (new ≡ old + steps_by gaps tables st u) → UnlessMem result (new ≡ old + steps_by gaps tables (whole_state s heap es stack hyps) u)
+    as-counted A result old new = subst (λ (n : ℕ). UnlessMem result (new ≡ old + n)) (sym (steps-whole gaps tables st s s (stays s) (reverse es) (items_at s stack) settled u asks))
+
+    -- what goes through goes through, up to what was opened
+    module _ (s' : Sharing) (keeps : KeepsIds s s') (inside : AreItemsIn s stack) (heap' stack' : List Kept) (hyps' : List Id) (o : Option (Id × Id)) (opened : IsOpenedBy s' o stack stack') where
+      stood : (p : Option (Id × Id)) → IsOpenedBy s' p stack stack' → StoodOn gaps tables st p (items_at s stack) (items_at s' stack')
+      stood None is = tt
+      stood (Some e) is = (item_at s' (Obligation e.0 e.1), sym (items-kept s s' keeps stack inside) ∙ items-popped s' stack stack' (Obligation e.0 e.1) is.2)
+
+      pub goes-through : (at : ℕ) → row_by gaps tables at st u ≡ Ok (opened_state s' heap' o stack' hyps')
+          → AreOpen s' (reverse es) (items_at s' stack')
+          × (row_by gaps tables at (whole_state s heap es stack hyps) u ≡ Ok (stacked (state_at s' heap' stack' hyps') (opened_on s' o (whole_stack s' (reverse es) (items_at s' stack')))))
+      goes-through at is =
+          subst (λ (r : Result (State Tree) K). WholeAfter gaps tables st s s' keeps (reverse es) (items_at s stack) r (row_by gaps tables at (whole_state s heap es stack hyps) u)) is
+          (whole-by gaps tables st s s' keeps (reverse es) (items_at s stack) settled at u asks) o (items_at s' stack') refl (stood o opened)
+
+  -- what takes no memory on the whole stack takes none on what is written out
+  pub takes-written : TakesNone (whole_state s heap es stack hyps) u → TakesNone st u
+  takes-written = takes-same st (whole_stack s (reverse es) (items_at s stack)) (items_at s stack) u
