@@ -12,3 +12,13 @@ pub mod GoodLines
 pub mod Shown
 pub mod Listable
 pub mod RoundTrip
+pub mod Pieces
+pub mod Operands
+pub mod FromBytes
+pub mod WholeFile
+pub mod ToBytes
+pub mod NormalChain
+pub mod Plain
+pub mod OfBytes
+pub mod SomeAnswer
+pub mod CompiledFiles

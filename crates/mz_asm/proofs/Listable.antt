@@ -26,7 +26,8 @@ use Rattle.mz_base.specs.Identifiers.{is_digit}
 use Rattle.mz_asm.specs.Numbers.{are_digits, is_numeral, IsNumber}
 use Rattle.mz_asm.specs.Lines.{kind_name, IsValue, IsLine}
 use Rattle.mz_asm.specs.Rows.{rows_after, IsInRange}
-use Rattle.mz_asm.specs.Assembling.{behind_line, HasLines, AreFitting, IsPlain, ArePlain}
+use Rattle.mz_asm.specs.Assembling.{behind_line, HasLines, AreFitting}
+use Rattle.mz_asm.proofs.Plain.{IsPlain, ArePlain}
 use Rattle.mz_asm.proofs.Kept.{most-few}
 use Rattle.mz_asm.proofs.LineReading.{drop-past}
 use Rattle.mz_asm.proofs.LineTexts.{line_text, head-spelled}

@@ -1,11 +1,14 @@
 -- From a listing to its binary, and back.
-use Rattle.std.proofs.Common.{◌≡◌, ◌<◌, ◌^◌, ◌∙◌, List, [], ℕ, length, ap, arith, inl, sym, subst}
+use Rattle.std.proofs.Common.{◌<◌, ◌^◌, ◌∙◌, List, [], ℕ, length, ap, arith, inl, sym, subst}
 use Rattle.mz_layout_tables.specs.Normal.{file_length, file_of}
 use Rattle.mz_layout_tables.proofs.Offered.{file-length}
 use Rattle.mz_show.specs.Listing.{IsListing}
 use Rattle.mz_show.specs.Words.{texts}
 use Rattle.mz_show.proofs.Offered.{text-unique}
 use Rattle.mz_asm.specs.Assembling.{IsNormal, IsBinaryOf, IsAssembly, IsListedBack, GivesBack}
+use Rattle.mz_asm.proofs.Plain.{IsMade}
+use Rattle.mz_asm.proofs.NormalChain.{by-bytes}
+use Rattle.mz_asm.proofs.WholeFile.{in-range}
 use Rattle.mz_asm.specs.Rows.{no_rows}
 use Rattle.mz_asm.specs.Statements.{listing_lines, parts_of}
 use Rattle.mz_asm.specs.declared.assembled.Assembled.{Assembled}
@@ -19,14 +22,17 @@ pub listed : (text file : List ℕ) → IsBinaryOf text file → IsListing file 
 listed text file (ss, says, is, short) = subst (λ (f : List ℕ). IsListing f text) (sym is) (is-listed text ss says short)
 
 pub normal : (text file : List ℕ) → IsBinaryOf text file → IsNormal file
-normal text file of = record { statements = of.0; fitting = of.1.fitting; plain = plain-lines text (listing_lines of.0) [] of.1.lines; file_is = of.2 }
+normal text file (ss, says, is, short) =
+    let many = ap length is ∙ file-length (parts_of ss) in
+    by-bytes file (omega (arith, many, short)) (record { statements = ss; fitting = says.fitting; plain = plain-lines text (listing_lines ss) [] says.lines; file_is = is })
 
 -- a normal file has a listing, whose binary it is
 pub assembled : (file : List ℕ) → IsNormal file → length file < 2 ^ 32 → (text : List ℕ) × IsBinaryOf text file
 assembled file normal short =
-    let ss = normal.statements in
-    let many = ap length normal.file_is ∙ file-length (parts_of ss) in
-    (texts line_text (listing_lines ss), (ss, record { lines = has-lines (listing_lines ss) no_rows normal.fitting normal.plain; fitting = normal.fitting }, normal.file_is, omega (arith, many, short)))
+    let made : IsMade file = in-range file normal.bytes normal in
+    let ss = made.statements in
+    let many = ap length made.file_is ∙ file-length (parts_of ss) in
+    (texts line_text (listing_lines ss), (ss, record { lines = has-lines (listing_lines ss) no_rows made.fitting made.plain; fitting = made.fitting }, made.file_is, omega (arith, many, short)))
 
 -- of which it is the only one
 pub from-listing : (text file : List ℕ) → IsNormal file → length file < 2 ^ 32 → IsListing file text → IsBinaryOf text file

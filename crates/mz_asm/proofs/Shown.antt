@@ -32,7 +32,7 @@ use Rattle.mz_asm.specs.declared.line.Line.TheVariants as lines
 use Rattle.mz_asm.specs.declared.rows.Rows.{Rows}
 use Rattle.mz_asm.specs.Rows.{no_rows, taken}
 use Rattle.mz_asm.specs.Assembling.{Says}
-use Rattle.mz_asm.specs.Statements.{Statement, unify_line, proof_line, statement_lines, all_lines, listing_lines, unify_bytes, proof_bytes, written, with_statement, parts_from, parts_of}
+use Rattle.mz_asm.specs.Statements.{Statement, has_streams, code_of, unify_line, proof_line, statement_lines, all_lines, listing_lines, unify_bytes, proof_bytes, written, with_statement, parts_from, parts_of}
 use Rattle.mz_asm.proofs.GoodLines.{AllGood, Fine, fine-statement, good-lines}
 use Rattle.mz_asm.proofs.LineTexts.{line_text, text-spelled}
 use Rattle.mz_asm.proofs.OneText.{st, both_streams}
@@ -47,7 +47,7 @@ unify-here unifies.Ref = refl
 unify-here unifies.Dummy = refl
 unify-here unifies.Hyp = refl
 
-unify-known : (c : UnifyCode) → IsTrue (is_known (unify_byte c))
+unify-known : (c : UnifyCode) → is_known (unify_byte c) ≡ true
 unify-known unifies.Term = refl
 unify-known unifies.TermSave = refl
 unify-known unifies.Ref = refl
@@ -80,7 +80,7 @@ proof-here proofs.ConvSave = refl
 proof-here proofs.Save = refl
 proof-here proofs.Sorry = refl
 
-proof-known : (c : ProofCode) → IsTrue (is_known (proof_byte c))
+proof-known : (c : ProofCode) → is_known (proof_byte c) ≡ true
 proof-known proofs.Term = refl
 proof-known proofs.TermSave = refl
 proof-known proofs.Ref = refl
@@ -146,11 +146,11 @@ words-text ps rest = texts-append line_text (map lines.Param ps) rest ∙ ap (λ
 
 -- ---- tables
 
-slice-at : {A : Type 0} → (xs zs : List A) (y : A) → slice_get ((xs ++ (y ∷ [])) ++ zs) (length xs) ≡ Some y
+pub slice-at : {A : Type 0} → (xs zs : List A) (y : A) → slice_get ((xs ++ (y ∷ [])) ++ zs) (length xs) ≡ Some y
 slice-at [] zs y = refl
 slice-at (x ∷ xs) zs y = slice-at xs zs y
 
-below : {A : Type 0} → (xs zs all : List A) (y : A) → all ≡ (xs ++ (y ∷ [])) ++ zs → length xs < length all
+pub below : {A : Type 0} → (xs zs all : List A) (y : A) → all ≡ (xs ++ (y ∷ [])) ++ zs → length xs < length all
 below xs zs all y is =
     let many = ap length is in
     let first = length-append (xs ++ (y ∷ [])) zs in
@@ -183,10 +183,21 @@ extends-all q (s ∷ ss) = extends-before s.kind q _ s.row s.mods s.params s.out
 abbrev pub place_at : ℕ → ℕ → Parts → Place
 place_at number at q = record { number = number; at = at; rows = record { sorts = length q.sorts; terms = length q.terms; thms = length q.thms } }
 
+-- what is seen of a statement there is what was written of it
+pub record IsSeen (file : List ℕ) (place : Place) (at : ℕ) (s : Statement) (shown : Shown) : Type 0 where
+  pub code : shown.head.code ≡ code_of s.kind
+  pub body : shown.head.body ≡ body_place at (written s)
+  pub next : shown.head.next ≡ next_place at (written s)
+  pub streams : shown_streams file place (code_of s.kind) ≡ has_streams s.kind
+  pub stream : has_streams s.kind ≡ true → Stands file (unify_at file place (code_of s.kind)) (unify_bytes s.unify ++ (0 ∷ []))
+  pub unify : has_streams s.kind ≡ true → shown.unify ≡ run_of unify_byte (unify_at file place (code_of s.kind)) s.unify
+  pub proof : has_streams s.kind ≡ true → shown.proof ≡ run_of proof_byte shown.head.body s.proof
+
 -- a statement that is listed at a place, with its lines
 pub record IsShown (p q : Parts) (number at : ℕ) (s : Statement) : Type 0 where
   pub shown : Shown
   pub stands : StandsThere (file_of p) (place_at number at q) shown
+  pub seen : IsSeen (file_of p) (place_at number at q) at s shown
   pub right : AllHold (statement_checks (file_of p) (place_at number at q) shown)
   pub text : statement_text (file_of p) (place_at number at q) shown ≡ texts line_text (statement_lines s)
   pub goes : after (place_at number at q) shown ≡ place_at (number + 1) (next_place at (written s)) (with_statement q s)
@@ -219,6 +230,7 @@ module _ (p : Parts) (fit : Fit p) (q : Parts) (number at row mods : ℕ) (ps : 
       record {
         shown = it;
         stands = here;
+        seen = record { code = refl; body = refl; next = refl; streams = refl; stream = λ no. absurd cc; unify = λ no. absurd cc; proof = λ no. absurd cc };
         right = statement-holds (file_of p) (place_at number at q) it here (omega (arith, many, inside), tt) (inl (no-bytes (file_of p) body next (omega arith)), tt);
         text =
             append-nil _ ∙ append-nil _
@@ -250,6 +262,7 @@ module _ (p : Parts) (fit : Fit p) (q : Parts) (number at row mods : ℕ) (ps : 
       record {
         shown = it;
         stands = here;
+        seen = record { code = refl; body = refl; next = refl; streams = none; stream = λ no. absurd cc; unify = λ no. absurd cc; proof = λ no. absurd cc };
         right = statement-holds (file_of p) (place_at number at q) it here (omega (arith, many, inside), (tt, tt)) (subst (λ b. AllHold (part_checks b (file_of p) pl it)) (sym none) (inl (no-bytes (file_of p) body next (omega arith)), tt));
         text =
             ap (λ (r : TermRow). ((numbered (numbered (cond r.words.has_body (codes "def") (codes "term")) t) (length r.words.params) ++ codes "\n") ++ (texts param_line r.words.params ++ result_line r.words.result)) ++ streams_text r.words.has_body it) read
@@ -285,6 +298,7 @@ module _ (p : Parts) (fit : Fit p) (q : Parts) (number at row mods : ℕ) (ps : 
       record {
         shown = it;
         stands = here;
+        seen = record { code = refl; body = refl; next = refl; streams = refl; stream = λ _. there; unify = λ _. refl; proof = λ _. refl };
         right = statement-holds (file_of p) (place_at number at q) it here (omega (arith, many, inside), tt) (
           run-ends streams.Unify unify_byte unify-here unify-known refl (file_of p) us from there,
           (
@@ -329,6 +343,7 @@ module _ (p : Parts) (fit : Fit p) (q : Parts) (number at row mods : ℕ) (ps : 
       record {
         shown = it;
         stands = here;
+        seen = record { code = refl; body = refl; next = refl; streams = refl; stream = λ _. there; unify = λ _. refl; proof = λ _. refl };
         right = statement-holds (file_of p) (place_at number at q) it here (omega (arith, many, inside), tt) (
           run-ends streams.Unify unify_byte unify-here unify-known refl (file_of p) us from there,
           (
@@ -373,6 +388,7 @@ module _ (p : Parts) (fit : Fit p) (q : Parts) (number at row mods : ℕ) (ps : 
       record {
         shown = it;
         stands = here;
+        seen = record { code = refl; body = refl; next = refl; streams = refl; stream = λ _. there; unify = λ _. refl; proof = λ _. refl };
         right = statement-holds (file_of p) (place_at number at q) it here (omega (arith, many, inside), tt) (
           run-ends streams.Unify unify_byte unify-here unify-known refl (file_of p) us from there,
           (
@@ -420,6 +436,7 @@ module _ (p : Parts) (fit : Fit p) (q : Parts) (number at row mods : ℕ) (ps : 
       record {
         shown = it;
         stands = here;
+        seen = record { code = refl; body = refl; next = refl; streams = has; stream = λ _. there; unify = λ _. refl; proof = λ _. refl };
         right = statement-holds (file_of p) (place_at number at q) it here (omega (arith, many, inside), (tt, tt)) (subst (λ b. AllHold (part_checks b (file_of p) pl it)) (sym has) (
           run-ends streams.Unify unify_byte unify-here unify-known refl (file_of p) us from there,
           (
@@ -467,6 +484,7 @@ module _ (p : Parts) (fit : Fit p) (q : Parts) (number at row mods : ℕ) (ps : 
       record {
         shown = it;
         stands = here;
+        seen = record { code = refl; body = refl; next = refl; streams = refl; stream = λ _. there; unify = λ _. refl; proof = λ _. refl };
         right = statement-holds (file_of p) (place_at number at q) it here (omega (arith, many, inside), (has, tt)) (
           run-ends streams.Unify unify_byte unify-here unify-known refl (file_of p) us from there,
           (
@@ -521,14 +539,14 @@ statements-more q kinds.Axiom row mods ps o us qs = refl
 statements-more q kinds.Theorem row mods ps o us qs = refl
 statements-more q kinds.LocalTheorem row mods ps o us qs = refl
 
-statements-from : (q : Parts) (ss : List Statement) → (parts_from q ss).statements ≡ q.statements ++ map written ss
+pub statements-from : (q : Parts) (ss : List Statement) → (parts_from q ss).statements ≡ q.statements ++ map written ss
 statements-from q [] = sym (append-nil q.statements)
 statements-from q (s ∷ ss) =
     statements-from (with_statement q s) ss
     ∙ ap (λ z. z ++ map written ss) (statements-more q s.kind s.row s.mods s.params s.outcome s.unify s.proof)
     ∙ append_assoc q.statements (written s ∷ []) (map written ss)
 
-good-parts : (rows : Rows) (s : Statement) (ss : List Statement) (more : List Line) → AllGood rows (all_lines (s ∷ ss) ++ more) → Fine rows s × AllGood (taken rows s.kind) (all_lines ss ++ more)
+pub good-parts : (rows : Rows) (s : Statement) (ss : List Statement) (more : List Line) → AllGood rows (all_lines (s ∷ ss) ++ more) → Fine rows s × AllGood (taken rows s.kind) (all_lines ss ++ more)
 good-parts rows s ss more good = fine-statement rows s (all_lines ss ++ more) (subst (AllGood rows) (append_assoc (statement_lines s) (all_lines ss) more) good)
 
 -- ---- the format has room for them
@@ -570,10 +588,10 @@ few-sorts q rows kinds.Axiom row mods ps o us qs r few fine = few
 few-sorts q rows kinds.Theorem row mods ps o us qs r few fine = few
 few-sorts q rows kinds.LocalTheorem row mods ps o us qs r few fine = few
 
-rows-go-on : (q : Parts) (s : Statement) (rows : Rows) → rows ≡ counts q → taken rows s.kind ≡ counts (with_statement q s)
+pub rows-go-on : (q : Parts) (s : Statement) (rows : Rows) → rows ≡ counts q → taken rows s.kind ≡ counts (with_statement q s)
 rows-go-on q s rows r = ap (λ (x : Rows). taken x s.kind) r ∙ counts-more q s.kind s.row s.mods s.params s.outcome s.unify s.proof
 
-all-room : (q : Parts) (ss : List Statement) (rows : Rows) (more : List Line) → HaveRoom q → length q.sorts ≤ 128 → rows ≡ counts q → AllGood rows (all_lines ss ++ more) → HaveRoom (parts_from q ss) × (length (parts_from q ss).sorts ≤ 128)
+pub all-room : (q : Parts) (ss : List Statement) (rows : Rows) (more : List Line) → HaveRoom q → length q.sorts ≤ 128 → rows ≡ counts q → AllGood rows (all_lines ss ++ more) → HaveRoom (parts_from q ss) × (length (parts_from q ss).sorts ≤ 128)
 all-room q [] rows more room few r good = (room, few)
 all-room q (s ∷ ss) rows more room few r good =
     let parts = good-parts rows s ss more good in
@@ -618,7 +636,7 @@ chain-shown p fit q (s ∷ ss) number at rows more e r good (head, stands, liste
           ∙ sym (texts-append line_text (statement_lines s) (all_lines ss));
     }
 
-no-room : HaveRoom no_parts
+pub no-room : HaveRoom no_parts
 no-room = record { mods = All-nil (λ (m : ℕ). m < 16); terms = All-nil (HasRoom 1); thms = All-nil (HasRoom 0); codes = All-nil (λ (s : Written). IsTrue (begins_statement s.code)) }
 
 pub is-listed : (text : List ℕ) (ss : List Statement) → Says text ss → file_length (parts_of ss) < 2 ^ 32 → IsListing (file_of (parts_of ss)) text

@@ -1,18 +1,17 @@
 -- Which texts are listings, of which binaries, and which rule a text breaks (this project's own listing and rules).
-use Rattle.std.specs.Prelude.{◌≡◌, ◌≤◌, ◌<◌, ◌^◌, ◌+◌, ◌==◌, ⊤, ℕ, List, [], ◌∷◌, ◌++◌, length, false}
+use Rattle.std.specs.Prelude.{◌≡◌, ◌≤◌, ◌<◌, ◌^◌, ◌+◌, ◌==◌, ⊤, ℕ, List, [], ◌∷◌, ◌++◌, length}
 use Rattle.std.specs.List.{position_or_len, before_first, after_first}
 use Rattle.mz_base_theory.specs.Checks.{Checks, demand, ◌>>◌, FailsFirst}
 use Rattle.mz_layout_tables.specs.Normal.{file_length, file_of}
 use Rattle.mz_show.specs.Listing.{IsListing}
-use Rattle.mz_show.specs.Words.{unify_has_number, proof_has_number}
 use Rattle.mz_asm.specs.declared.line.Line.{Line}
-use Rattle.mz_asm.specs.declared.line.Line.TheVariants as lines
 use Rattle.mz_asm.specs.declared.rows.Rows.{Rows}
 use Rattle.mz_asm.specs.declared.rule.A.{A}
 use Rattle.mz_asm.specs.declared.rule.A.TheVariants as rules
 use Rattle.mz_asm.specs.declared.assembled.Assembled.{Assembled}
 use Rattle.mz_asm.specs.declared.assembled.Assembled.TheVariants as answers
 use Rattle.mz_asm.specs.Lines.{IsLine}
+pub use Rattle.mz_asm.specs.NormalBytes.{IsNormal}
 use Rattle.mz_asm.specs.Statements.{Statement, listing_lines, parts_of}
 use Rattle.mz_asm.specs.Rows.{no_rows, rows_after, rows_of, IsInRange, TakesRow}
 
@@ -77,26 +76,6 @@ pub record Breaks (text : List ℕ) (number : ℕ) (rule : A) : Type 0 where
 -- the bytes are the binary of the statements that the text says
 abbrev pub IsBinaryOf : List ℕ → List ℕ → Type 0
 IsBinaryOf text file = (ss : List Statement) × Says text ss × (file ≡ file_of (parts_of ss)) × (file_length (parts_of ss) < 2 ^ 32)
-
--- words have 64 bits, and a command whose number isn't listed has no operand
-abbrev pub IsPlain : Line → Type 0
-IsPlain (lines.Param w) = w.0 < 2 ^ 64
-IsPlain (lines.Outcome w) = w.0 < 2 ^ 64
-IsPlain (lines.Unify code value) = unify_has_number code ≡ false → value ≡ 0
-IsPlain (lines.Proof code value) = proof_has_number code ≡ false → value ≡ 0
-IsPlain _ = ⊤
-
-abbrev pub ArePlain : List Line → Type 0
-ArePlain [] = ⊤
-ArePlain (l ∷ ls) = IsPlain l × ArePlain ls
-
--- the file is in the normal layout, made of statements whose rows come in order and whose numbers aren't too large, each
--- command spelled as short as it can be, with operands only where the listing has numbers
-pub record IsNormal (file : List ℕ) : Type 0 where
-  pub statements : List Statement
-  pub fitting : AreFitting no_rows (listing_lines statements)
-  pub plain : ArePlain (listing_lines statements)
-  pub file_is : file ≡ file_of (parts_of statements)
 
 -- ---- the answers
 

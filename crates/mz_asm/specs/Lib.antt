@@ -8,4 +8,5 @@ pub mod Making
 pub mod Answers
 pub mod Spoken
 pub mod Assembling
+pub mod NormalBytes
 pub mod Laws

@@ -1,6 +1,6 @@
 // What holds of all texts. These functions do nothing: a caller learns their clauses.
 ghost use Rattle.std.specs.Prelude.{◌≡◌, ℕ, List};
-ghost use Rattle.mz_asm.specs.Laws.{BinariesAreListed, HasOneAnswer, ListingsAreAssembled, NormalFilesAreListed};
+ghost use Rattle.mz_asm.specs.Laws.{BinariesAreListed, CompiledFilesAreNormal, HasOneAnswer, ListingsAreAssembled, NormalFilesAreBinaries, NormalFilesAreListed};
 ghost use Rattle.mz_asm.specs.Lines.{IsLine};
 ghost use Rattle.mz_asm.specs.declared.line.Line.{Line};
 
@@ -21,4 +21,15 @@ pub fn listings_are_assembled()
     ensures listed { BinariesAreListed }
     ensures normal { NormalFilesAreListed }
     ensures assembled { ListingsAreAssembled }
+{}
+
+/// A file of at most 4,294,967,295 bytes is in the normal layout, by its bytes, exactly where some text
+/// is assembled to it.
+pub fn normal_files_are_binaries()
+    ensures { NormalFilesAreBinaries }
+{}
+
+/// What a proof text compiles to is in the normal layout.
+pub fn compiled_files_are_normal()
+    ensures { CompiledFilesAreNormal }
 {}

@@ -2,7 +2,8 @@
 //!
 //! A listing's lines say which sorts, terms, axioms and theorems a binary has, and the commands of
 //! their unify streams and bodies. The binary is written in the normal layout, each command as short
-//! as it can be. `specs/Assembling.antt` says which texts are listings, and which rule a text breaks.
+//! as it can be. `specs/Assembling.antt` says which texts are listings, and which rule a text breaks,
+//! `specs/NormalBytes.antt` what stands where in a file in the normal layout.
 #![tactic(auto)]
 
 mod assemble;
@@ -21,6 +22,9 @@ mod want;
 
 pub use assemble::assemble_bytes;
 pub use assembled::Assembled;
-pub use laws::{assembly_is_one, lines_are_one, listings_are_assembled};
+pub use laws::{
+    assembly_is_one, compiled_files_are_normal, lines_are_one, listings_are_assembled,
+    normal_files_are_binaries,
+};
 pub use rule::A;
 pub use spoken::assembled_line;
