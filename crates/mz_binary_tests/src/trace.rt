@@ -105,8 +105,18 @@ fn numbers(alloc: Global, node: &RunNode) -> Result<Vec<u32>, Mem> {
     Ok(all)
 }
 
+/// A sort, an axiom that states the first of two parameters, and a theorem that cites it with a dummy for
+/// the second.
+const SPARE: &[u8] = &[
+    0x4D, 0x4D, 0x30, 0x42, 1, 1, 0, 0, 0, 0, 0, 0, 2, 0, 0, 0, 0x30, 0, 0, 0, 0x30, 0, 0, 0, 0x68,
+    0, 0, 0, 0, 0, 0, 0, 0, 0, 0, 0, 0, 0, 0, 0, 4, 0, 0, 0, 0, 0, 0, 0, 2, 0, 0, 0, 0x40, 0, 0, 0,
+    1, 0, 0, 0, 0x58, 0, 0, 0, 0, 0, 0, 0, 0, 0, 0, 0, 0, 0, 0, 0, 0, 0, 0, 0, 0x32, 0, 0, 0, 0, 0,
+    0, 0, 0, 0, 0, 0, 0, 0, 0, 0, 0x32, 0, 0, 0, 0, 0, 0, 0, 0x44, 2, 0x42, 4, 0x12, 0, 0x46, 7,
+    0x12, 0x13, 0x12, 0x14, 0, 0,
+];
+
 /// What stands before the theorem's body and what comes then, the theorem and where its statement
-/// stands; the nodes, the lets, and the proof behind them.
+/// stands; the nodes, the lets, the proof behind them, and the sorts of the dummies.
 type Case = (
     (&'static [u8], usize),
     &'static [u8],
@@ -114,6 +124,7 @@ type Case = (
     &'static [&'static [u32]],
     &'static [u32],
     u32,
+    &'static [u32],
 );
 
 const CASES: &[Case] = &[
@@ -140,6 +151,7 @@ const CASES: &[Case] = &[
         ],
         &[],
         10,
+        &[],
     ),
     // The same, with both sides saved: what is referred to makes no node.
     (
@@ -161,6 +173,7 @@ const CASES: &[Case] = &[
         ],
         &[],
         7,
+        &[],
     ),
     // A conversion that is saved, and used three times, once turned.
     (
@@ -185,6 +198,7 @@ const CASES: &[Case] = &[
         ],
         &[],
         10,
+        &[],
     ),
     // A citation, and one that gets a name.
     (
@@ -194,6 +208,7 @@ const CASES: &[Case] = &[
         &[&[0, 0], &[4, 0, 0, 0]],
         &[],
         1,
+        &[],
     ),
     (
         (CITE, 106),
@@ -202,6 +217,53 @@ const CASES: &[Case] = &[
         &[&[0, 0], &[4, 0, 0, 0], &[3, 0]],
         &[1],
         2,
+        &[],
+    ),
+    // That one saved, which gives it a second name.
+    (
+        (CITE, 103),
+        &[8, 0x12, 0x12, 0x55, 0, 0x1F, 0, 0],
+        (CITES, 102),
+        &[&[0, 0], &[4, 0, 0, 0], &[3, 0], &[3, 1]],
+        &[1, 2],
+        3,
+        &[],
+    ),
+    // A conversion of operands.
+    (
+        (FOLD, 139),
+        &[
+            0x16, 0x12, 0x10, 0x10, 0x16, 0x12, 0x50, 1, 0x52, 1, 0x17, 0x12, 0x50, 1, 0x12, 0x10,
+            0x10, 0x1B, 0x1A, 0x18, 0, 0,
+        ],
+        (FOLDS, 138),
+        &[
+            &[0, 0],
+            &[1, 0, 0],
+            &[1, 0, 1],
+            &[2, 0],
+            &[1, 1, 0],
+            &[1, 1, 0],
+            &[1, 0, 0],
+            &[1, 0, 6],
+            &[6, 6],
+            &[8, 0, 8],
+            &[9, 1, 7, 0, 9],
+            &[5, 4, 10, 3],
+        ],
+        &[],
+        11,
+        &[],
+    ),
+    // A dummy, which is a variable behind the parameter. The rows are those of the file with a citation.
+    (
+        (SPARE, 112),
+        &[0x12, 0x13, 0x12, 0x14, 0, 0],
+        (CITES, 110),
+        &[&[0, 0], &[0, 1], &[4, 0, 0, 0, 1]],
+        &[],
+        2,
+        &[0],
     ),
 ];
 
@@ -215,15 +277,29 @@ fn file_of(alloc: Global, front: &[u8], cut: usize, then: &[u8]) -> Result<Vec<u
 /// The nodes, each as numbers.
 fn all_numbers(alloc: Global, run: &Run) -> Result<Vec<Vec<u32>>, Mem> {
     let mut all = Vec::new(alloc);
-    for node in run.nodes.iter() {
+    for node in run.nodes().iter() {
         all.push(numbers(alloc, node)?)?;
     }
     Ok(all)
 }
 
+/// The proofs with names, in order.
+fn all_lets(alloc: Global, run: &Run) -> Result<Vec<u32>, Mem> {
+    let mut all = Vec::new(alloc);
+    'lets: for i in 0..run.let_count() {
+        all.push(run.let_root(i))?;
+    }
+    Ok(all)
+}
+
+/// The last proof as numbers.
+fn last_numbers(alloc: Global, run: &Run) -> Result<Vec<u32>, Mem> {
+    numbers(alloc, run.node(run.root()))
+}
+
 #[test]
 fn proofs_of_bodies(rt: HostRuntime) {
-    for ((front, cut), then, (theorem, at), nodes, lets, root) in CASES {
+    for ((front, cut), then, (theorem, at), nodes, lets, root, dummies) in CASES {
         let file = file_of(rt.alloc(), front, *cut, then).expect(&rt, "memory");
         let run = proof_of(rt.alloc(), &file, *theorem, *at).expect(&rt, "memory");
         let found = all_numbers(rt.alloc(), &run).expect(&rt, "memory");
@@ -234,8 +310,14 @@ fn proofs_of_bodies(rt: HostRuntime) {
                 "node {i} of {then:?}"
             );
         }
-        assert!(rt; run.lets.as_slice() == *lets, "lets of {then:?}");
+        let named = all_lets(rt.alloc(), &run).expect(&rt, "memory");
+        assert!(rt; named.as_slice() == *lets, "lets of {then:?}");
         assert_eq!(rt; run.root(), *root, "{then:?}");
-        assert!(rt; run.dummies().is_empty(), "dummies of {then:?}");
+        let last = last_numbers(rt.alloc(), &run).expect(&rt, "memory");
+        assert!(rt;
+            nodes.get(*root as usize) == Some(&last.as_slice()),
+            "the last proof of {then:?}"
+        );
+        assert!(rt; run.dummies() == *dummies, "dummies of {then:?}");
     }
 }

@@ -38,18 +38,21 @@ use Rattle.mz_binary_theory.specs.Good.{Good}
 use Rattle.mz_binary_theory.specs.Spelling.{IsKindOf, SpellsRow, is_local_code}
 use Rattle.mz_binary_theory.specs.Standards.{strict_standard}
 use Rattle.mz_binary_theory.proofs.Offered.{sorts-many, terms-many, assertions-many, entry-good, same-taken, head-at, well-chain, HasRightRow, right-row, HasSorts, chain-sorts}
+use Rattle.mz_binary.specs.Progress.{row_after}
 use Rattle.mz_binary.proofs.Offered.{were-right}
 use Rattle.mz_mmu_theory.specs.Proof.{Proof}
 use Rattle.mz_mmu_theory.specs.Statements.{Statement}
 use Rattle.mz_mmu_theory.specs.DeclaredNames.{sort_name, term_name, sort_names, term_names, assertion_name, assertion_names}
 use Rattle.mz_trace_theory.specs.Laws.{BodiesMakeOne}
 use Rattle.mz_trace_theory.specs.Traces.{Made, under_lets}
+use Rattle.mz_trace.specs.Runs.{IsTheoremAt}
 use Rattle.mz_decompile_text_theory.specs.Naming.{Naming, vocabulary_by}
 use Rattle.mz_decompile_text_theory.specs.Names.{naming_of}
 use Rattle.mz_decompile_rows.specs.Rows.{AreArities}
 use Rattle.mz_decompile_theory.specs.Restated.{IsProofMade, IsRestated, AreRestated}
 use Rattle.mz_decompile.specs.Naming.{next_name}
 use Rattle.mz_decompile.specs.Telling.{Counts, HasProof, MakesProof, Stands}
+use Rattle.mz_decompile.specs.Tracing.{GoodTheoremsStand, rows_of}
 use Rattle.mz_binary_walk.specs.Walk.{nothing_passed, passed_with}
 use Rattle.mz_binary_walk.specs.declared.passed.Passed.{Passed}
 use Rattle.mz_binary_walk.proofs.Offered.{IsOnWay, one-code, way-asks, way-end, way-first, way-on}
@@ -326,3 +329,51 @@ module _ (one : BodiesMakeOne) (file : List ℕ) (prefix : List ℕ) where
   good-standing ss good names ts are =
       all-standing (nothing_passed file) ss [] ss [] (way-first file ss good) (record { sorts_within = omega arith; terms_within = omega arith; thms_within = omega arith })
       [] (record { sorts-are = refl; terms-are = refl; thms-are = refl }) names ts are
+
+-- ---- what is asked where a theorem is traced
+
+within-more-rows : (file : List ℕ) (env : List Declaration) (d : Declaration) → AreWithin file (rows_of env) → SpellsRow file env d → AreWithin file (rows_of (env ++ d ∷ []))
+within-more-rows file env d within row = go d row
+  where
+    counts : Counts env (rows_of env)
+    counts = record { sorts_are = refl; terms_are = refl; thms_are = refl }
+
+    by : (k : StatementCode) (e : Declaration) → AreWithin file (rows_after (rows_of env) k) → length (sorts (env ++ e ∷ [])) ≤ (rows_after (rows_of env) k).sorts
+        → length (terms (env ++ e ∷ [])) ≤ (rows_after (rows_of env) k).terms → length (assertions (env ++ e ∷ [])) ≤ (rows_after (rows_of env) k).thms → AreWithin file (rows_of (env ++ e ∷ []))
+    by k e w a b c = record { sorts_within = omega (arith, w.sorts_within, a); terms_within = omega (arith, w.terms_within, b); thms_within = omega (arith, w.thms_within, c) }
+
+    go : (e : Declaration) → SpellsRow file env e → AreWithin file (rows_of (env ++ e ∷ []))
+    go (sort_decl m) there =
+        by codes.Sort (sort_decl m) (sorts-within file env (rows_of env) counts within m there)
+        (omega (arith, sorts-many env (sort_decl m ∷ []))) (omega (arith, terms-many env (sort_decl m ∷ []))) (omega (arith, assertions-many env (sort_decl m ∷ [])))
+    go (term_decl t) there =
+        by codes.Term (term_decl t) (terms-within file env (rows_of env) counts within t there)
+        (omega (arith, sorts-many env (term_decl t ∷ []))) (omega (arith, terms-many env (term_decl t ∷ []))) (omega (arith, assertions-many env (term_decl t ∷ [])))
+    go (assertion_decl a) there =
+        by codes.Axiom (assertion_decl a) (thms-within file env (rows_of env) counts within a there)
+        (omega (arith, sorts-many env (assertion_decl a ∷ []))) (omega (arith, terms-many env (assertion_decl a ∷ []))) (omega (arith, assertions-many env (assertion_decl a ∷ [])))
+
+chain-within : (file : List ℕ) (env : List Declaration) (from : ℕ) (ss : List Marked) (env' : List Declaration) (to : ℕ) → GoodTo strict_standard file env from ss env' to
+    → AreWithin file (rows_of env) → AreWithin file (rows_of env')
+chain-within file env from [] env' to chain within = subst (λ (e : List Declaration). AreWithin file (rows_of e)) (sym chain.0) within
+chain-within file env from (s ∷ ss) env' to (next, good, rest) within =
+    chain-within file (env ++ s.decl ∷ []) next ss env' to rest (within-more-rows file env s.decl within good.spelled.row)
+
+pub good-theorems-stand : BodiesMakeOne → GoodTheoremsStand
+good-theorems-stand one file done env at s next chain good a is theorem told n tells =
+    let before = rows_of env in
+    let counts : Counts env before = record { sorts_are = refl; terms_are = refl; thms_are = refl } in
+    let within = chain-within file [] (list_at file) done env at chain (record { sorts_within = omega arith; terms_within = omega arith; thms_within = omega arith }) in
+    let here : IsTheoremAt file at (length (assertions env)) before = record {
+      code = good.spelled.code;
+      body = good.spelled.body;
+      next = next;
+      stands = good.spelled.stands;
+      runs = (
+        may-run one file env at s next good done chain before counts within a is theorem,
+        subst (λ (t : Taken). Runs strict (rows_taken file t) (heading_of file 0x06 (length (assertions env))) good.spelled.body (body_bytes file good.spelled.body next))
+            (taken-are one file env at s next good done chain before counts within) (body-runs one file env at s next good done chain before counts within a is theorem),
+      );
+    } in
+    subst (λ (p : ℕ). IsTheoremAt file p told.row before) (sym tells.place)
+    (subst (λ (r : ℕ). IsTheoremAt file at r before) (sym (tells.row ∙ ap (row_after env) is)) here)

@@ -2,6 +2,7 @@ pub mod Adding
 pub mod Hypotheses
 pub mod Naming
 pub mod Telling
+pub mod Tracing
 pub mod Decompiling
 pub mod Printed
 pub mod Standing

@@ -1,9 +1,11 @@
 // Laws on the definitions.
 ghost use Rattle.std.specs.Prelude.{ℕ, List};
 ghost use Rattle.mz_decompile.specs.Decompiling.{IsDecided};
+ghost use Rattle.mz_decompile.specs.Tracing.{GoodTheoremsStand};
 
 use mz_decompile_theory::accepted_are_restated;
 use mz_match_theory::each_pair_has_one_verdict;
+use mz_trace_theory::bodies_make_proofs;
 
 /// Each pair that is accepted has one text, or one thing that stands first against it, and never both; and no other
 /// pair has either.
@@ -12,4 +14,12 @@ pub fn decompilation_is_decided()
 {
     each_pair_has_one_verdict();
     accepted_are_restated();
+}
+
+/// Each theorem that a checker tells of without gaps has what `mz_trace::trace` asks for, so that it answers with the
+/// proof's nodes or runs out of memory.
+pub fn good_theorems_are_traced()
+    ensures { GoodTheoremsStand }
+{
+    bodies_make_proofs();
 }

@@ -25,5 +25,5 @@ mod told;
 mod weight;
 
 pub use decompiled::{Decompiled, decompile_bytes};
-pub use laws::decompilation_is_decided;
+pub use laws::{decompilation_is_decided, good_theorems_are_traced};
 pub use printed::{decompiled_line, deep_line};

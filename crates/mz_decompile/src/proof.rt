@@ -49,7 +49,7 @@ pub(crate) fn prove(
     };
     let retold = retell(alloc, &run, names, phrases)?;
     Ok(Proved {
-        dummies: run.dummies,
+        dummies: run.into_dummies(),
         phrase: retold.phrase,
         weight: retold.weight,
     })

@@ -3,20 +3,14 @@ use Rattle.std.specs.Prelude.{ℕ, ◌≡◌, ◌<◌, List, length}
 use Rattle.mz_logic_theory.specs.Declaration.{Declaration}
 use Rattle.mz_mmu_theory.specs.Proof.{Proof}
 use Rattle.mz_mmu_theory.specs.Weight.{proof_weight}
-use Rattle.mz_machine_theory.specs.MachineState.{RowsBefore}
 use Rattle.mz_trace_theory.specs.Traces.{under_lets}
 use Rattle.mz_decompile_text_theory.specs.Phrases.{Phrase}
 use Rattle.mz_decompile_text_theory.specs.Phrasing.{Vocabulary, proof}
 use Rattle.mz_decompile_phrases.specs.ByNumber.{phrase_at}
 use Rattle.mz_decompile_phrases.specs.Measures.{capped}
-use Rattle.mz_trace.specs.Nodes.{HaveParts, AreProofs, IsProof}
 use Rattle.mz_trace.specs.Claims.{HasClaims}
-use Rattle.mz_trace.specs.Runs.{values_in, lets_in, root_in}
+use Rattle.mz_trace.specs.Runs.{lets_in, root_in}
 use Rattle.mz_trace.specs.declared.run.Run.{Run}
-
--- all that it names is there
-abbrev pub IsWhole : Run → Type 0
-IsWhole r = (tables : RowsBefore) × HaveParts tables r.nodes.items × AreProofs (values_in r) r.lets.items × IsProof (values_in r) r.root
 
 -- the proof that is left, behind those with names
 abbrev pub proof_in : Run → Proof
@@ -28,4 +22,4 @@ IsRetold v r ps n = (n < length ps) × (phrase_at ps n ≡ proof v 0 (proof_in r
 
 -- over declarations of which the claims are
 abbrev pub IsWeighed : Run → ℕ → Type 0
-IsWeighed r weight = (env : List Declaration) → HasClaims env r.nodes.items → weight ≡ capped (proof_weight env (proof_in r))
+IsWeighed r weight = (env : List Declaration) → HasClaims env r.nodes → weight ≡ capped (proof_weight env (proof_in r))

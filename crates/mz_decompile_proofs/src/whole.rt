@@ -8,7 +8,7 @@ ghost use Rattle.mz_decompile_phrases.specs.Measures.{capped};
 ghost use Rattle.mz_decompile_proofs.specs.Growing.{Tells};
 ghost use Rattle.mz_decompile_proofs.specs.Telling.{AreLowerAfter, IsLower};
 ghost use Rattle.mz_decompile_proofs.specs.Gathering.{AreGathered, AreTold, IsOneMore, IsBehind};
-ghost use Rattle.mz_decompile_proofs.specs.Retelling.{IsWhole, IsRetold, IsWeighed};
+ghost use Rattle.mz_decompile_proofs.specs.Retelling.{IsRetold, IsWeighed};
 
 use crate::parts::{let_name, list, word};
 use crate::tell::tell;
@@ -39,13 +39,12 @@ pub(crate) struct Told {
 ///
 /// Where there is no memory.
 pub fn retell(alloc: Global, run: &Run, names: &Names, phrases: &mut Phrases) -> Result<Retold, Mem>
-    requires { IsWhole run.now }
     ensures grows { OnOk result (Grows phrases.old phrases.new) }
     ensures phrase { IfOk result (λ r. IsRetold (vocabulary_by names.now) run.now phrases.new r.phrase) }
     ensures weight { IfOk result (λ r. IsWeighed run.now r.weight) }
 {
-    let told = tell_all(alloc, &run.nodes, names, phrases)?;
-    behind_lets(alloc, &run.lets, run.root, &told, names, phrases)
+    let told = tell_all(alloc, run.nodes(), names, phrases)?;
+    behind_lets(alloc, run.lets(), run.root(), &told, names, phrases)
 }
 
 /// Tells each node.

@@ -1,6 +1,6 @@
 -- Before the first command, and behind the last one.
-use Rattle.std.proofs.Common.{◌≡◌, ◌≤◌, ℕ, zero, suc, ◌+◌, List, [], ◌∷◌, ◌++◌, Ok, length, map, refl, sym, ap, ◌∙◌, subst, arith}
-use Rattle.std.proofs.lemmas.List.{append-nil, map-append}
+use Rattle.std.proofs.Common.{◌≡◌, ◌≤◌, ◌<◌, ◌^◌, ℕ, zero, suc, ◌+◌, List, [], ◌∷◌, ◌++◌, Ok, length, map, refl, sym, ap, ◌∙◌, subst, arith}
+use Rattle.std.proofs.lemmas.List.{append-nil, length-map, map-append}
 use Rattle.mz_base_theory.proofs.Offered.{one-further}
 use Rattle.mz_logic_theory.specs.Tree.{Tree, var}
 use Rattle.mz_logic_theory.specs.declared.binder.Binder.{Binder}
@@ -22,6 +22,7 @@ use Rattle.mz_trace.specs.Nodes.{Value, values, proof_at, HaveParts, AreProofs, 
 use Rattle.mz_trace.specs.Entries.{item_at, part_at, items_at, parts_at, IsStack}
 use Rattle.mz_trace.specs.Commands.{Stage, begun, values_in, context_of, state_of, trace_of, IsHeld, IsMade, IsRead, size_of}
 use Rattle.mz_trace.specs.Sharing.{nodes_in}
+use Rattle.mz_trace.specs.Numbered.{IsWhole}
 use Rattle.mz_trace.specs.Runs.{IsRunOf, RunsFrom, LeadsToEnd, HasRoot, IsFinished}
 use Rattle.mz_trace.specs.declared.run.Run.{Run}
 use Rattle.mz_trace.specs.declared.node.RunNode.{RunNode}
@@ -33,6 +34,7 @@ use Rattle.mz_trace.proofs.Stages.{alike, alike-trace, state, expression-added, 
 use Rattle.mz_trace.proofs.Growth.{heap-more, heap_parts-more, kept-more}
 use Rattle.mz_trace.proofs.Known.{known-start}
 use Rattle.mz_trace.proofs.FewNodes.{size-begun}
+use Rattle.mz_trace.proofs.Named.{few-lets}
 
 -- ---- parameters
 
@@ -176,13 +178,13 @@ module _ (tables : RowsBefore) (h : Heading) (bytes : List ℕ) (s : Stage) (r :
   pub run-is : trace_body tables h bytes ≡ Ok (state_of h.params s, trace_of s) → length s.nodes ≤ length h.params + nodes_in bytes → IsRunOf tables h bytes r
   run-is runs few = record {
     nodes = subst (λ (ns : List RunNode). HaveParts tables ns) (sym fin.nodes) made.0.nodes;
-    lets = subst (λ (ns : List RunNode). AreProofs (values ns) r.lets.items) (sym fin.nodes) (subst (λ (ns : List ℕ). AreProofs vs ns) (sym fin.lets) made.0.lets);
+    lets = subst (λ (ns : List RunNode). AreProofs (values ns) r.lets) (sym fin.nodes) (subst (λ (ns : List ℕ). AreProofs vs ns) (sym fin.lets) made.0.lets);
     root = subst (λ (ns : List RunNode). IsProof (values ns) r.root) (sym fin.nodes) root-there;
     made = record {
       last = (state_of h.params s, trace_of s);
       runs = runs;
       left = ap (parts_at vs) fin.root.1 ∙ ap (λ (ns : List RunNode). proved (proof_at (values ns) r.root) ∷ []) (sym fin.nodes);
-      names = ap (λ (ns : List ℕ). map (proof_at vs) ns) (sym fin.lets) ∙ ap (λ (ns : List RunNode). map (proof_at (values ns)) r.lets.items) (sym fin.nodes);
+      names = ap (λ (ns : List ℕ). map (proof_at vs) ns) (sym fin.lets) ∙ ap (λ (ns : List RunNode). map (proof_at (values ns)) r.lets) (sym fin.nodes);
       dummies_are = ap (λ (ds : List ℕ). h.params ++ map dummy_of ds) (sym fin.dummies);
     };
     few = subst (λ (ns : List RunNode). length ns ≤ length h.params + nodes_in bytes) (sym fin.nodes) few;
@@ -231,3 +233,20 @@ module _ (file bytes : List ℕ) (row : ℕ) (before : Rows) (may : MayRun file 
 
     pub run-of : (r : Run) → IsFinished last r → IsRunOf rows own bytes r
     run-of r fin = run-is rows own bytes last r ended.0 fin traced-whole few-nodes
+
+    -- a command takes a byte, and names one proof at the most
+    few-names : length last.lets ≤ length bytes
+    few-names =
+        let most = few-lets rows own (length bytes) bytes (state_of own.params (begun arity), trace_of (begun arity)) (state_of own.params last, trace_of last) ended.2 in
+        let none = ap length (bare-begun arity).lets in
+        omega (arith, most, none, length-map last.lets (proof_at (values_in last)), length-map (begun arity).lets (proof_at (values_in (begun arity))))
+
+    pub whole-run : length bytes < 2 ^ 32 → (r : Run) → IsFinished last r → IsWhole r
+    whole-run fits r fin =
+        let run = run-of r fin in record {
+          tables = rows;
+          parts = run.nodes;
+          lets = run.lets;
+          root = run.root;
+          few = omega (arith, fits, few-names, ap length fin.lets);
+        }

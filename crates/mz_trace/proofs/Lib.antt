@@ -4,6 +4,7 @@ pub mod Popping
 pub mod Stages
 pub mod Tops
 pub mod FewNodes
+pub mod Named
 pub mod Paying
 pub mod Moves
 pub mod Having
@@ -25,4 +26,5 @@ pub mod Bodied
 pub mod UnfoldingBodies
 pub mod Dispatch
 pub mod Begun
+mod Whole
 mod StatementAt

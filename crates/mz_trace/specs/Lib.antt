@@ -1,4 +1,5 @@
 pub mod Nodes
+pub mod Numbered
 pub mod Entries
 pub mod Claims
 pub mod Sharing

@@ -28,13 +28,13 @@ use Rattle.mz_trace.specs.declared.run.Traced.{Traced}
 use Rattle.mz_trace.specs.declared.run.Traced.TheVariants as traced
 
 abbrev pub values_in : Run → List Value
-values_in r = values r.nodes.items
+values_in r = values r.nodes
 
 abbrev pub dummies_in : Run → List Binder
-dummies_in r = map dummy_of r.dummies.items
+dummies_in r = map dummy_of r.dummies
 
 abbrev pub lets_in : Run → List Proof
-lets_in r = map (proof_at (values_in r)) r.lets.items
+lets_in r = map (proof_at (values_in r)) r.lets
 
 abbrev pub root_in : Run → Proof
 root_in r = proof_at (values_in r) r.root
@@ -42,11 +42,11 @@ root_in r = proof_at (values_in r) r.root
 -- The body makes what the nodes stand for, and each part of a node is an earlier one of its kind. There are no more of them
 -- than parameters and what the commands make, however large what they stand for is.
 pub record IsRunOf (tables : RowsBefore) (h : Heading) (bytes : List ℕ) (r : Run) : Type 0 where
-  pub nodes : HaveParts tables r.nodes.items
-  pub lets : AreProofs (values_in r) r.lets.items
+  pub nodes : HaveParts tables r.nodes
+  pub lets : AreProofs (values_in r) r.lets
   pub root : IsProof (values_in r) r.root
   pub made : Made tables h bytes (dummies_in r) (lets_in r) (root_in r)
-  pub few : length r.nodes.items ≤ length h.params + nodes_in bytes
+  pub few : length r.nodes ≤ length h.params + nodes_in bytes
 
 -- out of memory says nothing
 abbrev pub IsTraced : RowsBefore → Heading → List ℕ → Traced → Type 0
@@ -55,7 +55,7 @@ IsTraced tables h bytes traced.Mem = ⊤
 
 -- each citation and unfolding stands beside the expression that it stands for
 abbrev pub ClaimsIn : List Declaration → Traced → Type 0
-ClaimsIn env (traced.Run r) = HasClaims env r.nodes.items
+ClaimsIn env (traced.Run r) = HasClaims env r.nodes
 ClaimsIn env traced.Mem = ⊤
 
 -- ---- what is traced
@@ -93,7 +93,7 @@ HasRoot s = (e p : ℕ) × (s.stack ≡ Held (ProofItem e p) ∷ [])
 
 -- with what is made beside it
 pub record IsFinished (s : Stage) (r : Run) : Type 0 where
-  pub nodes : r.nodes.items ≡ s.nodes
-  pub lets : r.lets.items ≡ s.lets
-  pub dummies : r.dummies.items ≡ s.dummies
+  pub nodes : r.nodes ≡ s.nodes
+  pub lets : r.lets ≡ s.lets
+  pub dummies : r.dummies ≡ s.dummies
   pub root : (e : ℕ) × (s.stack ≡ Held (ProofItem e r.root) ∷ [])

@@ -8,6 +8,7 @@ ghost use Rattle.mz_machine_theory.specs.Headings.{heading_of};
 ghost use Rattle.mz_machine_env.specs.Before.{tables_before};
 ghost use Rattle.mz_layout_tables.specs.declared.taken.Rows.{Rows};
 ghost use Rattle.mz_trace.specs.Commands.{stage_of, begun};
+ghost use Rattle.mz_trace.specs.Numbered.{Numbered, IsWhole};
 ghost use Rattle.mz_trace.specs.Runs.{IsTraced, ClaimsIn, IsTheoremAt, RunsOver, IsRunOf, RunsFrom, LeadsToEnd, HasRoot, IsFinished};
 
 use crate::entry::{Entry, Item};
@@ -17,39 +18,90 @@ use mz_binary_theory::Statement;
 use mz_cmd::{ProofCode, Steps, StmtAt, cmd_at, stmt_at};
 use mz_layout_tables::Mmb;
 use std::alloc::{AllocError, Global};
+use std::marker::Model;
 use std::sync::ledger::Ledger;
 
 /// The proof that a body makes: its nodes, of which each has earlier ones as its parts; the proofs that got
 /// a name, in order, and the one that is left behind them; and the sorts of the dummies, in order.
 #[derive(Drop)]
 pub struct Run {
-    pub nodes: Vec<RunNode>,
-    pub lets: Vec<u32>,
-    pub root: u32,
-    pub dummies: Vec<u32>,
+    nodes: Vec<RunNode>,
+    lets: Vec<u32>,
+    root: u32,
+    dummies: Vec<u32>,
+}
+
+impl Model for Run {
+    ghost use Rattle.mz_trace.specs.Numbered.{Numbered, IsWhole, numbered};
+
+    ghost Value = { Numbered };
+
+    ghost view = { λ r. numbered r.nodes.items r.lets.items r.root r.dummies.items };
+
+    ghost invariant = { λ r. IsWhole (numbered r.nodes.items r.lets.items r.root r.dummies.items) };
 }
 
 impl Run {
     /// The proof that is left behind those with names.
     pub fn root(&self) -> u32
-        ensures { result ≡ self.now.root }
+        ensures number { result ≡ self.now.root }
+        ensures there { result < length self.now.nodes }
     {
         self.root
     }
 
+    /// All nodes. Each has its parts among those before it.
+    pub fn nodes(&self) -> &[RunNode]
+        ensures nodes { result.now ≡ self.now.nodes }
+        ensures whole { IsWhole self.now }
+    {
+        self.nodes.as_slice()
+    }
+
     /// The node with this number.
     pub fn node(&self, n: u32) -> &RunNode
-        requires { n < length self.now.nodes.items }
-        ensures { slice_get self.now.nodes.items n ≡ Some result.now }
+        requires { n < length self.now.nodes }
+        ensures { slice_get self.now.nodes n ≡ Some result.now }
     {
         &self.nodes[n as usize]
     }
 
+    /// How many proofs have names.
+    pub fn let_count(&self) -> u32
+        ensures { result ≡ length self.now.lets }
+    {
+        self.lets.len() as u32
+    }
+
+    /// The proof with this name.
+    pub fn let_root(&self, i: u32) -> u32
+        requires { i < length self.now.lets }
+        ensures number { slice_get self.now.lets i ≡ Some result }
+        ensures there { result < length self.now.nodes }
+    {
+        self.lets[i as usize]
+    }
+
+    /// All proofs with names, in order.
+    pub fn lets(&self) -> &[u32]
+        ensures { result.now ≡ self.now.lets }
+    {
+        self.lets.as_slice()
+    }
+
     /// The sorts of the dummies, in order.
     pub fn dummies(&self) -> &[u32]
-        ensures { result.now ≡ self.now.dummies.items }
+        ensures { result.now ≡ self.now.dummies }
     {
         self.dummies.as_slice()
+    }
+
+    /// The same, of which the rest isn't kept.
+    pub fn into_dummies(self) -> Vec<u32>
+        ensures { result.items ≡ self.dummies }
+    {
+        let Run { dummies, .. } = self;
+        dummies
     }
 }
 
@@ -171,7 +223,8 @@ fn make<L: Ledger>(
 
 /// The one proof that is left.
 fn finish(making: Making) -> Run
-    requires { HasRoot (stage_of making) }
+    requires root { HasRoot (stage_of making) }
+    requires whole { (p : Numbered) → IsFinished (stage_of making) p → IsWhole p }
     ensures { IsFinished (stage_of making) result }
 {
     let Making {

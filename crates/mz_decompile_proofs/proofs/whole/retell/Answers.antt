@@ -12,23 +12,23 @@ use Rattle.mz_decompile_proofs.proofs.Wholes.{lets-there, root-there, run-phrase
 use Rattle.mz_decompile_proofs.proofs.whole.retell.Goals as goal
 
 pub tell_all-requires : goal.tell_all-requires
-tell_all-requires c = subst (AreLowerAfter 0) (sym c.deref.ensures.value) (nodes-low c.requires.0 [] c.args.run.now.nodes.items c.requires.1)
+tell_all-requires c = let whole = c.nodes.ensures.whole in subst (AreLowerAfter 0) (sym c.nodes.ensures.nodes) (nodes-low whole.tables [] c.args.run.now.nodes whole.parts)
 
 pub behind_lets-requires-clause-lets : goal.behind_lets-requires-clause-lets
 behind_lets-requires-clause-lets c =
     let v = vocabulary_by c.args.names.now in
     let ps = c.tell_all.new.phrases in
     let t = c.in_ok-told.told in
-    let g = subst (λ ns. AreGathered v ps ns t) c.deref.ensures.value c.in_ok-told.ensures.told in
-    subst (All (λ n. n < length t.phrases.items)) (sym c.deref-2.ensures.value) (lets-there v c.args.run.now ps t c.requires g)
+    let g = subst (λ ns. AreGathered v ps ns t) c.nodes.ensures.nodes c.in_ok-told.ensures.told in
+    subst (All (λ n. n < length t.phrases.items)) (sym c.lets.ensures) (lets-there v c.args.run.now ps t c.nodes.ensures.whole g)
 
 pub behind_lets-requires-clause-root : goal.behind_lets-requires-clause-root
 behind_lets-requires-clause-root c =
     let v = vocabulary_by c.args.names.now in
     let ps = c.tell_all.new.phrases in
     let t = c.in_ok-told.told in
-    let g = subst (λ ns. AreGathered v ps ns t) c.deref.ensures.value c.in_ok-told.ensures.told in
-    root-there v c.args.run.now ps t c.requires g
+    let g = subst (λ ns. AreGathered v ps ns t) c.nodes.ensures.nodes c.in_ok-told.ensures.told in
+    subst (λ n. n < length t.phrases.items) (sym c.root.ensures.number) (root-there v c.args.run.now ps t c.nodes.ensures.whole g)
 
 pub returns-clause-grows : goal.returns-clause-grows
 returns-clause-grows c =
@@ -36,8 +36,7 @@ returns-clause-grows c =
     let a = c.args.phrases.now in
     let ps = c.tell_all.new.phrases in
     let qs = c.behind_lets.new.phrases in
-    let r = c.args.run.now in
-    IfOk-weaker c.behind_lets.result (λ (x : Retold). IsBehind v ps qs c.in_ok-told.told c.deref-2.result.now r.root 0 x.phrase x.weight) (λ x. Grows a qs)
+    IfOk-weaker c.behind_lets.result (λ (x : Retold). IsBehind v ps qs c.in_ok-told.told c.lets.result.now c.root.result 0 x.phrase x.weight) (λ x. Grows a qs)
     (λ x h. grows-on a ps qs c.in_ok-told.ensures.grows h.grows) c.behind_lets.ensures
 
 pub returns-clause-phrase : goal.returns-clause-phrase
@@ -47,10 +46,11 @@ returns-clause-phrase c =
     let ps = c.tell_all.new.phrases in
     let qs = c.behind_lets.new.phrases in
     let t = c.in_ok-told.told in
-    let g = subst (λ ns. AreGathered v ps ns t) c.deref.ensures.value c.in_ok-told.ensures.told in
-    let b = subst (λ ls. IfOk c.behind_lets.result (λ x. IsBehind v ps qs t ls r.root 0 x.phrase x.weight)) c.deref-2.ensures.value c.behind_lets.ensures in
-    IfOk-weaker c.behind_lets.result (λ (x : Retold). IsBehind v ps qs t r.lets.items r.root 0 x.phrase x.weight) (λ x. IsRetold v r qs x.phrase)
-    (λ x h. run-phrase v r ps qs t x.phrase x.weight c.requires g h) b
+    let g = subst (λ ns. AreGathered v ps ns t) c.nodes.ensures.nodes c.in_ok-told.ensures.told in
+    let b = subst (λ n. IfOk c.behind_lets.result (λ x. IsBehind v ps qs t r.lets n 0 x.phrase x.weight)) c.root.ensures.number
+    (subst (λ ls. IfOk c.behind_lets.result (λ x. IsBehind v ps qs t ls c.root.result 0 x.phrase x.weight)) c.lets.ensures c.behind_lets.ensures) in
+    IfOk-weaker c.behind_lets.result (λ (x : Retold). IsBehind v ps qs t r.lets r.root 0 x.phrase x.weight) (λ x. IsRetold v r qs x.phrase)
+    (λ x h. run-phrase v r ps qs t x.phrase x.weight c.nodes.ensures.whole g h) b
 
 pub returns-clause-weight : goal.returns-clause-weight
 returns-clause-weight c =
@@ -59,7 +59,8 @@ returns-clause-weight c =
     let ps = c.tell_all.new.phrases in
     let qs = c.behind_lets.new.phrases in
     let t = c.in_ok-told.told in
-    let g = subst (λ ns. AreGathered v ps ns t) c.deref.ensures.value c.in_ok-told.ensures.told in
-    let b = subst (λ ls. IfOk c.behind_lets.result (λ x. IsBehind v ps qs t ls r.root 0 x.phrase x.weight)) c.deref-2.ensures.value c.behind_lets.ensures in
-    IfOk-weaker c.behind_lets.result (λ (x : Retold). IsBehind v ps qs t r.lets.items r.root 0 x.phrase x.weight) (λ x. IsWeighed r x.weight)
-    (λ x h. run-weight v r ps qs t x.phrase x.weight c.requires g h) b
+    let g = subst (λ ns. AreGathered v ps ns t) c.nodes.ensures.nodes c.in_ok-told.ensures.told in
+    let b = subst (λ n. IfOk c.behind_lets.result (λ x. IsBehind v ps qs t r.lets n 0 x.phrase x.weight)) c.root.ensures.number
+    (subst (λ ls. IfOk c.behind_lets.result (λ x. IsBehind v ps qs t ls c.root.result 0 x.phrase x.weight)) c.lets.ensures c.behind_lets.ensures) in
+    IfOk-weaker c.behind_lets.result (λ (x : Retold). IsBehind v ps qs t r.lets r.root 0 x.phrase x.weight) (λ x. IsWeighed r x.weight)
+    (λ x h. run-weight v r ps qs t x.phrase x.weight c.nodes.ensures.whole g h) b

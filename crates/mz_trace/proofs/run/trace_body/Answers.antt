@@ -22,4 +22,4 @@ returns-in-Ok-clause-made g c before own =
 
 pub returns-in-Ok-clause-claims : goal.returns-in-Ok-clause-claims
 returns-in-Ok-clause-claims g c before own env declares =
-    have-claims (tables_before c.args.mmb.now before) env declares [] c.in-Ok.run'.nodes.items (returns-in-Ok-clause-made g c before own).nodes
+    have-claims (tables_before c.args.mmb.now before) env declares [] c.in-Ok.run'.nodes (returns-in-Ok-clause-made g c before own).nodes
