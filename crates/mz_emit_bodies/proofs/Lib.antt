@@ -19,7 +19,9 @@ mod Running
 mod QuietWriters
 mod UsesOfWriters
 mod WholeBodies
+mod Waiting
 mod Spending
+mod GapsCounted
 mod Operands
 mod WorkedExamples
 pub mod Paying

@@ -18,7 +18,7 @@ use Rattle.mz_logic_theory.specs.declared.binder.Binder.{Binder}
 use Rattle.mz_logic_theory.proofs.Offered.{extends_append}
 use Rattle.mz_unify_theory.specs.Spells.{dummy_of}
 use Rattle.mz_unify_theory.specs.Sorted.{Sorted}
-use Rattle.mz_unify_theory.specs.Profile.{Item, expr, proof, obligation, plain}
+use Rattle.mz_unify_theory.specs.Profile.{Item, expr, proof, obligation}
 use Rattle.mz_unify_theory.proofs.Offered.{trees_of-listed, same_tree-true, same_tree-refl}
 use Rattle.mz_machine_theory.specs.ProofMachine.{sides}
 use Rattle.mz_mmu_theory.specs.Proof.{Proof, Proofs, by_hyp, by_name, by_citation, by_conv, by_let, by_gap, no_proofs, more_proofs}

@@ -1,7 +1,7 @@
 -- A body is in proportion to what it is written of: at most six bytes for each node and each unit of weight. A let's part
 -- is paid when the let is met, and emitted at most once: what waits is what was paid for and isn't in the heap.
-use Rattle.std.specs.Prelude.{ℕ, ◌≡◌, ◌≤◌, ◌+◌, ◌*◌, if◌then◌else◌, Bool, true, false, List, [], ◌∷◌, ◌++◌, length, get_or, Option, Some, None}
-use Rattle.std.proofs.Common.{zero, suc, refl, sym, ap, ◌∙◌, subst, arith, append_assoc, inl, inr, eq-eqb}
+use Rattle.std.specs.Prelude.{ℕ, ◌≡◌, ◌≤◌, ◌+◌, ◌*◌, Bool, true, false, List, [], ◌∷◌, ◌++◌, length, get_or, None}
+use Rattle.std.proofs.Common.{zero, suc, refl, sym, ap, ◌∙◌, subst, arith, append_assoc, inl, inr}
 use Rattle.std.proofs.lemmas.List.{length-append}
 use Rattle.mz_cmd.specs.declared.code.ProofCode.TheVariants as code
 use Rattle.mz_logic_theory.specs.Tree.{Tree, Trees, listed, instance, size, trees_size}
@@ -11,67 +11,12 @@ use Rattle.mz_mmu_theory.specs.Proof.{Proof, Proofs, by_hyp, by_name, by_citatio
 use Rattle.mz_emit_theory.specs.Claims.{conclusion_of}
 use Rattle.mz_emit_theory.specs.Uses.{a_gap, conv_uses}
 use Rattle.mz_emit_theory.specs.Weights.{conv_weight, proof_weight, proofs_weight}
-use Rattle.mz_emit_theory.specs.BodyWriting.{Kept, hypothesis, first_part, is_same, Writing, place_in, Written, Writer, nothing, ◌>>◌, command, keeping, unless_kept, write_expr, write_exprs, write_payment, at_name, write_proof, write_proofs, write_hyps, at_first, definition_written, axiom_written, theorem_written}
+use Rattle.mz_emit_theory.specs.BodyWriting.{Kept, hypothesis, first_part, Writing, place_in, Written, Writer, nothing, ◌>>◌, command, keeping, unless_kept, write_expr, write_exprs, write_payment, at_name, write_proof, write_proofs, write_hyps, at_first, definition_written, axiom_written, theorem_written}
 use Rattle.mz_emit_bodies.specs.WrittenLaws.{DefinitionsAreShort, AxiomsAreShort, TheoremsAreShort}
-use Rattle.mz_emit_bodies.proofs.Heaps.{none_or_some, place_new, kept_there, not_kept}
+use Rattle.mz_emit_bodies.proofs.Heaps.{none_or_some, kept_there, not_kept}
 use Rattle.mz_emit_bodies.proofs.Shortening.{command_short, command_one}
+use Rattle.mz_emit_bodies.proofs.Waiting.{waiting, waiting_same, waiting_last, waiting_one, waiting_none}
 use Rattle.mz_emit_bodies.proofs.QuietWriters.{Extends, extends_self, extends_then, bytes_in, bytes_join, body_long, IsQuiet, quiet_nothing, quiet_within, quiet_five, quiet_one, quiet_then, quiet_kept, expr_quiet, exprs_quiet, hyps_quiet, payment_quiet}
-
--- ---- what waits
-
-abbrev waits_one : Option ℕ → ℕ → ℕ
-waits_one None c = c
-waits_one (Some p) c = 0
-
--- the parts of the lets from the n-th on, which cost so much, that aren't in the heap
-abbrev waiting : List Kept → ℕ → List ℕ → ℕ
-waiting heap n [] = 0
-waiting heap n (c ∷ cs) = waits_one (place_in (first_part n) heap) c + waiting heap (suc n) cs
-
-waiting_same : (heap heap' : List Kept) → ((m : ℕ) → place_in (first_part m) heap' ≡ place_in (first_part m) heap) → (n : ℕ) (cs : List ℕ) → waiting heap' n cs ≡ waiting heap n cs
-waiting_same heap heap' same n [] = refl
-waiting_same heap heap' same n (c ∷ cs) = (let one = ap (λ (o : Option ℕ). waits_one o c) (same n) in let r = waiting_same heap heap' same (suc n) cs in omega (arith, one, r))
-
-waits_most : (o : Option ℕ) (c : ℕ) → waits_one o c ≤ c
-waits_most None c = omega arith
-waits_most (Some p) c = omega arith
-
--- one let more
-waiting_last : (heap : List Kept) (n : ℕ) (cs : List ℕ) (c : ℕ) → waiting heap n (cs ++ c ∷ []) ≤ waiting heap n cs + c
-waiting_last heap n [] c = (let m = waits_most (place_in (first_part n) heap) c in omega (arith, m))
-waiting_last heap n (d ∷ cs) c = (let r = waiting_last heap (suc n) cs c in omega (arith, r))
-
--- one item more in the heap
-one_fewer : (b : Bool) (l : ℕ) (o : Option ℕ) (c : ℕ) → waits_one (if b then Some l else o) c ≤ waits_one o c
-one_fewer true l o c = omega arith
-one_fewer false l o c = omega arith
-
-waiting_fewer : (x : Kept) (heap : List Kept) (n : ℕ) (cs : List ℕ) → waiting (x ∷ heap) n cs ≤ waiting heap n cs
-waiting_fewer x heap n [] = omega arith
-waiting_fewer x heap n (c ∷ cs) =
-    (let one = one_fewer (is_same (first_part n) x) (length heap) (place_in (first_part n) heap) c in let r = waiting_fewer x heap (suc n) cs in omega (arith, one, r))
-
--- what one let's part costs, while it isn't in the heap
-waiting_one : (heap : List Kept) (n m c : ℕ) (base since : List ℕ) → m ≡ n + length base → place_in (first_part m) heap ≡ None
-    → waiting heap n ((base ++ c ∷ []) ++ since) ≡ waiting heap n ((base ++ 0 ∷ []) ++ since) + c
-waiting_one heap n m c [] since m-is absent =
-    let here : place_in (first_part n) heap ≡ None = ap (λ (k : ℕ). place_in (first_part k) heap) (omega (arith, m-is)) ∙ absent in
-    let a : waits_one (place_in (first_part n) heap) c ≡ c = ap (λ (o : Option ℕ). waits_one o c) here in
-    let b : waits_one (place_in (first_part n) heap) 0 ≡ 0 = ap (λ (o : Option ℕ). waits_one o 0) here in
-    omega (arith, a, b)
-waiting_one heap n m c (d ∷ base) since m-is absent = (let r = waiting_one heap (suc n) m c base since (omega (arith, m-is)) absent in omega (arith, r))
-
--- once it is, it costs nothing
-waiting_none : (heap : List Kept) (n m c : ℕ) (base rest : List ℕ) → m ≡ n + length base → waiting (first_part m ∷ heap) n ((base ++ c ∷ []) ++ rest) ≤ waiting heap n ((base ++ 0 ∷ []) ++ rest)
-waiting_none heap n m c [] rest m-is =
-    let here : place_in (first_part n) (first_part m ∷ heap) ≡ Some (length heap) = place_new (first_part n) (first_part m) heap (eq-eqb n m (omega (arith, m-is))) in
-    let a : waits_one (place_in (first_part n) (first_part m ∷ heap)) c ≡ 0 = ap (λ (o : Option ℕ). waits_one o c) here in
-    let r = waiting_fewer (first_part m) heap (suc n) rest in
-    omega (arith, a, r)
-waiting_none heap n m c (d ∷ base) rest m-is =
-    let one = one_fewer (is_same (first_part n) (first_part m)) (length heap) (place_in (first_part n) heap) d in
-    let r = waiting_none heap (suc n) m c base rest (omega (arith, m-is)) in
-    omega (arith, one, r)
 
 -- ---- what is spent
 

@@ -1,6 +1,6 @@
 -- Ways outwards, put together.
 use Rattle.std.specs.Prelude.{ℕ, ◌≡◌, ◌≤◌, ◌<◌, List, length, Option, Some, None}
-use Rattle.std.proofs.Common.{arith, subst, sym, refl}
+use Rattle.std.proofs.Common.{zero, suc, arith, subst, sym, refl}
 use Rattle.mz_emit_bodies.specs.Sight.{Link, link_at, InSight, here, out, IsRightAt, AreRight}
 
 pub way_on : (ls : List Link) (c k j i d : ℕ) → InSight ls c k j → InSight ls j i d → InSight ls c i d
@@ -37,3 +37,17 @@ two_jumps ls c i j right lt i-is j-is =
     let first : InSight ls c (link_at ls i).depth i = subst (λ z. InSight ls c (link_at ls z).depth z) (sym i-is) (jump_sight ls c right lt) in
     let second : InSight ls i (link_at ls j).depth j = subst (λ z. InSight ls i (link_at ls z).depth z) (sym j-is) (jump_sight ls i right (omega (arith, i-is, near, lt))) in
     way_on ls c (link_at ls i).depth i (link_at ls j).depth j first second
+
+-- ---- how deep a cell is
+
+depth_by : (ls : List Link) (c : ℕ) (o : Option ℕ) → IsRightAt ls c o → ((b : ℕ) → b < c → (link_at ls b).depth ≤ b) → (link_at ls c).depth ≤ c
+depth_by ls c None r low = omega (arith, r.0)
+depth_by ls c (Some o) r low = (let l = low o r.0 in omega (arith, r.0, r.1, l))
+
+depth_within : (ls : List Link) → AreRight ls → (n c : ℕ) → c < n → c < length ls → (link_at ls c).depth ≤ c
+depth_within ls right zero c lt there = absurd (omega (arith, lt))
+depth_within ls right (suc n) c lt there = depth_by ls c (link_at ls c).outer (right c there) (λ b below. depth_within ls right n b (omega (arith, lt, below)) (omega (arith, there, below)))
+
+-- at most as many lets are in sight of a cell's part as there are cells before it
+pub depth_low : (ls : List Link) (c : ℕ) → AreRight ls → c < length ls → (link_at ls c).depth ≤ c
+depth_low ls c right there = depth_within ls right (suc c) c (omega arith) there

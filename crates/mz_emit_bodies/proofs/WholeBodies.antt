@@ -1,6 +1,6 @@
 -- Whole bodies: what is written for a definition, an axiom or a sound proof is a body of it, and a theorem's uses what its
 -- proof does.
-use Rattle.std.specs.Prelude.{ℕ, ◌≡◌, ◌≤◌, ◌+◌, ⊤, Bool, true, List, [], ◌∷◌, ◌++◌, length, map, slice_get, Contains, Some}
+use Rattle.std.specs.Prelude.{ℕ, ◌≡◌, ◌≤◌, ⊤, Bool, true, List, [], ◌∷◌, ◌++◌, length, map, slice_get, Contains, Some}
 use Rattle.std.proofs.Common.{suc, refl, sym, ap, ◌∙◌, subst, arith, append-nil, inl, inr}
 use Rattle.std.proofs.lemmas.Option.{none-some}
 use Rattle.mz_cmd.specs.declared.code.ProofCode.{ProofCode}

@@ -4,9 +4,10 @@ use Rattle.std.proofs.Common.{refl}
 use Rattle.mz_logic_theory.specs.Tree.{Tree, var, app, none, more}
 use Rattle.mz_logic_theory.specs.Conversions.{refl_conv, cong_conv, unfold_conv, no_convs, more_convs}
 use Rattle.mz_logic_theory.specs.Examples.{wff, two, im, implication, neg, negation}
-use Rattle.mz_mmu_theory.specs.Proof.{Proof, by_hyp, by_name, by_citation, by_conv, by_let, no_proofs, more_proofs}
+use Rattle.mz_mmu_theory.specs.Proof.{Proof, by_hyp, by_name, by_citation, by_conv, by_let, by_gap, no_proofs, more_proofs}
 use Rattle.mz_emit_theory.specs.Endings.{spelled_body}
 use Rattle.mz_emit_theory.specs.BodyWriting.{Written, definition_written, axiom_written, theorem_written}
+use Rattle.mz_emit_bodies.specs.GapLaws.{used_gaps, sorries}
 
 abbrev body_of : Written → List ℕ
 body_of w = spelled_body w.commands
@@ -82,3 +83,22 @@ fold = by_conv (nn a) (unfold_conv 1 (more a none) [] (cong_conv 0 (more_convs (
 fold_body : body_of (theorem_written negation (wff ∷ []) [] (neg (neg a) ∷ []) fold)
     ≡ 0x12 ∷ 0x11 ∷ 0x11 ∷ 0x16 ∷ 0x12 ∷ 0x51 ∷ 1 ∷ 0x52 ∷ 3 ∷ 0x17 ∷ 0x52 ∷ 4 ∷ 0x52 ∷ 2 ∷ 0x1B ∷ 0x1A ∷ 0x1A ∷ 0x18 ∷ 0 ∷ []
 fold_body = refl
+
+-- ---- gaps of lets: that of a part counts once, however often the let is named
+
+-- (:let j (:sorry a) (ax_mp (a a) j j))
+abbrev named_twice : Proof
+named_twice = by_let (by_gap a) (modus_ponens a a (by_name 0) (by_name 0))
+
+named_twice_gaps : used_gaps 0 named_twice ≡ 1
+named_twice_gaps = refl
+
+named_twice_sorries : sorries (theorem_written implication (wff ∷ []) [] [] named_twice).commands ≡ 1
+named_twice_sorries = refl
+
+-- (:let j (:sorry a) (:let k j k)) comes to name j, and (:let j (:sorry a) (:let k j h)) doesn't
+named_by_another : used_gaps 0 (by_let (by_gap a) (by_let (by_name 0) (by_name 1))) ≡ 1
+named_by_another = refl
+
+named_by_none : used_gaps 0 (by_let (by_gap a) (by_let (by_name 0) (by_hyp 0))) ≡ 0
+named_by_none = refl

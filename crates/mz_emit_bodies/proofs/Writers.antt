@@ -7,22 +7,19 @@ use Rattle.mz_cmd.specs.declared.code.ProofCode.TheVariants as code
 use Rattle.mz_logic_theory.specs.Tree.{Tree, Trees, var, app, listed}
 use Rattle.mz_logic_theory.specs.Declaration.{Declaration}
 use Rattle.mz_logic_theory.specs.Legality.{binder_at}
-use Rattle.mz_logic_theory.specs.Conversions.{Conversion, Conversions, sym_conv, cong_conv, unfold_conv, more_convs}
 use Rattle.mz_logic_theory.specs.declared.binder.Binder.{Binder}
 use Rattle.mz_store.specs.Sharing.{Sharing, IsIn, tree_of, trees_of, head_of, operands_of}
 use Rattle.mz_store.specs.declared.item.Id.{Id}
 use Rattle.mz_unify_theory.specs.Profile.{Item}
-use Rattle.mz_mmu_theory.specs.Proof.{Proof, Proofs, by_hyp, by_name, by_citation, by_conv, by_let, by_gap, more_proofs}
+use Rattle.mz_mmu_theory.specs.Proof.{Proof, by_hyp, by_name, by_let}
 use Rattle.mz_emit_bodies.specs.Instances.{Grows}
 use Rattle.mz_emit_bodies.specs.Places.{place_of}
 use Rattle.mz_emit_bodies.proofs.Making.{tree_grown}
-use Rattle.mz_emit_theory.specs.Claims.{conclusion_of}
-use Rattle.mz_emit_theory.specs.Costs.{body_at}
 use Rattle.mz_emit_bodies.specs.Sight.{Part, links, parts, part_at, place_at, InSight, AreRight, IsThere}
 use Rattle.mz_emit_bodies.specs.Scopes.{in_sight}
 use Rattle.mz_emit_bodies.specs.Owes.{Task, prove, prove_all, cite, push, make, pay, pay_all, give, save, Turns, Owes}
 use Rattle.mz_emit_bodies.specs.Pushing.{pushes}
-use Rattle.mz_emit_theory.specs.BodyWriting.{Kept, expression, hypothesis, first_part, Writing, place_in, Written, Writer, and_then, nothing, ◌>>◌, command, keeping, write_expr, write_exprs, write_payment, write_payments, at_name, write_proof, write_proofs, write_hyp, write_hyps}
+use Rattle.mz_emit_theory.specs.BodyWriting.{Kept, expression, hypothesis, first_part, Writing, place_in, Written, Writer, and_then, nothing, ◌>>◌, command, keeping, write_expr, write_exprs, at_name, write_proof, write_proofs, write_hyp, write_hyps}
 use Rattle.mz_emit_bodies.specs.Writers.{let_writers, term_of, write_task, write_tasks, IsKept, behind, IsWriting}
 use Rattle.mz_emit_bodies.specs.declared.cells.Cell.{Cell}
 use Rattle.mz_emit_bodies.proofs.Scoping.{sight_more, sight_new, named}

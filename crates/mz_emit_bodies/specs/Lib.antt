@@ -10,6 +10,7 @@ pub mod Lengths
 pub mod Making
 pub mod Laws
 pub mod WrittenLaws
+pub mod GapLaws
 pub mod Instances
 pub mod Places
 pub mod Rows

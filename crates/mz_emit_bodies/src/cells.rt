@@ -1,5 +1,5 @@
 //! Lets that are open in a body, and those in sight of each.
-ghost use Rattle.std.specs.Prelude.{ℕ, ◌≡◌, ◌≤◌, ◌<◌, ◌+◌, ◌++◌, ◌∷◌, [], OnOk, IfOk, length, None, Some};
+ghost use Rattle.std.specs.Prelude.{ℕ, ◌≡◌, ◌≤◌, ◌<◌, ◌+◌, ◌^◌, ◌++◌, ◌∷◌, [], OnOk, IfOk, length, None, Some};
 ghost use Rattle.mz_mmu_theory.specs.ProofView.{proof_view};
 ghost use Rattle.mz_emit_bodies.specs.Sight.{link_at, links, part_of, parts, part_at, place_at, InSight, AreRight, IsThere, IsNext};
 
@@ -99,20 +99,19 @@ fn jump_from_inside(cells: &[Cell], outer: u32) -> u32
 }
 
 /// How many lets are in sight of a new cell with this number, and where it jumps to.
-fn next_link(cells: &[Cell], outer: Chain, number: u32) -> Result<(u32, u32), Mem>
+fn next_link(cells: &[Cell], outer: Chain, number: u32) -> (u32, u32)
     requires right { AreRight (links cells.now) }
     requires there { IsThere (length cells.now) outer }
-    ensures { IfOk result (λ r. IsNext (links cells.now) number outer r.0 r.1) }
+    requires few { length cells.now < 2 ^ 32 }
+    ensures { IsNext (links cells.now) number outer result.0 result.1 }
 {
     match outer {
-        None => Ok((0, number)),
+        None => (0, number),
         Some(cell) => {
+            // no deeper than its number
             let depth = depth_at(cells, cell);
-            if depth == u32::MAX {
-                return Err(AllocError);
-            }
             let jump = jump_from_inside(cells, cell);
-            Ok((depth + 1, jump))
+            (depth + 1, jump)
         }
     }
 }
@@ -152,7 +151,7 @@ impl<'t> Cells<'t> {
             return Err(AllocError);
         }
         let number = len as u32;
-        let (depth, jump) = next_link(&self.cells, outer, number)?;
+        let (depth, jump) = next_link(&self.cells, outer, number);
         self.cells.push(Cell {
             part,
             outer,

@@ -1,5 +1,5 @@
 //! Where the expressions stand in a heap.
-ghost use Rattle.std.specs.Prelude.{ℕ, ◌≡◌, ◌<◌, ◌+◌, ◌^◌, OnOk, IfOk, Some, None, length};
+ghost use Rattle.std.specs.Prelude.{ℕ, ◌≡◌, ◌<◌, ◌+◌, ◌-◌, ◌^◌, OnOk, OnErr, IfOk, Some, None, length};
 ghost use Rattle.mz_emit_bodies.specs.Places.{place_of};
 
 use mz_cmd::Mem;
@@ -71,11 +71,12 @@ impl Heap {
     ///
     /// # Errors
     ///
-    /// Where the heap is as long as can be.
+    /// Where the heap is as long as can be, and nowhere else: no memory is taken.
     pub fn push(&mut self) -> Result<u32, Mem>
         ensures at { IfOk result (λ place. place ≡ self.old.len) }
         ensures places { OnOk result (self.new.places.items ≡ self.old.places.items) }
         ensures more { OnOk result (self.new.len ≡ self.old.len + 1) }
+        ensures full { OnErr result (self.old.len ≡ 2 ^ 32 - 1) }
     {
         let place = self.len;
         if place == u32::MAX {

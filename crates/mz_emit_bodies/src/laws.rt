@@ -1,4 +1,5 @@
 //! Laws on the definitions: the contract of each function is one, and its body is empty.
+ghost use Rattle.mz_emit_bodies.specs.GapLaws.{EachUsedGapHasItsSorry};
 ghost use Rattle.mz_emit_bodies.specs.Laws.{AxiomsAreWritten, DefinitionsAreWritten, TheoremsAreWritten};
 ghost use Rattle.mz_emit_bodies.specs.WrittenLaws.{AxiomsAreShort, AxiomsTakeFourBytes, DefinitionsAreShort, DefinitionsTakeFourBytes, TheoremBodiesUse, TheoremsAreShort, TheoremsTakeFourBytes, TheoremsUseWhatProofsUse};
 
@@ -14,6 +15,11 @@ pub fn bodies_are_written()
 pub fn bodies_use_what_proofs_use()
     ensures commands { TheoremsUseWhatProofsUse }
     ensures bodies { TheoremBodiesUse }
+{}
+
+/// A theorem's body has a Sorry for each gap that its proof uses, and no other.
+pub fn sorries_stand_for_gaps()
+    ensures { EachUsedGapHasItsSorry }
 {}
 
 /// A body has at most six bytes for each node of what it makes and for each unit of its proof's weight, and one more.

@@ -21,6 +21,7 @@ pub use body::Before;
 pub use heap::Heap;
 pub use laws::{
     bodies_are_short, bodies_are_written, bodies_use_what_proofs_use, operands_take_four_bytes,
+    sorries_stand_for_gaps,
 };
 pub use shared::Shared;
 pub use statement::{axiom_body, definition_body, theorem_body};

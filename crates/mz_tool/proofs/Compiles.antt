@@ -38,8 +38,8 @@ as-finished text c bytes is finished (ss, typed, within) = subst (IsCompilation 
 module _ (gaps : Bool) (text : List ℕ) (decided : IsDecided gaps text) where
   pub is-not-compiled : (c : Compiled) (line : List ℕ) → IsCompilation gaps text c → ((bytes : _) → c ≡ answers.Bytes bytes → ⊥) → (c ≡ answers.Mem → ⊥) → line ≡ line_of_compiled c → IsNotCompiled gaps text line
   is-not-compiled (answers.Bytes bytes) line is other some same = absurd (other bytes refl)
-  is-not-compiled (answers.Refused refusal) line is other some same = inl (refusal, is, same)
-  is-not-compiled (answers.Limit rule count) line is other some same = inr (rule, count, is, same)
+  is-not-compiled (answers.Refused refusal) line is other some same = (λ can. decided.not_refused refusal can is, inl (refusal, is, same))
+  is-not-compiled (answers.Limit rule count) line is other some same = (λ can. decided.not_limited (over (limit rule) count) can is, inr (rule, count, is, same))
   is-not-compiled answers.Mem line is other some same = absurd (some refl)
 
   -- where the text is compiled, it isn't refused
@@ -50,10 +50,9 @@ module _ (gaps : Bool) (text : List ℕ) (decided : IsDecided gaps text) where
   compiled-alone (answers.Limit rule count) is other some put line (bin, puts, compiles, finished, same) = decided.not_limited (over (limit rule) count) (compilable gaps text bin compiles) is
   compiled-alone answers.Mem is other some put line (bin, puts, compiles, finished, same) = some refl
 
-  -- where it is refused, it isn't compiled
-  pub not-compiled-alone : (bin : List ℕ) → CompilesTo gaps text bin → (line : List ℕ) → IsNotCompiled gaps text line → ⊥
-  not-compiled-alone bin compiles line (inl (refusal, fault, same)) = decided.not_refused refusal (compilable gaps text bin compiles) fault
-  not-compiled-alone bin compiles line (inr (rule, count, over, same)) = decided.not_limited _ (compilable gaps text bin compiles) over
+-- where it is refused, it isn't compiled
+pub not-compiled-alone : (gaps : Bool) (text bin : List ℕ) → CompilesTo gaps text bin → (line : List ℕ) → IsNotCompiled gaps text line → ⊥
+not-compiled-alone gaps text bin compiles line (not, why) = not (compilable gaps text bin compiles)
 
 -- ---- for each command that puts a file
 

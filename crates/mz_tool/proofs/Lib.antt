@@ -3,6 +3,7 @@ mod Sizes
 mod StatedBodies
 mod StatedLists
 mod Compiles
+mod CompiledOnce
 mod Tables
 mod Sampled
 mod Assemblies

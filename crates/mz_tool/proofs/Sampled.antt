@@ -7,14 +7,14 @@ use Rattle.mz_match_theory.specs.Verdict.{Accepts, IsSound, counts_of}
 use Rattle.mz_match_theory.proofs.Offered.{accepted-excludes}
 use Rattle.mz_mmu_theory.specs.TypeLaws.{IsTypedOrFaulty}
 use Rattle.mz_mmu_theory.specs.Meaning.{marked}
-use Rattle.mz_emit_accepted_theory.specs.Compiling.{CompilesTo, IsDecided}
+use Rattle.mz_emit_accepted_theory.specs.Compiling.{CompilesTo}
 use Rattle.mz_sample.specs.Samples.{sample_specification, sample_text}
 use Rattle.mz_tool_engine.specs.declared.outcome.Outcome.{Outcome}
 use Rattle.mz_tool_engine.specs.declared.outcome.Outcome.TheVariants as outcomes
 use Rattle.mz_tool_engine.specs.Outcomes.{IfYes, IfNo, OnYes, OnNo, IsAfter}
 use Rattle.mz_tool_verify.specs.Verify.{IsVerified, IsRefuted}
 use Rattle.mz_tool.specs.Compile.{IsCompiledTo, IsNotCompiled}
-use Rattle.mz_tool.specs.Sample.{IsUpheld, IsFaulted, IsProvedByText, sizes_line, IsSampleUpheld, IsSampleFaulted}
+use Rattle.mz_tool.specs.Sample.{FitTogether, IsUpheld, IsFaulted, IsProvedByText, sizes_line, IsSampleUpheld, IsSampleFaulted}
 use Rattle.mz_tool.proofs.Compiles.{put-bytes, not-compiled-alone}
 use Rattle.mz_tool.proofs.StatedLists.{stated-agree}
 use Rattle.mz_binary_theory.specs.Standards.{strict_standard}
@@ -32,10 +32,10 @@ accepted-once spec text bin bin' one (ss, typed, within, binary) (ss', typed', w
 pub compiled-put : (text : List ℕ) (put : Option (List ℕ)) (line bin : List ℕ) → IsCompiledTo false text put line → put ≡ Some bin → CompilesTo false text bin
 compiled-put text put line bin (made, puts, compiles, finished, same) is = subst (CompilesTo false text) (put-bytes made bin (sym puts ∙ is)) compiles
 
-module _ (spec text : List ℕ) (one : IsTypedOrFaulty false text) (decided : IsDecided false text) where
+module _ (spec text : List ℕ) (one : IsTypedOrFaulty false text) where
   not-both : (line line' : List ℕ) → IsUpheld spec text line → IsFaulted spec text line' → ⊥
-  not-both line line' (bin, compiles, verified) (inl not) = not-compiled-alone false text decided bin compiles line' not
-  not-both line line' (bin, compiles, (counts, (accepts, is), same)) (inr (bin', compiles', (verdict, refused, same'))) =
+  not-both line line' (bin, compiles, verified) (unfit, inl not) = not-compiled-alone false text bin compiles line' not
+  not-both line line' (bin, compiles, (counts, (accepts, is), same)) (unfit, inr (bin', compiles', (verdict, refused, same'))) =
       let accepts' = accepted-once spec text bin bin' one compiles compiles' accepts in
       accepted-excludes spec bin' (counts_of accepts'.declared) verdict (accepts', refl) refused
 
@@ -49,6 +49,12 @@ module _ (spec text : List ℕ) (one : IsTypedOrFaulty false text) (decided : Is
   upheld-only_no (outcomes.No line') is line faulted = tt
   upheld-only_no outcomes.Mem is line faulted = tt
 
+-- a binary of a text is accepted against a specification that fits the text
+fit-accepted : (spec text bin line : List ℕ) → CompilesTo false text bin → IsRefuted spec bin line → FitTogether spec text → ⊥
+fit-accepted spec text bin line (ss, typed, within, binary) (verdict, refused, same) (can, declares) =
+    let accepts : Accepts spec bin = binary.accepted spec declares.declared declares.is_spec (declares.agrees ss typed) in
+    accepted-excludes spec bin (counts_of accepts.declared) verdict (accepts, refl) refused
+
 -- a binary of the text is verified
 module _ (spec text bin : List ℕ) (compiles : CompilesTo false text bin) where
   pub verified-yes : (o : Outcome) → IfYes o (λ put line. (put ≡ None) × IsVerified spec bin line) → IfYes o (λ put line. (put ≡ None) × IsUpheld spec text line)
@@ -58,7 +64,7 @@ module _ (spec text bin : List ℕ) (compiles : CompilesTo false text bin) where
 
   pub verified-no : (o : Outcome) → IfNo o (λ line. IsRefuted spec bin line) → IfNo o (λ line. IsFaulted spec text line)
   verified-no (outcomes.Yes put line) is = tt
-  verified-no (outcomes.No line) is = inr (bin, compiles, is)
+  verified-no (outcomes.No line) is = (fit-accepted spec text bin line.items compiles is, inr (bin, compiles, is))
   verified-no outcomes.Mem is = tt
 
   pub verified-proved : (o : Outcome) → OnYes o (IsSound spec bin) → OnYes o (IsProvedByText spec text)
@@ -75,7 +81,7 @@ module _ (spec text : List ℕ) where
 
   pub faulted-no : (o : Outcome) → IfNo o (λ line. IsNotCompiled false text line) → IfNo o (λ line. IsFaulted spec text line)
   faulted-no (outcomes.Yes put line) is = tt
-  faulted-no (outcomes.No line) is = inl is
+  faulted-no (outcomes.No line) is = (λ fit. is.0 fit.0, inl is)
   faulted-no outcomes.Mem is = tt
 
 -- the line of the sizes stands before

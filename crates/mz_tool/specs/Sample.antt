@@ -2,7 +2,8 @@
 use Rattle.std.specs.Prelude.{◌≡◌, ◌≤◌, ◌⊎◌, ◌++◌, ℕ, false, List, [], ◌∷◌, length, None, codes, decimal}
 use Rattle.mz_spec_proved_theory.specs.Headline.{Proves}
 use Rattle.mz_match_theory.specs.Verdict.{IsSound}
-use Rattle.mz_emit_accepted_theory.specs.Compiling.{CompilesTo}
+use Rattle.mz_emit_accepted_theory.specs.Compiling.{IsCompilable, CompilesTo}
+use Rattle.mz_prefix_theory.specs.AgreeLaws.{DeclaresText}
 use Rattle.mz_sample.specs.Samples.{sample_specification, sample_text, sample_line}
 use Rattle.mz_tool_engine.specs.Said.{Said, OfNone}
 use Rattle.mz_tool_verify.specs.Verify.{IsVerified, IsRefuted}
@@ -12,9 +13,13 @@ use Rattle.mz_tool.specs.Compile.{IsNotCompiled}
 abbrev pub IsUpheld : List ℕ → List ℕ → List ℕ → Type 0
 IsUpheld spec text line = (bin : List ℕ) × CompilesTo false text bin × IsVerified spec bin line
 
--- it isn't compiled, or the binary is refused
+-- the text can be compiled, and the specification declares what agrees with its public statements
+abbrev pub FitTogether : List ℕ → List ℕ → Type 0
+FitTogether spec text = IsCompilable false text × DeclaresText spec text
+
+-- they don't fit together: the text isn't compiled, or the binary is refused
 abbrev pub IsFaulted : List ℕ → List ℕ → List ℕ → Type 0
-IsFaulted spec text line = IsNotCompiled false text line ⊎ ((bin : List ℕ) × CompilesTo false text bin × IsRefuted spec bin line)
+IsFaulted spec text line = (FitTogether spec text → ⊥) × (IsNotCompiled false text line ⊎ ((bin : List ℕ) × CompilesTo false text bin × IsRefuted spec bin line))
 
 -- the line that tells how long a sample's specification and its text are
 abbrev pub sizes_line : ℕ → List ℕ

@@ -1,12 +1,15 @@
 // The commands `compile` and `compile_draft`.
-ghost use Rattle.std.specs.Prelude.{◌<◌, ◌^◌, ℕ, List, Option, length};
+ghost use Rattle.std.specs.Prelude.{◌<◌, ◌^◌, ℕ, Bool, List, Option, length};
 ghost use Rattle.mz_base.specs.Gaps.{gaps_of};
 ghost use Rattle.mz_tool_engine.specs.Answering.{IsShort};
 ghost use Rattle.mz_tool_engine.specs.Outcomes.{IfYes, IfNo, OnYes, OnNo};
-ghost use Rattle.mz_tool.specs.Compile.{IsCompiledTo, IsNotCompiled};
+ghost use Rattle.mz_tool.specs.Compile.{IsAnsweredOnce, IsCompiledTo, IsNotCompiled};
 
 use mz_base::{Hashing, Mode};
-use mz_emit::{compilation_is_decided, compile_bytes, compiled_line};
+use mz_emit::{
+    compilable_texts_have_files, compilation_is_decided, compile_bytes, compiled_line,
+    texts_have_one_file,
+};
 use mz_emit_accepted_theory::Compiled;
 use mz_io::{Failed, Sink};
 use mz_store::Seed;
@@ -71,4 +74,14 @@ pub fn compile(alloc: Global, seed: Seed, text: &[u8], mode: Mode) -> Outcome
         },
         _ => Outcome::No { text: line },
     }
+}
+
+/// A law, as the contract of an empty function: a text that can be compiled has a yes, and whatever the files hold, one
+/// line at the most is the answer.
+pub fn compiling_answers_once()
+    ensures { (gaps : Bool) (text_name out_name : List ℕ) → IsAnsweredOnce gaps text_name out_name }
+{
+    compilation_is_decided();
+    texts_have_one_file();
+    compilable_texts_have_files();
 }

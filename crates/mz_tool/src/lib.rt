@@ -23,7 +23,7 @@ mod specify;
 pub use assemble::AssembleCommand;
 pub use axioms::AxiomsCommand;
 pub use command::ProgramCommand;
-pub use compile::CompileCommand;
+pub use compile::{CompileCommand, compiling_answers_once};
 pub use decompile::DecompileCommand;
 pub use draft::DraftCommand;
 pub use mz_store::Seed;

@@ -7,7 +7,6 @@ ghost use Rattle.mz_tool.specs.Sample.{IsUpheld, IsFaulted, IsProvedByText, IsSa
 use crate::compile::compile;
 use crate::size::SampleSize;
 use mz_base::Mode;
-use mz_emit::compilation_is_decided;
 use mz_io::{Failed, Sink};
 use mz_sample::{sample_line, sample_specification, sample_text};
 use mz_store::Seed;
@@ -76,7 +75,6 @@ fn upheld(alloc: Global, specification: &[u8], text: &[u8]) -> Outcome
     ensures only_yes { (line : List ℕ) → IsUpheld specification.now text.now line → OnNo result ⊥ }
     ensures only_no { (line : List ℕ) → IsFaulted specification.now text.now line → OnYes result ⊥ }
 {
-    compilation_is_decided();
     typed_or_faulty();
     match compile(alloc, Seed::FIXED, text, Mode::Strict) {
         Outcome::Yes { put, .. } => match put {

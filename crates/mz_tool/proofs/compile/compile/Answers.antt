@@ -15,7 +15,7 @@ returns-in-Bytes c =
       short = put-short c.in-Bytes.bytes.items (short-binary gaps c.args.text.now c.in-Bytes.bytes.items compiles);
       no = tt;
       only_yes = λ put line is. tt;
-      only_no = not-compiled-alone gaps c.args.text.now (c.compilation_is_decided.ensures gaps c.args.text.now) c.in-Bytes.bytes.items compiles;
+      only_no = not-compiled-alone gaps c.args.text.now c.in-Bytes.bytes.items compiles;
     }
 
 pub returns-in_default-compiled : goal.returns-in_default-compiled

@@ -13,8 +13,8 @@ returns-in-File c =
       yes = yes;
       no = no;
       proved = verified-proved c.args.specification.now c.args.text.now c.deref.result.now compiles c.verify.result c.verify.ensures.sound;
-      only_yes = upheld-only_yes c.args.specification.now c.args.text.now (c.typed_or_faulty.ensures false c.args.text.now) (c.compilation_is_decided.ensures false c.args.text.now) c.verify.result no;
-      only_no = upheld-only_no c.args.specification.now c.args.text.now (c.typed_or_faulty.ensures false c.args.text.now) (c.compilation_is_decided.ensures false c.args.text.now) c.verify.result yes;
+      only_yes = upheld-only_yes c.args.specification.now c.args.text.now (c.typed_or_faulty.ensures false c.args.text.now) c.verify.result no;
+      only_no = upheld-only_no c.args.specification.now c.args.text.now (c.typed_or_faulty.ensures false c.args.text.now) c.verify.result yes;
     }
 
 pub returns-in_default : goal.returns-in_default
@@ -24,6 +24,6 @@ returns-in_default c =
       yes = not-yes c.args.specification.now c.args.text.now c.compile.result _ c.in_default.not-Yes;
       no = no;
       proved = not-yes c.args.specification.now c.args.text.now c.compile.result _ c.in_default.not-Yes;
-      only_yes = upheld-only_yes c.args.specification.now c.args.text.now (c.typed_or_faulty.ensures false c.args.text.now) (c.compilation_is_decided.ensures false c.args.text.now) c.compile.result no;
+      only_yes = upheld-only_yes c.args.specification.now c.args.text.now (c.typed_or_faulty.ensures false c.args.text.now) c.compile.result no;
       only_no = λ line faulted. not-yes c.args.specification.now c.args.text.now c.compile.result _ c.in_default.not-Yes;
     }
