@@ -1,12 +1,12 @@
-"""Which functions a program's instructions are in, shape by shape; bench/measure PROGRAM WORK profile [SHAPE ..]."""
+"""Which functions a program's instructions are in; bench/measure PROGRAM WORK profile [SHAPE or COMMAND ..]."""
 import collections
 import os
 import re
 import subprocess
 import sys
 
-MARKS = ("<!-- The table of bench/measure PROGRAM WORK profile begins. -->\n", "<!-- The profiles end. -->\n")
-MOST, LEAST = 5, 0.005  # functions of a shape, and the share from which they are named
+MOST, LEAST = 5, 0.005  # functions of a row, and the share from which they are named
+PARTS, WIDE, SMALL = 7, 0.5, 0.03  # parts of a row; the share from which a part is taken apart, and that from which it is named
 USAGE = 2  # the exit number where the words are no command
 ALLOCATOR = "allocator"
 ALLOCATING = re.compile(r"_*(int_)?(malloc|free|realloc|calloc|memalign)$|(unlink_chunk|malloc_consolidate|sysmalloc|systrim|alloc_perturb)$|rattle_(alloc|realloc|dealloc)$")
@@ -25,63 +25,96 @@ def readable(name):
     return re.sub(r"^.*?(\w+(?:\+\+\w+)+)\+\w+(?=::\w+$)", lambda it: it[1].replace("++", "::"), plain)  # a trait's, for a type
 
 
-def by_function(path):
-    """The instructions of each function alone, without those of what it calls, in a file that callgrind wrote."""
-    names, found, inside, is_call = {}, collections.Counter(), None, False
-    with open(path, errors="replace") as file:
-        for line in file:
-            named = re.match(r"(c?fn)=\((\d+)\)(?: (.*))?", line)
-            if named:
-                if named[3]:
-                    names[named[2]] = readable(named[3])
-                if named[1] == "fn":
-                    inside = names[named[2]]
-            elif line.startswith("calls="):
-                is_call = True  # the next line is what the call took
-            elif re.match(r"[+*\d-]", line) and inside:
-                if not is_call:
-                    found[inside] += int(line.split()[-1])
-                is_call = False
-    return found
+class Costs:
+    """What callgrind counted: of each function alone, and of each call of one by another with all that the call does."""
+
+    def __init__(self, path):
+        self.alone, self.calls = collections.Counter(), collections.defaultdict(collections.Counter)
+        names, inside, callee, is_call = {}, None, None, False
+        with open(path, errors="replace") as file:
+            for line in file:
+                named = re.match(r"(c?fn)=\((\d+)\)(?: (.*))?", line)
+                if named:
+                    if named[3]:
+                        names[named[2]] = readable(named[3])
+                    if named[1] == "fn":
+                        inside = names[named[2]]
+                    else:
+                        callee = names[named[2]]
+                elif line.startswith("calls="):
+                    is_call = True  # the next line is what the call took
+                elif re.match(r"[+*\d-]", line) and inside:
+                    count = int(line.split()[-1])
+                    if not is_call:
+                        self.alone[inside] += count
+                    elif callee != inside:
+                        self.calls[inside][callee] += count
+                    is_call = False
+        self.whole = sum(self.alone.values())
+
+    def callers(self, function):
+        """What each caller's calls of a function take."""
+        return collections.Counter({caller: callees[function] for caller, callees in self.calls.items() if callees[function]})
+
+    def parts(self, begin):
+        """What the whole is made of, below the function `begin`: those that take much are taken apart, into what they call."""
+        found, done = collections.Counter({begin: self.whole}), set()
+        while True:
+            wide = [name for name, count in found.items() if count >= WIDE * self.whole and name not in done and self.calls[name]]
+            if not wide:
+                return found
+            name = max(wide, key=found.get)
+            done.add(name)
+            inclusive = self.alone[name] + sum(self.calls[name].values())
+            if self.alone[name] > inclusive / 2:
+                continue
+            share = found.pop(name) / inclusive
+            for callee, count in self.calls[name].items():
+                found[callee] += count * share
+            found[name] += self.alone[name] * share
 
 
 def profiled(words, path):
-    """The instructions of one run by function; None where the program doesn't have the command."""
+    """The costs of one run; None where the program doesn't have the command."""
     counted = ["valgrind", "--tool=callgrind", "--callgrind-out-file=" + path, *words]
     ran = subprocess.run(counted, stdout=subprocess.DEVNULL, stderr=subprocess.DEVNULL, check=False)
-    return None if ran.returncode == USAGE else by_function(path)
+    return None if ran.returncode == USAGE else Costs(path)
 
 
-def row_of(shape, n, found):
-    """A line of the table: what is in the first functions, each with its share of the whole."""
-    whole = sum(found.values())
-    shares = ["`%s` %.0f %%" % (name, 100 * count / whole) for name, count in found.most_common(MOST) if count >= LEAST * whole]
-    return "| %s | %d | %.1f | %s |" % (shape, n, whole / 1e6, ", ".join(shares))
+def shares(found, whole, most, least):
+    return ", ".join("`%s` %.0f %%" % (name, 100 * count / whole) for name, count in found.most_common(most) if count >= least * whole)
 
 
-def table(runs, work):
-    """The table's lines, of runs of a shape, its size and the program's words."""
+def begin_of(costs):
+    """The program's own outermost function."""
+    mains = [name for name in costs.alone if re.match(r"mz_\w+::main\b", name)]
+    return mains[0] if mains else None
+
+
+def measured(runs, work):
+    """The costs of runs: a name, a size and the program's words; without those for which the program has no command."""
+    for name, n, words in runs:
+        costs = profiled(words, os.path.join(work, "%s.%d.callgrind" % (name, n)))
+        print(name, n, costs and costs.whole, file=sys.stderr, flush=True)
+        if costs:
+            yield name, n, costs
+
+
+def table(found):
+    """Of each run the functions with most instructions of their own."""
     yield "| Shape | N | Instructions, millions | The %d functions with most of them, and their shares |" % MOST
     yield "|---|---|---|---|"
-    for shape, n, words in runs:
-        found = profiled(words, os.path.join(work, "%s.%d.callgrind" % (shape, n)))
-        print(shape, n, sum(found.values()) if found else "-", file=sys.stderr, flush=True)
-        if found:
-            yield row_of(shape, n, found)
+    for name, n, costs in found:
+        yield "| %s | %d | %.1f | %s |" % (name, n, costs.whole / 1e6, shares(costs.alone, costs.whole, MOST, LEAST))
 
 
-def written(text, page):
-    """Puts the table between its marks of a page."""
-    with open(page) as file:
-        before, rest = file.read().split(MARKS[0])
-    behind = rest.split(MARKS[1])[1]
-    with open(page, "w") as file:
-        file.write(before + MARKS[0] + text + "\n" + MARKS[1] + behind)
-
-
-def profile(runs, work, page, is_whole):
-    """Profiles the runs and prints the table, which goes into the page where it has all shapes."""
-    text = "\n".join(table(runs, work))
-    print(text)
-    if is_whole:
-        written(text, page)
+def table_of_parts(found):
+    """Of each run also its parts, and from where memory is asked for and given back."""
+    titles = ("Command and files", "N", "Instructions, millions", "Functions alone", "Parts, each with what it calls", "The allocator, by its callers")
+    yield "| %s |" % " | ".join(titles)
+    yield "|%s" % ("---|" * len(titles))
+    for name, n, costs in found:
+        begin = begin_of(costs)
+        parts = shares(costs.parts(begin), costs.whole, PARTS, SMALL) if begin else "-"
+        columns = (shares(costs.alone, costs.whole, MOST, LEAST), parts, shares(costs.callers(ALLOCATOR), costs.whole, MOST, LEAST))
+        yield "| %s | %d | %.1f | %s | %s | %s |" % (name, n, costs.whole / 1e6, *columns)

@@ -5,6 +5,8 @@ import resource
 import subprocess
 import sys
 
+from pages import put
+
 from .command import make
 from .expected import IN_PROPORTION, ROWS, sizes
 
@@ -14,7 +16,6 @@ KILOBYTES = 2_000_000  # of address space
 EXPONENT, EACH, BASE = 1.15, 64, 8_000_000
 FILES = ("s.mm0", "b.mmb", "s.mmu")
 USAGE, MEMORY = 2, 4  # exit numbers
-MARKS = ("<!-- The table of bench/measure PROGRAM WORK hostile begins. -->\n", "<!-- It ends. -->\n")
 
 
 def words_of(command, folder):
@@ -108,26 +109,15 @@ def table(rows):
 
 def summary(rows):
     """Which rows took more than is expected of them."""
-    asked = [row for row in rows if row["cells"] and row["expected"] == IN_PROPORTION]
+    asked = [row for row in rows if row["expected"] == IN_PROPORTION]
     more = ["%s (%s)" % (row["shape"], row["command"]) for row in asked if is_more(row)]
     bounds = "an exponent over %.2f, over %d bytes a byte and %d MB, or a limit" % (EXPONENT, EACH, BASE // 10 ** 6)
     return "More than in proportion (%s): %s." % (bounds, ", ".join(more) if more else "none")
 
 
-def written(text, page):
-    """Puts the table between the marks of a page."""
-    with open(page) as file:
-        before, rest = file.read().split(MARKS[0])
-    behind = rest.split(MARKS[1])[1]
-    with open(page, "w") as file:
-        file.write(before + MARKS[0] + text + "\n" + MARKS[1] + behind)
-
-
-def hostile(program, work, timed, page, wanted=None):
-    """Measures all rows, or those of the shapes that are wanted, and prints the table; that of all goes into the page."""
-    chosen = [it for it in ROWS if wanted is None or it[0] in wanted]
-    rows = [row_of(program, work, timed, *it) for it in chosen]
-    text = "\n".join(table(rows))
-    print(text, "", summary(rows), sep="\n")
-    if wanted is None:
-        written(text, page)
+def hostile(program, work, chosen=()):
+    """Measures all rows, or those of the shapes that are chosen; a row stays as it is where the program doesn't have its command."""
+    rows = [row_of(program, work, os.path.join(work, "timed"), *it) for it in ROWS if not chosen or it[0] in chosen]
+    measured = [row for row in rows if row["cells"]]
+    put("hostile", table(measured), keys=2)
+    print("", summary(measured), sep="\n")
