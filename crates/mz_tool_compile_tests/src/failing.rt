@@ -230,6 +230,8 @@ const LIMITS: &[(u32, &str, Option<&str>)] = &[
     (18, "verify spec bin", None),
     (50, "verify spec bin", None),
     (51, "verify spec bin", Some(ACCEPTED_ONE)),
+    (50, "portable spec bin", None),
+    (51, "portable spec bin", Some(ACCEPTED_ONE)),
     (50, "show bin", None),
     (51, "show bin", Some(ONE_LISTING)),
     (19, "compile text out", None),
