@@ -217,7 +217,7 @@ named-sound name rest l =
     (branch (λ (x : Line). IsLine (32 ∷ (name ++ (32 ∷ rest))) x) (bytes_eq name (codes "p")) (proof_line_in rest) None l (λ is e. renamed name (codes "p") rest l (same-bytes name _ is) (proof-line-sound rest l e))
     (λ e. absurd cc))))
 
--- what is read has words behind its first one
+-- what is read has tokens behind its first one
 part-some : (name : List ℕ) (l : Line) → part_named name [] ≡ Some l → ⊥
 part-some name l =
     branch (λ _. ⊥) (bytes_eq name (codes "param")) None _ l (λ is e. absurd cc)

@@ -126,7 +126,7 @@ proof-spelled bytes = ops-spelled streams.Proof proof_byte proof_code proof_has_
 pub proof-fit : (bytes : List ℕ) (cs : List Cmd) (from to : ℕ) → AreBytes bytes → Follow streams.Proof bytes from cs to → HaveListed streams.Proof cs → AreFit proof_has_number (proof_ops cs)
 proof-fit bytes = ops-fit streams.Proof proof_byte proof_code proof_has_number (λ n. refl) proof-back (λ n k e. ap proof_listed e) bytes
 
--- a front of bytes is bytes
+-- a prefix of bytes is bytes
 pub bytes-cut : (n : ℕ) (xs : List ℕ) → AreBytes xs → (i : ℕ) → get_or (take n xs) i 0 < 256
 bytes-cut zero xs fits i = omega arith
 bytes-cut (suc n) [] fits i = omega arith

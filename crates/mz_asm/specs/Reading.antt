@@ -64,7 +64,7 @@ proof_named w =
     else if bytes_eq w (codes "conv_ref") then Some proofs.ConvRef
     else plain_proof_named w
 
--- ---- words of a line, with one space between them
+-- ---- tokens of a line, with one space between them
 
 abbrev pub first_word : List ℕ → List ℕ
 first_word text = before_first (λ b. b == 32) text

@@ -1,8 +1,8 @@
-// Words and lines in bytes.
+// Tokens and lines in bytes.
 ghost use Rattle.std.specs.Prelude.{◌≡◌, ◌≤◌, ◌<◌, ◌+◌, ◌==◌, drop, length, bytes_eq};
 ghost use Rattle.std.specs.List.{position_or_len, before_first, after_first};
 
-/// Whether the word is this one.
+/// Whether the token is this one.
 pub fn is(word: &[u8], other: &[u8]) -> bool
     ensures { result ≡ bytes_eq word.now other.now }
 {

@@ -19,7 +19,7 @@ pub enum Kind {
 }
 
 impl Kind {
-    /// The kind that a word names.
+    /// The kind that a token names.
     pub fn of_word(word: &[u8]) -> Option<Kind>
         ensures { result ≡ kind_of_word word.now }
     {
@@ -38,7 +38,7 @@ impl Kind {
         }
     }
 
-    /// The kind that a word names behind `local`.
+    /// The kind that a token names behind `local`.
     pub fn of_local_word(word: &[u8]) -> Option<Kind>
         ensures { result ≡ local_kind_of_word word.now }
     {

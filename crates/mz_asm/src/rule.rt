@@ -2,7 +2,7 @@
 use std::fmt;
 
 /// What each line of a listing obeys, in the order in which it is asked; `Display` gives the printed
-/// words.
+/// message.
 #[derive(Clone, Copy, Debug, PartialEq, Eq)]
 pub enum A {
     /// The line isn't the next line of a listing, or the text ends before its listing does.

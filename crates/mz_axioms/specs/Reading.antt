@@ -19,7 +19,7 @@ TicksAs bin old new (read.Lists lists) = new ≡ old + file_steps strict_standar
 TicksAs bin old new (read.Refused verdict) = Ticks bin old new verdict
 TicksAs bin old new read.Mem = ⊤
 
--- the pair is accepted, and this is said of it unless memory is wanting
+-- the pair is accepted, and this is said of it; or out of memory
 abbrev pub IsLists : AxiomsRead → Type 0
 IsLists (read.Lists lists) = ⊤
 IsLists (read.Refused verdict) = ⊥

@@ -1,4 +1,4 @@
--- Numbers of names, and which words are names, computed.
+-- Numbers of names, and which byte strings are names, computed.
 use Rattle.std.proofs.Common.{◌≡◌, ◌∷◌, [], Some, true, false, refl}
 use Rattle.std.specs.Prelude.{codes}
 use Rattle.mz_base.specs.Identifiers.{is_name}

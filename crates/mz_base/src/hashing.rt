@@ -3,8 +3,8 @@ use std::hash::{BuildHasher, FoldHasher, Hasher};
 
 /// Makes the hashers of maps by names. Each begins with what a seed left, which the program draws by
 /// chance, so that who makes a file doesn't know which names share their hash, which take long to be
-/// told apart (`FoldHasher` isn't cryptographic; of an identifier no eight bytes are its multiplier,
-/// which would make it forget the seed). No answer depends on it.
+/// distinguished (`FoldHasher` isn't cryptographic; of an identifier no eight bytes are its
+/// multiplier, which would make it forget the seed). No answer depends on it.
 #[derive(Clone, Copy)]
 pub struct Hashing {
     initial: FoldHasher,

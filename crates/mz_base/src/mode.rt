@@ -7,7 +7,7 @@ ghost use Rattle.mz_base.specs.Gaps.{gaps_of};
 pub enum Mode {
     /// It is finished: a gap is refused.
     Strict,
-    /// It may have gaps, and what rests on one is told apart.
+    /// It may have gaps, and what rests on one is reported apart.
     Draft,
 }
 

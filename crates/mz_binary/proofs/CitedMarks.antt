@@ -1,4 +1,4 @@
--- The citations of a body, one after another: whether one of them is of a marked theorem.
+-- The citations of a body, one after another: whether one of them is of a tainted theorem.
 use Rattle.std.proofs.Common.{◌≡◌, ◌≤◌, ◌⊎◌, ◌∙◌, ℕ, zero, suc, Bool, true, false, List, length, drop, slice_get, Option, Some, None, Ok, Err, refl, sym, ap, subst, inl, inr, arith}
 use Rattle.std.specs.Prelude.{◌↔◌, ◌&&◌}
 use Rattle.mz_base_theory.proofs.Offered.{both-true as both}
@@ -36,7 +36,7 @@ marked-is : (o : Option Bool) → mark_in o ≡ true → o ≡ Some true
 marked-is None e = absurd cc
 marked-is (Some b) e = ap (λ x. Some x) e
 
--- the command cites a marked one
+-- the command cites a tainted one
 cites-it : (c : Cmd) (marks : List Bool) → (cites_mark c marks ≡ true) ↔ ((U : ℕ) × IsCitation c U × IsMarked marks U)
 cites-it c marks = (
   λ e. (let (cites, marked) = both (is_citing (proof_code c.code)) (mark_in (slice_get marks c.value)) e in (c.value, (cites-is (proof_code c.code) cites, refl), marked-is (slice_get marks c.value) marked)),

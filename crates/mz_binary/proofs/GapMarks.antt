@@ -1,4 +1,4 @@
--- The marks of gapped theorems, as the list of statements goes on.
+-- The flags of tainted theorems, as the list of statements goes on.
 use Rattle.std.proofs.Common.{◌≡◌, ◌∙◌, ◌+◌, ◌⊎◌, ℕ, Bool, true, false, not, List, [], ◌∷◌, ◌++◌, length, Some, Ok, refl, sym, ap, subst, inl, inr, arith, length-append, append-nil}
 use Rattle.std.specs.Prelude.{◌↔◌, MatchBool}
 use Rattle.mz_cmd.specs.declared.code.StatementCode.{StatementCode}
@@ -66,7 +66,7 @@ opposite : (t x : Bool) → x ≡ not t → (x ≡ false) ↔ (t ≡ true)
 opposite true x is = (λ _. refl, λ _. is)
 opposite false x is = (λ no_. absurd (let bad : true ≡ false = sym is ∙ no_ in cc), λ no_. absurd cc)
 
--- the marks after it, and whether the new one is on a gapped theorem
+-- the flags after it, and whether the new one is a tainted theorem's
 pub record NewMark (file : List ℕ) (ss : List Statement) (at : ℕ) (s : Statement) (k : StatementCode) (marks : List Bool) (gap : Bool) (row : ℕ) : Type 0 where
   pub are : AreMarks file (ss ++ s ∷ []) marks
   pub told : (gap ≡ true) ↔ GappedIn file (ss ++ s ∷ []) row

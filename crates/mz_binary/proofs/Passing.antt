@@ -257,7 +257,7 @@ module _ (p after : Progress) (told : Told) (head : Head) (past : IsPast p after
     kind-is : HasKind (statement_byte head.code) s
     kind-is = spelled-kind p.file env p.at s head.next (statement_byte head.code) head.body f.spelled (stands-there p ss env before head stands place ran)
 
-    -- the marks with the new one, and whether the new one is on a gapped theorem
+    -- the flags with the new one, and whether the new one is a tainted theorem's
     news : lets_gaps p.standard ≡ true → NewMark p.file ss p.at s head.code (marks_past true head.code told.gap p.marks) told.gap (length (assertions env))
     news mode =
         new-mark p.standard p.file ss env p.at before.statements s head.code head.body head.next (stands-there p ss env before head stands place ran) (kind-tells head.code s.decl kind-is.0) p.marks (before.marks mode) told.gap

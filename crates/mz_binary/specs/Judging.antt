@@ -75,7 +75,7 @@ abbrev pub AreSound : Bool → List ℕ → List Statement → Type 0
 AreSound false file ss = Legal ss × TheoremsClosed ss
 AreSound true file ss = DraftLegal ss × AreFreeUnlessGapped file ss
 
--- The file is good, by statements that are sound and that take so many rows; or this is its first fault. It is want of
+-- The file is good, by statements that are sound and that take so many rows; or this is its first fault. It is out of
 -- memory only where a body runs.
 abbrev pub IsChecked : Standard → List ℕ → Checked → Type 0
 IsChecked standard file (checked.Good rows) = (ss : List Statement) × Good standard file ss × AreSound (lets_gaps standard) file ss × CountsRows rows (declarations ss)

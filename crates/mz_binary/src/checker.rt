@@ -63,7 +63,7 @@ pub enum Next<'a, B: Bodies> {
 
 impl<'a, B: Bodies> Checker<'a, B> {
     /// At the first statement. In a draft bodies may leave gaps, and the theorems that rest on one are
-    /// told apart. The bodies' terms are numbered with the seed.
+    /// flagged. The bodies' terms are numbered with the seed.
     pub fn new(alloc: Global, seed: Seed, mmb: &'a Mmb<'a>) -> Checker<'a, B>
         ensures file { result.file ≡ mmb.now }
         ensures standard { result.standard ≡ B.STANDARD }

@@ -212,7 +212,7 @@ fn statements_one_by_one(rt: HostRuntime) {
     }
 }
 
-/// In a draft the open proof goes through, and its theorem is told apart.
+/// In a draft the open proof goes through, and its theorem is reported apart.
 #[test]
 fn gaps_are_told(rt: HostRuntime) {
     let mut found = Vec::new(rt.alloc());

@@ -24,7 +24,7 @@ pub gapped-within : (bodies : List AssertionBody) (T : ℕ) → IsGapped bodies 
 gapped-within bodies T (leaves_gap T0 bytes there gap) = slice_get_within bodies T _ there
 gapped-within bodies T (rests_on T0 U bytes there cited earlier on) = slice_get_within bodies T _ there
 
--- before the first statement nothing is marked
+-- before the first statement nothing is tainted
 pub no-marks : (file : List ℕ) → AreMarks file [] []
 no-marks file = record {
   many = refl;
@@ -59,7 +59,7 @@ some-is : (x y : Bool) → Some x ≡ Some y → x ≡ y
 some-is x y e = one_at refl e
 
 module _ (bodies : List AssertionBody) (marks : List Bool) (many : length marks ≡ length bodies) (each : (T : ℕ) → IsMarked marks T ↔ IsGapped bodies T) (b : AssertionBody) where
-  -- it is gapped where it is a theorem whose body leaves a gap or cites a marked one
+  -- it is gapped where it is a theorem whose body leaves a gap or cites a tainted one
   pub new-gapped : IsGapped (bodies ++ b ∷ []) (length bodies) ↔ ((b.is_axiom ≡ false) × (HasGap b.bytes ⊎ CitesMarked b.bytes marks))
   new-gapped = (λ h. forth h, λ (kind, why). back kind why)
     where

@@ -11,7 +11,7 @@ pub enum Standard {
     /// The standard machine, under which expressions are the same where their trees are. The bodies of a
     /// draft may leave gaps.
     Published(Mode),
-    /// What verifiers ask that compare addresses: expressions are the same where the same commands made
+    /// What verifiers ask that compare by identity: expressions are the same where the same commands made
     /// them. No body leaves a gap.
     Portable,
 }

@@ -1,4 +1,4 @@
--- The printed words of the rules (this project's own).
+-- The printed messages of the rules (this project's own).
 use Rattle.std.specs.Prelude.{ℕ, List, codes}
 use Rattle.mz_cmd.specs.declared.rule.K.{K}
 use Rattle.mz_cmd.specs.declared.rule.K.TheVariants as rules

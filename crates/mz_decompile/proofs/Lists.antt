@@ -114,7 +114,7 @@ four-words b c d e w x y z =
     ∙ ap (λ t. word-if b w ++ word-if c x ++ t ++ map a_word s) (words-if d y)
     ∙ ap (λ t. word-if b w ++ word-if c x ++ word-if d y ++ t) (words-if e z)
 
--- ---- marks
+-- ---- visibility
 
 pub marked-is : (b : Bool) (ps : List Phrase) → (if b then a_word (codes "local") ∷ [] else []) ++ ps ≡ marked_parts b ps
 marked-is true ps = refl

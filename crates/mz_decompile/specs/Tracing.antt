@@ -14,8 +14,8 @@ use Rattle.mz_trace.specs.Runs.{IsTheoremAt}
 abbrev pub rows_of : List Declaration → Rows
 rows_of env = record { sorts = length (sorts env); terms = length (terms env); thms = length (assertions env) }
 
--- A theorem that is good without gaps, behind good statements, has what `trace` asks for, as the checker tells it: its
--- statement stands at its place, and its body runs over the rows of what was declared before it.
+-- A theorem that is good without gaps, behind good statements, has what `trace` asks for, as the checker reports it:
+-- its statement stands at its place, and its body runs over the rows of what was declared before it.
 abbrev pub GoodTheoremsStand : Type 0
 GoodTheoremsStand = (file : List ℕ) (done : List Statement) (env : List Declaration) (at : ℕ) (s : Statement) (next : ℕ)
     → GoodTo strict_standard file [] (list_at file) done env at → IsGoodStatement strict_standard file env at s next

@@ -45,7 +45,7 @@ pub(crate) fn put_axiom(
     Ok(weight)
 }
 
-/// Adds a word, the name of the axiom or theorem, and its parameters.
+/// Adds a token, the name of the axiom or theorem, and its parameters.
 pub(crate) fn put_heading(
     alloc: Global,
     mmb: &Mmb,

@@ -16,7 +16,7 @@ pub fn decompilation_is_decided()
     accepted_are_restated();
 }
 
-/// Each theorem that a checker tells of without gaps has what `mz_trace::trace` asks for, so that it answers with the
+/// Each theorem that a checker reports without gaps has what `mz_trace::trace` asks for, so that it answers with the
 /// proof's nodes or runs out of memory.
 pub fn good_theorems_are_traced()
     ensures { GoodTheoremsStand }

@@ -10,7 +10,7 @@ use mz_decompile_names::Names;
 use mz_decompile_phrases::Phrases;
 use std::alloc::Global;
 
-/// Adds a word.
+/// Adds a token.
 pub(crate) fn put_word(
     bytes: &[u8],
     phrases: &mut Phrases,
@@ -23,7 +23,7 @@ pub(crate) fn put_word(
     Ok(())
 }
 
-/// Adds a word, where it is set.
+/// Adds a token, where it is set.
 pub(crate) fn put_word_if(
     set: bool,
     bytes: &[u8],

@@ -32,7 +32,7 @@ pub(crate) fn put_sort(
     put_modifiers(mmb.mods(row), phrases, parts)
 }
 
-/// Adds the words of a sort's modifiers.
+/// Adds the tokens of a sort's modifiers.
 fn put_modifiers(mods: SortMods, phrases: &mut Phrases, parts: &mut Vec<usize>) -> Result<(), Mem>
     ensures { OnOk result (Adds phrases.old phrases.new parts.old.items parts.new.items (map a_word (modifiers mods))) }
 {

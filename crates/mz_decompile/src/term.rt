@@ -69,7 +69,7 @@ fn put_definition(
     Ok(phrases.words(defined.body).saturating_add(binders))
 }
 
-/// Adds a word, the term's name, its parameters and its result.
+/// Adds a token, the term's name, its parameters and its result.
 fn put_signature(
     alloc: Global,
     mmb: &Mmb,

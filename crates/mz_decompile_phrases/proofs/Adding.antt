@@ -56,7 +56,7 @@ add-kept b w p v b2 p2 ns ns2 n ps kept is bytes parts nodes within measured =
     (subst (λ qs. IsMeasured (length qs) (phrase_with (b ++ w) (p ++ v) qs n.form) n) same measured)
     )
 
--- ---- a word
+-- ---- a token
 
 abbrev pub word_node : ℕ → ℕ → ℕ → Node
 word_node from to len = record { form = Word from to; text_len = len; words = 1; depth = 0 }

@@ -14,7 +14,7 @@ pub record IsFound (b p : List ℕ) (qs : List Phrase) (k : ℕ) (n : Node) : Ty
   pub within : IsWithin b p k n.form
   pub measured : IsMeasured k (phrase_at qs k) n
 
--- numbers of the first phrases tell the same where more follow
+-- numbers of the first phrases stand for the same where more follow
 phrases-front : (ps rest : List Phrase) (is : List ℕ) → All (λ i. i < length ps) is → phrases_at (ps ++ rest) is ≡ phrases_at ps is
 phrases-front ps rest [] h = refl
 phrases-front ps rest (i ∷ is) h =

@@ -6,7 +6,7 @@ use Rattle.mz_decompile_text_theory.specs.Phrases.{Phrase, Phrases, a_word, a_li
 abbrev pub capped : ℕ → ℕ
 capped n = min n (2 ^ 128 - 1)
 
--- how many words stand in a phrase
+-- how many tokens stand in a phrase
 abbrev mutual
   pub word_count : Phrase → ℕ
   word_count (a_word w) = 1

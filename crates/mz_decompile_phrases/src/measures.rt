@@ -19,7 +19,7 @@ pub(crate) fn list_len(phrases: &Phrases, parts: &[usize]) -> u128
     len
 }
 
-/// How many words a list of these has.
+/// How many tokens a list of these has.
 pub(crate) fn list_words(phrases: &Phrases, parts: &[usize]) -> u128
     requires { All (λ n. n < length phrases.now) parts.now }
     ensures { result ≡ capped (word_count (a_list (phrases_at phrases.now parts.now))) }

@@ -1,4 +1,4 @@
-/// A phrase that is kept: what it is made of, the length of its text and the number of its words, both at most the
+/// A phrase that is kept: what it is made of, the length of its text and the number of its tokens, both at most the
 /// largest number, and its depth.
 #[derive(Drop)]
 pub struct Node {
@@ -8,7 +8,7 @@ pub struct Node {
     pub depth: usize,
 }
 
-/// A word, or a list: from where and to where its bytes or the numbers of its parts stand among those of all phrases.
+/// A token, or a list: from where and to where its bytes or the numbers of its parts stand among those of all phrases.
 #[derive(Drop)]
 pub enum Form {
     Word(usize, usize),

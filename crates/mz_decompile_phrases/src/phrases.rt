@@ -11,7 +11,7 @@ use crate::writing::write_phrase;
 use std::alloc::{AllocError, Global};
 use std::marker::Model;
 
-/// Phrases, each with a number: words, and lists of phrases with lower numbers.
+/// Phrases, each with a number: tokens, and lists of phrases with lower numbers.
 #[derive(Drop)]
 pub struct Phrases {
     alloc: Global,
@@ -20,7 +20,7 @@ pub struct Phrases {
     nodes: Vec<Node>,
 }
 
-/// What a phrase is: a word, or a list of the phrases with these numbers.
+/// What a phrase is: a token, or a list of the phrases with these numbers.
 pub enum Shape<'a> {
     Word(&'a [u8]),
     Parts(&'a [usize]),
@@ -72,7 +72,7 @@ impl Phrases {
         self.nodes.len()
     }
 
-    /// Adds a word. The result is its number.
+    /// Adds a token. The result is its number.
     ///
     /// # Errors
     ///
@@ -141,7 +141,7 @@ impl Phrases {
         self.nodes[n].text_len
     }
 
-    /// How many words the phrase has, or the largest number where there are more.
+    /// How many tokens the phrase has, or the largest number where there are more.
     pub fn words(&self, n: usize) -> u128
         requires { n < length self.now }
         ensures { result ≡ capped (word_count (phrase_at self.now n)) }

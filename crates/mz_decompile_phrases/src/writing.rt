@@ -34,7 +34,7 @@ pub(crate) fn write_phrase(
     Ok(())
 }
 
-/// Writes a word, or the opening bracket of a list, whose parts are left then.
+/// Writes a token, or the opening bracket of a list, whose parts are left then.
 fn begin<'a>(
     phrases: &'a Phrases,
     n: usize,

@@ -1,4 +1,4 @@
--- An expression's phrase has as many words as the expression has variables and terms.
+-- An expression's phrase has as many tokens as the expression has variables and terms.
 use Rattle.std.proofs.Common.{◌≡◌, refl, arith}
 use Rattle.mz_logic_theory.specs.Tree.{Tree, Trees, var, app, none, more, size, trees_size}
 use Rattle.mz_decompile_text_theory.specs.Phrasing.{Vocabulary, expression, expressions}

@@ -31,7 +31,7 @@ AreLowerAfter count (n ∷ ns) = IsLower count n × AreLowerAfter (suc count) ns
 
 -- ---- the phrase
 
--- a word alone, or a list of it and these
+-- a token alone, or a list of it and these
 abbrev pub applied : List ℕ → Phrases → Phrase
 applied w no_phrases = a_word w
 applied w (one_more p ps) = a_list (one_more (a_word w) (one_more p ps))

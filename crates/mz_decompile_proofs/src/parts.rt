@@ -11,7 +11,7 @@ use mz_decompile_names::Names;
 use mz_decompile_phrases::Phrases;
 use std::alloc::Global;
 
-/// A word.
+/// A token.
 pub(crate) fn word(bytes: &[u8], phrases: &mut Phrases) -> Result<usize, Mem>
     ensures { IfOk result (λ n. Tells phrases.old phrases.new (a_word bytes.now) n) }
 {
@@ -68,7 +68,7 @@ pub(crate) fn let_name(
     word(&name, phrases)
 }
 
-/// Appends a word.
+/// Appends a token.
 pub(crate) fn put_word(
     bytes: &[u8],
     parts: &mut Vec<usize>,

@@ -59,7 +59,7 @@ pub(crate) fn tell(
     }
 }
 
-/// A list of a word and the phrases of nodes.
+/// A list of a token and the phrases of nodes.
 fn headed(
     alloc: Global,
     head: &[u8],

@@ -47,7 +47,7 @@ pub fn retell(alloc: Global, run: &Run, names: &Names, phrases: &mut Phrases) ->
     behind_lets(alloc, run.lets(), run.root(), &told, names, phrases)
 }
 
-/// Tells each node.
+/// The phrase and the weight of each node.
 fn tell_all(
     alloc: Global,
     nodes: &[RunNode],
@@ -68,7 +68,7 @@ fn tell_all(
     Ok(told)
 }
 
-/// Tells one node more.
+/// Adds those of one node more.
 fn tell_next(
     alloc: Global,
     node: &RunNode,

@@ -132,7 +132,7 @@ gathered v ps (n ∷ m ∷ ns) t (e ∷ es) (at, h) many =
     ap (λ (p : Phrase). a_list (one_more p (phrases_at ps (m ∷ ns)))) (get_or_from_slice_get ps n (a_word (v.term t)) (a_word []) at)
     ∙ ap (λ (qs : Phrases). a_list (one_more (a_word (v.term t)) qs)) (are_phrases v ps (m ∷ ns) (e ∷ es) h)
 
--- of a word alone
+-- of a token alone
 pub alone : (v : Vocabulary) (ps : List Phrase) (ns : List ℕ) (t : ℕ) (es : List Tree) → AreAt ps ns (a_word (v.term t) ∷ map (expression v) es) → length ns ≡ 1
     → slice_get ps (get_or ns 0 0) ≡ Some (expression v (app t (trees_of es)))
 alone v ps [] t es h one = absurd h

@@ -27,7 +27,7 @@ abbrev pub join : List Tree → Trees → Trees
 join [] fs = fs
 join (e ∷ es) fs = more e (join es fs)
 
--- ---- what is read of them: their words, and the phrases of operands; the innermost stands first in the list, and last here
+-- ---- what is read of them: their tokens, and the phrases of operands; the innermost stands first in the list, and last here
 
 abbrev pub parts_of : Vocabulary → Frame → List Phrase
 parts_of v f = a_word (v.term f.term) ∷ map (expression v) f.read

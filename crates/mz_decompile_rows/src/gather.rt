@@ -13,7 +13,7 @@ use mz_decompile_names::Names;
 use mz_decompile_phrases::Phrases;
 use std::alloc::Global;
 
-/// Pushes a variable's word.
+/// Pushes a variable's token.
 pub(crate) fn push_variable(
     alloc: Global,
     names: &Names,
@@ -29,7 +29,7 @@ pub(crate) fn push_variable(
     Ok(pushed)
 }
 
-/// Pushes a term's word.
+/// Pushes a term's token.
 pub(crate) fn push_term(names: &Names, term: u32, phrases: &mut Phrases) -> Result<usize, Mem>
     ensures grows { Grows phrases.old phrases.new }
     ensures is { IfOk result (λ n. slice_get phrases.new n ≡ Some (a_word ((vocabulary_by names.now).term term))) }
@@ -38,7 +38,8 @@ pub(crate) fn push_term(names: &Names, term: u32, phrases: &mut Phrases) -> Resu
     Ok(pushed)
 }
 
-/// The application whose parts these are: its term's word, and its operands. A term without operands is the word alone.
+/// The application whose parts these are: its term's token, and its operands. A term without operands is the token
+/// alone.
 pub(crate) fn gather(phrases: &mut Phrases, parts: &[usize]) -> Result<usize, Mem>
     requires { All (λ n. n < length phrases.old) parts.now }
     ensures grows { Grows phrases.old phrases.new }

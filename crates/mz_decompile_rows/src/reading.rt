@@ -41,14 +41,14 @@ pub(crate) struct Reading<'a> {
     pub marks: Vec<usize>,
     /// The sorts of the dummies that are met.
     pub dummies: Vec<u32>,
-    /// The words and operands, so far, of the applications that are being read.
+    /// The tokens and operands, so far, of the applications that are being read.
     pub read: Vec<usize>,
     /// These, the innermost last.
     pub pending: Vec<Open>,
 }
 
 impl<'a> Reading<'a> {
-    /// The stream, of which nothing is read, over so many parameters, whose words are pushed.
+    /// The stream, of which nothing is read, over so many parameters, whose tokens are pushed.
     pub fn new(
         alloc: Global,
         names: &Names,
@@ -247,7 +247,7 @@ impl<'a> Reading<'a> {
         self.push_open(word, mmb.arity(term), Some(mark))
     }
 
-    /// Begins an application with this word and so many operands.
+    /// Begins an application with this token and so many operands.
     fn push_open(&mut self, word: usize, operands: u32, mark: Option<usize>) -> Result<(), Mem>
         ensures same { IsSame self.old self.new }
         ensures ok { OnOk result (IsOpened self.old self.new word operands mark) }
@@ -306,7 +306,7 @@ fn phrase_at(marks: &[usize], mark: u32) -> Option<usize>
     marks.get(mark as usize).copied()
 }
 
-/// Pushes the words of the first variables.
+/// Pushes the tokens of the first variables.
 fn push_params(
     alloc: Global,
     names: &Names,

@@ -1,4 +1,4 @@
--- Identifiers and the literal words of statements are atoms of allowed bytes.
+-- Identifiers and the literal tokens of statements are atoms of allowed bytes.
 use Rattle.std.proofs.Common.{ℕ, ◌≡◌, ◌≤◌, Bool, true, false, List, [], ◌∷◌, refl, ap, ◌∙◌, arith, inl, inr, leb-true, le-leb}
 use Rattle.std.specs.Prelude.{All, ◌==◌, ◌||◌, ◌&&◌, nat_le, not, bytes_eq, if◌then◌else◌}
 use Rattle.std.specs.List.{list_all}
@@ -53,7 +53,7 @@ all-allowed (b ∷ bs) are =
     let parts = and_parts (is_plain_byte b) (are_plain_bytes bs) are in
     All-cons IsAllowed b bs (plain-allowed b parts.0) (all-allowed bs parts.1)
 
--- a word of such bytes; where it is literal, `refl` is the test
+-- a token of such bytes; where it is literal, `refl` is the test
 pub plain-atom : (w : List ℕ) → is_plain w ≡ true → IsAtom w × All IsAllowed w
 plain-atom [] is = absurd (false≢true is)
 plain-atom (b ∷ bs) is =

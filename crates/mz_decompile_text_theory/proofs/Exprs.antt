@@ -13,7 +13,7 @@ use Rattle.mz_decompile_text_theory.proofs.Saying.{Says, AllSay, a-word, a-list,
 use Rattle.mz_decompile_text_theory.proofs.Numbers.{Numbered}
 use Rattle.mz_decompile_text_theory.proofs.Atoms.{name-atom}
 
--- the word is the name that has this number
+-- the token is the name that has this number
 pub a-number : (f : ℕ → List ℕ) (k : ℕ) (xs : List (List ℕ)) → Numbered f k xs → (i : ℕ) → i < k → Says (a_word (f i)) (λ n. HasNumber xs n i)
 a-number f k xs are i less = a-word (f i) _ (name-atom (f i) (are.named i less)) (λ at. (are.named i less, are.found i less))
 

@@ -1,4 +1,4 @@
--- The words of a sort's modifiers are read as these modifiers.
+-- The tokens of a sort's modifiers are read as these modifiers.
 use Rattle.std.proofs.Common.{ℕ, ◌≡◌, ◌<◌, ◌+◌, ◌*◌, ◌/◌, ◌%◌, ◌==◌, ◌∙◌, ◌++◌, inl, inr, Bool, true, false, List, [], ◌∷◌, map, Some, refl, sym, ap, subst, arith, append_assoc}
 use Rattle.std.specs.Prelude.{codes, if◌then◌else◌}
 use Rattle.std.proofs.lemmas.Bool.{cases_eq, eq-eqb, ne_eqb}
@@ -9,7 +9,7 @@ use Rattle.mz_decompile_text_theory.specs.Phrasing.{of_parts, if_set, modifiers}
 use Rattle.mz_decompile_text_theory.proofs.Saying.{IsFit, AllSay, key, done, all-so}
 use Rattle.mz_decompile_text_theory.proofs.Atoms.{plain-atom}
 
--- one word more, or none, with which f holds of what was read
+-- one token more, or none, with which f holds of what was read
 one-more : (b : Bool) (w : List ℕ) (ws : List (List ℕ)) (f : Bool → Modifiers) (m : Modifiers) → IsFit w → with_modifier (f false) w ≡ Some (f true)
     → AllSay (of_parts (map a_word ws)) (λ ns. AreModifiers (f b) ns m) → AllSay (of_parts (map a_word ((if b then w ∷ [] else []) ++ ws))) (λ ns. AreModifiers (f false) ns m)
 one-more true w ws f m fit is rest = key w fit (all-so rest (λ ns are at. (f true, is, are)))
@@ -48,7 +48,7 @@ four-bits k less =
     let sum : (k % 2) * 1 + (k / 2 % 2) * 2 + (k / 4 % 2) * 4 + (k / 8 % 2) * 8 ≡ k = omega arith in
     omega (arith, a, b, c, d, sum)
 
--- what is read of the words of a sort's modifiers
+-- what is read of the tokens of a sort's modifiers
 pub record ModifiersSaid (m : SortMods) : Type 0 where
   pub modifiers_ : Modifiers
   pub said : AllSay (of_parts (map a_word (modifiers m))) (λ ns. AreModifiers no_modifiers ns modifiers_)

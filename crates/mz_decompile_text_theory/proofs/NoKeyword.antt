@@ -1,4 +1,4 @@
--- No identifier is a literal word with a colon.
+-- No identifier is a literal token with a colon.
 use Rattle.std.proofs.Common.{ℕ, ◌≡◌, ◌∙◌, Bool, false, List, ap, sym, refl, true≢false}
 use Rattle.std.specs.Prelude.{codes, bytes_eq, if◌then◌else◌}
 use Rattle.mz_base_theory.proofs.Offered.{other-bytes}

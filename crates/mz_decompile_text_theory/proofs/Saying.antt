@@ -4,11 +4,11 @@ use Rattle.mz_sexpr.specs.Node.{Node, Nodes, atom, list, no_nodes, node}
 use Rattle.mz_decompile_text_theory.specs.Phrases.{Phrase, Phrases, a_word, a_list, no_phrases, one_more, phrase_of, phrases_of}
 use Rattle.mz_decompile_text_theory.specs.Laws.{HasAtoms, HaveAtoms}
 
--- the word is an atom of allowed bytes
+-- the token is an atom of allowed bytes
 abbrev pub IsFit : List ℕ → Type 0
 IsFit w = HasAtoms (a_word w)
 
--- the phrase's words are atoms, and each node that is this phrase has P
+-- the phrase's tokens are atoms, and each node that is this phrase has P
 pub record Says (p : Phrase) (P : Node → Type 0) : Type 0 where
   pub fit : HasAtoms p
   pub read : (n : Node) → phrase_of n ≡ p → P n
@@ -43,7 +43,7 @@ take {p} {ps} {P} {Q} one all = record { fit = (one.fit, all.fit); read = go }
         let f : phrases_of ns ≡ ps = cc in
         all.read ns f n (one.read n e)
 
--- the same where the first is a word
+-- the same where the first is a token
 pub key : (w : List ℕ) {ps : Phrases} {Q : Nodes → Type 0} → IsFit w → AllSay ps (λ ns. (at : ℕ) → Q (node (atom at w) ns)) → AllSay (one_more (a_word w) ps) Q
 key w {ps} {Q} fit all = record { fit = (fit, all.fit); read = go }
   where

@@ -8,7 +8,7 @@ use Rattle.mz_decompile_text_theory.specs.Phrases.{Phrase, Phrases, a_word, a_li
 use Rattle.mz_decompile_text_theory.specs.Phrasing.{Vocabulary, text_of}
 use Rattle.mz_decompile_text_theory.specs.Phrasable.{HasNames, ArePhrasable}
 
--- each of its words is an atom of allowed bytes
+-- each of its tokens is an atom of allowed bytes
 abbrev mutual
   pub HasAtoms : Phrase → Type 0
   HasAtoms (a_word w) = IsAtom w × All IsAllowed w

@@ -3,7 +3,7 @@
 use Rattle.std.specs.Prelude.{ℕ, suc, max, List, [], ◌++◌, codes}
 use Rattle.mz_sexpr.specs.Node.{Node, Nodes, atom, list, no_nodes, node}
 
--- a word, or a list of phrases
+-- a token, or a list of phrases
 mutual
   pub data Phrase : Type 0 where
     a_word : List ℕ → Phrase

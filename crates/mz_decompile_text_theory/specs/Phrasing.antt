@@ -38,7 +38,7 @@ abbrev pub followed_by : List Phrase → Phrases → Phrases
 followed_by [] qs = qs
 followed_by (p ∷ ps) qs = one_more p (followed_by ps qs)
 
--- words as parts
+-- tokens as parts
 abbrev pub word_list : List (List ℕ) → Phrases
 word_list [] = no_phrases
 word_list (w ∷ ws) = one_more (a_word w) (word_list ws)
@@ -115,7 +115,7 @@ named_hypotheses v i (more e es) = one_more (list_of (a_word (v.hypothesis i) �
 
 -- ---- statements
 
--- the words of a sort's modifiers, in mm0.md's order
+-- the tokens of a sort's modifiers, in mm0.md's order
 abbrev pub if_set : ℕ → List ℕ → List (List ℕ)
 if_set bit w = if bit == 1 then w ∷ [] else []
 

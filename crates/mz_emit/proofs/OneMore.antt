@@ -27,7 +27,7 @@ use Rattle.mz_emit.proofs.Gapped.{uses_more}
 use Rattle.mz_emit.proofs.Lengths.{sort_more, term_more, thm_more, short_more}
 use Rattle.mz_emit.proofs.Weights.{stated_same}
 
--- a statement with its mark alone
+-- a statement with its visibility alone
 abbrev pub mark : Statement → Marked
 mark s = record { is_local = s.is_local; decl = s.decl }
 

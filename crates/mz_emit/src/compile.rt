@@ -97,7 +97,7 @@ fn compile_read(alloc: Global, hashing: Hashing, text: &[u8], mode: Mode) -> Com
 /// one that is finished is compiled as a finished text.
 ///
 /// The binary's bodies build no application twice, and its streams none once all its dummies are met. So that of a
-/// finished text is accepted by verifiers that compare addresses, too.
+/// finished text is accepted by verifiers that compare by identity, too.
 ///
 /// The bytes are a function of the text's statements, in which neither the mode nor the seed is: where the text can be
 /// compiled, it has its file, and the answer is this file or out of memory; that of a finished text is one in both modes.

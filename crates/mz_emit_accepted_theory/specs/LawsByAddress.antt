@@ -1,5 +1,5 @@
--- What is promised of a written file where verifiers compare addresses (the .mmb format's proof machine; the profile is
--- this project's own).
+-- What is promised of a written file where verifiers compare by identity (the .mmb format's proof machine; the profile
+-- is this project's own).
 use Rattle.std.specs.Prelude.{ℕ, false, List}
 use Rattle.mz_logic_theory.specs.Declaration.{Declaration}
 use Rattle.mz_logic_theory.specs.LegalLists.{Statement, Legal}

@@ -2,7 +2,8 @@
 //! specifications.
 //!
 //! Written files beside specifications: a legal text that is written within the format's bounds is accepted against
-//! each specification with which its public statements agree, and a finished one by verifiers that compare addresses too.
+//! each specification with which its public statements agree, and a finished one by verifiers that compare by identity
+//! too.
 //!
 //! What a text states as a proof is what the compiler writes a body for: a stated proof is sound,
 //! and proves the conclusion. `specs/Compiling.antt` says what compiling a text answers, `specs/CompiledFile.antt`

@@ -2,7 +2,7 @@
 use std::fmt;
 
 /// What a well-typed text may have too many of, in the order in which they are tried; `Display`
-/// gives the printed words.
+/// gives the printed message.
 #[derive(Clone, Copy, Debug, PartialEq, Eq)]
 pub enum L {
     /// More than 128 sorts.

@@ -7,7 +7,7 @@ use Rattle.mz_store.specs.declared.item.DepsMode.TheVariants as of
 use Rattle.mz_store.specs.declared.item.Id.{Id}
 use Rattle.mz_unify_theory.specs.Spells.{trees_of as operands_of, variables_from}
 
--- these are the ids of the variables, in order: the first numbers. Its words tell all variables
+-- these are the ids of the variables, in order: the first numbers. Its words say all variables
 pub record IsShared (sigs : List Signature) (s : Sharing) (vars : List Id) : Type 0 where
   pub over : IsOver sigs s
   pub all : s.mode ≡ of.All

@@ -34,7 +34,7 @@ SharedBodiesRunByAddress = (tables : RowsBefore) (env env' : List Declaration) �
 -- ---- statements
 
 -- The body of an axiom or a theorem whose parameters are right, which shares over dummies without dependencies, runs by
--- address where it runs by the standard machine, whatever stream the row has.
+-- identity where it runs by the standard machine, whatever stream the row has.
 abbrev pub AssertionsRunByAddress : Type 0
 AssertionsRunByAddress = (tables : RowsBefore) (env env' : List Declaration) → Declares tables env' → IsSameEnv env env' → AreSharedRows tables.terms
     → (a : Assertion) (dummies : List Binder) (stream : List ℕ) (at : ℕ) (bytes : List ℕ) → AreParams (sorts env) a.params → Each dummies (λ _ b. b.deps ≡ [])

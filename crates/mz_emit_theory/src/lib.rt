@@ -1,24 +1,6 @@
-//! What a compiler may write, and why it is good: bodies, unify streams and whole files, and that
-//! they run by identity.
-//!
-//! What the commands of a body make, said in the logic's words and in a text's own numbering of variables.
-//!
-//! `specs/Works.antt` has what is made so far and how the machine names it, `specs/Steps.antt` one clause a
-//! command. The law is that right steps run (`specs/Laws.antt`).
-//!
-//! Binaries that are written from a text: what makes the parts of a normal layout say the text's statements, and that
-//! such a file is good.
-//!
-//! `specs/Writing.antt` says it statement by statement, of rows, codes and bodies. Nothing there speaks of places in
-//! the file.
-//!
-//! Bodies that share what they build run by identity.
-//!
-//! `specs/SharedRows.antt` has rows whose definitions' streams share. Over these a body that builds no
-//! application twice runs by identity where it runs by the standard machine (`specs/Laws.antt`).
-//!
-//! The unify streams that a compiler writes, as a function, and that they spell what they are written for and build
-//! no application twice once all its dummies are met.
+//! What a compiler may write of a text: bodies, unify streams and whole files, with the laws that such
+//! a file is good and runs by identity. A body is given by what its commands make (`specs/Steps.antt`),
+//! a file statement by statement (`specs/FileWriting.antt`).
 #![tactic(auto)]
 
 mod body_laws;

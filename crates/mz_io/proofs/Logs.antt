@@ -63,7 +63,7 @@ written-both front more first second w v = record {
   calls_are = ap (λ x. x ++ second) w.calls_are ∙ ap (λ last. map writes w.pieces ++ last) v.calls_are ∙ sym (map-append writes w.pieces v.pieces);
 }
 
--- what follows a front was cut short
+-- what follows a prefix was cut short
 pub cut-after : (front more text rest : List ℕ) (first second : List Call) → text ≡ (front ++ more) ++ rest → IsWritten front first → IsCut more second → IsCut text (first ++ second)
 cut-after front more text rest first second e w c = record {
   front = front ++ c.front;

@@ -93,7 +93,7 @@ taken (pull_fails ∷ calls) = taken calls
 taken (puts name bytes done ∷ calls) = taken calls
 taken (write_fails piece ∷ calls) = taken calls
 
--- a front of the text was taken, in pieces, and then a call failed that was handed what follows there
+-- a prefix of the text was taken, in pieces, and then a call failed that was handed what follows there
 pub record IsCut (text : List ℕ) (calls : List Call) : Type 0 where
   pub front : List ℕ
   pub taken : List Call
@@ -108,7 +108,7 @@ abbrev pub IsWriting : {T E : Type 0} → Result T E → List ℕ → List Call 
 IsWriting (Ok u) text calls = IsWritten text calls
 IsWriting (Err e) text calls = IsCut text calls
 
--- ---- what the calls tell of files
+-- ---- what the calls say of files
 
 -- Reading calls that are answered from these files: of the started one this is left before them, and that after them. A
 -- start that is done leaves the whole file; a pull gives the next bytes, none of so many asked for only at the end; after a

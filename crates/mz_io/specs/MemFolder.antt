@@ -27,7 +27,7 @@ pub record SameContents (old new : MemFolder) : Type 0 where
   pub left : left new ≡ left old
   pub rooms : rooms new ≡ rooms old
 
--- what is told of the trait calls stays
+-- what models the trait calls stays
 pub record SameCalls (old new : MemFolder) : Type 0 where
   pub log : new.log ≡ old.log
   pub plan : SamePlan old.plan new.plan

@@ -24,7 +24,7 @@ pub record SameContents (old new : MemSink) : Type 0 where
   pub room : room new ≡ room old
   pub most : most new ≡ most old
 
--- what is told of the trait calls stays
+-- what models the trait calls stays
 pub record SameCalls (old new : MemSink) : Type 0 where
   pub log : new.log ≡ old.log
   pub plan : SamePlan old.plan new.plan

@@ -1,4 +1,4 @@
--- What a call leaves of a file or a stream of the system, where std tells what these hold (this project's own).
+-- What a call leaves of a file or a stream of the system, where std says what these hold (this project's own).
 use Rattle.std.specs.Prelude.{◌≡◌, ◌<◌, ℕ, List, [], Option, Some, None, Result, Ok, Err, length, take}
 use Rattle.std.specs.Io.KnownBytes.{Appends, Consumes, IsAtEnd}
 

@@ -2,7 +2,7 @@
 //!
 //! The program is written over the traits [`Folder`] and [`Sink`]. [`DiskFolder`] and [`StdSink`]
 //! are the thin adapters over the system, which tell nothing of content; [`MemFolder`] and
-//! [`MemSink`] hold everything in memory, tell it, and fail as they are told to.
+//! [`MemSink`] hold everything in memory, tell it, and fail where they are set to.
 #![tactic(auto)]
 
 mod disk_folder;

@@ -27,7 +27,7 @@ pub trait Sink {
     /// How many bytes it still takes.
     ghost room: { Self → ℕ };
 
-    /// Writes a front of the piece, and says how much of it: something, unless the piece is empty.
+    /// Writes a prefix of the piece, and says how much of it: something, unless the piece is empty.
     fn write(&mut self, piece: &[u8]) -> Result<usize, Failed>
         ensures logged { calls self.new ≡ calls self.old ++ write_of result piece.now ∷ [] }
         ensures bound { IfOk result (λ n. n ≤ length piece.now) }

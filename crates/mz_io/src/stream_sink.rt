@@ -30,7 +30,7 @@ impl<W: Write> StdSink<W> {
         }
     }
 
-    /// Writes a front of the piece and flushes it; `None` where either fails, or nothing is taken.
+    /// Writes a prefix of the piece and flushes it; `None` where either fails, or nothing is taken.
     fn write_some(&mut self, piece: &[u8]) -> Option<usize>
         ensures bound { IfSome result (λ n. n ≤ length piece.now) }
         ensures some { IfSome result (λ n. 0 < length piece.now → 0 < n) }

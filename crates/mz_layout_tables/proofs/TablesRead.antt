@@ -47,7 +47,7 @@ defined-mark s h = (grind (arith, nat_tests), omega arith)
 sort-fits : (w : Word) → word_sort w < 128
 sort-fits w = omega arith
 
--- the parts of a term's row, from its mark
+-- the parts of a term's row, from its record's third byte
 abbrev row_from : List Word → Word → ℕ → ℕ → ℕ → TermRow
 row_from params result mark place n = record {
   words = record { params = params; result = result; has_body = eqb (mark / 128) 1 };

@@ -53,7 +53,7 @@ abbrev pub Begun : Type 0
 Begun = (text : List ℕ) (from at : ℕ) (ls all : List Lexeme) (e : Option LexFault) → LexemesTo text from ls at → LexesFrom text from all e
     → (rest : List Lexeme) × (all ≡ ls ++ rest) × LexesFrom text at rest e
 
--- a front of all lexemes is the first lexemes up to a place, from which the others stand
+-- a prefix of all lexemes is the first lexemes up to a place, from which the others stand
 abbrev pub Parted : Type 0
 Parted = (text : List ℕ) (from : ℕ) (ls ms : List Lexeme) (e : Option LexFault) → LexesFrom text from (ls ++ ms) e → (at : ℕ) × LexemesTo text from ls at × LexesFrom text at ms e
 

@@ -1,4 +1,4 @@
--- The rules of a specification: their printed words, and those that the lexer says (this project's own).
+-- The rules of a specification: their printed messages, and those that the lexer says (this project's own).
 use Rattle.std.specs.Prelude.{ℕ, List, codes}
 use Rattle.mz_lex.specs.declared.rule.S.{S}
 use Rattle.mz_lex.specs.declared.rule.S.TheVariants as rules

@@ -1,4 +1,4 @@
--- Words for the parts of the lexer.
+-- Definitions for the parts of the lexer.
 use Rattle.std.specs.Prelude.{◌≡◌, ◌<◌, ◌≤◌, ◌⊎◌, ◌+◌, ℕ, List, length, Bool, false, IsTrue, slice_index, slice_range}
 use Rattle.std.specs.List.{list_all}
 use Rattle.mz_lex.specs.declared.bytes.Class.{Class}

@@ -1,7 +1,7 @@
 // The rules that a specification obeys.
 use std::fmt;
 
-/// The rules of a specification, by the number that is printed; `Display` gives the printed words.
+/// The rules of a specification, by the number that is printed; `Display` gives the message.
 #[derive(Clone, Copy, Debug, PartialEq, Eq)]
 pub enum S {
     /// A byte may not stand in a text.

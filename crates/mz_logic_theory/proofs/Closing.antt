@@ -1,5 +1,5 @@
--- Derivations close: where what is cited rests on some assertions, there is one that cites those alone. So each theorem of
--- a legal list has a derivation over the axioms of its support, and a closed one.
+-- Lemmas are inlined: where what is cited rests on some assertions, there is one that cites those alone. So each theorem of
+-- a legal list has a derivation over the axioms of its support, and one from axioms alone.
 use Rattle.std.proofs.Common.{ℕ, zero, suc, ◌≡◌, ◌<◌, ◌+◌, Bool, true, false, List, [], ◌∷◌, ◌++◌, slice_get, Contains, length, Some, refl, sym, ap, ap₂, ◌∙◌, subst, inl, inr, append_assoc, append-nil, arith}
 use Rattle.std.proofs.lemmas.List.Elements.{All-contains}
 use Rattle.std.proofs.lemmas.Option.{none-some}
@@ -56,7 +56,7 @@ record RestsOn (env : List Declaration) (P Q : ℕ → Type 0) : Type 0 where
   pub axioms : (T : ℕ) (a : Assertion) → slice_get (assertions env) T ≡ Some a → a.is_axiom ≡ true → P T → Q T
   pub theorems : (T : ℕ) (a : Assertion) → slice_get (assertions env) T ≡ Some a → a.is_axiom ≡ false → P T → IsProvedBy (by_citing Q) env a
 
--- ---- every derivation closes, in a context with further dummies
+-- ---- in every derivation lemmas are inlined, in a context with further dummies
 
 module _ (env : List Declaration) (right : RightEnv env) (P Q : ℕ → Type 0) (rests : RestsOn env P Q) (hyps : Trees) where
   abbrev Closes : List Binder → Tree → Type 0

@@ -1,4 +1,4 @@
--- What derivations rest on. A closed one cites axioms alone and has no gap, so that it rests on nothing else
+-- What derivations rest on. A derivation from axioms alone has no gap, so that it rests on nothing else
 -- (mm0.md, section on theorems: what is proved follows from the axioms).
 use Rattle.std.specs.Prelude.{ℕ, ◌≡◌, true, false, List, ◌∷◌, ◌++◌, slice_get, length, Some}
 use Rattle.mz_logic_theory.specs.Declaration.{Assertion, Declaration, assertion_decl, assertions}

@@ -65,7 +65,7 @@ memory-unless (Rule d) P err = absurd err
 
 -- ---- commands
 
--- a command that makes something may want memory
+-- a command that makes something may run out of memory
 pub making-takes : (m : Making) (n : ℕ) (st : State Tree) → IsTrue (takes_none (code_of_making m) n st) → ⊥
 making-takes making.Term n st is = cc
 making-takes making.TermSave n st is = cc

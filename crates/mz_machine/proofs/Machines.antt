@@ -108,7 +108,7 @@ goes-on file kind row before s s' heap stack heap' stack' hyps hyps' was grows i
 pub one-more : (sigs : List Signature) (s s' : Sharing) → Grows sigs s s' → length s'.entries ≤ length s.entries + 1
 one-more sigs s s' grows = let few : length grows.keeps.0 ≤ 1 = grows.keeps.2 in omega (arith, ap length grows.keeps.1, length-append s.entries grows.keeps.0, few)
 
--- ---- the same in other words
+-- ---- the same, said otherwise
 
 pub same-three : {A B C X : Type 0} (f : A → B → C → X) (a a' : A) (b b' : B) (c c' : C) → a ≡ a' → b ≡ b' → c ≡ c' → f a b c ≡ f a' b' c'
 same-three f a a' b b' c c' e1 e2 e3 = ap (λ x. f x b c) e1 ∙ ap (λ x. f a' x c) e2 ∙ ap (λ x. f a' b' x) e3

@@ -1,4 +1,4 @@
--- A command on the items that are written out, in the words of the whole stack.
+-- A command on the items that are written out, said of the whole stack.
 use Rattle.std.proofs.Common.{◌≡◌, ◌≤◌, ◌+◌, ℕ, Bool, List, [], ◌∷◌, length, Option, Some, None, Result, Ok, Err, refl, sym, subst, ◌∙◌, arith}
 use Rattle.std.specs.Prelude.{reverse, IfSome}
 use Rattle.mz_cmd.specs.declared.rule.K.{K}

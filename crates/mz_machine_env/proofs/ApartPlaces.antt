@@ -219,7 +219,7 @@ shares-parts x a b none = (same_from_bits (bit_and x a) 0 left, same_from_bits (
     right : (i : ℕ) → bit_at (bit_and x b) i ≡ bit_at 0 i
     right i = let w = whole i in let z = bit_at-zero i in let e = bit_at_and x b i in omega (arith, w, z, e)
 
--- ---- what the words of operands at such places tell
+-- ---- what the words of operands at such places name
 
 module _ (told : Id → ℕ) (ids : List Id) (places : List ℕ) where
   -- of the first n places

@@ -28,7 +28,7 @@ byte_of Axiom = 0x02
 byte_of Definition = 0x05
 byte_of Theorem = 0x06
 
--- which variables the words of expressions tell: in a definition's body the free ones
+-- which variables the words of expressions name: in a definition's body the free ones
 abbrev pub mode_for : Kind → DepsMode
 mode_for is_axiom = All
 mode_for is_theorem = All

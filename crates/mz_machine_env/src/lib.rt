@@ -1,6 +1,6 @@
 //! The rows that are declared before a statement, read in place, and the statement's own row.
 //!
-//! Both machines read them so, the one over a store and the one that compares addresses; and what else they
+//! Both machines read them so, the one over a store and the one by identity; and what else they
 //! say alike of a body stands here once.
 #![tactic(auto)]
 

@@ -31,7 +31,7 @@ pub fn kind_by(code: u8) -> BodyKind
     }
 }
 
-/// Which variables the words of expressions are to tell: in a definition's body the free ones.
+/// Which variables the words of expressions are to name: in a definition's body the free ones.
 pub fn deps_mode(kind: BodyKind) -> DepsMode
     ensures { result ≡ mode_for (kind_of kind) }
 {

@@ -1,4 +1,4 @@
-//! The program `mz`: its words, and the folder and the output of the system.
+//! The program `mz`: its arguments, and the folder and the output of the system.
 #![tactic(auto)]
 
 ghost use Rattle.std.specs.Prelude.{map, string_bytes};
@@ -18,7 +18,7 @@ use std::random::RandomSource;
 use std::rt::{Env, Files};
 use std::{env, io};
 
-/// The words after the program's name.
+/// The arguments after the program's name.
 fn words_of(rt: &(impl Env + AllocGlobal)) -> io::Result<Vec<String>> {
     let mut words = Vec::new(rt.alloc());
     for word in env::args(rt)?.skip(1) {

@@ -65,8 +65,8 @@ UnnamedFollow ds ss places = (i : ℕ) (a : Assertion) → slice_get ds i ≡ So
 
 -- The specification and the binary's statements agree. These are a legal draft (its declarations are legal, and what is
 -- local may be), and each of its theorems that isn't gapped has a derivation without gaps, over the statements before it,
--- that cites no gapped theorem. And each theorem of the specification is proved from its axioms before it, in the words of
--- what is promised of a finished binary, but for those whose places are named.
+-- that cites no gapped theorem. And each theorem of the specification is proved from its axioms before it, as is
+-- promised of a finished binary, but for those whose places are named.
 pub record IsDraftSound (spec bin : List ℕ) : Type 0 where
   pub declared : List Declaration
   pub statements : List Statement

@@ -45,8 +45,8 @@ impl Matching {
     ///
     /// # Errors
     ///
-    /// The verdict where a public statement differs from its declaration, or where memory is
-    /// wanting.
+    /// The verdict where a public statement differs from its declaration, or out
+    /// of memory.
     pub fn pass(
         &mut self,
         alloc: Global,

@@ -1,6 +1,6 @@
 //! Parts of a declaration compared with a row's words and unify stream, read in place.
 //!
-//! `specs/Comparison.antt` says what is compared, in `mz_spec_proved_theory`'s words when the two agree.
+//! `specs/Comparison.antt` says what is compared, by `mz_spec_proved_theory` when the two agree.
 #![tactic(auto)]
 
 mod compare;

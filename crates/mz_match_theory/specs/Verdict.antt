@@ -142,7 +142,7 @@ line_of verdicts.Mem = []
 -- ---- steps
 
 -- the commands executed: none before the binary, then all of it up to its first fault; at a difference those of the
--- statements up to the one that it names; where memory is wanting only the bound on the whole file holds
+-- statements up to the one that it names; out of memory, only the bound on the whole file holds
 abbrev pub TicksBy : Standard → List ℕ → (old new : ℕ) → Verdict → Type 0
 TicksBy standard bin old new (verdicts.Accepted counts) = new ≡ old + file_steps standard bin
 TicksBy standard bin old new (verdicts.Spec refusal) = new ≡ old

@@ -19,7 +19,7 @@ use Rattle.mz_math.specs.declared.parser.Outer.{Outer}
 use Rattle.mz_math.specs.declared.parser.Outer.TheVariants as outers
 use Rattle.mz_math_theory.proofs.Offered.{no-items, no-expr, no-rest, one-part, one-token, no-token, parens-never, leading-never, leading-begun, leading-low, applied-never, applied-begun, applied-low, joined-never, joined-more}
 
--- in an expression of a level that begins at `from`, these stand around one of the level l that begins here
+-- in an expression of a precedence that begins at `from`, these stand around one of the precedence l that begins here
 abbrev pub Nested : Words → List (List ℕ) → ℕ → List Outer → List (List ℕ) → ℕ → Type 0
 Nested ws from level [] here l = (from ≡ here) × (level ≡ l)
 Nested ws from level (o ∷ os) here l = (outer_level o ≡ level) × (mid : List (List ℕ)) × (m : ℕ) × Waits ws from mid m o × Nested ws mid m os here l

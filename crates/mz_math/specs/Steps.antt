@@ -30,7 +30,7 @@ IsNextPart parts.End from its after = its ≡ []
 IsNextPart (parts.Constant c) from its after = (its ≡ token c.now ∷ after) × (from + 1 < 2 ^ 64)
 IsNextPart (parts.Operand l) from its after = (its ≡ expr l ∷ after) × IsMaxBefore l after × (from + 1 < 2 ^ 64)
 
--- what a form makes of operands, its level, and whether that's an infix form that groups to the left
+-- what a form makes of operands, its precedence, and whether that's an infix form that groups to the left
 abbrev pub tree_made : Form → Trees → Tree
 tree_made (forms.Term t n) es = app t es
 tree_made (forms.Leading k) es = notated_tree k.now es
@@ -48,8 +48,8 @@ is_left_made (forms.Infix k) = not k.now.is_right
 
 -- ---- steps
 
--- with the parts by these items, where they stand next, the tokens from `from` on begin with an expression of the level
--- that is made of all operands, if its own level is as high; and without them or where it is lower they don't
+-- with the parts by these items, where they stand next, the tokens from `from` on begin with an expression of the precedence
+-- that is made of all operands, if its own precedence is as high; and without them or where it is lower they don't
 pub record IsUnderWay (ws : Words) (level : ℕ) (from here : List (List ℕ)) (its : List Item) (es : Trees) (make : Trees → Tree) (own : ℕ) (left : Bool) : Type 0 where
   pub begun : (rest : List (List ℕ)) (fs : Trees) → ArePartsRead ws its here rest es fs → level ≤ own → IsBegun ws level from rest (make fs) own left
   pub low : (rest : List (List ℕ)) (fs : Trees) → ArePartsRead ws its here rest es fs → own < level → NoReading ws level from
@@ -65,17 +65,17 @@ IsPending ws from here p = IsFormUnderWay ws from here (asked p.form p.part) p
 abbrev pub IsBegunAs : Words → ℕ → List (List ℕ) → List (List ℕ) → Found → Type 0
 IsBegunAs ws level from here f = IsBegun ws level from here (tree f.tree) f.level f.is_left
 
--- the level of the expression around
+-- the precedence of the expression around
 abbrev pub outer_level : Outer → ℕ
 outer_level (outers.Parens level) = level
 outer_level (outers.Operand p) = p.level
 
--- an expression that begins at `from` has been read up to one of a level that begins here
+-- an expression that begins at `from` has been read up to one of a precedence that begins here
 abbrev pub Waits : Words → List (List ℕ) → List (List ℕ) → ℕ → Outer → Type 0
 Waits ws from here l (outers.Parens level) = (from ≡ codes "(" ∷ here) × (l ≡ 0)
 Waits ws from here l (outers.Operand p) = IsMaxBefore l (asked p.form p.part) × IsFormUnderWay ws from here (expr l ∷ asked p.form p.part) p
 
--- what a step says of the expression of a level that begins at `from`
+-- what a step says of the expression of a precedence that begins at `from`
 abbrev pub Says : Words → List (List ℕ) → List (List ℕ) → ℕ → Step → Type 0
 Says ws tokens from level (steps.Inner o l at) = (outer_level o ≡ level) × Waits ws from (drop at tokens) l o
 Says ws tokens from level (steps.Parts p at) = (p.level ≡ level) × IsPending ws from (drop at tokens) p

@@ -31,7 +31,7 @@ pub enum Part<'w> {
     End,
     /// A constant.
     Constant(&'w Bytes),
-    /// An operand of at least this level.
+    /// An operand of at least this precedence.
     Operand(u32),
 }
 
@@ -53,7 +53,7 @@ impl<'w> Form<'w> {
         }
     }
 
-    /// The level of its expressions.
+    /// The precedence of its expressions.
     pub fn level(self) -> u32
         ensures { result ≡ level_made self.entry }
     {
@@ -84,7 +84,7 @@ impl<'w> Form<'w> {
     }
 }
 
-/// The part of a notation behind so many; the last operand is of the level `last`.
+/// The part of a notation behind so many; the last operand is of the precedence `last`.
 fn part_of<'w>(notation: &'w Notation, from: usize, last: u32) -> Part<'w>
     ensures { IsNextPart result from (items (drop from notation.now.elements) last) (items (drop (from + 1) notation.now.elements) last) }
 {
@@ -96,21 +96,21 @@ fn part_of<'w>(notation: &'w Notation, from: usize, last: u32) -> Part<'w>
     }
 }
 
-/// The next level; none is above max.
+/// The next precedence; none is above max.
 fn above_level(level: u32) -> u32
     ensures { result ≡ above level }
 {
     if level == MAX { MAX } else { level + 1 }
 }
 
-/// The level of the application of a term with so many parameters.
+/// The precedence of the application of a term with so many parameters.
 fn applied_level(many: usize) -> u32
     ensures { result ≡ head_level (applied [] 0 many) }
 {
     if many == 0 { MAX } else { 1024 }
 }
 
-/// The level of a last operand.
+/// The precedence of a last operand.
 fn level_of_last(notation: &Notation) -> u32
     ensures { result ≡ last_level notation.now }
 {
@@ -121,8 +121,8 @@ fn level_of_last(notation: &Notation) -> u32
     }
 }
 
-/// Whether a notation's first operand may be an expression of this level, made by an infix form
-/// that groups to the left or not.
+/// Whether a notation's first operand may be an expression of this precedence, made by an infix
+/// form that groups to the left or not.
 pub fn can_lead(notation: &Notation, level: u32, is_left: bool) -> bool
     ensures { IsTrue result ↔ MayLead notation.now level is_left }
 {
@@ -130,7 +130,7 @@ pub fn can_lead(notation: &Notation, level: u32, is_left: bool) -> bool
         || (!notation.is_right && is_left && level == notation.level)
 }
 
-/// The level of an operand that stands before the elements from a place on.
+/// The precedence of an operand that stands before the elements from a place on.
 fn operand_level(elements: &Elements, from: usize, last: u32) -> u32
     ensures { result ≡ level_before (drop from elements.now) last }
 {

@@ -11,9 +11,9 @@ pub fn statements_keep_tables()
     ensures variables { VariablesStay }
 {}
 
-/// Over such a table a list of tokens has at most one tree: no constant has two levels, no two
-/// notations have one leading or one infix constant, the infix forms of a level group alike, none is
-/// at max, no constant is a parenthesis, and a name is a variable's or a term's alone.
+/// Over such a table a list of tokens has at most one tree: no constant has two precedences, no two
+/// notations have one leading or one infix constant, the infix forms of a precedence group alike,
+/// none is at max, no constant is a parenthesis, and a name is a variable's or a term's alone.
 pub fn each_token_list_has_one_tree()
     ensures { OneTree }
 {}

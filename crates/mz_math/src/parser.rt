@@ -19,7 +19,7 @@ use std::alloc::Global;
 #[derive(Drop)]
 pub struct Found {
     tree: Expr,
-    /// The level of its form, or max.
+    /// The precedence of its form, or max.
     level: u32,
     /// Whether it's of an infix form that groups to the left.
     is_left: bool,
@@ -36,14 +36,14 @@ pub struct Pending<'w> {
     part: usize,
     /// What was read for its operands so far, in the order of its parts.
     operands: Exprs,
-    /// The level of the expression in which it stands, at least.
+    /// The precedence of the expression in which it stands, at least.
     level: u32,
 }
 
 /// What an expression is read for.
 #[derive(Drop)]
 pub enum Outer<'w> {
-    /// Parentheses, in an expression of this level.
+    /// Parentheses, in an expression of this precedence.
     Parens(u32),
     /// An operand of a form; the part that is next stands behind it.
     Operand(Pending<'w>),
@@ -52,11 +52,11 @@ pub enum Outer<'w> {
 /// How far the innermost expression has been read. Places are numbers of tokens.
 #[derive(Drop)]
 pub enum Step<'w> {
-    /// Up to an expression of this level within it, which begins here.
+    /// Up to an expression of this precedence within it, which begins here.
     Inner(Outer<'w>, u32, usize),
     /// Up to a part of a form, which begins here.
     Parts(Pending<'w>, usize),
-    /// An expression, of this level, which infix forms may join.
+    /// An expression, of this precedence, which infix forms may join.
     Begun(Found, u32),
     /// The whole: nothing can be joined.
     Whole(Found),
@@ -128,8 +128,8 @@ fn all_read(tokens: &Tokens<'_>, found: Found) -> Syntax
     }
 }
 
-/// What stands first in an expression of a level: a variable, a form that begins with a constant, a
-/// term's name or parentheses.
+/// What stands first in an expression of a precedence: a variable, a form that begins with a
+/// constant, a term's name or parentheses.
 fn begin<'w>(
     alloc: Global,
     words: &Vocabulary<'w>,

@@ -12,7 +12,7 @@ use Rattle.mz_math_theory.specs.Coercions.{IsPath}
 use Rattle.mz_math_coercions.specs.Sorts.{AreNoted, is_marked}
 use Rattle.mz_math_theory.proofs.Offered.{last-end}
 
--- ---- marks
+-- ---- flags
 
 pub marked-more : (marks : List Bool) (s : ℕ) → is_marked (marks ++ false ∷ []) s ≡ is_marked marks s
 marked-more [] zero = refl
@@ -38,7 +38,7 @@ module _ (marks more : List Bool) (sort : ℕ) (within : sort < length more) (sa
         inr (sym (same s) ∙ sym (get_or-set_other more sort s true false not) ∙ is)
   ]
 
--- ---- more sorts, and more marks
+-- ---- more sorts, and more flags
 
 pub none-noted : (m : Sorts) → m.begins.items ≡ [] → m.ends.items ≡ [] → AreNoted [] m
 none-noted m begins ends = record {
@@ -53,7 +53,7 @@ none-noted m begins ends = record {
     unmarked (suc s) is = true≢false (sym is)
 
 module _ (cs : List Coercion) (m n : Sorts) (noted : AreNoted cs m) (listed : (s : ℕ) → Contains m.list.items s → Contains n.list.items s) where
-  -- where the new marks are of sorts that are listed
+  -- where the new flags are of sorts that are listed
   pub noted-on : ((s : ℕ) → is_marked m.begins.items s ≡ true → is_marked n.begins.items s ≡ true) → ((s : ℕ) → is_marked n.begins.items s ≡ true → Contains n.list.items s)
       → ((s : ℕ) → is_marked m.ends.items s ≡ true → is_marked n.ends.items s ≡ true) → ((s : ℕ) → is_marked n.ends.items s ≡ true → Contains n.list.items s) → AreNoted cs n
   noted-on begins all-begin ends all-end = record {
@@ -63,7 +63,7 @@ module _ (cs : List Coercion) (m n : Sorts) (noted : AreNoted cs m) (listed : (s
     ends = all-end;
   }
 
-  -- with the same marks
+  -- with the same flags
   pub noted-same : n.begins.items ≡ m.begins.items → n.ends.items ≡ m.ends.items → AreNoted cs n
   noted-same begins ends =
       noted-on (λ s is. ap (λ ms. is_marked ms s) begins ∙ is) (λ s is. listed s (noted.begins s (sym (ap (λ ms. is_marked ms s) begins) ∙ is)))

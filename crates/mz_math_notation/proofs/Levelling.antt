@@ -1,4 +1,4 @@
--- Notations found by their levels.
+-- Notations found by their precedences.
 use Rattle.std.proofs.Common.{◌≡◌, ◌<◌, ◌≤◌, ◌⊎◌, ◌++◌, ◌∙◌, ℕ, List, [], ◌∷◌, length, Bool, true, false, Some, None, slice_get, ap, sym, refl, inl, inr, arith, Contains}
 use Rattle.std.specs.Ordering.{is_eq, nat_cmp}
 use Rattle.std.specs.declared.cmp.Ordering.{Ordering}
@@ -36,7 +36,7 @@ other-stands m ks level place n are some there other k has is =
 
 -- ---- one notation more
 
--- its level is there already
+-- its precedence is there already
 pub levelled-known : (m : BTreeMap ℕ ℕ) (ks : List Notation) (k l : Notation) → AreLevelled m ks → Contains ks l → l.level ≡ k.level → AreLevelled m (ks ++ k ∷ [])
 levelled-known m ks k l are has same n in_n = elim (Contains-push_cases ks k n in_n) [
   | inl there ↦ longer n (are n there)
@@ -55,7 +55,7 @@ level-same a x e = go (nat_cmp a x) refl e
     go Greater is e = absurd cc
     go Equal is e = ranked a x Equal (sym is)
 
--- the place of a notation is kept for its level
+-- the place of a notation is kept for its precedence
 module _ (m n : BTreeMap ℕ ℕ) (ks : List Notation) (level place : ℕ) (put : tree.Updates nat_cmp m n level (Some place)) (are : AreLevelled m ks) (new : (l : Notation) → Contains ks l → l.level ≡ level → ⊥) where
   put-or : (x : ℕ) → (level ≡ x) ⊎ (place_at n x ≡ place_at m x)
   put-or x = go (is_eq (nat_cmp level x)) refl

@@ -1,4 +1,4 @@
--- Parameters that are marked where they are named, so that none is marked twice and all are in the end.
+-- Parameters that are flagged where they are named, so that none is flagged twice and all are in the end.
 use Rattle.std.proofs.Common.{◌≡◌, ◌∙◌, ◌<◌, ◌≤◌, ◌+◌, ℕ, List, [], ◌∷◌, length, Bool, true, false, get_or, slice_set, drop, drop-cons, add-one, ap, ap₂, sym, refl, inl, inr, arith}
 use Rattle.std.specs.Prelude.{◌==◌, if◌then◌else◌}
 use Rattle.std.proofs.lemmas.Bool.Decides.{eqb_tells}
@@ -9,7 +9,7 @@ use Rattle.mz_math_theory.specs.declared.notation.Element.{Element}
 use Rattle.mz_math_theory.specs.declared.notation.Element.TheVariants.{Fixed as fixed, Slot as slot}
 use Rattle.mz_math_notation.specs.Once.{one_if, times}
 
--- ---- one mark
+-- ---- one flag
 
 plus-none : (n : ℕ) (b : Bool) → b ≡ false → n ≡ n + one_if b
 plus-none n b is = let e : n ≡ n + 0 = omega arith in e ∙ ap (λ c. n + one_if c) (sym is)
@@ -17,7 +17,7 @@ plus-none n b is = let e : n ≡ n + 0 = omega arith in e ∙ ap (λ c. n + one_
 pub apart : (j i : ℕ) → (j ≡ i → ⊥) → (j == i) ≡ false
 apart j i differ = elim (eqb_tells j i) [ inl same ↦ absurd (differ same.1) | inr differs ↦ differs.0 ]
 
--- at a place past the end no mark changes
+-- at a place past the end no flag changes
 pub mark-past : (ms : List Bool) (place i : ℕ) → length ms ≤ place → i < length ms → one_if (get_or ms i false) ≡ one_if (get_or ms i false) + one_if (place == i)
 mark-past ms place i past below = plus-none (one_if (get_or ms i false)) (place == i) (apart place i (λ same. omega (arith, past, below, same)))
 
@@ -47,7 +47,7 @@ module _ (es : List Element) (k : ℕ) (e : Element) (within : k < length es) (i
   at-element : times (drop k es) i ≡ times (e ∷ []) i + times (drop (k + 1) es) i
   at-element = ap (λ xs. times xs i) (drop-cons es k e within ∙ ap₂ ◌∷◌ (sym item) (ap (λ j. drop j es) (sym (add-one k)))) ∙ times-cons e (drop (k + 1) es) i
 
-  -- what is marked and what is left make the whole
+  -- what is flagged and what is left make the whole
   pub marked-on : (old new : Bool) → one_if new ≡ one_if old + times (e ∷ []) i → one_if old + times (drop k es) i ≡ times es i → one_if new + times (drop (k + 1) es) i ≡ times es i
   marked-on old new is so_far = let here = at-element in omega (arith, is, so_far, here)
 

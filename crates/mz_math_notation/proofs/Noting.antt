@@ -1,4 +1,4 @@
--- The levels of a notation's own constants, as they are noted one after another.
+-- The precedences of a notation's own constants, as they are noted one after another.
 use Rattle.std.proofs.Common.{◌≡◌, ◌∙◌, ◌↔◌, ◌⊎◌, ◌<◌, ◌≤◌, ◌+◌, ℕ, List, [], length, Bool, true, false, Some, None, slice_get, get_or, Contains, ap, ap₂, sym, refl, subst, inl, inr, arith, eq-or-lt_of_le}
 use Rattle.std.specs.Prelude.{◌==◌, bytes_eq, if◌then◌else◌}
 use Rattle.std.specs.Bool.{Decides}
@@ -36,7 +36,7 @@ module _ (old : List (List ℕ × ℕ)) (w : List ℕ) (q : ℕ) where
       )
       go false tells is = (λ h. inl (sym is ∙ h), λ h. elim h [ inl there ↦ is ∙ there | inr same ↦ absurd (true≢false (sym (tells.1 (fixed-same same).0))) ])
 
--- what is no constant has no level
+-- what is no constant has no precedence
 pub noted-slot : (old : List (List ℕ × ℕ)) (e : Element) (i : ℕ) → e ≡ slot i → IsLevelNoted true old e old
 noted-slot old e i is w q = (λ h. inl h, λ h. elim h [ inl there ↦ there | inr other ↦ absurd (slot-fixed (sym is ∙ other)) ])
   where

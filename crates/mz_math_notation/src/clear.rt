@@ -12,7 +12,7 @@ use mz_math_theory::{Element, MAX, Notation};
 use mz_math_tokens::Places;
 use std::alloc::{AllocError, Global};
 
-/// Whether it is no constant, or has its level in the notations, too.
+/// Whether it is no constant, or has its precedence in the notations, too.
 fn keeps_level(element: &Element, notations: &NotationList) -> bool
     requires { HaveOneLevel notations.now }
     ensures { IsTrue result ↔ ((w : List ℕ) (q p : ℕ) → element.now ≡ fixed w q → HasConstant notations.now w p → p ≡ q) }
@@ -23,7 +23,7 @@ fn keeps_level(element: &Element, notations: &NotationList) -> bool
     }
 }
 
-/// Notes the level of a constant; whether it is no constant, or has had no other level.
+/// Notes the precedence of a constant; whether it is no constant, or has had no other precedence.
 fn note_level(
     element: &Element,
     alloc: Global,
@@ -46,7 +46,7 @@ fn groups(notation: &Notation, is_right: bool) -> bool
     notation.is_right == is_right
 }
 
-/// Notes the level of a constant that has none; whether it has had no other.
+/// Notes the precedence of a constant that has none; whether it has had no other.
 fn note_level_of(
     alloc: Global,
     levels: &mut Places<u32>,
@@ -64,7 +64,7 @@ fn note_level_of(
     }
 }
 
-/// Whether the constant has this level in each of the notations.
+/// Whether the constant has this precedence in each of the notations.
 fn has_level_in(notations: &NotationList, word: &[u8], level: u32) -> bool
     requires { HaveOneLevel notations.now }
     ensures { IsTrue result ↔ ((q : ℕ) → HasConstant notations.now word.now q → q ≡ level) }
@@ -75,7 +75,7 @@ fn has_level_in(notations: &NotationList, word: &[u8], level: u32) -> bool
     }
 }
 
-/// Whether the constants among the elements have their levels in the notations, too.
+/// Whether the constants among the elements have their precedences in the notations, too.
 fn keeps_levels(elements: &[Element], notations: &NotationList) -> bool
     requires { HaveOneLevel notations.now }
     ensures { IsTrue result ↔ KeepsLevels elements.now notations.now }
@@ -88,7 +88,7 @@ fn keeps_levels(elements: &[Element], notations: &NotationList) -> bool
     true
 }
 
-/// Whether each constant among the elements has one level.
+/// Whether each constant among the elements has one precedence.
 fn keeps_own_levels(alloc: Global, elements: &[Element]) -> Result<bool, AllocError>
     ensures { IfOk result (λ keeps. IsTrue keeps ↔ KeepsOwnLevels elements.now) }
 {
@@ -102,7 +102,7 @@ fn keeps_own_levels(alloc: Global, elements: &[Element]) -> Result<bool, AllocEr
     Ok(true)
 }
 
-/// Whether the infix notations of its level group as it does.
+/// Whether the infix notations of its precedence group as it does.
 fn all_group_with(infixes: &NotationList, notation: &Notation) -> bool
     requires { GroupAlike infixes.now }
     ensures { IsTrue result ↔ GroupsWith infixes.now notation.now }
@@ -139,7 +139,8 @@ fn none_is_joined(infixes: &NotationList, notation: &Notation) -> bool
     }
 }
 
-/// Whether the constants of the notation have one level each, also beside those of all notations.
+/// Whether the constants of the notation have one precedence each, also beside those of all
+/// notations.
 fn levels_are_kept(
     alloc: Global,
     leading: &NotationList,

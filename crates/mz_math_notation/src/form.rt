@@ -194,7 +194,8 @@ fn elements_of(
     Ok(elements)
 }
 
-/// The level of a notation, and whether it groups to the right, by how it begins and by its tail.
+/// The precedence of a notation, and whether it groups to the right, by how it begins and by its
+/// tail.
 fn head_of(elements: &[Element], tail: Option<Tail>) -> Option<(u32, bool)>
     ensures { MatchOption result ((level : ℕ) (right : Bool) → Begins elements.now tail level right → ⊥) (λ head. Begins elements.now tail head.0 head.1) }
 {

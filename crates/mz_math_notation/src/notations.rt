@@ -1,4 +1,4 @@
-// Notations, found by their constants and their levels.
+// Notations, found by their constants and their precedences.
 ghost use Rattle.std.specs.Prelude.{◌≡◌, ◌++◌, ◌∷◌, ◌<◌, ◌+◌, [], ℕ, List, MatchOption, OnOk, OnErr, Contains, length, Some, bytes_eq, if◌then◌else◌};
 ghost use Rattle.mz_math_theory.specs.Clear.{HasConstant, JoinedBy, LedBy};
 ghost use Rattle.mz_math_notation.specs.Headed.{AreFound, AreLevelled, IsHeadedBy, IsNoted, place_at as place_at_level};
@@ -26,7 +26,7 @@ pub struct NotationList {
     heads: Places<usize>,
     // one place of each constant
     constants: Places<Spot>,
-    // where one notation of each level stands
+    // where one notation of each precedence stands
     levels: BTreeMap<u32, usize>,
 }
 
@@ -84,14 +84,14 @@ impl NotationList {
         }
     }
 
-    /// The level of a constant of one of the notations.
+    /// The precedence of a constant of one of the notations.
     pub fn level_of(&self, token: &[u8]) -> Option<u32>
         ensures { MatchOption result ((q : ℕ) → HasConstant self.now token.now q → ⊥) (λ q. HasConstant self.now token.now q) }
     {
         level_in(&self.constants, &self.items, token)
     }
 
-    /// Whether one of the notations of this level groups to the right, if there are any.
+    /// Whether one of the notations of this precedence groups to the right, if there are any.
     pub fn grouping_at(&self, level: u32) -> Option<bool>
         ensures { MatchOption result ((k : Notation) → Contains self.now k → k.level ≡ level → ⊥) (λ right. (k : Notation) × Contains self.now k × (k.level ≡ level) × (k.is_right ≡ right)) }
     {
@@ -117,7 +117,7 @@ impl NotationList {
     }
 }
 
-/// The level of a constant of one of the notations.
+/// The precedence of a constant of one of the notations.
 fn level_in(constants: &Places<Spot>, items: &[Notation], token: &[u8]) -> Option<u32>
     requires { AreFound constants.now items.now }
     ensures { MatchOption result ((q : ℕ) → HasConstant items.now token.now q → ⊥) (λ q. HasConstant items.now token.now q) }
@@ -128,14 +128,14 @@ fn level_in(constants: &Places<Spot>, items: &[Notation], token: &[u8]) -> Optio
     element.level_of(token)
 }
 
-/// What is kept for a level.
+/// What is kept for a precedence.
 fn place_at(levels: &BTreeMap<u32, usize>, level: u32) -> Option<usize>
     ensures { result ≡ place_at_level levels.now level }
 {
     levels.get(&level).copied()
 }
 
-/// Whether one of the notations of a level groups to the right, if there are any.
+/// Whether one of the notations of a precedence groups to the right, if there are any.
 fn grouping_in(levels: &BTreeMap<u32, usize>, items: &[Notation], level: u32) -> Option<bool>
     requires { AreLevelled levels.now items.now }
     ensures { MatchOption result ((k : Notation) → Contains items.now k → k.level ≡ level → ⊥) (λ right. (k : Notation) × Contains items.now k × (k.level ≡ level) × (k.is_right ≡ right)) }
@@ -149,7 +149,7 @@ fn grouping_in(levels: &BTreeMap<u32, usize>, items: &[Notation], level: u32) ->
     }
 }
 
-/// Notes where one more notation stands, where there is none of its level.
+/// Notes where one more notation stands, where there is none of its precedence.
 fn note_level(
     levels: &mut BTreeMap<u32, usize>,
     items: &[Notation],

@@ -163,7 +163,7 @@ impl Notations {
     }
 
     /// `infixl` and `infixr`: a constant, without its `$`, between the two operands of a term. A
-    /// level is none for max.
+    /// precedence is none for max.
     ///
     /// # Errors
     ///
@@ -196,7 +196,8 @@ impl Notations {
         }
     }
 
-    /// `prefix`: a constant, without its `$`, before the operands of a term. A level is none for max.
+    /// `prefix`: a constant, without its `$`, before the operands of a term. A precedence is
+    /// none for max.
     ///
     /// # Errors
     ///

@@ -31,7 +31,7 @@ pub tokens-build : (p : Parse) (ss : List Step) → tokens_of (build p ss) ≡ t
 tokens-build p [] = sym (append-nil (tokens_of p))
 tokens-build p (s ∷ ss) = tokens-build (joined s.notation p s.parts) ss ∙ append_assoc (tokens_of p) (part_tokens s.parts) (step_tokens ss)
 
--- ---- levels
+-- ---- precedences
 
 pub above-more : (q : ℕ) → q < max_level → q + 1 ≡ above q
 above-more q less = ap (λ b. if b then max_level else q + 1) (sym (ne_eqb q max_level (λ e. absurd (omega (arith, e)))))

@@ -25,7 +25,7 @@ one-first By ks k one l w in_l by_k by_l =
     let below : at.0 < length ks = slice_get_within ks at.0 l at.1 in
     absurd (omega arith)
 
--- ---- levels
+-- ---- precedences
 
 pub constant-first : (ks ls : List Notation) (w : List ℕ) (q : ℕ) → HasConstant ks w q → HasConstant (ks ++ ls) w q
 constant-first ks ls w q (k, in_k, at) = (k, Contains-append_left ks ls k in_k, at)

@@ -74,7 +74,7 @@ mutual
   parts-known ws (expr l ∷ its) (part p ps) known are =
       known-both ws (tokens_of p) (part_tokens ps) (exp-known ws p are.1) (parts-known ws its ps known are.2)
 
--- ---- the pieces of a string
+-- ---- the tokens of a math string
 
 pub checks-hold : (ws : Words) (text : List ℕ) (ps : List Piece) → AllKnown ws (piece_texts text ps) → AllHold (known_checks ws text ps)
 checks-hold ws text [] known = tt

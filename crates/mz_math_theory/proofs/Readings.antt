@@ -180,7 +180,7 @@ module _ (ws : Words) (right : IsReadable ws) where
   pub begun-read : (level : ℕ) (tokens rest : List (List ℕ)) (tree : Tree) (at : ℕ) (left : Bool) → IsBegun ws level tokens rest tree at left → NotJoined ws level rest → IsRead ws level tokens rest tree
   begun-read level tokens rest tree at left begun not = record { parse = begun.parse; reads = (begun.is, begun.enough, begun.tokens_are, not); tree_is = begun.tree_is }
 
-  -- a constant of the level or above goes on in each reading
+  -- a constant of the precedence or above goes on in each reading
   step-of : (level : ℕ) (tokens tail : List (List ℕ)) (tree : Tree) (at : ℕ) (left : Bool) (k : Notation) (w : List ℕ) → (begun : IsBegun ws level tokens (w ∷ tail) tree at left)
       → Contains ws.infixes k → JoinedBy k w → level ≤ k.level → (p : Parse) (xs : List (List ℕ)) → Reads ws level tokens p xs
       → (ps : Parts) × (ss : List Step) × (p ≡ build (joined k begun.parse ps) ss) × (part_tokens ps ++ (step_tokens ss ++ xs) ≡ w ∷ tail)

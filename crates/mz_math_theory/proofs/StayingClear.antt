@@ -18,9 +18,9 @@ all-decided P d xs = elim (found (λ x. P x → ⊥) (λ x. not-decided (d x)) x
   | inr none ↦ inl (λ x in_x. elim (d x) [ inl p ↦ p | inr out ↦ absurd (none x in_x out) ])
 ]
 
--- ---- levels
+-- ---- precedences
 
--- if both are one constant, they have one level
+-- if both are one constant, they have one precedence
 abbrev Agree : Element → Element → Type 0
 Agree (fixed w q) (fixed v p) = w ≡ v → p ≡ q
 Agree (fixed w q) (slot i) = ⊤

@@ -34,7 +34,7 @@ IsPrefix sigs d term text level k = (w : List ℕ) × (s : Signature) × IsConst
 abbrev pub IsSpan : List ℕ → ℕ → ℕ → Type 0
 IsSpan text from to = (from ≤ to) × (to ≤ length text)
 
--- a literal, by its span: a constant with its level, or the name of a parameter
+-- a literal, by its span: a constant with its precedence, or the name of a parameter
 abbrev pub IsElement : Delimiters → List (List ℕ) → List ℕ → Literal → Element → Type 0
 IsElement d names text (constant from to level) e = (w : List ℕ) × IsSpan text from to × IsConstant d (slice_range text from to) w × (e ≡ fixed w (level_of level))
 IsElement d names text (name from to) e = (i : ℕ) × IsSpan text from to × (slice_range text from to ≢ []) × (slice_get names i ≡ Some (slice_range text from to)) × (e ≡ slot i)
@@ -49,7 +49,7 @@ AreElements d names text (l ∷ ls) (e ∷ es) = IsElement d names text l e × A
 abbrev pub EachOnce : ℕ → List Element → Type 0
 EachOnce n es = (i : ℕ) → i < n → count_by (λ j. j == i) (places es) ≡ 1
 
--- a constant comes first and there is no tail; or a parameter, then a constant of the tail's level
+-- a constant comes first and there is no tail; or a parameter, then a constant of the tail's precedence
 abbrev pub Begins : List Element → Option Tail → ℕ → Bool → Type 0
 Begins [] tail level right = ⊥
 Begins (fixed w q ∷ es) None level right = (level ≡ q) × (right ≡ true)

@@ -99,7 +99,7 @@ IsTreeOfFew ws tokens (syntax.Tree e) = (length tokens ≤ most) × Exp ws 0 (tr
 IsTreeOfFew ws tokens syntax.No = length tokens ≤ most → (t : Tree) → Exp ws 0 t tokens → ⊥
 IsTreeOfFew ws tokens syntax.Mem = ⊤
 
--- what a first operand of a level, of a form that groups to the left or not, must be
+-- what a first operand of a precedence, of a form that groups to the left or not, must be
 abbrev pub MayLead : Notation → ℕ → Bool → Type 0
 MayLead k level is_left = (above k.level ≤ level) ⊎ ((k.is_right ≡ false) × (is_left ≡ true) × (level ≡ k.level))
 

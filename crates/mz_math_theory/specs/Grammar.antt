@@ -1,4 +1,4 @@
--- The notation grammar: how tokens make an expression, by levels (mm0.md, section on notations).
+-- The notation grammar: how tokens make an expression, by precedence (mm0.md, section on notations).
 use Rattle.std.specs.Prelude.{◌≡◌, ◌≢◌, ◌≤◌, ◌⊎◌, ◌+◌, ◌++◌, ◌==◌, ⊤, ℕ, zero, suc, List, [], ◌∷◌, length, false, Some, slice_get, Contains, if◌then◌else◌, codes}
 use Rattle.mz_logic_theory.specs.Tree.{Tree, Trees, var, app, none, more, operand}
 use Rattle.mz_logic_theory.specs.Signature.{Signature}
@@ -8,12 +8,12 @@ use Rattle.mz_math_theory.specs.declared.notation.Element.TheVariants.{Fixed as 
 use Rattle.mz_math_theory.specs.declared.notation.Notation.{Notation}
 use Rattle.mz_math_theory.specs.Clear.{LedBy, HasConstant}
 
--- what a form asks for, one after another: a token, or an expression of a level
+-- what a form asks for, one after another: a token, or an expression of a precedence
 pub data Item : Type 0 where
   token : List ℕ → Item
   expr : ℕ → Item
 
--- the level of an operand, by what stands behind it: before a constant above the constant's level,
+-- the precedence of an operand, by what stands behind it: before a constant above the constant's precedence,
 -- before an operand max, in the last place `last`
 abbrev pub level_before : List Element → ℕ → ℕ
 level_before [] last = last
@@ -159,7 +159,7 @@ abbrev pub IsLeftForm : Parse → Type 0
 IsLeftForm (headed h ps) = ⊥
 IsLeftForm (joined k p ps) = k.is_right ≡ false
 
--- the operand before an infix constant: above its level, or of a form of its level where both group to the left
+-- the operand before an infix constant: above its precedence, or of a form of its precedence where both group to the left
 abbrev pub CanLead : Notation → Parse → Type 0
 CanLead k p = (above k.level ≤ level_of p) ⊎ ((k.is_right ≡ false) × IsLeftForm p × (level_of p ≡ k.level))
 
@@ -179,7 +179,7 @@ abbrev mutual
   AreParts ws (expr l ∷ its) (word w ps) = ⊥
   AreParts ws (expr l ∷ its) (part p ps) = (l ≤ level_of p) × IsExp ws p × AreParts ws its ps
 
--- the tokens make this tree, as an expression of a level
+-- the tokens make this tree, as an expression of a precedence
 abbrev pub Exp : Words → ℕ → Tree → List (List ℕ) → Type 0
 Exp ws level tree tokens = (p : Parse) × IsExp ws p × (level ≤ level_of p) × (tokens_of p ≡ tokens) × (tree_of p ≡ tree)
 

@@ -9,22 +9,22 @@ pub use Rattle.mz_math_theory.specs.declared.notation.Notation.{Notation}
 pub use Rattle.mz_math_theory.specs.Listed.{slots}
 pub use Rattle.mz_math_theory.specs.declared.coercion.Coercion.{Coercion}
 
--- ---- levels
+-- ---- precedences
 
--- the level above all levels that are numbers
+-- the precedence above all precedences that are numbers
 abbrev pub max_level : ℕ
 max_level = 4294967295
 
--- the next level; none is above max
+-- the next precedence; none is above max
 abbrev pub above : ℕ → ℕ
 above q = if q == max_level then max_level else q + 1
 
--- a level as it is written: a number, or max
+-- a precedence as it is written: a number, or max
 abbrev pub level_of : Option ℕ → ℕ
 level_of None = max_level
 level_of (Some q) = q
 
--- ---- the elements of a notation: constants with their levels, and places of parameters
+-- ---- the elements of a notation: constants with their precedences, and places of parameters
 
 -- the places of the parameters, in the order of the elements
 abbrev pub places : List Element → List ℕ

@@ -25,7 +25,7 @@ AreBoth left right d = AreCharacters left d.left × AreCharacters right d.right
 abbrev pub IsNotationOf : General → List Element → Notation → Type 0
 IsNotationOf g es k = (k.term ≡ g.term) × (k.elements ≡ es) × EachOnce (length g.binders) es × Begins es g.tail k.level k.is_right
 
--- a notation begins with a constant of its level, or with a parameter and then such a constant; none
+-- a notation begins with a constant of its precedence, or with a parameter and then such a constant; none
 -- of its constants is a parenthesis
 abbrev pub IsShaped : Notation → Type 0
 IsShaped k = MatchBool (begins_with_slot k.elements) ((w : List ℕ) × JoinedBy k w) ((w : List ℕ) × LedBy k w)
@@ -46,7 +46,7 @@ IsAdded (Err faults.CoercionClash) t next u = ⊥
 abbrev pub IsPlain : Notation → Type 0
 IsPlain k = (w : List ℕ) (q : ℕ) → Contains k.elements (fixed w q) → (w ≢ codes "(") × (w ≢ codes ")")
 
--- ---- levels
+-- ---- precedences
 
 abbrev pub KeepsLevels : List Element → List Notation → Type 0
 KeepsLevels es ks = (w : List ℕ) (q p : ℕ) → Contains es (fixed w q) → HasConstant ks w p → p ≡ q
@@ -54,11 +54,11 @@ KeepsLevels es ks = (w : List ℕ) (q p : ℕ) → Contains es (fixed w q) → H
 abbrev pub KeepsOwnLevels : List Element → Type 0
 KeepsOwnLevels es = (w : List ℕ) (q p : ℕ) → Contains es (fixed w q) → Contains es (fixed w p) → p ≡ q
 
--- each constant has one level wherever it stands
+-- each constant has one precedence wherever it stands
 abbrev pub HaveOneLevel : List Notation → Type 0
 HaveOneLevel ks = (w : List ℕ) (q p : ℕ) → HasConstant ks w q → HasConstant ks w p → q ≡ p
 
--- those of one level group to the same side
+-- those of one precedence group to the same side
 abbrev pub GroupAlike : List Notation → Type 0
 GroupAlike ks = (k l : Notation) → Contains ks k → Contains ks l → k.level ≡ l.level → k.is_right ≡ l.is_right
 

@@ -1,4 +1,4 @@
--- The conditions on names, constants and levels by which each list of tokens has at most one tree.
+-- The conditions on names, constants and precedences by which each list of tokens has at most one tree.
 use Rattle.std.specs.Prelude.{List, Contains, codes, ℕ}
 use Rattle.mz_math_theory.specs.declared.notation.Notation.{Notation}
 use Rattle.mz_math_theory.specs.Clear.{IsClear, LedBy, JoinedBy}

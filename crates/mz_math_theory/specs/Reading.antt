@@ -6,7 +6,7 @@ use Rattle.mz_math_theory.specs.declared.notation.Notation.{Notation}
 use Rattle.mz_math_theory.specs.Clear.{JoinedBy}
 use Rattle.mz_math_theory.specs.Grammar.{Item, token, expr, Parse, Parts, joined, level_of, tokens_of, part_tokens, tree_of, part_trees, Words, IsExp, AreParts, IsLeftForm}
 
--- no infix constant of the level or above stands first
+-- no infix constant of the precedence or above stands first
 abbrev pub NotJoined : Words → ℕ → List (List ℕ) → Type 0
 NotJoined ws n [] = ⊤
 NotJoined ws n (w ∷ xs) = (k : Notation) → Contains ws.infixes k → JoinedBy k w → k.level < n
@@ -35,7 +35,7 @@ abbrev pub step_tokens : List Step → List (List ℕ)
 step_tokens [] = []
 step_tokens (s ∷ ss) = part_tokens s.parts ++ step_tokens ss
 
--- p is an expression of the level, of the first tokens, and the rest cannot be joined to it
+-- p is an expression of the precedence, of the first tokens, and the rest cannot be joined to it
 abbrev pub Reads : Words → ℕ → List (List ℕ) → Parse → List (List ℕ) → Type 0
 Reads ws level tokens p rest = IsExp ws p × (level ≤ level_of p) × (tokens_of p ++ rest ≡ tokens) × NotJoined ws level rest
 
@@ -68,7 +68,7 @@ pub record ArePartsRead (ws : Words) (its : List Item) (tokens rest : List (List
 abbrev pub NoParts : Words → List Item → List (List ℕ) → Type 0
 NoParts ws its tokens = (ps : Parts) (rest : List (List ℕ)) → AreParts ws its ps → Spaced ws its rest → part_tokens ps ++ rest ≡ tokens → ⊥
 
--- an expression of the level stands first
+-- an expression of the precedence stands first
 pub record IsRead (ws : Words) (level : ℕ) (tokens rest : List (List ℕ)) (tree : Tree) : Type 0 where
   pub parse : Parse
   pub reads : Reads ws level tokens parse rest

@@ -6,7 +6,8 @@ use thiserror::Error;
 /// Why a statement adds nothing.
 #[derive(Clone, Copy, Debug, PartialEq, Eq, Error)]
 pub enum NoteFault {
-    /// The notation can be mistaken for another one, or its constant has another level elsewhere.
+    /// The notation can be mistaken for another one, or its constant has another precedence
+    /// elsewhere.
     #[error("the notation clashes with another one")]
     Clash,
     /// The notation, the coercion or the delimiter isn't of its form.

@@ -1,7 +1,7 @@
 ghost use Rattle.std.specs.Prelude.{◌<◌};
 
 /// A literal of a `notation` statement, by its span in a text: a constant, without its `$`, with its
-/// level (none for max), or the name of a parameter.
+/// precedence (none for max), or the name of a parameter.
 #[derive(Clone, Copy)]
 pub enum Literal {
     Constant {
@@ -15,8 +15,8 @@ pub enum Literal {
     },
 }
 
-/// The end of a `notation` statement that begins with a parameter: its level (none for max), and
-/// whether it groups to the right.
+/// The end of a `notation` statement that begins with a parameter: its precedence (none for max),
+/// and whether it groups to the right.
 #[derive(Clone, Copy)]
 pub struct Tail {
     pub level: Option<u32>,

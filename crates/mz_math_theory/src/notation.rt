@@ -9,10 +9,10 @@ use mz_math_tokens::Bytes;
 use std::alloc::{AllocError, Global};
 use std::marker::Model;
 
-/// The level above all levels that are numbers.
+/// The precedence above all precedences that are numbers.
 pub const MAX: u32 = u32::MAX;
 
-/// A constant with its level, or the place of a parameter.
+/// A constant with its precedence, or the place of a parameter.
 #[derive(Drop)]
 pub enum Element {
     Fixed(Bytes, u32),
@@ -20,7 +20,7 @@ pub enum Element {
 }
 
 impl Element {
-    /// Its level, where it is this constant.
+    /// Its precedence, where it is this constant.
     pub fn level_of(&self, token: &[u8]) -> Option<u32>
         ensures { MatchOption result ((q : ℕ) → self.now ≡ fixed token.now q → ⊥) (λ q. self.now ≡ fixed token.now q) }
     {
@@ -37,7 +37,8 @@ impl Element {
     }
 }
 
-/// What stands at a place of a notation: a constant with its level, or the place of a parameter.
+/// What stands at a place of a notation: a constant with its precedence, or the place of a
+/// parameter.
 #[derive(Clone, Copy)]
 pub enum ElementRef<'w> {
     Fixed(&'w Bytes, u32),
@@ -118,8 +119,8 @@ impl Elements {
     }
 }
 
-/// A notation of a term, at a level. Where it begins with a parameter, it groups to the right or to
-/// the left.
+/// A notation of a term, at a precedence. Where it begins with a parameter, it groups to the right
+/// or to the left.
 #[derive(Drop)]
 pub struct Notation {
     pub term: u32,
@@ -196,7 +197,7 @@ impl Notation {
     }
 }
 
-/// A level as it is written: a number, or none for max.
+/// A precedence as it is written: a number, or none for max.
 pub fn level_number(level: Option<u32>) -> u32
     ensures { result ≡ level_of level }
 {

@@ -1,4 +1,4 @@
--- Tables of bytes: none is marked, and one more.
+-- Tables of bytes: none is set, and one more.
 use Rattle.std.proofs.Common.{◌≡◌, ◌<◌, ◌⊎◌, ◌∙◌, ◌↔◌, ℕ, zero, suc, List, [], ◌∷◌, length, Bool, true, false, get_or, slice_set, ◌++◌, Contains, ap, sym, subst, refl, inl, inr, arith}
 use Rattle.std.specs.Prelude.{IsTrue}
 use Rattle.std.proofs.Math.ListN.{replicate}
@@ -16,7 +16,7 @@ unmarked (suc n) (suc c) = unmarked n c
 pub none-tells : (n : ℕ) → Tells (replicate n false) []
 none-tells n c = (λ t. absurd (false≢true (sym (unmarked n c) ∙ t)), λ has. absurd (contains_none _ has))
 
--- one byte of those that are left is marked
+-- one byte of those that are left is set
 pub mark-one : (t : List Bool) (b : ℕ) (rest : List ℕ) → b < length t → (c : ℕ) → (IsTrue (get_or (slice_set t b true) c false) ⊎ Contains rest c) ↔ (IsTrue (get_or t c false) ⊎ Contains (b ∷ rest) c)
 mark-one t b rest within c = elim (cases_order c b) [
   | inl same ↦ here same
@@ -42,7 +42,7 @@ mark-one t b rest within c = elim (cases_order c b) [
 
 -- ---- bytes that are put in
 
--- u has the marks of t and those of ys
+-- u has the bytes of t and those of ys
 abbrev pub Adds : List Bool → List Bool → List ℕ → Type 0
 Adds t u ys = (c : ℕ) → IsTrue (get_or u c false) ↔ (IsTrue (get_or t c false) ⊎ Contains ys c)
 

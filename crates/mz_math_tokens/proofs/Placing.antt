@@ -1,4 +1,4 @@
--- Places by words: what a look-up and one more word give, and lists that grow.
+-- Places by keys: what a look-up and one more key give, and lists that grow.
 use Rattle.std.proofs.Common.{◌≡◌, ◌++◌, ◌∙◌, ℕ, List, [], ◌∷◌, length, Bool, true, false, Some, None, ap, sym, refl, subst, inl, inr, Contains, map}
 use Rattle.std.specs.Prelude.{bytes_eq, if◌then◌else◌}
 use Rattle.std.specs.Ordering.{is_eq, nat_cmp}
@@ -35,7 +35,7 @@ module _ {K P : Type 0} (f : K → List ℕ) where
     | inr other ↦ other_entries _ _ _ _ h.3 _ (λ x y. (eq_by_cmp_equiv nat_list_cmp_total).congr w (f x) (f y)) (λ k. apart bs w (f k) other) ∙ sym (cond-false (bytes_eq bs w) (Some x) _ other)
   ]
 
-  -- one more word
+  -- one more key
   pub put-is : (bs : List ℕ) (x : P) (m n : BTreeMap K P) → tree.UpdatesBy (λ x y. slice_cmp nat_cmp (f x) (f y)) (λ k. slice_cmp nat_cmp bs (f k)) m n (Some x)
       → (w : List ℕ) → place_of (map (λ e. (f e.0, e.1)) n.entries) w ≡ (if bytes_eq bs w then Some x else place_of (map (λ e. (f e.0, e.1)) m.entries) w)
   put-is bs x m n h w = sym (look-is w n.entries) ∙ put bs x m n h w ∙ ap (λ r. if bytes_eq bs w then Some x else r) (look-is w m.entries)
@@ -43,7 +43,7 @@ module _ {K P : Type 0} (f : K → List ℕ) where
 -- ---- lists that grow
 
 module _ {X : Type 0} (HasWord : X → List ℕ → Type 0) (ps qs : List (List ℕ × ℕ)) (xs : List X) (bs : List ℕ) where
-  -- the items lead to their places, where the word that is added is none of theirs
+  -- the items lead to their places, where the key that is added is none of theirs
   pub leads-kept : LeadsTo HasWord ps xs → ((x : X) → Contains xs x → HasWord x bs → ⊥) → ((w : List ℕ) → place_of qs w ≡ (if bytes_eq bs w then Some (length xs) else place_of ps w)) → LeadsTo HasWord qs xs
   leads-kept is new more i x w at has = more w ∙ cond-false (bytes_eq bs w) (Some (length xs)) (place_of ps w) other ∙ is i x w at has
     where

@@ -1,5 +1,5 @@
 //! The tokens of a math string (mm0.md, section on math strings and delimiters), and what is found by
-//! its bytes: places by words, names of variables. `specs/Pieces.antt` says which tokens a string has.
+//! its bytes: places by keys, names of variables. `specs/Pieces.antt` says which tokens a string has.
 #![tactic(auto)]
 
 mod bytes;

@@ -1,4 +1,4 @@
-// Places by words.
+// Places by keys.
 ghost use Rattle.std.specs.Prelude.{◌≡◌, Some, List, ℕ, [], OnOk, OnErr, bytes_eq, if◌then◌else◌};
 ghost use Rattle.mz_math_tokens.specs.Places.{place_of};
 
@@ -6,7 +6,7 @@ use std::alloc::{AllocError, Global};
 use std::collections::BTreeMap;
 use std::marker::Model;
 
-/// Words with a place each. They are kept in their order, so that no text can choose words that are
+/// Keys with a place each. They are kept in their order, so that no text can choose keys that are
 /// slow to find.
 #[derive(Drop)]
 pub struct Places<P> {
@@ -22,7 +22,7 @@ impl<P> Model for Places<P> {
 }
 
 impl<P: Copy + Drop> Places<P> {
-    /// No words.
+    /// No keys.
     pub fn new(alloc: Global) -> Places<P>
         ensures { result ≡ [] }
     {
@@ -31,14 +31,14 @@ impl<P: Copy + Drop> Places<P> {
         }
     }
 
-    /// The place of the word, if it has one.
+    /// The place of the key, if it has one.
     pub fn get(&self, word: &[u8]) -> Option<P>
         ensures { result ≡ place_of self.now word.now }
     {
         self.tree.get(word).copied()
     }
 
-    /// Gives the word this place. The word is copied.
+    /// Gives the key this place. The key is copied.
     ///
     /// # Errors
     ///

@@ -29,7 +29,7 @@ use Rattle.mz_mmu_forms.proofs.ConvLists.{convs_then_none, convs_then_push}
 use Rattle.mz_mmu_forms.proofs.Dispatch.{if_ok, if_err, conv_by, conv_stops_by}
 use Rattle.mz_mmu_forms.proofs.Stopping.{stops_before, stops_after}
 
--- ---- where nothing is asked, and where memory is wanting
+-- ---- where nothing is asked, and out of memory
 
 pub stops_nothing : (s : Stop) (cs : Checks Fault) → Stops s nothing → Stops s cs
 stops_nothing (Refused f) cs h = absurd h
@@ -62,7 +62,7 @@ says_more sc all Is Is' asked asked' (steps.Inner o n) is stops (there, w) = (
 )
 says_more sc all Is Is' asked asked' (steps.Whole c) is stops says = is (conversion c) says
 
--- the word with which it begins is this one
+-- the keyword with which it begins is this one
 module _ (sc : Scope) (all : Nodes) (k : Keyword) (at : ℕ) (h : Node) (rest : Option ℕ) (key : conv_keyword h ≡ k) (r : Result ConvStep Stop) where
   pub says_by : IfOk r (ConvSaysBy sc all k at h rest) → IfOk r (ConvSaysBy sc all (conv_keyword h) at h rest)
   says_by = subst (λ q. IfOk r (ConvSaysBy sc all q at h rest)) (sym key)
@@ -76,7 +76,7 @@ module _ (sc : Scope) (all : Nodes) (k : Keyword) (at : ℕ) (h : Node) (rest : 
   pub stops_by_any : IfErr r (λ s. (x : Node) → Stops s (conv_asked_by sc k at x (nodes_from all rest))) → IfErr r (λ s. Stops s (conv_asked_by sc (conv_keyword h) at h (nodes_from all rest)))
   stops_by_any stops = stops_by (if_err r (λ s. (x : Node) → Stops s (conv_asked_by sc k at x (nodes_from all rest))) (λ s. Stops s (conv_asked_by sc k at h (nodes_from all rest))) (λ s says. says h) stops)
 
--- a list is what it is by its first word
+-- a list is what it is by its first atom
 pub list_says : (sc : Scope) (all : Nodes) (m h : Node) (rest : Option ℕ) (r : Result ConvStep Stop) → m ≡ list (place m) (node h (nodes_from all rest))
     → IfOk r (ConvSaysBy sc all (conv_keyword h) (place m) h rest) → IfOk r (ConvSays sc all (IsConv sc m) (conv_asked sc m))
 list_says sc all m h rest r shape =

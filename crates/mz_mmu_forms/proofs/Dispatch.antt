@@ -1,4 +1,4 @@
--- A list by the word with which it begins.
+-- A list by the keyword with which it begins.
 use Rattle.std.proofs.Common.{◌≡◌, ℕ, List, Bool, true, false, Result, Ok, Err, IfOk, sym, refl, subst}
 use Rattle.std.specs.Prelude.{IfErr, bytes_eq, codes, if◌then◌else◌}
 use Rattle.mz_sexpr.specs.Node.{Node, Nodes, list, node, place}
@@ -34,7 +34,7 @@ module _ (sc : Scope) (hyps lets : List (List ℕ)) (m h : Node) (ns : Nodes) (k
   pub proof_stops_by : (s : Stop) → Stops s (proof_asked_by sc hyps lets k (place m) h ns) → Stops s (proof_asked sc hyps lets m)
   proof_stops_by s r = subst (λ x. Stops s (proof_asked sc hyps lets x)) (sym shape) (subst (λ q. Stops s (proof_asked_by sc hyps lets q (place m) h ns)) (sym key) r)
 
--- a word that is none of a conversion's, or of a proof's
+-- an atom that is no keyword of a conversion, or of a proof
 by_four : (a b c d : Bool) → ((if a then refl_word else (if b then sym_word else (if c then unfold_word else (if d then sorry_word else no_word)))) ≡ refl_word → ⊥)
     → ((if a then refl_word else (if b then sym_word else (if c then unfold_word else (if d then sorry_word else no_word)))) ≡ sym_word → ⊥)
     → ((if a then refl_word else (if b then sym_word else (if c then unfold_word else (if d then sorry_word else no_word)))) ≡ unfold_word → ⊥)

@@ -14,7 +14,7 @@ use Rattle.mz_mmu_forms.specs.SpaceView.{Key, word_of_key, IsKeyAt, AreKeysFrom}
 abbrev pub is_key : List ℕ → ℕ → Key → Bool
 is_key w m y = bytes_eq w y.0.now && nat_eq m y.1
 
--- a name is found where its word stands
+-- a name is found where its bytes stand
 and_true : (b : Bool) → (b && true) ≡ b
 and_true true = refl
 and_true false = refl
@@ -30,7 +30,7 @@ found_here i w k (inr here) h =
     differs false e = refl
     differs true e = absurd (true≢false (sym h ∙ ap is_name (same_text w k.0.now (sym e)) ∙ here.0))
 
--- so of each key the test says whether its word is this name
+-- so of each key the test says whether its bytes are this name
 pub keys-tell : (i : ℕ) (ks : List Key) (w : List ℕ) → AreKeysFrom i ks → IsName w → Tells word_of_key w (is_key w 0) ks
 keys-tell i [] w all h = tt
 keys-tell i (k ∷ ks) w all h = (found_here i w k all.0 h, keys-tell (suc i) ks w all.1 h)

@@ -71,9 +71,9 @@ module _ (sc : Scope) (hyps : List (List ℕ)) (all : Nodes) (Is Is' : Proof →
   proof_says_more lets now (steps.Inner o n) (there, few, w) = (there, few, waits_more lets (node_at all n) now o w)
   proof_says_more lets now (steps.Whole p) (same, h) = (same, is (proof_view p) h)
 
--- ---- a proof by its first word
+-- ---- a proof by its first atom
 
--- the word with which it begins is this one
+-- the keyword with which it begins is this one
 module _ (sc : Scope) (hyps : List (List ℕ)) (all : Nodes) (lets : List (List ℕ)) (k : Keyword) (at : ℕ) (h : Node) (rest : Option ℕ) (key : proof_keyword h ≡ k) (r : Result ProofStep Stop) where
   pub proof_says_by : IfOk r (ProofSaysBy sc hyps all lets k at h rest) → IfOk r (ProofSaysBy sc hyps all lets (proof_keyword h) at h rest)
   proof_says_by = subst (λ q. IfOk r (ProofSaysBy sc hyps all lets q at h rest)) (sym key)
@@ -81,7 +81,7 @@ module _ (sc : Scope) (hyps : List (List ℕ)) (all : Nodes) (lets : List (List 
   pub proof_stops_by_word : IfErr r (λ s. Stops s (proof_asked_by sc hyps lets k at h (nodes_from all rest))) → IfErr r (λ s. Stops s (proof_asked_by sc hyps lets (proof_keyword h) at h (nodes_from all rest)))
   proof_stops_by_word = subst (λ q. IfErr r (λ s. Stops s (proof_asked_by sc hyps lets q at h (nodes_from all rest)))) (sym key)
 
--- a list is what it is by its first word
+-- a list is what it is by its first atom
 module _ (sc : Scope) (hyps : List (List ℕ)) (all : Nodes) (lets : List (List ℕ)) (m h : Node) (rest : Option ℕ) (r : Result ProofStep Stop) (shape : m ≡ list (place m) (node h (nodes_from all rest))) where
   pub proof_list_says : IfOk r (ProofSaysBy sc hyps all lets (proof_keyword h) (place m) h rest) → IfOk r (SaysOfProof sc hyps all lets m lets)
   proof_list_says =

@@ -48,7 +48,7 @@ abbrev pub ConvSays : Scope → Nodes → (Conversion → Type 0) → Checks Fau
 ConvSays sc all Is asked (steps.Inner o n) = (n < node_count all) × ConvWaits sc all Is asked (node_at all n) o
 ConvSays sc all Is asked (steps.Whole c) = Is (conversion c)
 
--- the same of the conversion that begins with this word
+-- the same of the conversion that begins with this keyword
 abbrev pub ConvSaysBy : Scope → Nodes → Keyword → ℕ → Node → Option ℕ → ConvStep → Type 0
 ConvSaysBy sc all k at h rest step = ConvSays sc all (IsConvBy sc k h (nodes_from all rest)) (conv_asked_by sc k at h (nodes_from all rest)) step
 

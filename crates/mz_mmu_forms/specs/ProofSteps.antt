@@ -77,7 +77,7 @@ ProofSays sc hyps all Is asked lets now (steps.Inner o n) =
     (n < node_count all) × (length now + node_size (node_at all n) < 2 ^ 32) × ProofWaits sc hyps all Is asked lets (node_at all n) now o
 ProofSays sc hyps all Is asked lets now (steps.Whole p) = (now ≡ lets) × Is (proof_view p)
 
--- the same of the proof that the node is, and of one that begins with this word
+-- the same of the proof that the node is, and of one that begins with this keyword
 abbrev pub SaysOfProof : Scope → List (List ℕ) → Nodes → List (List ℕ) → Node → List (List ℕ) → ProofStep → Type 0
 SaysOfProof sc hyps all lets m now step = ProofSays sc hyps all (IsProof sc hyps lets m) (proof_asked sc hyps lets m) lets now step
 

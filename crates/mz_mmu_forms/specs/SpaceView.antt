@@ -1,4 +1,4 @@
--- How the code keeps the names of a space: each beside 0, and a word that is no name beside its
+-- How the code keeps the names of a space: each beside 0, and an atom that is no name beside its
 -- place and 1, since it may come again.
 use Rattle.std.specs.Prelude.{ℕ, suc, ◌≡◌, ◌⊎◌, ⊤, false, List, [], ◌∷◌}
 use Rattle.std.specs.Borrow.{Bor}

@@ -83,7 +83,7 @@ impl<'r, 'a> Reader<'r, 'a> {
         self.conv_by(sc, n, head, self.nodes.next(head))
     }
 
-    /// What is read first behind the word with which a conversion begins.
+    /// What is read first behind the keyword with which a conversion begins.
     fn conv_by(
         &self,
         sc: &Scope<'_, 'a>,

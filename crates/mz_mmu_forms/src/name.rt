@@ -1,4 +1,4 @@
-//! The word that is no name.
+//! The atom that is no name.
 
-/// The word of a parameter that has no name.
+/// The atom of a parameter that has no name.
 pub const HIDDEN: &[u8] = b"_";

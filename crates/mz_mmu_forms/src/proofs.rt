@@ -155,7 +155,7 @@ impl<'r, 'a> Reader<'r, 'a> {
         self.proof_by(sc, hyps, lets, n, head, self.nodes.next(head))
     }
 
-    /// What is read first behind the word with which a proof begins.
+    /// What is read first behind the keyword with which a proof begins.
     fn proof_by(
         &self,
         sc: &Scope<'_, 'a>,

@@ -23,7 +23,7 @@ pub struct Names<'a> {
     pub sorts: Space<'a>,
     /// The terms and definitions.
     pub terms: Space<'a>,
-    /// Those without parameters; at the place of another one stands an empty word.
+    /// Those without parameters; at the place of another one stands an empty string.
     pub constants: Space<'a>,
     /// The axioms and theorems.
     pub assertions: Space<'a>,

@@ -11,10 +11,10 @@ use std::alloc::{AllocError, Global};
 use std::marker::Model;
 
 /// The names of a space, numbered in the order in which they were first seen and borrowed from the
-/// text. A place may also hold a word that is no name, which can't be asked for.
+/// text. A place may also hold an atom that is no name, which can't be asked for.
 #[derive(Drop)]
 pub struct Space<'a> {
-    // a name beside 0, and another word beside its place and 1, since it may come again
+    // a name beside 0, and another atom beside its place and 1, since it may come again
     keys: IndexSet<(&'a [u8], u32), Hashing>,
 }
 
@@ -65,7 +65,7 @@ impl<'a> Space<'a> {
         Ok(())
     }
 
-    /// Appends a word that is no name.
+    /// Appends an atom that is no name.
     ///
     /// # Errors
     ///

@@ -1,4 +1,4 @@
--- Statements by the words with which they begin.
+-- Statements by the keywords with which they begin.
 use Rattle.std.proofs.Common.{◌≡◌, ℕ, true, false, sym, refl, subst}
 use Rattle.mz_sexpr.specs.Node.{Node, Nodes, atom, list, no_nodes, node, place, parts}
 use Rattle.mz_sexpr.specs.declared.rule.U.{U}

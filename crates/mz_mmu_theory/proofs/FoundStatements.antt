@@ -51,7 +51,7 @@ hyps_found : (sc : Scope) (n : Node) → AllHold (hyps_asked sc n) → (es : Tre
 hyps_found sc (atom at w) a = absurd a.0
 hyps_found sc (list at ns) a = hyps_found_from sc [] ns a
 
--- ---- statements, with this mark
+-- ---- statements, with this visibility
 
 abbrev Found : Bool → (Statement → Type 0) → Type 0
 Found mark Is = (s : Statement) × Is s × (s.is_local ≡ mark)

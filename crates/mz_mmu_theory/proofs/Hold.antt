@@ -85,7 +85,7 @@ dummy_holds names vars (list at (node y (node s no_nodes))) x b (h, k, r, d) =
     all_hold-both (new_asked vars y) (known_asked names.sorts s) (new_holds vars y x h) (known_holds names.sorts s b.sort k)
 dummy_holds names vars (list at (node y (node s (node _ _)))) x b h = absurd h
 
--- the name that a parameter or a dummy has is its first word
+-- the name that a parameter or a dummy has is its first atom
 pub param_word : (names : Names) (vars : List (List ℕ)) (n : Node) (w : List ℕ) (b : Binder) → IsParam names vars n w b → w ≡ first_word (parts n)
 param_word names vars (atom at w) x b h = absurd h
 param_word names vars (list at no_nodes) x b h = absurd h

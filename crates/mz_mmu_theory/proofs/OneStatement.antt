@@ -42,7 +42,7 @@ hyps_once sc (list at ns) es fs after after' h k = hyps_once_from sc [] ns es fs
 
 -- ---- statements
 
--- all but the mark
+-- all but the visibility
 record Alike (s t : Statement) : Type 0 where
   name : s.name ≡ t.name
   decl : s.decl ≡ t.decl

@@ -194,7 +194,7 @@ module _ (names : Names) (env : List Declaration) (m : Matches names env) where
   declared_there theorem_kind (node x (node ps (node hs (node e (node ds (node q (node _ _))))))) s h = absurd h
   declared_there no_kind ns s h = absurd h
 
-  -- only definitions and theorems are marked
+  -- only definitions and theorems may be local
   local_may_be : (k : Kind) (ns : Nodes) (s : Statement) → IsLocal names k ns s → MayBeLocal s.decl × There s.decl s
   local_may_be def_kind no_nodes s h = absurd h
   local_may_be def_kind (node x no_nodes) s h = absurd h

@@ -8,11 +8,11 @@ use Rattle.mz_logic_theory.specs.declared.binder.Binder.{Binder}
 
 -- ---- names
 
--- the word of a parameter that has no name
+-- the atom of a parameter that has no name
 abbrev pub hidden : List ℕ
 hidden = codes "_"
 
--- the word is an identifier
+-- the atom is an identifier
 abbrev pub IsName : List ℕ → Type 0
 IsName w = IsTrue (is_name w)
 

@@ -16,6 +16,6 @@ after (suc k) ns = after k (rest ns)
 abbrev pub part : Nodes → ℕ → Node
 part ns k = first (after k ns)
 
--- the parts of a statement from the word of its kind on, a visibility left out
+-- the parts of a statement from the keyword of its kind on, a visibility left out
 abbrev pub declared_parts : Node → Nodes
 declared_parts n = if is_local_word (first (parts n)) then rest (parts n) else parts n

@@ -10,10 +10,10 @@ use Rattle.mz_mmu_theory.specs.Name.{Scope, IsName, HasNumber, IsNewName}
 use Rattle.mz_mmu_theory.specs.Expressions.{IsExpr, IsExprList, IsVariableList}
 use Rattle.mz_mmu_theory.specs.Proof.{Proof, Proofs, by_hyp, by_name, by_citation, by_conv, by_let, by_gap, no_proofs, more_proofs}
 
--- ---- the literal words with which a list may begin; a list that begins with none of those that its
+-- ---- the keywords with which a list may begin; a list that begins with none of those that its
 -- place knows begins with a name
 
--- a list has the empty word, which is none of them
+-- a list has the empty string, which is none of them
 abbrev pub conv_keyword_of : List ℕ → Keyword
 conv_keyword_of w =
     if bytes_eq w (codes ":refl") then refl_word else

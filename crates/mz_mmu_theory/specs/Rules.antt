@@ -176,7 +176,7 @@ abbrev pub claims_rules : List Declaration → List Binder → Bool → Trees �
 claims_rules env ctx is_axiom none ns = nothing
 claims_rules env ctx is_axiom (more e es) ns = claim_rules env ctx e (hyp_node is_axiom (first ns)) >> claims_rules env ctx is_axiom es (rest ns)
 
--- the parts of a statement are numbered from the word of its kind at 0
+-- the parts of a statement are numbered from the keyword of its kind at 0
 abbrev pub body_rules : List Declaration → Signature → Form → Nodes → Checks Fault
 body_rules env d plain_form ps = nothing
 body_rules env d abstract_form ps = nothing

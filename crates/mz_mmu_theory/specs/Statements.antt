@@ -23,7 +23,7 @@ pub record Statement : Type 0 where
   pub dummies : List Binder
   pub proof : Option Proof
 
--- ---- the literal words of statements
+-- ---- the keywords of statements
 
 abbrev pub kind_of_word : List ℕ → Kind
 kind_of_word w =
@@ -93,7 +93,7 @@ AreNamedHyps sc (list _ ns) es after = AreHyps sc [] ns es after
 
 -- ---- statements
 
--- the parts behind the word of the kind are those of this statement, whose visibility isn't looked at
+-- the parts behind the keyword of the kind are those of this statement, whose visibility isn't looked at
 abbrev pub IsDeclared : Names → Kind → Nodes → Statement → Type 0
 IsDeclared names sort_kind (node x ms) s = (m : Modifiers)
     × IsNewName names.sorts x s.name × AreModifiers no_modifiers ms m

@@ -1,15 +1,15 @@
-//! The words with which conversions and proofs begin.
+//! The keywords with which conversions and proofs begin.
 ghost use Rattle.std.specs.Prelude.{◌≡◌, bytes_eq};
 ghost use Rattle.mz_mmu_theory.specs.Proofs.{conv_keyword_of, proof_keyword_of};
 
-/// Whether the word is this one.
+/// Whether the atom is this one.
 pub fn is(word: &[u8], other: &[u8]) -> bool
     ensures { result ≡ bytes_eq word.now other.now }
 {
     word == other
 }
 
-/// The literal words with which a conversion or a proof may begin.
+/// The keywords with which a conversion or a proof may begin.
 #[derive(Clone, Copy)]
 pub enum Keyword {
     /// `:conv`
@@ -24,12 +24,12 @@ pub enum Keyword {
     Unfold,
     /// `:sorry`
     Sorry,
-    /// Any other word, which is to be a name.
+    /// Any other atom, which is to be a name.
     Other,
 }
 
 impl Keyword {
-    /// The word with which a conversion begins.
+    /// The keyword with which a conversion begins.
     pub fn of_conv(word: &[u8]) -> Keyword
         ensures { result ≡ conv_keyword_of word.now }
     {
@@ -46,7 +46,7 @@ impl Keyword {
         }
     }
 
-    /// The word with which a proof begins.
+    /// The keyword with which a proof begins.
     pub fn of_proof(word: &[u8]) -> Keyword
         ensures { result ≡ proof_keyword_of word.now }
     {

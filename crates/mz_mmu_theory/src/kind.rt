@@ -1,10 +1,10 @@
-//! The words with which statements begin.
+//! The keywords with which statements begin.
 ghost use Rattle.std.specs.Prelude.{◌≡◌};
 ghost use Rattle.mz_mmu_theory.specs.Statements.{kind_of_word};
 
 use crate::keyword::is;
 
-/// The literal words with which statements begin.
+/// The keywords with which statements begin.
 #[derive(Clone, Copy)]
 pub enum Kind {
     /// `sort`
@@ -17,12 +17,12 @@ pub enum Kind {
     Def,
     /// `theorem`
     Theorem,
-    /// Any other word.
+    /// Any other atom.
     Other,
 }
 
 impl Kind {
-    /// The kind of statement that the word begins.
+    /// The kind of statement that the atom begins.
     pub fn of(word: &[u8]) -> Kind
         ensures { result ≡ kind_of_word word.now }
     {

@@ -25,7 +25,7 @@ impl Modifiers {
         is_free: false,
     };
 
-    /// These and the one of this word, if it is a modifier's and not met yet.
+    /// These and the one of this atom, if it is a modifier's and not met yet.
     pub fn with(self, word: &[u8]) -> Option<Modifiers>
         ensures { option_modifiers result ≡ with_modifier (modifiers_view self) word.now }
     {

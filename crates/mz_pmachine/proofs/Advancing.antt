@@ -1,4 +1,4 @@
--- A command on the parts of a machine, in the words of the machine that they make.
+-- A command on the parts of a machine, said of the machine that they make.
 use Rattle.std.specs.Prelude.{OnOk}
 use Rattle.std.proofs.Common.{◌≡◌, ◌≤◌, ◌+◌, ◌<◌, ◌^◌, ℕ, length, Result, Ok, Err, refl, sym, ◌∙◌, subst}
 use Rattle.mz_cmd.specs.declared.command.Cmd.{Cmd}

@@ -20,7 +20,7 @@ use mz_machine_env::{BodyKind, kind_by};
 use std::alloc::Global;
 use std::sync::ledger::Ledger;
 
-/// Runs the body of a statement as a verifier does that compares addresses; its bytes are those from
+/// Runs the body of a statement as a verifier does that compares by identity; its bytes are those from
 /// the first place of `body` up to the second. The statement has this kind, 02 for an axiom, 05 for a
 /// definition and 06 for a theorem; `row` is the next row of its table, and `before` counts the rows
 /// that were declared before.

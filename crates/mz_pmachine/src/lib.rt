@@ -1,4 +1,4 @@
-//! The proof machine of verifiers that compare addresses, as it runs over the nodes of a body.
+//! The proof machine of verifiers that compare by identity, as it runs over the nodes of a body.
 //!
 //! What the machine is, is said in `mz_machine_theory`, over the profile `portable` of `mz_pmachine_theory`;
 //! `specs/OverNodes.antt` says how the running machine stands for the one that is defined there.

@@ -1,7 +1,7 @@
 -- Expressions that carry the commands which made them, and the machine that says them apart by these: two are the same
--- only where the same commands made them. So a verifier decides that keeps each expression at the address where a command
--- of the body made it, and compares addresses (the .mmb format, and verifiers that compare addresses; the profile is this
--- project's own).
+-- only where the same commands made them. So a verifier decides that keeps each expression where a command of the body
+-- made it, and compares by identity, as pointers are compared (the .mmb format, and verifiers that compare so; the
+-- profile is this project's own).
 use Rattle.std.specs.Prelude.{ℕ, Bool, true, false, ◌==◌, ◌&&◌, List, [], ◌∷◌, Option, Some, None}
 use Rattle.mz_logic_theory.specs.Tree.{Tree, Trees, var, app, none, more}
 use Rattle.mz_unify_theory.specs.Profile.{Profile}

@@ -1,4 +1,4 @@
-//! The proof machine of verifiers that compare addresses, as a definition.
+//! The proof machine of verifiers that compare by identity, as a definition.
 //!
 //! `specs/Numbered.antt` has expressions in which each application carries the number of the command that
 //! made it, and the profile `portable`, over which the machine of `mz_machine_theory` accepts only what refers

@@ -1,5 +1,5 @@
 -- What the nodes of a body are: the expressions that its commands make, each with the number of its command (the .mmb
--- format, and verifiers that compare addresses).
+-- format, and verifiers that compare by identity).
 use Rattle.std.specs.Prelude.{ℕ, ◌≡◌, ◌<◌, ◌≤◌, ⊤, List, [], ◌∷◌, ◌++◌, length, get_or, Option, Some, None}
 use Rattle.mz_logic_theory.specs.Tree.{Tree, Trees}
 use Rattle.mz_logic_theory.specs.Signature.{Signature}

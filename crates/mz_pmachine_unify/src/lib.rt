@@ -1,5 +1,5 @@
 //! Expressions by the places where a body made them, and the unify machine that runs over them, for verifiers that
-//! compare addresses.
+//! compare by identity.
 //!
 //! Each command makes one node, which no search shares ([`Nodes`]). What the machine is, is said in `mz_unify_theory`,
 //! over the profile `portable` of `mz_pmachine_theory`; `specs/Stored.antt` says how ids of nodes stand for expressions.

@@ -196,7 +196,7 @@ impl Nodes {
         Ok(id)
     }
 
-    /// Which variables the second words tell.
+    /// Which variables the second words name.
     pub(crate) fn mode(&self) -> DepsMode
         ensures { result ≡ self.now.mode }
     {

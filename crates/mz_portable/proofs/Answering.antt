@@ -1,4 +1,4 @@
--- What the run of a body comes to, on the machine that compares addresses.
+-- What the run of a body comes to, on the machine by identity.
 use Rattle.std.proofs.Common.{◌≡◌, ℕ, true, false, List, Result}
 use Rattle.mz_cmd.specs.declared.rule.K.{K}
 use Rattle.mz_machine_theory.specs.MachineState.{State, Heading}

@@ -1,5 +1,5 @@
--- What is said of a specification and a binary by verifiers that compare addresses (mm0.md's and the .mmb format's parts;
--- the order of refusals is this project's own).
+-- What is said of a specification and a binary by verifiers that compare by identity (mm0.md's and the .mmb format's
+-- parts; the order of refusals is this project's own).
 use Rattle.std.specs.Prelude.{⊤, ℕ, List}
 use Rattle.mz_binary_theory.specs.declared.standard.Standard.TheVariants.{Portable}
 use Rattle.mz_match_theory.specs.declared.verdict.Counts.{Counts}

@@ -1,4 +1,4 @@
-//! The bodies of a binary on the machine that compares addresses.
+//! The bodies of a binary on the machine by identity.
 ghost use Rattle.mz_binary_theory.specs.declared.standard.Standard.TheVariants.{Portable};
 
 use mz_binary::Bodies;
@@ -12,7 +12,7 @@ use mz_store::Seed;
 use std::alloc::Global;
 use std::sync::ledger::Ledger;
 
-/// Finished proofs as verifiers hold them that compare addresses: the machine over numbered nodes, which
+/// Finished proofs as verifiers hold them that compare by identity: the machine over numbered nodes, which
 /// lets no gap through and has no use for the seed.
 #[derive(Drop)]
 pub struct PortableBodies {

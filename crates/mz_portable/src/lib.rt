@@ -1,4 +1,4 @@
-//! A specification and a binary together, as verifiers see them that compare addresses.
+//! A specification and a binary together, as verifiers see them that compare by identity.
 //!
 //! `specs/Portable.antt` says what is accepted so, and what the first refusal is: the verdict of `mz_match`,
 //! where the bodies of the binary run by identity. What is accepted so is accepted by the standard machine

@@ -11,7 +11,7 @@ use mz_store::Seed;
 use std::alloc::Global;
 use std::sync::ledger::Ledger;
 
-/// Verifies a binary against a specification as verifiers do that compare addresses: as `verify_bytes`
+/// Verifies a binary against a specification as verifiers do that compare by identity: as `verify_bytes`
 /// does, but that two expressions are the same only where the same commands of a body made them.
 pub fn portable_bytes<L: Ledger>(
     alloc: Global,

@@ -28,7 +28,7 @@ module _ {A : Type 0} (text : ℕ → List A → List ℕ) (part : ℕ → A →
   parts-end whole out xs i past nothing so_far =
       sym (append-nil out) ∙ sym (ap (λ t. out ++ t) (ap (text i) (drop_all i xs past) ∙ nothing)) ∙ so_far
 
--- ---- words
+-- ---- tokens
 
 pub spaced-append : (ts us : Tokens) → spaced (ts ++ us) ≡ spaced ts ++ spaced us
 spaced-append [] us = refl

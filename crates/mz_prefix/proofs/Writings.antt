@@ -19,7 +19,7 @@ same-vocabulary ss names are =
     ∙ ap (λ t. vocabulary_from (sort_names ss) t names.prefix.items) are.terms
     ∙ ap (λ p. vocabulary_from (sort_names ss) (term_names ss) p) are.prefix
 
--- a statement's text by marks and a vocabulary
+-- a statement's text by visibilities and a vocabulary
 abbrev part : List Bool → Vocabulary → Statement → List ℕ
 part ls v s = if s.is_local then [] else line_text (line_of_decl v s.name (public_decl (is_hidden ls v) (λ t. t) s.decl))
 

@@ -1,4 +1,4 @@
--- A word isn't made longer by what ends it.
+-- A token isn't made longer by what ends it.
 use Rattle.std.proofs.Common.{◌≡◌, ◌∙◌, ◌++◌, ◌∷◌, [], ◌&&◌, ◌||◌, ℕ, List, ◌⊎◌, Bool, true, false, not, ap, sym, refl, inl, inr, subst}
 use Rattle.std.specs.Prelude.{◌==◌, bytes_eq, codes}
 use Rattle.std.specs.List.{list_all}

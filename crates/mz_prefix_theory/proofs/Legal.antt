@@ -145,7 +145,7 @@ module _ (ls : List Bool) (hidden : Tree → Bool) (hides : Hides ls hidden) (en
 
 -- ---- all statements
 
--- where the marks of the statements left begin
+-- where the visibilities of the statements left begin
 pub record IsAt (ls : List Bool) (env : List Declaration) (ss : List Statement) : Type 0 where
   pub before : List Bool
   pub all : ls ≡ before ++ marks_of ss

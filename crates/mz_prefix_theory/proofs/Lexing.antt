@@ -1,4 +1,4 @@
--- Words one after the other are the lexemes of their text.
+-- Tokens one after the other are the lexemes of their text.
 use Rattle.std.proofs.Common.{◌≡◌, ◌<◌, ◌+◌, ◌-◌, ◌∙◌, ◌++◌, ◌∷◌, [], ℕ, List, length, drop, take, get_or, true, false, arith, ap, ap₂, sym, refl, inl, subst, Option, length-append, append_assoc}
 use Rattle.std.specs.Prelude.{slice_range, bytes_eq, codes}
 use Rattle.std.specs.List.{list_all}
@@ -51,7 +51,7 @@ via-then (stop ∷ stops) text from at to via rest = let further = via-then stop
 pub blank-then : (text : List ℕ) (from at to : ℕ) → IsBlank text from at → IsBlank text at to → IsBlank text from to
 blank-then text from at to (stops, via) rest = via-then stops text from at to via rest
 
--- ---- words
+-- ---- tokens
 
 some-bytes : (kind : TokenKind) (text : List ℕ) → is_of_kind kind text ≡ true → 0 < length text
 some-bytes kinds.Symbol [] is = absurd (false≢true is)
@@ -60,7 +60,7 @@ some-bytes kinds.Number [] is = absurd (false≢true is)
 some-bytes kinds.Math [] is = absurd (false≢true is)
 some-bytes kind (c ∷ cs) is = omega arith
 
--- the bytes of a word from `from` on, and what stands behind it
+-- the bytes of a token from `from` on, and what stands behind it
 pub record Found (text word rest : List ℕ) (from : ℕ) : Type 0 where
   pub slice : slice_range text from (from + length word) ≡ word
   pub size : length text ≡ from + length word + length rest

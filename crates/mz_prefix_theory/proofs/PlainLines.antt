@@ -1,4 +1,4 @@
--- The words of plain lines end where they are written, so that lines are read again.
+-- The tokens of plain lines end where they are written, so that lines are read again.
 use Rattle.std.proofs.Common.{◌≡◌, ◌∙◌, ◌+◌, ◌++◌, ◌∷◌, [], ℕ, List, Bool, length, true, false, ap, sym, refl, subst, arith, append_assoc, append-nil, length-append, Some, None, Option}
 use Rattle.std.specs.Prelude.{codes}
 use Rattle.std.specs.List.{list_all}
@@ -18,7 +18,7 @@ use Rattle.mz_prefix_theory.specs.Plain.{AreNames, is_token_byte, AreTokens, IsP
 use Rattle.mz_prefix_theory.specs.PrintLaws.{LinesLex}
 use Rattle.mz_prefix_theory.proofs.Lexing.{words-are-lexemes, blank-then, via-spaces}
 
--- ---- words one after the other
+-- ---- tokens one after the other
 
 pub written-append : (ws vs : List Word) → written (ws ++ vs) ≡ written ws ++ written vs
 written-append [] vs = refl

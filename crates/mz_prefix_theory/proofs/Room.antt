@@ -19,9 +19,9 @@ use Rattle.mz_prefix_theory.specs.Wording.{publics_named, vocabulary_of, local_t
 use Rattle.mz_prefix_theory.proofs.Cases.{chosen}
 use Rattle.mz_prefix_theory.proofs.Printing.{HasRoom, AreWanted}
 
--- ---- words
+-- ---- tokens
 
--- words among others are no longer
+-- tokens among others are no longer
 within : (xs ys zs : List Word) → length (written ys) ≤ length (written ((xs ++ ys) ++ zs))
 within xs ys zs =
     omega (arith, ap length (written-append (xs ++ ys) zs), length-append (written (xs ++ ys)) (written zs), ap length (written-append xs ys), length-append (written xs) (written ys))

@@ -1,4 +1,4 @@
--- The words of a line are the signs of its statement, part by part.
+-- The tokens of a line are the signs of its statement, part by part.
 use Rattle.std.proofs.Common.{◌≡◌, ◌∙◌, ◌++◌, ◌∷◌, [], ◌⊎◌, ℕ, List, Bool, true, false, ap, sym, refl, inl, inr, subst, append_assoc, map, Some, None, Option}
 use Rattle.std.specs.Prelude.{codes}
 use Rattle.std.proofs.lemmas.Bool.{false≢true}
@@ -18,7 +18,7 @@ pub lexemes-append : (p : ℕ) (ws vs : List Word) → lexemes_at p (ws ++ vs) �
 lexemes-append p [] vs = refl
 lexemes-append p (w ∷ ws) vs = ap (λ ls. lexeme_at p w ∷ ls) (lexemes-append (stop p (w ∷ [])) ws vs)
 
--- the words make these signs
+-- the tokens make these signs
 abbrev Make : ℕ → List Word → List Sign → Type 0
 Make p ws ss = AreSigns ss (lexemes_at p ws)
 

@@ -21,7 +21,7 @@ pub record PlainBinder : Type 0 where
   pub name : List ℕ
   pub type : PlainType
 
--- the tokens of a math string
+-- the math tokens of a math string
 abbrev pub Tokens : Type 0
 Tokens = List (List ℕ)
 
@@ -31,7 +31,7 @@ pub data Line : Type 0 where
   assert_line : AssertKind → (name : List ℕ) → List PlainBinder → (hyps : List Tokens) → (conclusion : Tokens) → Line
   definition_line : (name : List ℕ) → List PlainBinder → PlainType → (body : Option Tokens) → Line
 
--- ---- words, behind nothing or behind a space
+-- ---- tokens, behind nothing or behind a space
 
 abbrev pub mark : List ℕ → Word
 mark text = record { gap = []; kind = kinds.Symbol; text = text }
@@ -45,19 +45,19 @@ name_word text = record { gap = []; kind = kinds.Name; text = text }
 abbrev pub spaced_name : List ℕ → Word
 spaced_name text = record { gap = codes " "; kind = kinds.Name; text = text }
 
--- tokens, each with a space behind it
+-- math tokens, each with a space behind it
 abbrev pub spaced : Tokens → List ℕ
 spaced [] = []
 spaced (t ∷ ts) = t ++ (codes " " ++ spaced ts)
 
--- `$`, the tokens and `$`, with a space between each two of them
+-- `$`, the math tokens and `$`, with a space between each two of them
 abbrev pub math_text : Tokens → List ℕ
 math_text ts = codes "$ " ++ (spaced ts ++ codes "$")
 
 abbrev pub math_word : Tokens → Word
 math_word ts = record { gap = codes " "; kind = kinds.Math; text = math_text ts }
 
--- ---- the words of each part, and the part itself where they begin at a place
+-- ---- the tokens of each part, and the part itself where they begin at a place
 
 abbrev pub dep_words : List (List ℕ) → List Word
 dep_words [] = []
@@ -175,7 +175,7 @@ statement_at p (definition_line name bs t body) =
     definition_statement (head_at p Definition name bs) (type_at (colon_at p Definition name bs) t)
     (body_at (stop (colon_at p Definition name bs) (type_words t)) body)
 
--- the words and a newline
+-- the tokens and a newline
 abbrev pub line_text : Line → List ℕ
 line_text l = written (line_words l) ++ codes "\n"
 

@@ -1,4 +1,4 @@
--- What is read of a text that is written as words, and of lines.
+-- What is read of a text that is written as tokens, and of lines.
 use Rattle.std.specs.Prelude.{◌≡◌, ◌+◌, ◌++◌, ℕ, List, length, Option}
 use Rattle.mz_lex.specs.Lexemes.{Lexeme, LexesFrom, Lexes}
 use Rattle.mz_lex.specs.declared.token.LexFault.{LexFault}
@@ -17,14 +17,14 @@ use Rattle.mz_math_theory.specs.Formula.{Reader, words, IsFormula}
 use Rattle.mz_prefix_theory.specs.Prefix.{tokens_of, IsSpoken, HasNoNotation, IsOfWanted, IsShort}
 use Rattle.mz_math_tokens.specs.Pieces.{Pieces, no_delimiters, piece_texts}
 
--- behind other bytes and before a rest, words are the next lexemes, and then comes what comes behind them
+-- behind other bytes and before a rest, tokens are the next lexemes, and then comes what comes behind them
 abbrev pub WordsAreLexemes : Type 0
 WordsAreLexemes = (before rest : List ℕ) (ws : List Word) (ls : List Lexeme) (e : Option LexFault)
     → AreWords ws rest
     → LexesFrom (before ++ (written ws ++ rest)) (length before + length (written ws)) ls e
     → LexesFrom (before ++ (written ws ++ rest)) (length before) (lexemes_at (length before) ws ++ ls) e
 
--- the words of a line spell its statement
+-- the tokens of a line spell its statement
 abbrev pub LinesSpellStatements : Type 0
 LinesSpellStatements = (p : ℕ) (l : Line) → HasItsDummies l → Spells (statement_at p l) (lexemes_at p (line_words l))
 
@@ -32,7 +32,7 @@ LinesSpellStatements = (p : ℕ) (l : Line) → HasItsDummies l → Spells (stat
 abbrev pub LinesLex : Type 0
 LinesLex = (ls : List Line) → ArePlain ls → Lexes (lines_text ls) (lines_lexemes 0 ls)
 
--- between the two `$` of a math string that is written stand its tokens
+-- between the two `$` of a math string that is written stand its math tokens
 abbrev pub TokensArePieces : Type 0
 TokensArePieces = (ts : Tokens) → AreTokens ts → Pieces no_delimiters (inside_of (math_text ts)) (pieces_at 1 ts) × (piece_texts (inside_of (math_text ts)) (pieces_at 1 ts) ≡ ts)
 

@@ -1,18 +1,18 @@
 // Laws on the definitions: the contract of each function is one, and its body is empty.
 ghost use Rattle.mz_prefix_theory.specs.PrintLaws.{LinesLex, LinesSpellStatements, PrefixFormsAreMeant, PrefixFormsAreRead, TokensArePieces, WordsAreLexemes};
 
-/// Words that are written one after the other are the lexemes of their text, and so are those of lines.
+/// Tokens that are written one after the other are the lexemes of their text, and so are those of lines.
 pub fn words_are_lexemes()
     ensures words { WordsAreLexemes }
     ensures lines { LinesLex }
 {}
 
-/// The words of a line are the signs of its statement.
+/// The tokens of a line are the signs of its statement.
 pub fn lines_spell_statements()
     ensures { LinesSpellStatements }
 {}
 
-/// The tokens of a math string that is written are those that are read.
+/// The math tokens of a math string that is written are those that are read.
 pub fn tokens_are_pieces()
     ensures { TokensArePieces }
 {}

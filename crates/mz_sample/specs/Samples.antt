@@ -1,5 +1,5 @@
 -- The sample theories: for each number of definitions a specification and a proof text that proves it (this project's
--- own; their words are those of the .mm0 format and of proof texts).
+-- own; their syntax is that of the .mm0 format and of proof texts).
 --
 -- i numbers a definition and its two theorems, from 1; k is the number before it.
 use Rattle.std.specs.Prelude.{ℕ, zero, suc, ◌==◌, List, ◌++◌, codes, decimal, if◌then◌else◌}

@@ -167,7 +167,7 @@ tokens_met i last (p ∷ ps) (is, ended, more) r =
 
 -- ---- every text has pieces
 
--- what the tests of a byte tell
+-- what the tests of a byte say
 abbrev Told : ℕ → Bool → Class → Type 0
 Told b l Space = (b ≡ 32) ⊎ (b ≡ 10)
 Told b l Opening = b ≡ 40

@@ -1,4 +1,4 @@
--- The ends of rows that their sizes tell.
+-- The ends of rows that their sizes yield.
 use Rattle.std.proofs.Common.{ℕ, zero, suc, ◌≡◌, ◌<◌, ◌≤◌, ◌+◌, inl, inr, List, [], ◌∷◌, length, get_or, set, map, refl, sym, ap, ◌∙◌, subst, arith}
 use Rattle.std.specs.Prelude.{◌⊎◌, ◌==◌, ◌^◌, true, false}
 use Rattle.std.proofs.lemmas.Bool.{false≢true}

@@ -62,7 +62,7 @@ abbrev pub sized : ℕ → List Row → List ℕ
 sized k [] = []
 sized k (r ∷ rs) = (k + r.size) ∷ sized (suc k) rs
 
--- where the parts of each row end: as is kept beside the rows, or as their sizes tell where nothing is
+-- where the parts of each row end: as is kept beside the rows, or as their sizes yield where nothing is
 abbrev pub all_ends : List Row → List ℕ → List ℕ
 all_ends rows [] = sized 0 rows
 all_ends rows (e ∷ es) = e ∷ es

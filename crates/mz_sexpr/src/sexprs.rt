@@ -29,7 +29,7 @@ pub struct Sexprs<'a> {
     pub(crate) text: &'a [u8],
     pub(crate) rows: Vec<Row>,
     // for each node, the number of the first later one that is no part of it; none where the rows'
-    // sizes tell them
+    // sizes yield them
     pub(crate) ends: Vec<u32>,
 }
 

@@ -33,7 +33,7 @@ steps-on file place s to w there e =
 
 -- ---- the whole text
 
--- a text that the file is listed with, of which this is a front
+-- a text that the file is listed with, of which this is a prefix
 pub record Front (file front : List ℕ) : Type 0 where
   pub text : List ℕ
   pub rest : List ℕ
@@ -91,7 +91,7 @@ module _ (file : List ℕ) (layout : Layout file) where
     parts = sym (append-nil (chain_text file (first_place file) ss ++ codes "end\n"));
   }
 
-  -- a text that is a front of what is to be written has room
+  -- a text that is a prefix of what is to be written has room
   pub has-room : (front more : List ℕ) (room room_before : ℕ) → Front file (front ++ more) → room + length front ≡ room_before →
       ((text : List ℕ) → IsListed file text → length text ≤ room_before) → length more ≤ room
   has-room front more room room_before f left all =
@@ -116,7 +116,7 @@ module _ (file : List ℕ) (layout : Layout file) where
         parts = f.parts ∙ ap (λ part. (front ++ part) ++ f.rest) (sym (take-append-drop w.0 more)) ∙ simp append_assoc;
       }) all
 
-  -- a front of what the file is listed with was written, and then a piece was cut short
+  -- a prefix of what the file is listed with was written, and then a piece was cut short
   pub cut-short : (front more : List ℕ) (before now later : List Call) → (f : Front file (front ++ more)) → Grows before now (IsWritten front) → Grows now later (IsCut more) →
       Grows before later (IsCut f.text)
   cut-short front more before now later f one two =

@@ -5,7 +5,7 @@ use Rattle.mz_show.specs.Listing.{IsListing, IsListedUpTo, IsListed}
 use Rattle.mz_show.specs.declared.writing.Shown.{Shown}
 use Rattle.mz_show.specs.declared.writing.Shown.TheVariants as shown
 
--- a front of the text was handed over and taken, in pieces, and nothing more was
+-- a prefix of the text was handed over and taken, in pieces, and nothing more was
 pub record IsBegunText (text : List ℕ) (calls : List Call) : Type 0 where
   pub front : List ℕ
   pub rest : List ℕ
@@ -19,5 +19,5 @@ IsShowing file shown.Done calls = (text : List ℕ) × IsListing file text × Is
 IsShowing file (shown.Refused refusal) calls = (text : List ℕ) × IsListedUpTo file text refusal × IsWritten text calls
 -- it is written up to a call that failed
 IsShowing file shown.Fault calls = (text : List ℕ) × IsListed file text × IsCut text calls
--- a front of it is written
+-- a prefix of it is written
 IsShowing file shown.Mem calls = (text : List ℕ) × IsListed file text × IsBegunText text calls

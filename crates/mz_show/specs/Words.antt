@@ -1,4 +1,4 @@
--- The words of a listing (the .mmb format, its list of commands).
+-- The tokens of a listing's lines (the .mmb format, its list of commands).
 use Rattle.std.specs.Prelude.{ℕ, ◌++◌, Bool, true, false, List, [], ◌∷◌, codes, decimal, if◌then◌else◌}
 use Rattle.std.specs.Int.{bytes_high_first}
 use Rattle.hex.specs.Hex.{encode_lower}

@@ -1,4 +1,4 @@
-// The words of a listing.
+// The tokens of a listing's lines.
 ghost use Rattle.std.specs.Prelude.{◌≡◌, IsTrue, IfOk, string_bytes};
 ghost use Rattle.mz_show.specs.Words.{command_words, param_line, proof_has_number, proof_name, result_line, unify_has_number, unify_name, word_text};
 
@@ -6,7 +6,7 @@ use mz_cmd::{Mem, ProofCode, UnifyCode};
 use mz_logic_theory::Word;
 use std::alloc::Global;
 
-/// A word's sixteen hexadecimal digits, the most significant first.
+/// A type word's sixteen hexadecimal digits, the most significant first.
 fn word_text(alloc: Global, word: Word) -> Result<String, Mem>
     ensures { IfOk result (λ text. string_bytes text ≡ word_text word) }
 {

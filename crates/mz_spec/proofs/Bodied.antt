@@ -31,7 +31,7 @@ use Rattle.mz_spec_theory.proofs.Offered.{mem-before, body-small, last-halt, all
 -- ---- its rules
 
 module _ (σ : State) (place : ℕ) (vs : List Variable) (l : Lexeme) (t : TypeText) (tokens : List (List Piece)) (are : AreTokens σ (body l t ∷ []) tokens) where
-  -- the string breaks a rule, or memory is wanting there
+  -- the string breaks a rule, or it is out of memory there
   pub body-halt : (halt : Halt) → ((ps : List Piece) → Pieces σ.table.delimiters (inner l) ps → OnFault halt (FailsFirst (string_checks σ vs (body l t) ps)))
       → OnFault halt (FailsFirst (body_rules σ place vs (body l t ∷ []) tokens))
   body-halt halt fails =

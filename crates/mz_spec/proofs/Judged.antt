@@ -30,7 +30,7 @@ module _ (σ : State) (place : ℕ) (vs : List Variable) (ts rs : List TypeText)
       assoc (variable_rules σ vs ts) (binder_rules σ place vs rs) rest
       ∙ assoc (are_others [] vs) (each_in_order (type_checks σ (names_of vs)) ts) (binder_rules σ place vs rs >> rest)
 
-  -- one of the parts fails, or memory is wanting there
+  -- one of the parts fails, or it is out of memory there
   pub parts-halt : (halt : Halt) → AllHold new → OnFault halt (FailsFirst (parts_rules σ place vs ts rs)) → OnFault halt (FailsFirst whole)
   parts-halt halt holds fails =
       mem-after new Behind halt holds (subst (λ cs. OnFault halt (FailsFirst cs)) behind (mem-before (parts_rules σ place vs ts rs) rest halt fails))

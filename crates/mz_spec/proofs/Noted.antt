@@ -248,7 +248,7 @@ module _ (σ : State) (place : ℕ) (h : Head) (t : TypeText) (ls : List Literal
       turned-general {A = A} (Ok a)
       (all_hold-both level_checks (rules >> general_form) (level-holds all more) (all_hold-both rules general_form good (retold-holds (at_statement place) (notation_checks σ.table (MakesNotation σ general)) is)))
 
--- ---- other words for the same notation
+-- ---- another description of the same notation
 
 module _ (t : Table) (M N : Notation → Type 0) (to : (k : Notation) → M k → N k) (from : (k : Notation) → N k → M k) where
   fails-other : (x : NoteFault) → FailsFirst (notation_checks t M) x → FailsFirst (notation_checks t N) x

@@ -1,4 +1,4 @@
--- The levels of a statement that lexemes of a text spell are written in digits.
+-- The precedences of a statement that lexemes of a text spell are written in digits.
 use Rattle.std.proofs.Common.{◌≡◌, ◌++◌, ℕ, List, [], ◌∷◌, Bool, true, false, Option, Some, None, sym, refl, subst, arith}
 use Rattle.std.specs.Prelude.{⊤, ◌||◌, ◌&&◌, IsTrue, codes, bytes_eq}
 use Rattle.std.specs.List.{list_all}
@@ -59,7 +59,7 @@ signs-number (s ∷ ss) (l ∷ ls) (is, are) (kind, small, of) = (sign-number s 
 spelled-numbers : (s : Statement) → IsSpelled s → Every NumberHolds (statement_signs s)
 spelled-numbers s (ls, spells, of, few) = signs-number (statement_signs s) ls spells of
 
--- ---- levels
+-- ---- precedences
 
 level-number : (l : Level) → NumberHolds (level_sign l) → IsNumeral l
 level-number (number_level l) h = h

@@ -58,7 +58,7 @@ pub literals-next : (text more next : List ℕ) (ls : List LiteralText) (ks js :
 literals-next text more next ls ks js l k longer one is are =
     subst (λ zs. AreLiterals next (ls ++ l ∷ []) zs) (sym one) (literals-more next ls ks l k (subst (λ t. AreLiterals t ls ks) (sym longer) (literals-front text more ls ks are)) is)
 
--- ---- levels
+-- ---- precedences
 
 abbrev pub levels_in : List LiteralText → Checks Fault
 levels_in ls = each_in_order is_level (literal_levels ls)

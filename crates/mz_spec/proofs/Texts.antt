@@ -160,7 +160,7 @@ read-two text from read (front, lexes, spells, _) =
     let s = statement read.statement in
     omega (arith, lexemes-long text from read.end front lexes, signs-long (statement_signs s) front spells, signs-two s)
 
--- a statement adds one mark at most
+-- a statement adds one span at most
 pub after-marks : (σ : State) (place : ℕ) (s : Statement) (τ : State) → After σ place s τ → length τ.marks ≤ length σ.marks + 1
 after-marks σ place (sort_statement m n) τ (d, is, same) = let e = ap (λ x. length x.marks) same in omega (arith, e, length-append σ.marks (mark_at place n ∷ []))
 after-marks σ place (term_statement h ts t) τ (d, is, same) = let e = ap (λ x. length x.marks) same in omega (arith, e, length-append σ.marks (mark_at place h.name ∷ []))

@@ -20,7 +20,7 @@ IsAnswer text (Spec entries) = SpecMakes text entries
 IsAnswer text (Refused refusal) = SpecFault text refusal
 IsAnswer text Mem = ⊤
 
--- all rules of a statement hold, or the first that does not has this fault, or memory was wanting, by whatever tokens its formulas have
+-- all rules of a statement hold, or the first that does not has this fault, or it is out of memory, by whatever tokens its formulas have
 abbrev pub JudgesStatement : {A : Type 0} → Result A Halt → State → ℕ → Statement → Type 0
 JudgesStatement result σ place s = (tokens : List (List Piece)) → AreTokens σ (view s).formulas tokens → JudgesOrMem result (statement_checks σ place s tokens)
 

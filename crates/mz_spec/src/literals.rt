@@ -29,7 +29,7 @@ impl Literals {
     ///
     /// # Errors
     ///
-    /// At the first level that is past the highest one; or where there is no memory.
+    /// At the first precedence that is past the highest one; or where there is no memory.
     pub fn of(
         alloc: Global,
         literals: &[LiteralText<'_>],

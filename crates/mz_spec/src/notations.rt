@@ -28,7 +28,7 @@ use std::alloc::Global;
 
 // ---- operators
 
-/// Adds the operator of this level to the table.
+/// Adds the operator of this precedence to the table.
 fn note_operator<'a>(
     state: &mut State<'a>,
     operator: OperatorText<'a>,
@@ -181,7 +181,7 @@ pub fn add_notation<'a>(
     notation_with(state, alloc, place, notation, &parts, &literals, tail)
 }
 
-/// Adds a general notation with these parts, literals and tail, whose levels are right.
+/// Adds a general notation with these parts, literals and tail, whose precedences are right.
 fn notation_with<'a>(
     state: &mut State<'a>,
     alloc: Global,

@@ -20,7 +20,7 @@ pub enum SpecRead {
     Spec(Spec),
     /// The first rule that it breaks.
     Refused(SpecRefusal),
-    /// Memory was wanting.
+    /// Out of memory.
     Mem,
 }
 

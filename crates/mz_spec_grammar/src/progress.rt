@@ -32,7 +32,7 @@ pub struct Parts<'a> {
     pub ty: TypeText<'a>,
     /// The formula, body or constant that was read last.
     pub formula: Lexeme<'a>,
-    /// The level that was read last.
+    /// The precedence that was read last.
     pub level: Level<'a>,
     /// The types of a term before each `>`.
     pub arguments: Vec<TypeText<'a>>,
@@ -126,7 +126,7 @@ pub enum Operator {
     Constant,
     /// `prec`
     Prec,
-    /// The level.
+    /// The precedence.
     Level,
 }
 
@@ -180,7 +180,7 @@ pub enum Constant {
     String,
     /// The colon.
     Colon,
-    /// The level.
+    /// The precedence.
     Level,
 }
 
@@ -189,7 +189,7 @@ pub enum Constant {
 pub enum Tail {
     /// The colon.
     Opened,
-    /// The level.
+    /// The precedence.
     Level,
     /// `rassoc`, or `lassoc`.
     Whole { is_right: bool },

@@ -14,9 +14,9 @@ use Rattle.mz_spec_proved_theory.specs.Headline.{AxiomsAreDeclared, stated}
 use Rattle.mz_spec_proved_theory.specs.Proved.{ProvesUngapped, TheoremsAreProved}
 use Rattle.mz_spec_proved_theory.proofs.Lists.{publics-append, publics-public}
 
--- ---- fronts
+-- ---- prefixes
 
--- a front of a legal list is legal
+-- a prefix of a legal list is legal
 legal-front : (Q : List Declaration → Derivation → Type 0) (env : List Declaration) (xs ys : List Statement) → LegalAfter Q env (xs ++ ys) → LegalAfter Q env xs
 legal-front Q env [] ys h = tt
 legal-front Q env (x ∷ xs) ys h = (h.0, legal-front Q (env ++ x.decl ∷ []) xs ys h.1)

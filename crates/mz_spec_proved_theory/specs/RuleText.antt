@@ -1,4 +1,4 @@
--- The printed words of the rules of the match (this project's own).
+-- The printed messages of the rules of the match (this project's own).
 use Rattle.std.specs.Prelude.{ℕ, List, codes}
 use Rattle.mz_spec_proved_theory.specs.declared.rule.M.{M}
 use Rattle.mz_spec_proved_theory.specs.declared.rule.M.TheVariants as rules

@@ -2,7 +2,7 @@
 use std::fmt;
 
 /// The rules between a declaration and its partner, by the number that is printed; `Display` gives
-/// the printed words.
+/// the printed message.
 #[derive(Clone, Copy, Debug, PartialEq, Eq)]
 pub enum M {
     /// A declaration has no public statement.

@@ -5,7 +5,7 @@ use Rattle.mz_spec_theory.specs.Reading.{OnFault}
 use Rattle.mz_spec_theory.specs.declared.refusal.Fault.{Fault}
 use Rattle.mz_spec_theory.specs.declared.refusal.Halt.{Halt}
 
--- all hold, or the first that does not has this fault, or memory was wanting
+-- all hold, or the first that does not has this fault, or it is out of memory
 abbrev pub JudgesOrMem : {A : Type 0} → Result A Halt → Checks Fault → Type 0
 JudgesOrMem (Ok _) cs = AllHold cs
 JudgesOrMem (Err halt) cs = OnFault halt (FailsFirst cs)

@@ -1,4 +1,4 @@
--- How the levels of a notation are written, and what is asked of a general notation before its form.
+-- How the precedences of a notation are written, and what is asked of a general notation before its form.
 use Rattle.std.specs.Prelude.{⊤, ℕ, List, [], IsTrue}
 use Rattle.std.specs.List.{list_all}
 use Rattle.mz_base.specs.Identifiers.{is_digit}
@@ -10,7 +10,7 @@ use Rattle.mz_spec_theory.specs.View.{Variable, names_of}
 use Rattle.mz_spec_theory.specs.State.{State}
 use Rattle.mz_spec_theory.specs.Rules.{are_others, is_known, type_checks, binder_rules}
 
--- a level that is a number is written in digits
+-- a precedence that is a number is written in digits
 abbrev pub IsNumeral : Level → Type 0
 IsNumeral (number_level l) = IsTrue (list_all is_digit l.text)
 IsNumeral max_level = ⊤

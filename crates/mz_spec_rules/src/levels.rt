@@ -1,4 +1,4 @@
-// The levels of constants.
+// The precedences of constants.
 ghost use Rattle.std.specs.Prelude.{◌≡◌, ◌≤◌, ◌<◌, IfOk, IsTrue, MatchOption, option_map};
 ghost use Rattle.std.specs.List.{list_all};
 ghost use Rattle.std.specs.Str.Parse.{digits_value};
@@ -15,10 +15,10 @@ use mz_lex::S;
 use mz_math_theory::Tail;
 use mz_spec_theory::{Fault, Level, TailText};
 
-/// The highest level that is a number.
+/// The highest precedence that is a number.
 const HIGHEST_LEVEL: u64 = 4_294_967_294;
 
-/// The level for which digits stand, none where they stand for a higher number.
+/// The precedence for which digits stand, none where they stand for a higher number.
 fn digits_level(digits: &[u8]) -> Option<u32>
     requires { IsTrue (list_all is_digit digits.now) }
     ensures { MatchOption result (highest_level < digits_value 10 digits.now) (λ n. (n ≡ digits_value 10 digits.now) × (n ≤ highest_level)) }
@@ -33,7 +33,7 @@ fn digits_level(digits: &[u8]) -> Option<u32>
     Some(value as u32)
 }
 
-/// The level of a constant, none for max.
+/// The precedence of a constant, none for max.
 ///
 /// # Errors
 ///
@@ -59,7 +59,7 @@ pub fn level_of(level: Level<'_>) -> Result<Option<u32>, Fault>
 ///
 /// # Errors
 ///
-/// Where its level is past the highest one, at the number.
+/// Where its precedence is past the highest one, at the number.
 pub fn tail_of(tail: Option<TailText<'_>>) -> Result<Option<Tail>, Fault>
     requires { Every IsNumeral (tail_levels (option_map tail_lem tail)) }
     ensures judged { Judges result (each_in_order is_level (tail_levels (option_map tail_lem tail.entry))) }

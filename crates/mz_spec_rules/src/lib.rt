@@ -1,5 +1,6 @@
-//! What the rules of a statement ask of the statements before: names, types, binders and levels
-//! (mm0.md, sections on sorts, terms, definitions, axioms and theorems, notations and coercions).
+//! What the rules of a statement ask of the statements before: names, types, binders and
+//! precedences (mm0.md, sections on sorts, terms, definitions, axioms and theorems, notations and
+//! coercions).
 //!
 //! The state that the statements before make is kept here; which rules there are, and in which order, is said in
 //! `mz_spec_theory`.

@@ -143,7 +143,7 @@ fn bytes_that_begin_no_lexeme(rt: HostRuntime) {
     read_all(&rt, BYTES_THAT_BEGIN_NO_LEXEME);
 }
 
-/// Faults, their rules' words, and their places.
+/// Faults, their rules' messages, and their places.
 const FAULTS: &[(LexFault, &str, u32)] = &[
     (LexFault::Char(7), "S1 character", 7),
     (LexFault::Token(9), "S2 token", 9),

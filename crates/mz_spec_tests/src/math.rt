@@ -121,7 +121,7 @@ const LEVELS: &[Case<'static>] = &[
         ],
         told: "(im a b) (im (not a) b) (an a (not b)) S10:0 (not (top)) S10:0 S10:0 ",
     },
-    // a prefix notation: operands are at max, the last one at its level
+    // a prefix notation: operands are at max, the last one at its precedence
     Case {
         table: LOGIC,
         steps: &[
@@ -152,7 +152,7 @@ const LEVELS: &[Case<'static>] = &[
         ],
         told: "(all y q) (all y q) (all y (all y q)) (all y (all y q)) S10:0 S11:0 S11:0 ",
     },
-    // its operand before a constant is above that one's level; parameters in any order
+    // its operand before a constant is above that one's precedence; parameters in any order
     Case {
         table: LOGIC,
         steps: &[
@@ -278,7 +278,7 @@ fn delimiters(rt: HostRuntime) {
 }
 
 const CLASHES: &[Case<'static>] = &[
-    // infixl and infixr on one level, one infix constant twice, an infix at max
+    // infixl and infixr of one precedence, one infix constant twice, an infix at max
     Case {
         table: LOGIC,
         steps: &[
@@ -292,7 +292,8 @@ const CLASHES: &[Case<'static>] = &[
         ],
         told: "(im a (im b c)) S12 S12 S12 (im a (im b c)) S9:0 ",
     },
-    // a constant with two levels, one leading constant twice; but one may lead and join at one level
+    // a constant with two precedences, one leading constant twice; but one may lead and join at one
+    // precedence
     Case {
         table: LOGIC,
         steps: &[
@@ -307,7 +308,7 @@ const CLASHES: &[Case<'static>] = &[
         ],
         told: "S12 S10:0 (not (im a b)) S12 S12 (not (im a b)) ",
     },
-    // constants in the middle may be shared, at one level
+    // constants in the middle may be shared, at one precedence
     Case {
         table: LOGIC,
         steps: &[

@@ -510,7 +510,7 @@ const FORMULAS: &[(&str, &str)] = &[
     ),
 ];
 
-/// Levels, forms of notations, and notations beside one another.
+/// Precedences, forms of notations, and notations beside one another.
 const NOTATIONS: &[(&str, &str)] = &[
     ("infixl im: $->$ prec 4294967295;", "S15 6 21"),
     (

@@ -125,7 +125,7 @@ module _ {A R : Type 0} (f : A → Checks R) where
   judges-single x (Ok b) all = all_hold-both (f x) nothing all tt
   judges-single x (Err r) fails = fails-before (f x) nothing r fails
 
--- ---- where memory may be wanting
+-- ---- where memory may run out
 
 pub mem-before : (bs cs : Checks Fault) (halt : Halt) → OnFault halt (FailsFirst bs) → OnFault halt (FailsFirst (bs >> cs))
 mem-before bs cs (halts.Fault f) fails = fails-before bs cs f fails

@@ -1,4 +1,4 @@
--- What stands at a place among declarations with their marks.
+-- What stands at a place among declarations with their spans.
 use Rattle.std.proofs.Common.{◌≡◌, ◌<◌, ◌≤◌, ◌∷◌, [], ℕ, suc, List, length, map, ap, sym, subst, ◌∙◌, refl, inl, inr, arith}
 use Rattle.std.specs.Prelude.{Some, None, option_map, slice_get, get_or, ◌⊎◌}
 use Rattle.std.proofs.lemmas.Option.{slice_get-map, slice_get_cases}
@@ -6,7 +6,7 @@ use Rattle.mz_logic_theory.specs.Declaration.{Declaration}
 use Rattle.mz_spec_theory.specs.declared.spec.NameSpan.{NameSpan}
 use Rattle.mz_spec_theory.specs.State.{Entry, entries_of, entry_at}
 
--- as many entries as marks
+-- as many entries as spans
 pub entries-length : (ds : List Declaration) (ms : List NameSpan) → length ms ≡ length ds → length (entries_of ds ms) ≡ length ms
 entries-length [] [] same = refl
 entries-length [] (m ∷ ms) same = absurd cc
@@ -19,7 +19,7 @@ entries-decls [] ms same = refl
 entries-decls (d ∷ ds) [] same = absurd cc
 entries-decls (d ∷ ds) (m ∷ ms) same = ap (λ xs. d ∷ xs) (entries-decls ds ms (let e : length ms ≡ length ds = cc in e))
 
--- what only the mark says
+-- what only the span says
 pub entries-marks : {A : Type 0} (f : Entry → A) (g : NameSpan → A) → ((d : Declaration) (m : NameSpan) → f (entry_at d m) ≡ g m)
     → (ds : List Declaration) (ms : List NameSpan) → length ms ≡ length ds → map f (entries_of ds ms) ≡ map g ms
 entries-marks f g each [] [] same = refl
@@ -34,7 +34,7 @@ pub entry-mark : {A : Type 0} (f : Entry → A) (g : NameSpan → A) → ((d : D
     → (ds : List Declaration) (ms : List NameSpan) (i : ℕ) → length ms ≡ length ds → option_map f (slice_get (entries_of ds ms) i) ≡ option_map g (slice_get ms i)
 entry-mark f g each ds ms i same = sym (slice_get-map f (entries_of ds ms) i) ∙ ap (λ xs. slice_get xs i) (entries-marks f g each ds ms same) ∙ slice_get-map g ms i
 
--- a place among the entries is one among the marks
+-- a place among the entries is one among the spans
 pub mark-within : (ds : List Declaration) (ms : List NameSpan) (i : ℕ) → length ms ≡ length ds → i < length (entries_of ds ms) → i < length ms
 mark-within ds ms i same within = subst (λ n. i < n) (entries-length ds ms same) within
 

@@ -1,4 +1,4 @@
--- Each rule on names, levels and binders holds or fails.
+-- Each rule on names, precedences and binders holds or fails.
 use Rattle.std.proofs.Common.{◌≡◌, ◌⊎◌, ◌++◌, ℕ, zero, suc, List, [], ◌∷◌, Option, Some, None, refl, inl, inr, arith}
 use Rattle.std.specs.Prelude.{IsBitSet, bit_and, ◌^◌, ◌≢◌}
 use Rattle.mz_base_theory.proofs.Offered.{either-decided, not-decided, three-decided, Decided, true-decided, are_decided-both, are_decided-rows, both-decided, implied-decided, bytes-decided, at_most-decided}

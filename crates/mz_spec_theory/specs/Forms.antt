@@ -24,12 +24,12 @@ use Rattle.mz_spec_theory.specs.View.{variables_of, alone}
 use Rattle.mz_spec_theory.specs.State.{State, sort_number, term_number, signature_of, scope_of}
 use Rattle.mz_spec_theory.specs.Formulas.{inner}
 
--- ---- levels
+-- ---- precedences
 
 abbrev pub number_in : Lexeme → ℕ
 number_in l = digits_value 10 l.text
 
--- the highest level that is a number
+-- the highest precedence that is a number
 abbrev pub highest_level : ℕ
 highest_level = 4294967294
 

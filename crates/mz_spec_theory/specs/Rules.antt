@@ -17,7 +17,7 @@ use Rattle.mz_spec_theory.specs.State.{State, names_in}
 use Rattle.mz_spec_theory.specs.Formulas.{strings_checks, free_checks}
 use Rattle.mz_spec_theory.specs.Forms.{number_in, highest_level, form_checks}
 
--- ---- levels and names
+-- ---- precedences and names
 
 abbrev pub is_level : Level → Checks Fault
 is_level (number_level l) = demand (record { at = l.from; rule = rules.Number }) (number_in l ≤ highest_level)

@@ -11,7 +11,7 @@ use Rattle.mz_spec_theory.specs.declared.kind.Fixity.TheVariants.{InfixLeft, Inf
 
 -- ---- statements, whose leaves are lexemes with their places
 
--- the words that may stand before `sort`
+-- the modifiers that may stand before `sort`
 pub record Modifiers : Type 0 where
   pub is_pure : Bool
   pub is_strict : Bool
@@ -49,12 +49,12 @@ pub data Level : Type 0 where
   number_level : Lexeme → Level
   max_level : Level
 
--- a part of a notation: a constant with its level, or the name of a parameter
+-- a part of a notation: a constant with its precedence, or the name of a parameter
 pub data LiteralText : Type 0 where
   constant_literal : Lexeme → Level → LiteralText
   name_literal : Lexeme → LiteralText
 
--- the level of a notation that begins with a parameter, and whether it groups to the right
+-- the precedence of a notation that begins with a parameter, and whether it groups to the right
 pub record TailText : Type 0 where
   pub level : Level
   pub is_right : Bool

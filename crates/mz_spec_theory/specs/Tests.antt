@@ -1,4 +1,4 @@
--- Tests on a lexeme (mm0.md, section on the grammar: its keywords, symbols and levels).
+-- Tests on a lexeme (mm0.md, section on the grammar: its keywords, symbols and precedences).
 use Rattle.std.specs.Prelude.{ℕ, List, Bool, true, false, ◌&&◌, ◌||◌, bytes_eq, codes}
 use Rattle.mz_lex.specs.declared.token.TokenKind.{TokenKind}
 use Rattle.mz_lex.specs.declared.token.TokenKind.TheVariants as kinds

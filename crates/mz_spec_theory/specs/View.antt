@@ -4,7 +4,7 @@ use Rattle.std.specs.List.{list_any}
 use Rattle.mz_lex.specs.Lexemes.{Lexeme}
 use Rattle.mz_spec_theory.specs.Statement.{TypeText, Source, type_source, formula_source, NameText, Group, Level, LiteralText, constant_literal, name_literal, TailText, Statement, sort_statement, term_statement, assert_statement, definition_statement, operator_statement, coercion_statement, delimiter_statement, notation_statement}
 
--- the spaces in which names are told apart
+-- the spaces in which names are distinct
 pub data Space : Type 0 where
   sorts : Space
   terms : Space
@@ -28,7 +28,7 @@ pub data Formula : Type 0 where
   body : (math : Lexeme) → TypeText → Formula
 
 pub record View : Type 0 where
-  -- its levels, in order
+  -- its precedences, in order
   pub levels : List Level
   -- the names that it declares
   pub declares : List Named
@@ -111,7 +111,7 @@ abbrev pub body_formulas : TypeText → Option Lexeme → List Formula
 body_formulas t None = []
 body_formulas t (Some l) = body l t ∷ []
 
--- ---- levels
+-- ---- precedences
 
 abbrev pub literal_levels : List LiteralText → List Level
 literal_levels [] = []

@@ -2,7 +2,7 @@
 use crate::kind::{AssertKind, Fixity};
 use crate::lexeme::Lexeme;
 
-/// The words that may stand before `sort`.
+/// The modifiers that may stand before `sort`.
 #[derive(Clone, Copy, Debug, PartialEq, Eq)]
 pub struct Modifiers {
     pub is_pure: bool,
@@ -12,7 +12,7 @@ pub struct Modifiers {
 }
 
 impl Modifiers {
-    /// No such word.
+    /// None of them.
     pub const NONE: Modifiers = Modifiers {
         is_pure: false,
         is_strict: false,
@@ -68,13 +68,13 @@ pub enum Level<'a> {
 /// A part of a notation.
 #[derive(Clone, Copy)]
 pub enum LiteralText<'a> {
-    /// A constant, as a math string, with its level.
+    /// A constant, as a math string, with its precedence.
     Constant(Lexeme<'a>, Level<'a>),
     /// The name of a parameter.
     Name(Lexeme<'a>),
 }
 
-/// The level of a notation that begins with a parameter, and whether it groups to the right.
+/// The precedence of a notation that begins with a parameter, and whether it groups to the right.
 #[derive(Clone, Copy)]
 pub struct TailText<'a> {
     pub level: Level<'a>,
@@ -106,7 +106,7 @@ pub struct DefinitionText<'a> {
     pub body: Option<Lexeme<'a>>,
 }
 
-/// An infix or prefix notation: the name of its term, its constant and level.
+/// An infix or prefix notation: the name of its term, its constant and precedence.
 #[derive(Clone, Copy)]
 pub struct OperatorText<'a> {
     pub fixity: Fixity,

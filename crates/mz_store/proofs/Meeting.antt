@@ -68,7 +68,7 @@ own-bit mode sigs ctx word x k bd at-k tells = same_from_bits word (2 ^ k) each
               apart (bound-once 0 ctx m k x (at-y ∙ ap Some (told-is mode sigs ctx x y bd told)) at-k))
         ]
 
--- a bound variable's word meets an expression's exactly where the variable is among those that words tell of the expression
+-- a bound variable's word meets an expression's exactly where the variable is among those that words name of the expression
 pub bits-meet : (mode : DepsMode) (sigs : List Signature) (ctx : List Binder) (e : Tree) (v w x : ℕ) → IsBoundAt ctx x → Tells (bound_vars ctx) v (IsTold mode sigs ctx (var x)) → Tells (bound_vars ctx) w (IsTold mode sigs ctx e)
     → (bit_and w v ≡ 0 → ⊥) ↔ IsTold mode sigs ctx e x
 bits-meet mode sigs ctx e v w x bd own all = (let (b, at, bound) = bd in let (k, at-k) = bound-has 0 ctx x b at bound in go k (at-k ∙ ap Some (omega arith)))

@@ -14,7 +14,7 @@ abbrev pub OldListsKeepTrees : Type 0
 OldListsKeepTrees = (s s' : Sharing) → KeepsIds s s' → (is : List Id) → AreIn s is → AreIn s' is × (trees_of s' is ≡ trees_of s is)
 
 -- a bound variable's word meets an expression's exactly where the variable is among those that words
--- tell of the expression
+-- name of the expression
 abbrev pub WordsMeet : Type 0
 WordsMeet = (sigs : List Signature) (s : Sharing) → IsOver sigs s → (i j x : ℕ) → IsIn s i → IsIn s j → tree_of s i ≡ var x → IsBoundAt s.context x
     → (bit_and (deps_of s j) (deps_of s i) ≡ 0 → ⊥) ↔ IsTold s.mode sigs s.context (tree_of s j) x

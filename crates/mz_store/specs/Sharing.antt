@@ -17,7 +17,7 @@ pub record Shared : Type 0 where
   pub sort : ℕ
   pub deps : ℕ
 
--- a store: the context of its expressions, which variables its words tell, and its expressions, of
+-- a store: the context of its expressions, which variables its words name, and its expressions, of
 -- which the i-th has the id i
 pub record Sharing : Type 0 where
   pub context : List Binder
@@ -64,7 +64,7 @@ abbrev pub operands_of : Tree → Trees
 operands_of (var x) = none
 operands_of (app t es) = es
 
--- the variables that a store's words tell: all, or the free ones
+-- the variables that a store's words name: all, or the free ones
 abbrev pub IsTold : DepsMode → List Signature → List Binder → Tree → ℕ → Type 0
 IsTold of.All sigs ctx e x = InV ctx x e
 IsTold of.Free sigs ctx e x = InFV sigs ctx x e

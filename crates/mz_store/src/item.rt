@@ -15,7 +15,7 @@ pub enum Item {
     Conversion(Id, Id),
 }
 
-/// Which variables a store's words tell.
+/// Which variables a store's words name.
 #[derive(Clone, Copy, PartialEq, Eq, Debug)]
 pub enum DepsMode {
     /// All variables of the expression.

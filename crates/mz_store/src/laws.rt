@@ -8,7 +8,7 @@ pub fn old_ids_keep_their_trees()
 {}
 
 /// A bound variable's word and an expression's share a bit exactly where the variable is among
-/// those that the words tell of the expression.
+/// those that the words name of the expression.
 pub fn words_meet()
     ensures { WordsMeet }
 {}

@@ -1,4 +1,4 @@
--- What is told of a draft: where it is told the pair isn't refused, and the other way round.
+-- What is reported of a draft: where it is reported the pair isn't refused, and the other way round.
 use Rattle.std.proofs.Common.{◌≡◌, ◌⊎◌, ℕ, List, sym, subst, inl, inr, refl}
 use Rattle.mz_match.specs.declared.draft.Draft.{Draft}
 use Rattle.mz_match.specs.declared.draft.Draft.TheVariants as drafts

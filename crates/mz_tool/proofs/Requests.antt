@@ -1,4 +1,4 @@
--- The words say which request they ask for, and what is promised of the specification alone follows from what is proved.
+-- The arguments say which request they ask for, and what is promised of the specification alone follows from what is proved.
 use Rattle.std.proofs.Common.{◌≡◌, ◌∙◌, ◌⊎◌, ℕ, true, false, refl, List, [], ◌∷◌, ap, sym, subst, inl, inr, arith}
 use Rattle.std.specs.Prelude.{bytes_eq, codes, decimal, if◌then◌else◌}
 use Rattle.std.proofs.lemmas.Fmt.{decimal_injective}
@@ -14,7 +14,7 @@ words_of r = (said_of r).words
 abbrev IsInRange : Request → Type 0
 IsInRange r = (said_of r).is_in_range
 
--- what words ask for: a sample of the size that is written so, or another request
+-- what arguments ask for: a sample of the size that is written so, or another request
 data Read : Type 0 where
   a_sample : (size : List ℕ) → Read
   another : (r : Request) → Read
@@ -52,7 +52,7 @@ read (name ∷ x ∷ []) = read-one name x
 read (name ∷ x ∷ y ∷ []) = read-two name x y
 read (name ∷ x ∷ y ∷ z ∷ rest) = another (decompile x y z)
 
--- a request is read of its words
+-- a request is read of its arguments
 abbrev IsRead : Request → Type 0
 IsRead r = (read (words_of r) ≡ another r) ⊎ ((n : ℕ) × (r ≡ sample n))
 
@@ -98,7 +98,7 @@ module _ (r s : Request) (e : words_of r ≡ words_of s) (i : IsInRange r) (j : 
   same-read (inr (n, is)) (inr (m, is')) =
       is ∙ same-sizes n m (sym (ap words_of is) ∙ e ∙ ap words_of is') (subst IsInRange is i) (subst IsInRange is' j) ∙ sym is'
 
--- words ask for one request at the most
+-- arguments ask for one request at the most
 pub one-request : (words : List (List ℕ)) (r s : Request) → Asks (said_of r) words → Asks (said_of s) words → r ≡ s
 one-request words r s first other = same-read r s (sym first.0 ∙ other.0) first.1 other.1 (is-read r) (is-read s)
 

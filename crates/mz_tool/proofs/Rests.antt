@@ -1,4 +1,4 @@
--- What is told of the axioms on which theorems rest: where it is told the pair isn't refused.
+-- What is reported of the axioms on which theorems rest: where it is reported the pair isn't refused.
 use Rattle.std.proofs.Common.{ℕ, List, refl}
 use Rattle.mz_match_theory.specs.declared.verdict.Counts.{Counts}
 use Rattle.mz_match_theory.specs.declared.verdict.Verdict.{Verdict}

@@ -1,4 +1,4 @@
--- Words that say a number, in decimal.
+-- Arguments that say a number, in decimal.
 use Rattle.std.proofs.Common.{◌≡◌, ◌≤◌, ◌<◌, ◌^◌, ◌∙◌, ℕ, List, [], ◌∷◌, length, get_or, drop, cond, Bool, ap, sym, subst, arith, decimal, Result, Ok}
 use Rattle.std.specs.Str.Parse.{ParsesUnsigned, without_leading_plus, digits_value, AllDigits}
 use Rattle.mz_tool.specs.Sizes.{BeginsNumber}
@@ -21,7 +21,7 @@ no-plus : (bs : List ℕ) → BeginsNumber bs → without_leading_plus bs ≡ bs
 no-plus [] (some, low, high) = absurd (omega arith)
 no-plus (c ∷ cs) (some, low, high) = ap (λ (b : Bool). drop (cond b 1 0) (c ∷ cs)) (ne_eqb c 43 (λ e. omega (arith, e, low)))
 
--- what is read of such a word is the number that it says
+-- what is read of such an argument is the number that it says
 pub reads-number : {E : Type 0} (bs : List ℕ) (r : Result ℕ E) (n : ℕ) → BeginsNumber bs → n < 2 ^ 64 → ParsesUnsigned 32 10 bs r → r ≡ Ok n → bs ≡ decimal n
 reads-number bs r n begins small parses is =
     let (numeral, value) = OkIff-at_ok r _ _ n parses is in

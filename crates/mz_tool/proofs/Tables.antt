@@ -1,4 +1,4 @@
--- What is accepted by verifiers that compare addresses is accepted, and sound.
+-- What is accepted by verifiers that compare by identity is accepted, and sound.
 use Rattle.std.proofs.Common.{ℕ, List}
 use Rattle.mz_match_theory.specs.declared.verdict.Verdict.{Verdict}
 use Rattle.mz_match_theory.specs.declared.verdict.Verdict.TheVariants as verdicts

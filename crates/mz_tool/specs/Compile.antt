@@ -11,7 +11,7 @@ use Rattle.mz_tool_engine.specs.Run.{IsAnswerOver}
 
 -- yes: the text, where gaps are let through a draft, is compiled to the bytes, which are put: they are accepted against each
 -- specification with which its public statements agree, of a draft as a draft; a finished text's are so without gaps,
--- and by verifiers that compare addresses too
+-- and by verifiers that compare by identity too
 abbrev pub IsCompiledTo : Bool → List ℕ → Option (List ℕ) → List ℕ → Type 0
 IsCompiledTo gaps text put line = (bin : List ℕ) × (put ≡ Some bin) × CompilesTo gaps text bin × (IsCompilable false text → CompilesTo false text bin)
     × (line ≡ bytes_line (length bin))

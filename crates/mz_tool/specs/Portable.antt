@@ -5,7 +5,7 @@ use Rattle.mz_match_theory.specs.Verdict.{Accepts, IsSound}
 use Rattle.mz_tool_engine.specs.Said.{Said, OfTwo}
 use Rattle.mz_tool_verify.specs.Verify.{IsVerifiedBy, IsRefutedBy, IsProvedSpec}
 
--- Yes and no are those of `verify` for verifiers that compare addresses. What they accept is sound, and `verify` accepts it.
+-- Yes and no are those of `verify` for verifiers that compare by identity. What they accept is sound, and `verify` accepts it.
 abbrev pub portable_says : (spec_name bin_name : List ℕ) → Said
 portable_says spec_name bin_name = record {
   words = codes "portable" ∷ spec_name ∷ bin_name ∷ [];

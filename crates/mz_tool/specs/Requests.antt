@@ -1,4 +1,4 @@
--- What the words given to the program ask for, and what is said of it (this project's own).
+-- What the arguments given to the program ask for, and what is said of it (this project's own).
 use Rattle.std.specs.Prelude.{ℕ, Bool, List}
 use Rattle.mz_base.specs.Gaps.{gaps_of}
 use Rattle.mz_tool_engine.specs.Said.{Said}

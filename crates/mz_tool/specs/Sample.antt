@@ -21,7 +21,7 @@ FitTogether spec text = IsCompilable false text × DeclaresText spec text
 abbrev pub IsFaulted : List ℕ → List ℕ → List ℕ → Type 0
 IsFaulted spec text line = (FitTogether spec text → ⊥) × (IsNotCompiled false text line ⊎ ((bin : List ℕ) × CompilesTo false text bin × IsRefuted spec bin line))
 
--- the line that tells how long a sample's specification and its text are
+-- the line that says how long a sample's specification and its text are
 abbrev pub sizes_line : ℕ → List ℕ
 sizes_line n = sample_line (length (sample_specification n)) (length (sample_text n))
 

@@ -1,4 +1,4 @@
--- How a word that says a number begins (this project's own).
+-- How an argument that says a number begins (this project's own).
 use Rattle.std.specs.Prelude.{◌≤◌, ◌<◌, ℕ, List, length, get_or}
 
 -- with a digit other than 0

@@ -49,7 +49,7 @@ impl<'a> Command for AxiomsCommand<'a> {
     }
 }
 
-/// Tells on which axioms each theorem of a specification rests, where a binary is accepted against it.
+/// Reports on which axioms each theorem of a specification rests, where a binary is accepted against it.
 pub fn axioms(alloc: Global, seed: Seed, spec: &[u8], bin: &[u8]) -> Outcome
     requires spec { length spec.now < 2 ^ 32 }
     requires bin { length bin.now < 2 ^ 32 }

@@ -1,4 +1,4 @@
-// The words given to the program.
+// The arguments given to the program.
 ghost use Rattle.std.specs.Prelude.{[], ◌∷◌, map, string_bytes, IfSome, IfNone};
 ghost use Rattle.mz_tool_engine.specs.Run.{Asks};
 ghost use Rattle.mz_tool.specs.Requests.{Request, said_of};
@@ -37,7 +37,7 @@ pub enum ProgramCommand<'a> {
 impl<'a> ProgramCommand<'a> {
     ghost use Rattle.mz_tool.specs.Requests.{request};
 
-    /// The command that the words ask for, where they ask for one.
+    /// The command that the arguments ask for, where they ask for one.
     pub fn read(seed: Seed, words: &'a [String]) -> Option<ProgramCommand<'a>>
         ensures asked { IfSome result (λ command. Asks (said_of (request command)) (map string_bytes words.now)) }
         ensures usage { IfNone result ((asked : Request) → Asks (said_of asked) (map string_bytes words.now) → ⊥) }
@@ -58,7 +58,7 @@ impl<'a> ProgramCommand<'a> {
         }
     }
 
-    /// The command of this name, with one word more.
+    /// The command of this name, with one argument more.
     fn of_one(name: &str, word: &'a str) -> Option<ProgramCommand<'a>>
         ensures asked { IfSome result (λ command. Asks (said_of (request command)) (name.now ∷ word.now ∷ [])) }
         ensures usage { IfNone result ((asked : Request) → Asks (said_of asked) (name.now ∷ word.now ∷ []) → ⊥) }
@@ -73,7 +73,7 @@ impl<'a> ProgramCommand<'a> {
         }
     }
 
-    /// The command of this name, with two words more.
+    /// The command of this name, with two arguments more.
     fn of_two(seed: Seed, name: &str, first: &'a str, second: &'a str) -> Option<ProgramCommand<'a>>
         ensures asked { IfSome result (λ command. Asks (said_of (request command)) (name.now ∷ first.now ∷ second.now ∷ [])) }
         ensures usage { IfNone result ((asked : Request) → Asks (said_of asked) (name.now ∷ first.now ∷ second.now ∷ []) → ⊥) }
@@ -103,7 +103,7 @@ impl<'a> ProgramCommand<'a> {
         }
     }
 
-    /// The command of this name, with three words more.
+    /// The command of this name, with three arguments more.
     fn of_three(
         seed: Seed,
         name: &str,

@@ -55,7 +55,7 @@ impl<'a> Command for DecompileCommand<'a> {
     }
 }
 
-/// The line that tells an answer other than out of memory.
+/// The line that says an answer other than out of memory.
 fn line_of(alloc: Global, made: &Decompiled) -> Result<Vec<u8>, Mem>
     requires { HasLine made.now }
     ensures { IfOk result (λ line. line.items ≡ text_line made.now) }

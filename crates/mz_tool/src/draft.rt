@@ -52,7 +52,7 @@ impl<'a> Command for DraftCommand<'a> {
     }
 }
 
-/// Tells which theorems of a specification rest on a gap, where a binary whose proofs may have gaps is
+/// Reports which theorems of a specification rest on a gap, where a binary whose proofs may have gaps is
 /// accepted against it.
 pub fn draft(alloc: Global, seed: Seed, spec: &[u8], bin: &[u8]) -> Outcome
     requires spec { length spec.now < 2 ^ 32 }

@@ -1,8 +1,8 @@
 //! The program over any folder and output: verifies binaries against specifications, lists them,
-//! makes them of listings, tells what theorems rest on and which of them rest on a gap, compiles proof
+//! makes them of listings, reports what theorems rest on and which of them rest on a gap, compiles proof
 //! texts, writes specifications for them, makes texts of binaries, and tries itself on samples.
 //!
-//! `specs/Requests.antt` says what the words ask for. All that is said of a command stands in a file of
+//! `specs/Requests.antt` says what the arguments ask for. All that is said of a command stands in a file of
 //! its own, as `specs/Compile.antt`; of `verify` and `show` in `mz_tool_verify`. What a run is says the
 //! engine (`mz_tool_engine`). The program itself (`mz_main`) hands [`run`] the folder and the output of the
 //! system.

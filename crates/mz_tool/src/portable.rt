@@ -49,7 +49,7 @@ impl<'a> Command for PortableCommand<'a> {
     }
 }
 
-/// Judges a binary against a specification as verifiers do that compare addresses.
+/// Judges a binary against a specification as verifiers do that compare by identity.
 pub fn portable(alloc: Global, seed: Seed, spec: &[u8], bin: &[u8]) -> Outcome
     requires spec { length spec.now < 2 ^ 32 }
     requires bin { length bin.now < 2 ^ 32 }

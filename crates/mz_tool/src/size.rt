@@ -1,4 +1,4 @@
-// How large a sample is, and the word that says it.
+// How large a sample is, and the argument that says it.
 ghost use Rattle.std.specs.Prelude.{◌≡◌, ◌≤◌, ◌↔◌, ℕ, decimal, IfSome, IfNone, IsTrue};
 ghost use Rattle.mz_tool.specs.Sizes.{BeginsNumber};
 
@@ -14,7 +14,7 @@ pub struct SampleSize {
 }
 
 impl SampleSize {
-    /// The size that a word says: a number in decimal, without a sign or leading zeros. None where it
+    /// The size that an argument says: a number in decimal, without a sign or leading zeros. None where it
     /// says none, or one that is out of range.
     pub fn read(word: &str) -> Option<SampleSize>
         ensures number { IfSome result (λ size. word.now ≡ decimal size.number) }
@@ -33,7 +33,7 @@ impl SampleSize {
     }
 }
 
-/// Whether a word begins with a digit other than 0.
+/// Whether an argument begins with a digit other than 0.
 fn begins_number(word: &[u8]) -> bool
     ensures { IsTrue result ↔ BeginsNumber word.now }
 {

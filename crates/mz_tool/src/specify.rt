@@ -48,7 +48,7 @@ impl<'a> Command for SpecifyCommand<'a> {
     }
 }
 
-/// The line that tells an answer other than out of memory.
+/// The line that says an answer other than out of memory.
 fn spec_line(alloc: Global, made: &SpecText) -> Result<Vec<u8>, Mem>
     requires { made.now ≡ SpecText.Mem → ⊥ }
     ensures { IfOk result (λ line. line.items ≡ Specified.spec_line made.now) }

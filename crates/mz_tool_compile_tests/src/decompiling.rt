@@ -81,7 +81,7 @@ const TEXTS: &[(&str, &[u8], &str, &str)] = &[
 ",
         "accepted: 1 sorts, 1 terms, 0 axioms, 1 definitions, 1 theorems",
     ),
-    // a saved conversion is told again where it is named
+    // a saved conversion is printed again where it is named
     (
         FOLD_SPEC,
         SAVED,

@@ -100,7 +100,7 @@ pub fn assert_files(rt: &impl Abort, folder: &MemFolder, is_put: bool, what: &st
     expect_of(rt, folder.file("out") == put, "the file that is put", what);
 }
 
-/// Fails, naming a run by its words and the number of the call or write that fails.
+/// Fails, naming a run by its arguments and the number of the call or write that fails.
 fn expect_at(rt: &impl Abort, holds: bool, line: &str, number: u64) {
     assert!(rt; holds, "{line} where {number} fails");
 }

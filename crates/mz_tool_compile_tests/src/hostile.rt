@@ -1,4 +1,4 @@
-// Proof texts that are cut, or one of whose bytes is another. What is told of each doesn't come from the
+// Proof texts that are cut, or one of whose bytes is another. What is said of each doesn't come from the
 // program: `scripts/hostile-texts` works it out.
 use crate::hostile_sheets;
 use crate::runs::compiled;
@@ -7,11 +7,11 @@ use mz_tool::Status;
 use std::alloc::{AllocError, Global};
 use std::process::Abort;
 
-/// A byte that is put in place of another (None: the text is cut there), and what is told then: rows that
+/// A byte that is put in place of another (None: the text is cut there), and what is said then: rows that
 /// end with `/`, each of them for so many places on.
 type Sheet = (Option<u8>, &'static str);
 
-/// A row of a sheet, as far as it is read. Behind its number of places stands the word `compiled`, or the
+/// A row of a sheet, as far as it is read. Behind its number of places stands `compiled`, or the
 /// statement, the rule and the byte of the refusal, which may be `here`, the place itself, or `end`, the end
 /// of the text.
 #[derive(Clone, Copy)]
@@ -30,7 +30,7 @@ const EMPTY_ROW: Row = Row {
 };
 
 impl Row {
-    /// The row with its next word.
+    /// The row with its next token.
     fn with(self, word: &'static str) -> Row {
         let mut row = self;
         if row.places == 0 {
@@ -49,7 +49,7 @@ impl Row {
         self.statement == "compiled"
     }
 
-    /// The line of the refusal, or the front of the line where the text is compiled.
+    /// The line of the refusal, or the prefix of the line where the text is compiled.
     fn line(self, alloc: Global, text: &str, place: usize) -> Result<String, AllocError> {
         if self.is_compiled() {
             return "compiled: ".to_string(alloc);
@@ -72,7 +72,7 @@ fn number_of(word: &str) -> usize {
     }
 }
 
-/// The rules of the sheets, with their words.
+/// The rules of the sheets, with their messages.
 const NAMES: &[(&str, &str)] = &[
     ("U1", "character"),
     ("U2", "parenthesis"),

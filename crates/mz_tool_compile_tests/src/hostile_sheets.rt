@@ -1,4 +1,4 @@
-// Written by scripts/hostile-texts, from the rules of the format: what is told of each proof text of examples/
+// Written by scripts/hostile-texts, from the rules of the format: what is said of each proof text of examples/
 // where it is cut before a place (None), or another byte stands there: of how many places on, and what.
 
 /// `sort.mmu`.

@@ -6,7 +6,7 @@ use mz_tool::{Status, run};
 use std::alloc::{AllocError, Global};
 use std::process::Abort;
 
-/// The words of a command line, separated by single spaces; no words where it is empty.
+/// The arguments of a command line, separated by single spaces; none where it is empty.
 pub fn words_of(alloc: Global, line: &str) -> Result<Vec<String>, AllocError> {
     let mut words = Vec::new(alloc);
     for word in line.split_whitespace() {

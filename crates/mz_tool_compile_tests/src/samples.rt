@@ -29,7 +29,7 @@ fn expect_said(
     expect_of(rt, out.bytes() == text.as_bytes(), "the text", what);
 }
 
-/// The words, and what is written.
+/// The arguments, and what is written.
 const SAMPLES: &[(&str, &str)] = &[
     (
         "sample 1",
@@ -49,7 +49,7 @@ fn samples_are_accepted(rt: HostRuntime) {
     }
 }
 
-/// Words that are no size of a sample: none, numbers out of range, leading zeros, signs and others.
+/// Arguments that are no size of a sample: none, numbers out of range, leading zeros, signs and others.
 const OTHERS: &[&[&str]] = &[
     &["sample"],
     &["sample", ""],

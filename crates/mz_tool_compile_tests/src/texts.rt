@@ -115,7 +115,7 @@ theorem t1 (a: wff): $ d1 a $;
 theorem g1 {x: nat} (p: wff x): $ all x ( d1 p ) $;
 ";
 
-/// Texts that are refused or too large, the line that is told, and what this shows.
+/// Texts that are refused or too large, the line that is printed, and what this shows.
 pub const REFUSED_TEXTS: &[(&str, &str, &str)] = &[
     (
         "(sort\twff)

@@ -1,4 +1,4 @@
-// Drafts of texts: compiled with their gaps, told apart, and refused by `verify`.
+// Drafts of texts: compiled with their gaps, reported by `draft`, and refused by `verify`.
 use crate::expect::{expect_of, expect_that};
 use crate::runs::{compiled, ended, folder_of, made_of};
 use crate::texts::{FOLD_TEXT, IMPLICATION, LET_TWICE, SAMPLE};
@@ -19,7 +19,7 @@ term not (a: wff): wff;
 def nn (a: wff): wff = $ not ( not a ) $;
 ";
 
-/// Statements after these, what the specification says of them, and what `draft` tells.
+/// Statements after these, what the specification says of them, and what `draft` reports.
 type Case = (&'static str, &'static str, &'static str);
 
 const OPEN: &[Case] = &[
@@ -60,7 +60,7 @@ theorem rest (a: wff): $ a $ > $ a $;
 ",
         "draft: 1 of 3 theorems rest on a gap\ngap used\n",
     ),
-    // local theorems aren't told, but what rests on them is
+    // local theorems aren't reported, but what rests on them is
     (
         "(local theorem l ((a wff ())) () a () (:sorry a))
 (theorem t ((a wff ())) () (not a) () (l ((not a))))

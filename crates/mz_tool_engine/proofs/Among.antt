@@ -216,7 +216,7 @@ taken-pieces (piece ∷ pieces) = ap (λ rest. piece ++ rest) (taken-pieces piec
 pub written-taken : (text : List ℕ) (calls : List Call) → IsWritten text calls → taken calls ≡ text
 written-taken text calls w = ap taken w.calls_are ∙ taken-pieces w.pieces ∙ sym w.text_is
 
--- of one that was cut short a front was
+-- of one that was cut short a prefix was
 pub cut-taken : (text : List ℕ) (calls : List Call) → IsCut text calls → IsFront (taken calls) text
 cut-taken text calls c =
     let front : taken calls ≡ c.front = ap taken c.calls_are ∙ taken-append c.taken (write_fails c.piece ∷ []) ∙ append-nil (taken c.taken) ∙ written-taken c.front c.taken c.written in

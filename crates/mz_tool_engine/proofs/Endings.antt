@@ -50,7 +50,7 @@ read-not_put old now later names other contents name same put e f out bytes is h
 
 -- ---- the rest of an answer's text
 
--- a text of which a front was written before
+-- a text of which a prefix was written before
 whole-text : (front text slice : List ℕ) (first second : List Call) → slice ≡ text → IsWritten front first → IsWritten slice second → IsWritten (front ++ text) (first ++ second)
 whole-text front text slice first second same w v = written-both front text first second w (subst (λ t. IsWritten t second) same v)
 

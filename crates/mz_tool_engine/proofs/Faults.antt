@@ -1,4 +1,4 @@
--- How the end of an answer's writing tells which status comes, and that a failure was counted.
+-- How the end of an answer's writing says which status comes, and that a failure was counted.
 use Rattle.std.proofs.Common.{◌≡◌, ◌≤◌, ◌⊎◌, ◌∙◌, ℕ, sym, inl, inr, arith}
 use Rattle.mz_io.specs.Outside.{Rose}
 use Rattle.mz_tool_engine.specs.declared.status.Status.{Status}

@@ -287,7 +287,7 @@ usage-read (inl is) = cc
 usage-read (inr is) = cc
 
 module _ {R : Type 0} (said_of : R → Said) (words : List (List ℕ)) (file : Files) where
-  -- words that ask for nothing
+  -- arguments that ask for nothing
   follows-none : EachAsked said_of words (λ said. ⊥) → Consequences said_of words file statuses.Usage [] []
   follows-none none = record {
     one = λ asked other asks others. absurd (none asked asks);
@@ -317,7 +317,7 @@ module _ {R : Type 0} (said_of : R → Said) (words : List (List ℕ)) (file : F
 
   module _ (one : (asked other : R) → Asks (said_of asked) words → Asks (said_of other) words → asked ≡ other)
       (promised : (asked : R) → IsProved file (said_of asked) → (said_of asked).promise file) (calls written : List Call) (given : Gives file calls) where
-    -- what holds of the request that the words ask for holds of each
+    -- what holds of the request that the arguments ask for holds of each
     each : (asked : R) → Asks (said_of asked) words → (P : Said → Type 0) → P (said_of asked) → EachAsked said_of words P
     each asked asks P is other others = subst (λ (r : R). P (said_of r)) (one asked other asks others) is
 
@@ -361,7 +361,7 @@ module _ {R : Type 0} (said_of : R → Said) (words : List (List ℕ)) (file : F
           apart = λ nothing. let both = nothing asked asks in of-apart said file calls written given status both.0 both.1 ran;
         }
 
-  -- what follows of a run, where words ask for one request at the most, and what is promised of all files gives what is
+  -- what follows of a run, where arguments ask for one request at the most, and what is promised of all files gives what is
   -- promised of the specification
   pub follows : ((asked other : R) → Asks (said_of asked) words → Asks (said_of other) words → asked ≡ other) →
       ((asked : R) → IsProved file (said_of asked) → (said_of asked).promise file) →

@@ -8,7 +8,7 @@ use Rattle.mz_tool_engine.specs.Run.{AreRead, AreReadAndPut, IsRunOf, IsProved}
 use Rattle.mz_tool_engine.specs.declared.status.Status.TheVariants.{Done}
 
 module _ (file : Files) where
-  -- what is told of a row of calls is told of its parts
+  -- what is given by a list of calls is given by its parts
   pub gives-part : (before part after calls : List Call) → calls ≡ before ++ (part ++ after) → Gives file calls → Gives file part
   gives-part before part after calls e given = record {
     whole = λ name bytes a b c f read. given.whole name bytes (before ++ a) b (c ++ after) (e ∙ ap (λ p. before ++ (p ++ after)) f ∙ simp append_assoc) read;

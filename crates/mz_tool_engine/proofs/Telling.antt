@@ -1,4 +1,4 @@
--- What a folder that tells its files, and a sink that tells what was written, tell of the calls on them.
+-- What a folder that tells its files, and a sink that tells what was written, say of the calls on them.
 use Rattle.std.proofs.Common.{◌≡◌, ◌<◌, ◌++◌, ◌∙◌, ◌⊎◌, [], ◌∷◌, ℕ, Bool, true, false, List, Option, Some, None, Result, Ok, Err, OnOk, is_ok, refl, sym, ap, subst, inl, inr, append_assoc}
 use Rattle.std.specs.Prelude.{⊤}
 use Rattle.std.proofs.lemmas.List.{append-nil, append_cancel_left}
@@ -145,7 +145,7 @@ same-leaves f g h (pull_fails ∷ calls) same left = same-leaves f g h calls sam
 same-leaves f g h (writes bytes ∷ calls) same left = same-leaves f g h calls same left
 same-leaves f g h (write_fails piece ∷ calls) same left = same-leaves f g h calls same left
 
--- ---- what is told of the calls since then
+-- ---- what is said of the calls since then
 
 -- where files were read
 pub reads-tell : (f g : Files) (left now : List ℕ) (old later : List Call) → Grows old later (λ calls. AreAnswered f left calls now) → SameFiles f g → Since old later (Tells f g)

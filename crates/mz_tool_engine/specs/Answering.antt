@@ -29,7 +29,7 @@ IfLeft (Ok (outcomes.No text)) P = P text.items
 IfLeft (Ok outcomes.Mem) P = ⊤
 IfLeft (Err e) P = ⊤
 
--- what a command answers over these bytes, and what it asked of the sink: a front of the text may be written before
+-- what a command answers over these bytes, and what it asked of the sink: a prefix of the text may be written before
 abbrev pub IsAnswering : Said → List (List ℕ) → Result Outcome Failed → List Call → Type 0
 IsAnswering said contents (Ok (outcomes.Yes put text)) written = (front : List ℕ) × IsWritten front written × ((bytes_of put ≡ None) ⊎ (written ≡ []))
     × Affirms said contents (bytes_of put) (front ++ text.items) × said.sound contents × IsShort (bytes_of put)

@@ -1,6 +1,6 @@
--- What follows of a run, for any folder and any sink: what its status tells of the files that the calls gave, and what was
+-- What follows of a run, for any folder and any sink: what its status says of the files that the calls gave, and what was
 -- put and written (this project's own). All of it is a law, whatever the program: of `IsRun`, of `Gives` (the files are those
--- that the folder's calls gave), and of what every program keeps: its words ask for one request at the most, and what a yes
+-- that the folder's calls gave), and of what every program keeps: its arguments ask for one request at the most, and what a yes
 -- promises of all the files gives what it promises of the specification. `Said` has what is said of a command, `Run` what a
 -- run is, `Given` what stands out among calls; to be read before.
 use Rattle.std.specs.Prelude.{◌≡◌, ◌++◌, ◌⊎◌, ⊤, ℕ, Bool, true, false, List, [], ◌∷◌, Option, Some, None}
@@ -58,10 +58,10 @@ MayPut statuses.ReadFault = ⊥
 MayPut statuses.TooLong = ⊥
 MayPut statuses.Memory = ⊥
 
--- The run had these words, ended with this status, and made these calls on the folder and those on the sink. Of what `file`
+-- The run had these arguments (`words`), ended with this status, and made these calls on the folder and those on the sink. Of what `file`
 -- holds this is so where the folder's calls gave it (`Gives`, a premise outside).
 pub record Consequences {R : Type 0} (said_of : R → Said) (words : List (List ℕ)) (file : Files) (status : Status) (calls written : List Call) : Type 0 where
-  -- the words ask for one request at the most
+  -- the arguments ask for one request at the most
   pub one : (asked other : R) → Asks (said_of asked) words → Asks (said_of other) words → asked ≡ other
   -- ---- the answer
   -- Done: the answer is yes, its file was put, where it has one, and its text was taken
@@ -70,18 +70,18 @@ pub record Consequences {R : Type 0} (said_of : R → Said) (words : List (List 
   -- Refused: the answer is no, nothing was put, and its text was taken
   pub refused : status ≡ statuses.Refused → SomeAsked said_of words (λ said. (text : List ℕ)
       × IsNo file said text × (puts_among calls ≡ []) × (taken written ≡ text))
-  -- Done: what a yes of the command promises without a word of binaries; of some commands that is nothing
+  -- Done: what a yes of the command promises without speaking of binaries; of some commands that is nothing
   pub headline : status ≡ statuses.Done → EachAsked said_of words (λ said. said.promise file)
   -- Done: what a yes promises of all the files
   pub sound : status ≡ statuses.Done → EachAsked said_of words (λ said. IsProved file said)
-  -- where the files are there, none of them is too long, and no call failed, an answer comes, or memory is wanting
+  -- where the files are there, none of them is too long, and no call failed, an answer comes, or the run is out of memory
   pub answers : EachAsked said_of words (λ said. AreReadable file said.reads → failures calls ≡ 0 → failures written ≡ 0
       → (status ≡ statuses.Done) ⊎ ((status ≡ statuses.Refused) ⊎ (status ≡ statuses.Memory)))
   -- Refused comes nowhere where the answer is yes, and Done nowhere where it is no
   pub yes : status ≡ statuses.Refused → EachAsked said_of words (λ said. (put : Option (List ℕ)) (text : List ℕ) → IsYes file said put text → ⊥)
   pub no : status ≡ statuses.Done → EachAsked said_of words (λ said. (text : List ℕ) → IsNo file said text → ⊥)
   -- ---- each other status has its cause
-  -- Usage comes just where the words ask for nothing
+  -- Usage comes just where the arguments ask for nothing
   pub usage : status ≡ statuses.Usage → EachAsked said_of words (λ said. ⊥)
   pub only_usage : EachAsked said_of words (λ said. ⊥) → status ≡ statuses.Usage
   -- ReadFault: a start or a pull failed, the last call on the folder, and no other
@@ -94,12 +94,12 @@ pub record Consequences {R : Type 0} (said_of : R → Said) (words : List (List 
   -- TooLong: one of the files is longer than any that is read
   pub too_long : status ≡ statuses.TooLong → SomeAsked said_of words (λ said. HasLonger longest file said.reads)
   -- ---- what was written
-  -- OutFault: the file of the answer was put, where it has one, and a front of its text was taken
+  -- OutFault: the file of the answer was put, where it has one, and a prefix of its text was taken
   pub front : status ≡ statuses.OutFault → SomeAsked said_of words (λ said. (put : Option (List ℕ)) × (text : List ℕ)
       × IsAnswerOver file said put text × IsPutting true said.puts put (puts_among calls) × IsFront (taken written) text)
   -- where the status is neither an answer, nor OutFault, nor Memory, nothing was written,
   pub quiet : IsQuiet status → written ≡ []
-  -- nor where memory was wanting, unless the command writes as it goes: then a front of that was taken
+  -- nor where it was out of memory, unless the command writes as it goes: then a prefix of that was taken
   pub memory : status ≡ statuses.Memory → EachAsked said_of words (λ said. (text : List ℕ) → IsBegunOver file said text → ⊥) → written ≡ []
   pub memory_front : status ≡ statuses.Memory → (written ≡ []) ⊎ SomeAsked said_of words (λ said. (text : List ℕ)
       × IsBegunOver file said text × IsFront (taken written) text)

@@ -1,4 +1,4 @@
--- How the process tells how a run ended (this project's own statuses).
+-- How the process says how a run ended (this project's own statuses).
 use Rattle.std.specs.Prelude.{ℕ, List, Option, None, Some, codes}
 use Rattle.mz_tool_engine.specs.declared.status.Status.{Status}
 use Rattle.mz_tool_engine.specs.declared.status.Status.TheVariants as statuses

@@ -1,10 +1,10 @@
--- What the calls of a run tell of files and of a sink (this project's own).
+-- What the calls of a run say of files and of a sink (this project's own).
 use Rattle.std.specs.Prelude.{◌≡◌, ◌++◌, ◌+◌, ℕ, Bool, true, false, not, cond, List, [], ◌∷◌, Some}
 use Rattle.mz_io.specs.Calls.{Call, starts, pulls, pull_fails, puts, writes, write_fails, IsBegun, IsRead}
 use Rattle.mz_io.specs.Outside.{SameFiles, SameOthers}
 use Rattle.mz_tool_engine.specs.Said.{Files}
 
--- what was read whole under a name is what stands under it, and what was read in part is a front of that: the bytes are
+-- what was read whole under a name is what stands under it, and what was read in part is a prefix of that: the bytes are
 -- those that the folder gave
 pub record Gives (file : Files) (calls : List Call) : Type 0 where
   pub whole : (name bytes : List ℕ) (before part after : List Call) → calls ≡ before ++ (part ++ after) → IsRead name bytes part → file name ≡ Some bytes
@@ -47,7 +47,7 @@ abbrev pub failures : List Call → ℕ
 failures [] = 0
 failures (call ∷ calls) = cond (has_failed call) 1 0 + failures calls
 
--- ---- what is told by a folder that tells its files
+-- ---- what is said by a folder that tells its files
 
 -- what stands under the names after these puts, one after another: a put changes what stands under its own name alone, to
 -- its bytes where it is done

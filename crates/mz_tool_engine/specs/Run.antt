@@ -30,7 +30,7 @@ StopAt P (name ∷ names) calls = P name calls
 abbrev pub IsPartly : List ℕ → List Call → Type 0
 IsPartly name calls = (bytes : List ℕ) × IsBegun name bytes calls
 
--- the files were read, or only a front of them
+-- the files were read, or only a prefix of them
 abbrev pub AreReadOrLeft : List (List ℕ) → List Call → Type 0
 AreReadOrLeft names calls = ((contents : List (List ℕ)) × AreRead names contents calls) ⊎ StopAt IsPartly names calls
 
@@ -49,7 +49,7 @@ abbrev pub AreReadNotPut : List (List ℕ) → List (List ℕ) → Option (List 
 AreReadNotPut names contents name put calls = (out : List ℕ) × (bytes : List ℕ) × (reads : List Call) × (name ≡ Some out) × (put ≡ Some bytes)
     × (calls ≡ reads ++ puts out bytes false ∷ []) × AreRead names contents reads
 
--- a front of the text was handed over and taken, in pieces, and nothing more was
+-- a prefix of the text was handed over and taken, in pieces, and nothing more was
 pub record IsBegunText (text : List ℕ) (calls : List Call) : Type 0 where
   pub front : List ℕ
   pub rest : List ℕ
@@ -94,25 +94,25 @@ IsRunOf limit said statuses.OutFault calls written = (contents : List (List ℕ)
     × IsAnswer said contents put text × AreReadAndPut said.reads contents said.puts put calls × IsCut text written
 -- one of the files gave more bytes than the limit; nothing was put or written
 IsRunOf limit said statuses.TooLong calls written = StopAt (IsOver limit) said.reads calls × (written ≡ [])
--- no call failed, and nothing was put; nothing was written either, or a front of what the command writes as it goes
+-- no call failed, and nothing was put; nothing was written either, or a prefix of what the command writes as it goes
 IsRunOf limit said statuses.Memory calls written =
     (AreReadOrLeft said.reads calls × (written ≡ []))
     ⊎ ((contents : List (List ℕ)) × (text : List ℕ) × AreRead said.reads contents calls × said.begun contents text × IsBegunText text written)
 
--- ---- the run of a program whose words ask for a request, of which this is said
+-- ---- the run of a program whose arguments ask for a request, of which this is said
 
--- the words ask for it
+-- the arguments ask for it
 abbrev pub Asks : Said → List (List ℕ) → Type 0
 Asks said words = (words ≡ said.words) × said.is_in_range
 
--- something of a request that the words ask for; something of each that they ask for
+-- something of a request that the arguments ask for; something of each that they ask for
 abbrev pub SomeAsked : {R : Type 0} → (R → Said) → List (List ℕ) → (Said → Type 0) → Type 0
 SomeAsked {R} said_of words P = (asked : R) × Asks (said_of asked) words × P (said_of asked)
 
 abbrev pub EachAsked : {R : Type 0} → (R → Said) → List (List ℕ) → (Said → Type 0) → Type 0
 EachAsked {R} said_of words P = (asked : R) → Asks (said_of asked) words → P (said_of asked)
 
--- The calls in a run with these words: none where they ask for nothing.
+-- The calls in a run with these arguments: none where they ask for nothing.
 abbrev pub IsRun : {R : Type 0} → (R → Said) → List (List ℕ) → Status → List Call → List Call → Type 0
 IsRun {R} said_of words status calls written =
     ((asked : R) × Asks (said_of asked) words × IsRunOf longest (said_of asked) status calls written)

@@ -5,10 +5,10 @@ use Rattle.std.specs.Prelude.{ℕ, List, [], ◌∷◌, Option}
 abbrev pub Files : Type 0
 Files = List ℕ → Option (List ℕ)
 
--- The words that ask for the command, and what is asked of the numbers among them; the names of the files that it reads, in
--- order, and the name under which it puts one, where it puts one. What a yes promises of the files, without a word of binaries. Then, over the
+-- The arguments (`words`) that ask for the command, and what is asked of the numbers among them; the names of the files that it reads, in
+-- order, and the name under which it puts one, where it puts one. What a yes promises of the files, without speaking of binaries. Then, over the
 -- bytes of the files that it reads, in order: the answer is yes, these bytes are put and this text is written; it is a refusal,
--- and this text is written; what a yes promises of all of them; and what may have been written in part before memory is wanting.
+-- and this text is written; what a yes promises of all of them; and what may have been written in part before a run is out of memory.
 pub record Said : Type 1 where
   pub words : List (List ℕ)
   pub is_in_range : Type 0

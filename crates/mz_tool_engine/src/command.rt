@@ -26,7 +26,7 @@ pub trait Command {
     fn output(&self) -> Output<'_>
         ensures { name_of result ≡ (says self.now).puts };
 
-    /// What it answers over the contents of its files. What it writes before, as it goes, is a front of the answer's text;
+    /// What it answers over the contents of its files. What it writes before, as it goes, is a prefix of the answer's text;
     /// an error is a write that failed.
     fn answer<O: Sink>(
         &self,

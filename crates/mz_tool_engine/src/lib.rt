@@ -1,5 +1,5 @@
 //! The engine of a program: reads the files that a command names, asks it, puts its file and writes its text, over any
-//! folder and any sink. It knows nothing of any command, nor of any program's words.
+//! folder and any sink. It knows nothing of any command, nor of any program's arguments.
 //!
 //! `specs/Run.antt` says what a run is: the calls that it makes, what these answered, and how it ends. `specs/Consequences.antt`
 //! says what follows of it.

@@ -14,12 +14,12 @@ use crate::status::{LONGEST, Status};
 use mz_io::{Folder, Sink};
 use std::alloc::Global;
 
-/// A program: what its words may ask for, and which command answers.
+/// A program: what its arguments may ask for, and which command answers.
 pub trait Program<'a> {
     /// A command of the program.
     type Asked: Command + Drop;
 
-    /// What the words may ask for.
+    /// What the arguments may ask for.
     ghost Request: { Type 0 };
 
     /// All that is said of a request.
@@ -28,7 +28,7 @@ pub trait Program<'a> {
     /// The request that a command answers.
     ghost request: { Self.Asked → Request };
 
-    /// The command that the words ask for, where they ask for one. They ask for one request at the most.
+    /// The command that the arguments ask for, where they ask for one. They ask for one request at the most.
     fn read(&self, words: &'a [String]) -> Option<Self::Asked>
         ensures asked { IfSome result (λ command. Asks (said_of (request command)) (map string_bytes words.now)) }
         ensures usage { IfNone result ((asked : Request) → Asks (said_of asked) (map string_bytes words.now) → ⊥) }
@@ -43,7 +43,7 @@ pub trait Program<'a> {
     ghost says: { (command : Self.Asked) → IsSaidOf (Self.Asked.says command) (said_of (request command)) };
 }
 
-/// Does what the words ask of the program, with the folder's files, and writes the answer to `out`.
+/// Does what the arguments ask of the program, with the folder's files, and writes the answer to `out`.
 ///
 /// Out of memory may come in place of any answer but `Usage`.
 pub fn run<'a, P: Program<'a>, F: Folder, O: Sink>(

@@ -12,7 +12,7 @@ pub enum Status {
     Done,
     /// A refusal's line was written.
     Refused,
-    /// The words are none of the program's.
+    /// The arguments are none of the program's.
     Usage,
     /// A file could not be read.
     ReadFault,
@@ -43,7 +43,7 @@ impl Status {
         }
     }
 
-    /// What is told on standard error, where anything is.
+    /// What is printed on standard error, where anything is.
     pub fn name(self) -> Option<&'static str>
         ensures { option_map (λ name. name.now) result ≡ told_name self }
     {

@@ -1,10 +1,10 @@
-// Listings that are assembled, with the line that is told of them.
+// Listings that are assembled, with the line that is printed of them.
 use crate::expect::expect_of;
 use crate::program::{ended, folder_of};
 use mz_tool::Status;
 use std::process::Abort;
 
-/// Listings, and the line that is told of each.
+/// Listings, and the line that is printed of each.
 const TEXTS: &[(&str, &str)] = &[
     ("sort 0 4\nend\n", "assembled: 51 bytes\n"),
     ("end\n", "assembled: 41 bytes\n"),

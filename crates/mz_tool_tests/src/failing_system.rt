@@ -220,7 +220,7 @@ const WRITES: &[(Failing, &str, usize)] = &[
     (Failing::Flush, "a stream that isn't flushed", 1),
 ];
 
-/// A text is written whole, or it fails and a front of it is.
+/// A text is written whole, or it fails and a prefix of it is.
 fn expect_written(
     rt: &(impl Abort + AllocGlobal + Files),
     failing: Failing,

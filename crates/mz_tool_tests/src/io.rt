@@ -11,7 +11,7 @@ use std::process::Abort;
 
 const TEXT: &[u8] = b"accepted: 1 sorts";
 
-/// What a read gave, as a word and the bytes.
+/// What a read gave, as a name and the bytes.
 fn shown(read: &Read) -> (&str, &[u8]) {
     match read {
         Read::Bytes(bytes) => ("bytes", bytes.as_slice()),

@@ -24,10 +24,10 @@ use mz_tool::{Status, run};
 use std::alloc::{AllocError, Global};
 use std::process::Abort;
 
-/// Changes of a file, the line that is told of it then, and what this shows.
+/// Changes of a file, the line that is printed of it then, and what this shows.
 pub type Case = (&'static [Change], &'static str, &'static str);
 
-/// The words of a command line, separated by single spaces; no words where it is empty.
+/// The arguments of a command line, separated by single spaces; none where it is empty.
 pub fn words_of(alloc: Global, line: &str) -> Result<Vec<String>, AllocError> {
     let mut words = Vec::new(alloc);
     for word in line.split_whitespace() {

@@ -1,4 +1,4 @@
--- What was listed is the answer of `show`, or a front of it.
+-- What was listed is the answer of `show`, or a prefix of it.
 use Rattle.std.proofs.Common.{◌≡◌, ◌≤◌, ◌+◌, ◌∙◌, ◌++◌, ℕ, List, [], ◌∷◌, Option, None, length, sym, subst, inl, inr, refl, ap, append_assoc, arith}
 use Rattle.std.proofs.lemmas.List.{append-nil, length-append}
 use Rattle.mz_cmd.specs.declared.rule.Refusal.{Refusal}
@@ -26,7 +26,7 @@ cut-further text more calls c = record {
 pub whole-begun : (text : List ℕ) (calls : List Call) → IsWritten text calls → IsBegunText text calls
 whole-begun text calls w = record { front = text; rest = []; text_is = sym (append-nil text); written = w }
 
--- so was a listing of which a front was written
+-- so was a listing of which a prefix was written
 pub front-begun : (text : List ℕ) (calls : List Call) → IsBegunListing text calls → IsBegunText text calls
 front-begun text calls b = record { front = b.front; rest = b.rest; text_is = b.text_is; written = b.written }
 
@@ -53,7 +53,7 @@ module _ (name bin : List ℕ) (contents : List (List ℕ)) (read : contents ≡
   pub listed-begun : (text : List ℕ) → IsListed bin text → OfOne (λ bytes. IsListed bytes text) contents
   listed-begun text listed = subst (λ xs. OfOne (λ bytes. IsListed bytes text) xs) (sym read) listed
 
-  -- what is listed and cut short is a front of an answer
+  -- what is listed and cut short is a prefix of an answer
   pub listing-is_cut : (text : List ℕ) (calls : List Call) → IsListed bin text → IsCut text calls → (whole : List ℕ) × IsAnswer (show_says name) contents None whole × IsCut whole calls
   listing-is_cut text calls (inl listing) cut = (text, inl (listing-affirms text listing), cut)
   listing-is_cut text calls (inr (refusal, upto)) cut =

@@ -1,4 +1,4 @@
--- The words say which request they ask for, and what is promised of the specification alone follows from what is proved.
+-- The arguments say which request they ask for, and what is promised of the specification alone follows from what is proved.
 use Rattle.std.proofs.Common.{◌≡◌, ◌∙◌, ℕ, List, [], ◌∷◌, sym, subst}
 use Rattle.mz_match_theory.proofs.Offered.{sound-proves}
 use Rattle.mz_tool_engine.specs.Run.{Asks, IsProved}
@@ -19,7 +19,7 @@ not-both : (n a b m x : List ℕ) → n ∷ a ∷ b ∷ [] ≡ m ∷ x ∷ [] �
 unfolding AreThree
 not-both n a b m x e = subst AreThree e tt
 
--- words ask for one request at the most
+-- arguments ask for one request at the most
 pub one-request : (words : List (List ℕ)) (r s : Request) → Asks (said_of r) words → Asks (said_of s) words → r ≡ s
 one-request words (verify a b) (verify x y) (e, i) (f, j) = same-two _ a b x y (sym e ∙ f)
 one-request words (verify a b) (show x) (e, i) (f, j) = absurd (not-both _ a b _ x (sym e ∙ f))

@@ -1,4 +1,4 @@
--- What the words given to the verifier ask for, and what is said of it (this project's own).
+-- What the arguments given to the verifier ask for, and what is said of it (this project's own).
 use Rattle.std.specs.Prelude.{ℕ, List}
 use Rattle.mz_tool_engine.specs.Said.{Said}
 use Rattle.mz_tool_verify.specs.Verify.{verify_says}

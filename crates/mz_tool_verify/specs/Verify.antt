@@ -28,7 +28,7 @@ IsRefuted spec bin text = IsRefutedBy strict_standard spec bin text
 abbrev pub IsProvedSpec : Files → List ℕ → Type 0
 IsProvedSpec file name = (spec : List ℕ) × (file name ≡ Some spec) × Proves spec
 
--- What is accepted is sound: each theorem of the specification ends a front of the binary's statements, which is a legal
+-- What is accepted is sound: each theorem of the specification ends a prefix of the binary's statements, which is a legal
 -- list and agrees with the specification up to the theorem; it has a derivation from axioms alone over the statements before it, and
 -- this cites only axioms that the specification declares before it. All of the binary's statements are legal and agree too.
 abbrev pub verify_says : (spec_name bin_name : List ℕ) → Said

@@ -1,4 +1,4 @@
-// The words given to the verifier.
+// The arguments given to the verifier.
 ghost use Rattle.std.specs.Prelude.{[], ◌∷◌, map, string_bytes, IfSome, IfNone};
 ghost use Rattle.mz_tool_engine.specs.Run.{Asks};
 ghost use Rattle.mz_tool_verify.specs.Requests.{Request, said_of};
@@ -20,7 +20,7 @@ pub enum VerifierCommand<'a> {
 impl<'a> VerifierCommand<'a> {
     ghost use Rattle.mz_tool_verify.specs.Requests.{request};
 
-    /// The command that the words ask for, where they ask for one.
+    /// The command that the arguments ask for, where they ask for one.
     pub fn read(seed: Seed, words: &'a [String]) -> Option<VerifierCommand<'a>>
         ensures asked { IfSome result (λ command. Asks (said_of (request command)) (map string_bytes words.now)) }
         ensures usage { IfNone result ((asked : Request) → Asks (said_of asked) (map string_bytes words.now) → ⊥) }
@@ -34,7 +34,7 @@ impl<'a> VerifierCommand<'a> {
         }
     }
 
-    /// The command of this name, with one word more.
+    /// The command of this name, with one argument more.
     fn of_one(name: &str, bin: &'a str) -> Option<VerifierCommand<'a>>
         ensures asked { IfSome result (λ command. Asks (said_of (request command)) (name.now ∷ bin.now ∷ [])) }
         ensures usage { IfNone result ((asked : Request) → Asks (said_of asked) (name.now ∷ bin.now ∷ []) → ⊥) }
@@ -45,7 +45,7 @@ impl<'a> VerifierCommand<'a> {
         }
     }
 
-    /// The command of this name, with two words more.
+    /// The command of this name, with two arguments more.
     fn of_two(seed: Seed, name: &str, spec: &'a str, bin: &'a str) -> Option<VerifierCommand<'a>>
         ensures asked { IfSome result (λ command. Asks (said_of (request command)) (name.now ∷ spec.now ∷ bin.now ∷ [])) }
         ensures usage { IfNone result ((asked : Request) → Asks (said_of asked) (name.now ∷ spec.now ∷ bin.now ∷ []) → ⊥) }

@@ -44,7 +44,7 @@ impl<'a> Program<'a> for Verifier {
     ghost says = { λ command. said-itself (said_of_request (request_of command)) };
 }
 
-/// Does what the words ask of the verifier, with the folder's files, and writes the answer to `out`.
+/// Does what the arguments ask of the verifier, with the folder's files, and writes the answer to `out`.
 ///
 /// Out of memory may come in place of any answer but `Usage`. The terms of a binary's bodies are numbered with the
 /// seed, on which no answer depends.

@@ -22,9 +22,9 @@ use Rattle.mz_mmu_theory.specs.Weight.{statement_weight, weight_after}
 use Rattle.mz_mmu.specs.declared.text.TextStop.{TextStop}
 use Rattle.mz_mmu.specs.declared.text.TextStop.TheVariants as text_stop
 
--- ---- marks
+-- ---- visibility
 
--- a statement is marked exactly where its node begins with the word
+-- a statement is local exactly where its node begins with the keyword
 abbrev pub AreMarked : Nodes → List Statement → Type 0
 AreMarked ns [] = ⊤
 AreMarked ns (s ∷ ss) = (is_local_word (first (parts (first ns))) ≡ s.is_local) × AreMarked (rest ns) ss

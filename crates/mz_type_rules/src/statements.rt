@@ -62,8 +62,8 @@ fn check_hyps(
     Ok(())
 }
 
-/// The rules of a definition's dummies and body. The parts are the statement's, from the word of its
-/// kind on.
+/// The rules of a definition's dummies and body. The parts are the statement's, from the keyword of
+/// its kind on.
 fn check_body(
     alloc: Global,
     env: &Env,
@@ -209,7 +209,7 @@ pub fn proof_in(proof: &Option<ProofBox>) -> Option<&Proof>
     }
 }
 
-/// A statement's parts from the word of its kind on.
+/// A statement's parts from the keyword of its kind on.
 fn declared_parts<'n, 'a>(nodes: &Cursor<'n, 'a>, is_local: bool) -> Cursor<'n, 'a>
     requires { is_local_word (first (parts (first nodes.now))) ≡ is_local }
     ensures { result ≡ Parts.declared_parts (first nodes.now) }

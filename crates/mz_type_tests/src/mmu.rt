@@ -269,7 +269,7 @@ fn told(rt: &(impl Abort + AllocGlobal), more: &str, mode: Mode) -> Vec<u8> {
     description(alloc, text.as_bytes(), mode).expect(rt, "memory")
 }
 
-/// Fails unless the text of those and then `more` is described by these last words.
+/// Fails unless the text of those and then `more` is described by these last tokens.
 fn expect_end(rt: &(impl Abort + AllocGlobal), more: &str, mode: Mode, wanted: &str) {
     let found = told(rt, more, mode);
     expect(rt, found.ends_with(wanted.as_bytes()), more);
@@ -362,7 +362,7 @@ const FORMS: &[(&str, &str)] = &[
         "(theorem t () () c () (:conv c (g c (c)) (A (c))))",
         "119 t thm ()()t0() ():t0() c2(=t0()c0()) T0(t0()){}; ",
     ),
-    // names of other spaces, literal words, and a hypothesis named as a variable
+    // names of other spaces, keywords, and a hypothesis named as a variable
     ("(sort c)", "119 c sort 0; "),
     ("(sort sort)", "119 sort sort 0; "),
     ("(term local () (s ()))", "119 local term ()>0[]; "),

@@ -70,7 +70,7 @@ tells-any-push ctx v w es e p q =
     tells-same (bound_vars ctx) (bit_or v w) (λ x. InAnyV ctx es x ⊎ InV ctx x e) (InAnyV ctx (es ++ e ∷ [])) (λ x. let (to, from) = any-append ctx es e x in (from, to))
     (tells-or (bound_vars ctx) v w (InAnyV ctx es) (λ x. InV ctx x e) p q)
 
--- ---- what a store's words tell
+-- ---- what a store's words name
 
 told-by : (mode : DepsMode) (sigs : List Signature) (ctx : List Binder) (word : ℕ) (e : Tree) → (mode ≡ of.All) ⊎ IsVariable e → Tells (bound_vars ctx) word (IsTold mode sigs ctx e) → Tells (bound_vars ctx) word (λ x. InV ctx x e)
 told-by of.All sigs ctx word e h tells = tells

@@ -58,7 +58,7 @@ abbrev pub AreVariables : Sharing → List Id → Type 0
 AreVariables s [] = ⊤
 AreVariables s (i ∷ is) = IsVariable (tree_of s i.0) × AreVariables s is
 
--- the store's words tell all variables of these: it is an `All` store, or they are variables themselves
+-- the store's words name all variables of these: it is an `All` store, or they are variables themselves
 abbrev pub TellsAllOf : Sharing → List Id → Type 0
 TellsAllOf s is = (s.mode ≡ of.All) ⊎ AreVariables s is
 

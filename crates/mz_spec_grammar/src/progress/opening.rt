@@ -8,7 +8,7 @@ use super::{At, Coercion, Delimiter, Operator, Parts};
 use mz_spec_theory::{AssertKind, Fixity, Head, Kind, Lexeme, Modifiers};
 use std::alloc::Global;
 
-/// Whether there is no such word.
+/// Whether there is no modifier.
 fn is_bare(read: Modifiers) -> bool
     ensures { result ≡ is_bare_lem (modifiers read) }
 {

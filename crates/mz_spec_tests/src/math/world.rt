@@ -33,7 +33,7 @@ pub enum Step<'a> {
     /// A variable of the statement.
     Var(Var<'a>),
     Delimiter(&'a str, Option<&'a str>),
-    /// A constant between the operands of a term, at a level, to the right or to the left.
+    /// A constant between the operands of a term, at a precedence, to the right or to the left.
     Infix(u32, &'a str, Option<u32>, bool),
     Prefix(u32, &'a str, Option<u32>),
     /// A term, the statement's parameters and the sort of its type, and literals, the i-th of which is

@@ -53,7 +53,7 @@ const WHOLE: &[(&str, &str)] = &[
         "sort s; def d {x1 x2 x3 x4 x5 x6 x7 x8 x9 x10 x11 x12 x13 x14 x15 x16 x17 x18 x19 x20 x21 x22 x23 x24 x25 x26 x27 x28 x29 x30 x31 x32 x33 x34 x35 x36 x37 x38 x39 x40 x41 x42 x43 x44 x45 x46 x47 x48 x49 x50 x51 x52 x53 x54 x55: s}: s;",
         "0 5 s sort 0; 8 12 d term {0} {0} {0} {0} {0} {0} {0} {0} {0} {0} {0} {0} {0} {0} {0} {0} {0} {0} {0} {0} {0} {0} {0} {0} {0} {0} {0} {0} {0} {0} {0} {0} {0} {0} {0} {0} {0} {0} {0} {0} {0} {0} {0} {0} {0} {0} {0} {0} {0} {0} {0} {0} {0} {0} {0}: 0 abstract; ",
     ),
-    // levels
+    // precedences
     (
         "provable sort wff; term im (a b: wff): wff; term an (a b: wff): wff; term not (a: wff): wff; infixr im: $->$ prec 25; infixl an: $/\\$ prec 34; prefix not: $~$ prec 41; axiom x (a b c: wff): $ a -> b -> c $ > $ a /\\ b /\\ c $ > $ ~ a /\\ b $;",
         "0 14 wff sort 4; 19 24 im term (0) (0): 0; 44 49 an term (0) (0): 0; 69 74 not term (0): 0; 168 174 x axiom (0) (0) (0): (t0 v0 (t0 v1 v2)) > (t1 (t1 v0 v1) v2) > (t1 (t2 v0) v1); ",
@@ -226,7 +226,7 @@ const SETTLED: &[(&str, &str)] = &[
         "term an (a b: wff): wff; infixl an: $&$ prec 5; notation im (a b: wff): wff = ($[$: 10) a ($|$: 5) b; axiom x (a: wff): $ [ a -> a | a $ > $ [ a & a | a $;",
         "S10 16 139",
     ),
-    // constants with one level; in the middle they may be shared
+    // constants with one precedence; in the middle they may be shared
     (
         "notation im (a b: wff): wff = ($[$: 10) a ($|$: 5) b; term an (a b: wff): wff; notation an (a b: wff): wff = ($<$: 10) a ($|$: 5) b; axiom x (a: wff): $ [ a | < a | a $;",
         "54 59 an term (0) (0): 0; 133 139 x axiom (0): (t0 v0 (t5 v0 v0)); ",

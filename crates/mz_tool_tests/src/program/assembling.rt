@@ -5,7 +5,7 @@ use crate::expect::expect_of;
 use mz_tool::Status;
 use std::process::Abort;
 
-/// Files, and what is told where their listings are assembled.
+/// Files, and what is printed where their listings are assembled.
 const FILES: &[(&[u8], &str)] = &[
     (ONE, "assembled: 51 bytes\n"),
     (IMP, "assembled: 238 bytes\n"),

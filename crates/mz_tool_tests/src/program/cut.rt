@@ -7,7 +7,7 @@ use mz_tool::Status;
 use std::alloc::{AllocError, Global};
 use std::process::Abort;
 
-/// A length, and what is told of the files that are cut there or later, as far as the next cut: how many
+/// A length, and what is said of the files that are cut there or later, as far as the next cut: how many
 /// lines of the whole listing stand before the refusal, its statement, its byte (None: the cut file's
 /// length), and its rule.
 type Cut = (usize, usize, u32, Option<u32>, &'static str);

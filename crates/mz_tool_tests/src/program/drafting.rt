@@ -1,4 +1,4 @@
-// Which theorems rest on a gap, as the program tells it of worked files.
+// Which theorems rest on a gap, as the program reports it of worked files.
 use crate::program::change::Change::{Put, Without};
 use crate::program::change::{Change, changed};
 use crate::program::expect;
@@ -45,7 +45,7 @@ def nn (a: wff): wff = $ not ( not a ) $;
 theorem fold (a: wff): $ not ( not a ) $ > $ a $;
 ";
 
-/// A specification, a file with its changes, the text that is told of them, and what this shows.
+/// A specification, a file with its changes, the text that is printed of them, and what this shows.
 type Case = (
     &'static str,
     &'static [u8],

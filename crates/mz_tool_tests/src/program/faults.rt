@@ -1,4 +1,4 @@
-// Words that ask for nothing, files and outputs that fail, and out of memory.
+// Arguments that ask for nothing, files and outputs that fail, and out of memory.
 use crate::expect::{expect_of, expect_that};
 use crate::program::files::{DUMMY, ONE, ONE_SPEC};
 use crate::program::{ended, expect, folder_of, words_of};
@@ -10,7 +10,7 @@ use std::process::Abort;
 
 const ACCEPTED_ONE: &str = "accepted: 1 sorts, 0 terms, 0 axioms, 0 definitions, 0 theorems\n";
 
-/// Words that are no command.
+/// Arguments that are no command.
 const OTHER_WORDS: &[&str] = &[
     "",
     "verify",
@@ -58,7 +58,7 @@ fn other_words_are_refused(rt: HostRuntime) {
     }
 }
 
-/// Words, how the run ends where the smallest binary alone is there, and how many calls it makes.
+/// Arguments, how the run ends where the smallest binary alone is there, and how many calls it makes.
 const MISSING: &[(&str, Status, u64)] = &[
     ("verify other bin", Status::ReadFault, 1),
     // The binary is read in two pulls.
@@ -82,7 +82,7 @@ const MISSING: &[(&str, Status, u64)] = &[
     ("decompile bin out", Status::Usage, 0),
 ];
 
-/// A file that is missing is the last one that is started; words of no command start none.
+/// A file that is missing is the last one that is started; arguments of no command start none.
 #[test]
 fn missing_files(rt: HostRuntime) {
     for (line, wanted, calls) in MISSING {

@@ -374,7 +374,7 @@ const SHOWN_BODIES: &[Shown] = &[
         "refused: binary statement 3 at byte 196: K3 command\n",
         NOTHING,
     ),
-    // What a listing says as it stands: modifiers, a word's digits, a local definition, words in the header,
+    // What a listing says as it stands: modifiers, a type word's digits, a local definition, words in the header,
     // a body of one END.
     (ONE, "", &[Put(40, &[0xff])], 0, "sort 0 15\nend\n", NOTHING),
     (

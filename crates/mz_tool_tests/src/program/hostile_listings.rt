@@ -1,4 +1,4 @@
-// Listings that are cut, or one of whose bytes is another. What is told of each doesn't come from the
+// Listings that are cut, or one of whose bytes is another. What is said of each doesn't come from the
 // program: `scripts/hostile-texts` works it out.
 use crate::program::change::{Change, changed, with_byte};
 use crate::program::listings::{COMMANDS_LISTING, DUMMY_LISTING, FOLD_LISTING};
@@ -7,7 +7,7 @@ use mz_tool::Status;
 use std::alloc::{AllocError, Global};
 use std::process::Abort;
 
-/// A byte that is put in place of another (None: the listing is cut there), and what is told then: rows that
+/// A byte that is put in place of another (None: the listing is cut there), and what is said then: rows that
 /// end with `/`, each of them for so many places on.
 type Sheet = (Option<u8>, &'static str);
 
@@ -37,7 +37,7 @@ const EMPTY_ROW: Row = Row {
 };
 
 impl Row {
-    /// The row with its next word.
+    /// The row with its next token.
     fn with(self, word: &'static str) -> Row {
         let mut row = self;
         if row.places == 0 {
@@ -59,7 +59,7 @@ impl Row {
         }
     }
 
-    /// What is told of a change in this line of the listing.
+    /// What is printed of a change in this line of the listing.
     fn line(self, alloc: Global, here: usize) -> Result<String, AllocError> {
         let number = match self.told {
             "here" => here,

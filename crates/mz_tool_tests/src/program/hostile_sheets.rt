@@ -1,4 +1,4 @@
-// Written by scripts/hostile-texts, from the rules of the format: what is told of each listing
+// Written by scripts/hostile-texts, from the rules of the format: what is said of each listing
 // where it is cut before a place (None), or another byte stands there: of how many places on, and what.
 
 /// `ONE_LISTING`.

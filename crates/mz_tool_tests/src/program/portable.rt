@@ -1,4 +1,4 @@
-// Files as verifiers see them that compare addresses: what the standard machine accepts, and what they refuse of it.
+// Files as verifiers see them that compare by identity: what the standard machine accepts, and what they refuse of it.
 use crate::program::change::Change::{Front, Put, Then};
 use crate::program::change::{Change, changed};
 use crate::program::files::{

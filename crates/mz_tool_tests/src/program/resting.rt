@@ -1,4 +1,4 @@
-// What theorems rest on, as the program tells it of worked files.
+// What theorems rest on, as the program reports it of worked files.
 use crate::program::change::Change::Put;
 use crate::program::change::{Change, changed};
 use crate::program::expect;
@@ -61,7 +61,7 @@ axiom double (a: wff): $ a $ > $ not ( not a ) $;
 theorem twice (a: wff): $ a $ > $ nn a $;
 ";
 
-/// A specification, a file with its changes, the text that is told of them, and what this shows.
+/// A specification, a file with its changes, the text that is printed of them, and what this shows.
 type Case = (
     &'static str,
     &'static [u8],

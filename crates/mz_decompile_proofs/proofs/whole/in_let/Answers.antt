@@ -7,7 +7,7 @@ use Rattle.mz_decompile_proofs.specs.Growing.{Tells, Adds}
 use Rattle.mz_decompile_proofs.proofs.Longer.{no-numbers, all-of, adds-one, adds-on, then-chosen, told-whole}
 use Rattle.mz_decompile_proofs.proofs.whole.in_let.Goals as goal
 
--- the four parts: two words, and two phrases that were there
+-- the four parts: two tokens, and two phrases that were there
 parts-are : (a b d : List Phrase) (i j first rest : ℕ) (u t : Phrase) → Tells a b u i → Tells b d t j → first < length a → rest < length a
     → Adds a d [] (i ∷ j ∷ first ∷ rest ∷ []) (u ∷ t ∷ phrase_at a first ∷ phrase_at a rest ∷ [])
 parts-are a b d i j first rest u t one two low last =

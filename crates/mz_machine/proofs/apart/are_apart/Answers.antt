@@ -1,6 +1,6 @@
 use Rattle.std.specs.Prelude.{◌&&◌, bit_and, slice_get, Some}
 use Rattle.std.specs.Int.Bits.{and_zero_r}
-use Rattle.std.proofs.Common.{◌≡◌, ◌<◌, ◌≤◌, ◌+◌, ℕ, zero, suc, true, List, length, drop, sym, ap, ◌∙◌, arith, add-one}
+use Rattle.std.proofs.Common.{◌≡◌, ◌<◌, ◌+◌, ℕ, zero, suc, true, List, length, drop, sym, ap, ◌∙◌, arith, add-one}
 use Rattle.std.proofs.lemmas.List.{length-map}
 use Rattle.std.proofs.lemmas.Option.{slice_get_within}
 use Rattle.mz_base_theory.proofs.Offered.{drop-past, slice_get-some}
@@ -8,7 +8,7 @@ use Rattle.mz_logic_theory.specs.Tree.{Tree}
 use Rattle.mz_logic_theory.specs.Words.{binders_of}
 use Rattle.mz_logic_theory.specs.declared.word.Word.{Word}
 use Rattle.mz_logic_theory.specs.declared.binder.Binder.{Binder}
-use Rattle.mz_machine_theory.specs.Premises.{apart_at, apart_from, are_apart}
+use Rattle.mz_machine_theory.specs.Premises.{apart_at, apart_from}
 use Rattle.mz_store.specs.Sharing.{deps_of, tree_of}
 use Rattle.mz_unify.proofs.Offered.{is-in-at, tree-at}
 use Rattle.mz_machine_env.specs.Before.{signatures_of}

@@ -2,6 +2,6 @@ use Rattle.std.proofs.Common.{◌≡◌, ◌↔◌, ◌⊎◌, ℕ, false, lengt
 use Rattle.std.specs.Prelude.{IsTrue}
 use Rattle.mz_math_tokens.proofs.set.mark.Given as goal
 
--- what is marked and what is left make the whole
+-- what is set and what is left make the whole
 abbrev pub invariant-loop-byte : goal.invariant-loop-byte
 invariant-loop-byte l = (length l.there ≡ 256) × ((c : ℕ) → (IsTrue (get_or l.there c false) ⊎ Contains (drop l.byte-index l.bytes) c) ↔ (IsTrue (get_or l.initial.there c false) ⊎ Contains l.bytes c))

@@ -121,7 +121,7 @@ statements-init g c = record {
   only_full = λ clear fits. refl;
 }
 
--- what was written of the file is a front of its listing, and what came last was cut short
+-- what was written of the file is a prefix of its listing, and what came last was cut short
 pub returns-in_default-clause-log : goal.returns-in_default-clause-log
 returns-in_default-clause-log g c =
     let n = c.in-Statement.ensures in

@@ -58,7 +58,7 @@ returns-clause-most g c = λ old new few.
     let at-head = head-at p.file head.at (statement_byte head.code) head.body head.next c.requires.head in
     omega (arith, same, most-past (length p.file) p.at head.body head.next old new (omega (arith, at-head.before, c.requires.at)) at-head.order at-head.within few)
 
--- out of memory for the mark, which only an axiom or theorem gets
+-- out of memory for the flag, which only an axiom or theorem gets
 
 pub returns-in_default-clause-next : goal.returns-in_default-clause-next
 returns-in_default-clause-next g c = λ ss env before.
