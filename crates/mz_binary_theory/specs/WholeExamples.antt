@@ -28,8 +28,8 @@ first_fault_by_identity file = fault_of (run_file Portable file)
 
 -- files that are good by identity; and some that are good by the standard machine alone, for they make twice what is asked
 -- to be the same
-abbrev pub ByAddress : Type 0
-ByAddress =
+abbrev pub ByIdentity : Type 0
+ByIdentity =
     (first_fault_by_identity one ≡ None)
     × (first_fault_by_identity (with_byte 104 0x01 gen) ≡ None)
     × (first_fault_by_identity imp ≡ refused 5 234 k.UnifyReference)

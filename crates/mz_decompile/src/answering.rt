@@ -10,7 +10,7 @@ use crate::decompiled::Decompiled;
 use crate::lines::text;
 use crate::measuring::{Measured, Sizes, measure};
 use mz_cmd::Mem;
-use mz_decompile_names::Names;
+use mz_decompile_names::PairNames;
 use mz_layout_tables::Mmb;
 use std::alloc::Global;
 
@@ -19,7 +19,7 @@ const LONGEST: u128 = 4_294_967_295;
 
 /// The text of a binary's statements, or what stands first against it. The passes share nothing, so that no more than
 /// one statement's phrases are kept at a time.
-pub(crate) fn answer(alloc: Global, mmb: &Mmb, names: &Names) -> Result<Decompiled, Mem>
+pub(crate) fn answer(alloc: Global, mmb: &Mmb, names: &PairNames) -> Result<Decompiled, Mem>
     requires { SomeAreAll mmb.now names.now }
     ensures { IfOk result (λ d. (ts : List Statement) → AreAll mmb.now names.now ts → IsAnswer (vocabulary_by names.now) ts d) }
 {

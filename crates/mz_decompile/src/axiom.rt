@@ -17,7 +17,7 @@ use crate::params::put_params;
 use crate::parts::{put_list, put_word};
 use crate::weight::weight_said;
 use mz_cmd::Mem;
-use mz_decompile_names::Names;
+use mz_decompile_names::PairNames;
 use mz_decompile_phrases::Phrases;
 use mz_decompile_rows::assertion;
 use mz_layout_tables::{Mmb, Row};
@@ -27,7 +27,7 @@ use std::alloc::Global;
 pub(crate) fn put_axiom(
     alloc: Global,
     mmb: &Mmb,
-    names: &Names,
+    names: &PairNames,
     row: u32,
     phrases: &mut Phrases,
     parts: &mut Vec<usize>,
@@ -49,7 +49,7 @@ pub(crate) fn put_axiom(
 pub(crate) fn put_heading(
     alloc: Global,
     mmb: &Mmb,
-    names: &Names,
+    names: &PairNames,
     row: u32,
     word: &[u8],
     phrases: &mut Phrases,

@@ -6,7 +6,7 @@ ghost use Rattle.mz_decompile.specs.Passes.{IsOfAccepted};
 
 use crate::answering::answer;
 use mz_cmd::{Mem, Steps};
-use mz_decompile_names::Names;
+use mz_decompile_names::PairNames;
 use mz_decompile_theory::{accepted_are_restated, plain_texts_are_texts};
 use mz_layout_tables::Mmb;
 use mz_match::verify_bytes;
@@ -78,6 +78,6 @@ fn of_accepted(alloc: Global, seed: Seed, spec: &[u8], bin: &[u8]) -> Result<Dec
     let Ok(mmb) = Mmb::read(bin) else {
         unreachable!();
     };
-    let names = Names::of(alloc, Hashing::from(seed), spec, &mmb)?;
+    let names = PairNames::of(alloc, Hashing::from(seed), spec, &mmb)?;
     answer(alloc, &mmb, &names)
 }

@@ -8,14 +8,14 @@ ghost use Rattle.mz_decompile.specs.Adding.{Adds};
 
 use crate::parts::{put_list, put_variable, put_word};
 use mz_cmd::Mem;
-use mz_decompile_names::Names;
+use mz_decompile_names::PairNames;
 use mz_decompile_phrases::Phrases;
 use std::alloc::Global;
 
 /// Adds a list of dummies of these sorts, behind so many parameters.
 pub(crate) fn put_dummies(
     alloc: Global,
-    names: &Names,
+    names: &PairNames,
     params: u32,
     sorts: &[u32],
     phrases: &mut Phrases,
@@ -41,7 +41,7 @@ pub(crate) fn put_dummies(
 /// Adds a dummy of a sort.
 fn put_dummy(
     alloc: Global,
-    names: &Names,
+    names: &PairNames,
     variable: usize,
     sort: u32,
     phrases: &mut Phrases,

@@ -9,14 +9,14 @@ ghost use Rattle.mz_decompile.specs.Hypotheses.{named};
 
 use crate::parts::{put_hypothesis, put_list};
 use mz_cmd::Mem;
-use mz_decompile_names::Names;
+use mz_decompile_names::PairNames;
 use mz_decompile_phrases::Phrases;
 use std::alloc::Global;
 
 /// Adds a list of hypotheses, each with its name.
 pub(crate) fn put_hypotheses(
     alloc: Global,
-    names: &Names,
+    names: &PairNames,
     hypotheses: &[usize],
     phrases: &mut Phrases,
     parts: &mut Vec<usize>,
@@ -35,7 +35,7 @@ pub(crate) fn put_hypotheses(
 /// Adds a hypothesis with its name.
 fn put_named(
     alloc: Global,
-    names: &Names,
+    names: &PairNames,
     number: usize,
     hypothesis: usize,
     phrases: &mut Phrases,

@@ -11,13 +11,13 @@ ghost use Rattle.mz_decompile.specs.Standing.{AreAll, SomeAreAll};
 use crate::telling::statement;
 use mz_binary_walk::Passed;
 use mz_cmd::Mem;
-use mz_decompile_names::Names;
+use mz_decompile_names::PairNames;
 use mz_decompile_phrases::Phrases;
 use mz_layout_tables::{Head, Mmb, Rows};
 use std::alloc::Global;
 
 /// The text of a binary's statements, a line each.
-pub(crate) fn text(alloc: Global, mmb: &Mmb, names: &Names) -> Result<Vec<u8>, Mem>
+pub(crate) fn text(alloc: Global, mmb: &Mmb, names: &PairNames) -> Result<Vec<u8>, Mem>
     requires { SomeAreAll mmb.now names.now }
     ensures { IfOk result (λ out. (ts : List Statement) → AreAll mmb.now names.now ts → out.items ≡ text_of (vocabulary_by names.now) ts) }
 {
@@ -35,7 +35,7 @@ pub(crate) fn text(alloc: Global, mmb: &Mmb, names: &Names) -> Result<Vec<u8>, M
 fn put_line(
     alloc: Global,
     mmb: &Mmb,
-    names: &Names,
+    names: &PairNames,
     head: Head,
     before: Rows,
     phrases: &mut Phrases,

@@ -11,7 +11,7 @@ ghost use Rattle.mz_decompile.specs.Passes.{IsLine, IsMeasured};
 use crate::telling::statement;
 use mz_binary_walk::Passed;
 use mz_cmd::Mem;
-use mz_decompile_names::Names;
+use mz_decompile_names::PairNames;
 use mz_decompile_phrases::Phrases;
 use mz_layout_tables::{Head, Mmb, Rows};
 use std::alloc::Global;
@@ -59,7 +59,7 @@ pub enum Measured {
 const DEPTH_LIMIT: usize = 4096;
 
 /// Measures the text of a binary's statements.
-pub(crate) fn measure(alloc: Global, mmb: &Mmb, names: &Names) -> Result<Measured, Mem>
+pub(crate) fn measure(alloc: Global, mmb: &Mmb, names: &PairNames) -> Result<Measured, Mem>
     requires { SomeAreAll mmb.now names.now }
     ensures { IfOk result (λ m. (ts : List Statement) → AreAll mmb.now names.now ts → IsMeasured (vocabulary_by names.now) ts m) }
 {
@@ -81,7 +81,7 @@ pub(crate) fn measure(alloc: Global, mmb: &Mmb, names: &Names) -> Result<Measure
 fn line_of(
     alloc: Global,
     mmb: &Mmb,
-    names: &Names,
+    names: &PairNames,
     head: Head,
     before: Rows,
     phrases: &mut Phrases,

@@ -9,7 +9,7 @@ ghost use Rattle.mz_decompile.specs.Adding.{Adds};
 
 use crate::parts::{put_list, put_variable, put_word};
 use mz_cmd::Mem;
-use mz_decompile_names::Names;
+use mz_decompile_names::PairNames;
 use mz_decompile_phrases::Phrases;
 use mz_layout_tables::{Mmb, Row};
 use mz_logic_theory::Word;
@@ -19,7 +19,7 @@ use std::alloc::Global;
 pub(crate) fn put_params(
     alloc: Global,
     mmb: &Mmb,
-    names: &Names,
+    names: &PairNames,
     row: Row,
     phrases: &mut Phrases,
     parts: &mut Vec<usize>,
@@ -55,7 +55,7 @@ fn push_bound(word: Word, place: u32, places: &mut Vec<u32>) -> Result<(), Mem>
 /// Adds the parameter that a word says, after bound ones at these places.
 fn put_binder(
     alloc: Global,
-    names: &Names,
+    names: &PairNames,
     variable: usize,
     word: Word,
     places: &[u32],
@@ -74,7 +74,7 @@ fn put_binder(
 /// Adds a list of what a parameter depends on, unless it is bound.
 fn put_deps_of(
     alloc: Global,
-    names: &Names,
+    names: &PairNames,
     word: Word,
     places: &[u32],
     phrases: &mut Phrases,
@@ -92,7 +92,7 @@ fn put_deps_of(
 /// Adds a list of the variables at those of the places whose bit is set.
 fn put_deps(
     alloc: Global,
-    names: &Names,
+    names: &PairNames,
     deps: u64,
     places: &[u32],
     phrases: &mut Phrases,
@@ -113,7 +113,7 @@ fn put_deps(
 fn put_variable_if(
     set: bool,
     alloc: Global,
-    names: &Names,
+    names: &PairNames,
     variable: u32,
     phrases: &mut Phrases,
     parts: &mut Vec<usize>,
@@ -130,7 +130,7 @@ fn put_variable_if(
 /// Adds the result that a word says, where the bound parameters have these places.
 pub(crate) fn put_result(
     alloc: Global,
-    names: &Names,
+    names: &PairNames,
     word: Word,
     places: &[u32],
     phrases: &mut Phrases,

@@ -6,7 +6,7 @@ ghost use Rattle.mz_decompile_phrases.specs.ByNumber.{phrases_at};
 ghost use Rattle.mz_decompile.specs.Adding.{Adds};
 
 use mz_cmd::Mem;
-use mz_decompile_names::Names;
+use mz_decompile_names::PairNames;
 use mz_decompile_phrases::Phrases;
 use std::alloc::Global;
 
@@ -55,7 +55,7 @@ pub(crate) fn put_list(
 /// Adds the name of a variable.
 pub(crate) fn put_variable(
     alloc: Global,
-    names: &Names,
+    names: &PairNames,
     variable: usize,
     phrases: &mut Phrases,
     parts: &mut Vec<usize>,
@@ -70,7 +70,7 @@ pub(crate) fn put_variable(
 /// Adds the name of a hypothesis.
 pub(crate) fn put_hypothesis(
     alloc: Global,
-    names: &Names,
+    names: &PairNames,
     hypothesis: usize,
     phrases: &mut Phrases,
     parts: &mut Vec<usize>,

@@ -13,7 +13,7 @@ ghost use Rattle.mz_machine_theory.specs.Headings.{heading_of};
 ghost use Rattle.mz_machine_env.specs.Before.{tables_before};
 
 use mz_cmd::{Mem, Steps};
-use mz_decompile_names::Names;
+use mz_decompile_names::PairNames;
 use mz_decompile_phrases::Phrases;
 use mz_decompile_proofs::retell;
 use mz_layout_tables::{Head, Mmb, Rows};
@@ -34,7 +34,7 @@ pub struct Proved {
 pub(crate) fn prove(
     alloc: Global,
     mmb: &Mmb,
-    names: &Names,
+    names: &PairNames,
     head: Head,
     before: Rows,
     phrases: &mut Phrases,

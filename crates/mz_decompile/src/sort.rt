@@ -10,7 +10,7 @@ ghost use Rattle.mz_decompile.specs.Adding.{Adds};
 
 use crate::parts::{put_word, put_word_if};
 use mz_cmd::Mem;
-use mz_decompile_names::Names;
+use mz_decompile_names::PairNames;
 use mz_decompile_phrases::Phrases;
 use mz_layout_tables::Mmb;
 use mz_logic_theory::{SortMods, Terms};
@@ -18,7 +18,7 @@ use mz_logic_theory::{SortMods, Terms};
 /// Adds the parts of a sort.
 pub(crate) fn put_sort(
     mmb: &Mmb,
-    names: &Names,
+    names: &PairNames,
     row: u32,
     phrases: &mut Phrases,
     parts: &mut Vec<usize>,

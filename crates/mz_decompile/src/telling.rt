@@ -13,7 +13,7 @@ use crate::theorem::put_theorem;
 use crate::told::Told;
 use mz_binary_walk::is_local;
 use mz_cmd::{Mem, StatementCode};
-use mz_decompile_names::Names;
+use mz_decompile_names::PairNames;
 use mz_decompile_phrases::Phrases;
 use mz_layout_tables::{Head, Mmb, Rows};
 use std::alloc::Global;
@@ -27,7 +27,7 @@ use std::alloc::Global;
 pub fn statement(
     alloc: Global,
     mmb: &Mmb,
-    names: &Names,
+    names: &PairNames,
     head: Head,
     before: Rows,
     phrases: &mut Phrases,
@@ -47,7 +47,7 @@ pub fn statement(
 fn put_parts(
     alloc: Global,
     mmb: &Mmb,
-    names: &Names,
+    names: &PairNames,
     head: Head,
     before: Rows,
     phrases: &mut Phrases,

@@ -17,7 +17,7 @@ use crate::dummies::put_dummies;
 use crate::params::{put_params, put_result};
 use crate::parts::put_word;
 use mz_cmd::Mem;
-use mz_decompile_names::Names;
+use mz_decompile_names::PairNames;
 use mz_decompile_phrases::Phrases;
 use mz_decompile_rows::definition;
 use mz_layout_tables::{Mmb, Row};
@@ -28,7 +28,7 @@ use std::alloc::Global;
 pub(crate) fn put_term(
     alloc: Global,
     mmb: &Mmb,
-    names: &Names,
+    names: &PairNames,
     row: u32,
     phrases: &mut Phrases,
     parts: &mut Vec<usize>,
@@ -49,7 +49,7 @@ pub(crate) fn put_term(
 fn put_definition(
     alloc: Global,
     mmb: &Mmb,
-    names: &Names,
+    names: &PairNames,
     row: u32,
     phrases: &mut Phrases,
     parts: &mut Vec<usize>,
@@ -73,7 +73,7 @@ fn put_definition(
 fn put_signature(
     alloc: Global,
     mmb: &Mmb,
-    names: &Names,
+    names: &PairNames,
     row: u32,
     word: &[u8],
     phrases: &mut Phrases,

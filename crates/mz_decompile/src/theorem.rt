@@ -17,7 +17,7 @@ use crate::hypotheses::put_hypotheses;
 use crate::proof::prove;
 use crate::weight::weight_said;
 use mz_cmd::Mem;
-use mz_decompile_names::Names;
+use mz_decompile_names::PairNames;
 use mz_decompile_phrases::Phrases;
 use mz_decompile_rows::assertion;
 use mz_layout_tables::{Head, Mmb, Rows};
@@ -27,7 +27,7 @@ use std::alloc::Global;
 pub(crate) fn put_theorem(
     alloc: Global,
     mmb: &Mmb,
-    names: &Names,
+    names: &PairNames,
     head: Head,
     before: Rows,
     phrases: &mut Phrases,

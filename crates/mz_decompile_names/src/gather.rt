@@ -9,7 +9,7 @@ ghost use Rattle.mz_decompile_names.specs.Accepted.{IsNamingOf};
 ghost use Rattle.mz_decompile_names.specs.Adding.{AreGathered, IsAdded, local_name, next_name};
 
 use crate::list::NameList;
-use crate::names::{Names, put_numbered};
+use crate::names::{PairNames, put_numbered};
 use crate::source::prefix_beside;
 use mz_binary_walk::{Passed, is_local};
 use mz_cmd::{Mem, StatementCode};
@@ -19,23 +19,23 @@ use mz_spec_names::{declared_by, declared_name};
 use mz_spec_theory::Spec;
 use std::alloc::Global;
 
-impl Names {
+impl PairNames {
     /// The names of the statements of a binary that is accepted against a specification.
-    pub fn of(alloc: Global, hashing: Hashing, spec: &[u8], mmb: &Mmb) -> Result<Names, Mem>
+    pub fn of(alloc: Global, hashing: Hashing, spec: &[u8], mmb: &Mmb) -> Result<PairNames, Mem>
         requires small { length spec.now < 2 ^ 32 }
         requires accepted { Accepts spec.now mmb.now }
         ensures { IfOk result (λ names. IsNamingOf spec.now mmb.now names) }
     {
         let declared = declared_by(alloc, hashing, spec)?;
-        Names::gathered(alloc, spec, &declared, mmb)
+        PairNames::gathered(alloc, spec, &declared, mmb)
     }
 
     /// The names of the statements of a good binary, under those of these declarations.
-    fn gathered(alloc: Global, spec: &[u8], declared: &Spec, mmb: &Mmb) -> Result<Names, Mem>
+    fn gathered(alloc: Global, spec: &[u8], declared: &Spec, mmb: &Mmb) -> Result<PairNames, Mem>
         requires { IsGood mmb.now }
         ensures { IfOk result (λ names. AreGathered (declared_names spec.now declared.now) mmb.now names) }
     {
-        let mut names = Names::with_prefix(alloc, prefix_beside(alloc, spec, declared)?);
+        let mut names = PairNames::with_prefix(alloc, prefix_beside(alloc, spec, declared)?);
         let mut passed = Passed::nothing(mmb);
         'statements: while let Some((head, after)) = passed.next(mmb) {
             let number = after.statements;
@@ -46,10 +46,10 @@ impl Names {
     }
 
     /// No names yet.
-    fn with_prefix(alloc: Global, prefix: Vec<u8>) -> Names
+    fn with_prefix(alloc: Global, prefix: Vec<u8>) -> PairNames
         ensures { result ≡ record { sorts = []; terms = []; assertions = []; prefix = prefix.items } }
     {
-        Names {
+        PairNames {
             sorts: NameList::new(alloc),
             terms: NameList::new(alloc),
             assertions: NameList::new(alloc),

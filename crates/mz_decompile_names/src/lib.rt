@@ -11,4 +11,4 @@ mod names;
 mod source;
 
 pub use laws::named_statements_name;
-pub use names::Names;
+pub use names::PairNames;

@@ -9,14 +9,14 @@ use std::marker::Model;
 
 /// The names of sorts, of terms, and of axioms and theorems; and the prefix of what is numbered.
 #[derive(Drop)]
-pub struct Names {
+pub struct PairNames {
     pub(crate) sorts: NameList,
     pub(crate) terms: NameList,
     pub(crate) assertions: NameList,
     pub(crate) prefix: Vec<u8>,
 }
 
-impl Model for Names {
+impl Model for PairNames {
     ghost use Rattle.mz_decompile_text_theory.specs.Naming.{Naming};
 
     ghost Value = { Naming };
@@ -24,7 +24,7 @@ impl Model for Names {
     ghost view = { λ n. record { sorts = n.sorts; terms = n.terms; assertions = n.assertions; prefix = n.prefix.items } };
 }
 
-impl Names {
+impl PairNames {
     /// The name of a sort.
     pub fn sort(&self, i: u32) -> &[u8]
         ensures { result.now ≡ (vocabulary_by self.now).sort i }

@@ -7,7 +7,7 @@ ghost use Rattle.mz_decompile_phrases.specs.ByNumber.{phrases_at};
 ghost use Rattle.mz_decompile_proofs.specs.Growing.{AreThere, Tells, Adds, those_at, chosen};
 
 use mz_cmd::Mem;
-use mz_decompile_names::Names;
+use mz_decompile_names::PairNames;
 use mz_decompile_phrases::Phrases;
 use std::alloc::Global;
 
@@ -30,7 +30,7 @@ pub(crate) fn list(parts: &[usize], phrases: &mut Phrases) -> Result<usize, Mem>
 pub(crate) fn variable(
     alloc: Global,
     x: u32,
-    names: &Names,
+    names: &PairNames,
     phrases: &mut Phrases,
 ) -> Result<usize, Mem>
     ensures { IfOk result (λ n. Tells phrases.old phrases.new (a_word ((vocabulary_by names.now).variable x)) n) }
@@ -44,7 +44,7 @@ pub(crate) fn variable(
 pub(crate) fn hypothesis(
     alloc: Global,
     i: u32,
-    names: &Names,
+    names: &PairNames,
     phrases: &mut Phrases,
 ) -> Result<usize, Mem>
     ensures { IfOk result (λ n. Tells phrases.old phrases.new (a_word ((vocabulary_by names.now).hypothesis i)) n) }
@@ -58,7 +58,7 @@ pub(crate) fn hypothesis(
 pub(crate) fn let_name(
     alloc: Global,
     k: usize,
-    names: &Names,
+    names: &PairNames,
     phrases: &mut Phrases,
 ) -> Result<usize, Mem>
     ensures { IfOk result (λ n. Tells phrases.old phrases.new (a_word ((vocabulary_by names.now).let_name k)) n) }
@@ -117,7 +117,7 @@ pub(crate) fn put_list(
 fn put_variables(
     alloc: Global,
     variables: &[u32],
-    names: &Names,
+    names: &PairNames,
     parts: &mut Vec<usize>,
     phrases: &mut Phrases,
 ) -> Result<(), Mem>
@@ -135,7 +135,7 @@ fn put_variables(
 pub(crate) fn put_variable_list(
     alloc: Global,
     variables: &[u32],
-    names: &Names,
+    names: &PairNames,
     parts: &mut Vec<usize>,
     phrases: &mut Phrases,
 ) -> Result<(), Mem>

@@ -11,7 +11,7 @@ use crate::parts::{
     hypothesis, let_name, list, put_list, put_told, put_variable_list, put_word, variable, word,
 };
 use mz_cmd::Mem;
-use mz_decompile_names::Names;
+use mz_decompile_names::PairNames;
 use mz_decompile_phrases::Phrases;
 use mz_trace::RunNode;
 use std::alloc::Global;
@@ -21,7 +21,7 @@ pub(crate) fn tell(
     alloc: Global,
     node: &RunNode,
     told: &[usize],
-    names: &Names,
+    names: &PairNames,
     phrases: &mut Phrases,
 ) -> Result<usize, Mem>
     requires node { IsLower (length told.now) node.now }
@@ -126,7 +126,7 @@ fn unfolding(
     variables: &[u32],
     conversion: u32,
     told: &[usize],
-    names: &Names,
+    names: &PairNames,
     phrases: &mut Phrases,
 ) -> Result<usize, Mem>
     requires operands { All (λ n. n < length told.now) operands.now }

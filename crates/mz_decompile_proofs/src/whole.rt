@@ -14,7 +14,7 @@ use crate::parts::{let_name, list, word};
 use crate::tell::tell;
 use crate::weigh::weigh;
 use mz_cmd::Mem;
-use mz_decompile_names::Names;
+use mz_decompile_names::PairNames;
 use mz_decompile_phrases::Phrases;
 use mz_trace::{Run, RunNode};
 use std::alloc::Global;
@@ -38,7 +38,7 @@ pub(crate) struct Told {
 /// # Errors
 ///
 /// Where there is no memory.
-pub fn retell(alloc: Global, run: &Run, names: &Names, phrases: &mut Phrases) -> Result<Retold, Mem>
+pub fn retell(alloc: Global, run: &Run, names: &PairNames, phrases: &mut Phrases) -> Result<Retold, Mem>
     ensures grows { OnOk result (Grows phrases.old phrases.new) }
     ensures phrase { IfOk result (λ r. IsRetold (vocabulary_by names.now) run.now phrases.new r.phrase) }
     ensures weight { IfOk result (λ r. IsWeighed run.now r.weight) }
@@ -51,7 +51,7 @@ pub fn retell(alloc: Global, run: &Run, names: &Names, phrases: &mut Phrases) ->
 fn tell_all(
     alloc: Global,
     nodes: &[RunNode],
-    names: &Names,
+    names: &PairNames,
     phrases: &mut Phrases,
 ) -> Result<Told, Mem>
     requires { AreLowerAfter 0 nodes.now }
@@ -73,7 +73,7 @@ fn tell_next(
     alloc: Global,
     node: &RunNode,
     told: &mut Told,
-    names: &Names,
+    names: &PairNames,
     phrases: &mut Phrases,
 ) -> Result<(), Mem>
     requires told { AreTold phrases.old told.old }
@@ -93,7 +93,7 @@ fn behind_lets(
     lets: &[u32],
     root: u32,
     told: &Told,
-    names: &Names,
+    names: &PairNames,
     phrases: &mut Phrases,
 ) -> Result<Retold, Mem>
     requires told { AreTold phrases.old told.now }
@@ -117,7 +117,7 @@ fn in_let(
     k: usize,
     first: usize,
     rest: usize,
-    names: &Names,
+    names: &PairNames,
     phrases: &mut Phrases,
 ) -> Result<usize, Mem>
     requires first { first < length phrases.old }

@@ -9,14 +9,14 @@ ghost use Rattle.mz_decompile_phrases.specs.ByNumber.{Grows};
 ghost use Rattle.mz_decompile_rows.specs.Numbers.{AreAt};
 
 use mz_cmd::Mem;
-use mz_decompile_names::Names;
+use mz_decompile_names::PairNames;
 use mz_decompile_phrases::Phrases;
 use std::alloc::Global;
 
 /// Pushes a variable's token.
 pub(crate) fn push_variable(
     alloc: Global,
-    names: &Names,
+    names: &PairNames,
     number: usize,
     phrases: &mut Phrases,
 ) -> Result<usize, Mem>
@@ -30,7 +30,7 @@ pub(crate) fn push_variable(
 }
 
 /// Pushes a term's token.
-pub(crate) fn push_term(names: &Names, term: u32, phrases: &mut Phrases) -> Result<usize, Mem>
+pub(crate) fn push_term(names: &PairNames, term: u32, phrases: &mut Phrases) -> Result<usize, Mem>
     ensures grows { Grows phrases.old phrases.new }
     ensures is { IfOk result (λ n. slice_get phrases.new n ≡ Some (a_word ((vocabulary_by names.now).term term))) }
 {

@@ -15,7 +15,7 @@ ghost use Rattle.mz_decompile_rows.specs.Reading.{IsAtHyp, IsBetween, IsComplete
 use crate::command::first_step;
 use crate::gather::{gather, parts_from, push_term, push_variable};
 use mz_cmd::{Mem, UnifyCode};
-use mz_decompile_names::Names;
+use mz_decompile_names::PairNames;
 use mz_decompile_phrases::Phrases;
 use mz_layout_tables::Mmb;
 use mz_logic_theory::Terms;
@@ -51,7 +51,7 @@ impl<'a> Reading<'a> {
     /// The stream, of which nothing is read, over so many parameters, whose tokens are pushed.
     pub fn new(
         alloc: Global,
-        names: &Names,
+        names: &PairNames,
         stream: &'a [u8],
         params: u32,
         phrases: &mut Phrases,
@@ -78,7 +78,7 @@ impl<'a> Reading<'a> {
     pub fn hypotheses(
         &mut self,
         mmb: &Mmb,
-        names: &Names,
+        names: &PairNames,
         phrases: &mut Phrases,
     ) -> Result<Vec<usize>, Mem>
         requires can { (o : Over mmb.now) × (m : Marks) × (us : List UnifyCommand) × (hs : List Tree) × (last : Marks)
@@ -119,7 +119,7 @@ impl<'a> Reading<'a> {
     pub fn expression(
         &mut self,
         mmb: &Mmb,
-        names: &Names,
+        names: &PairNames,
         phrases: &mut Phrases,
     ) -> Result<usize, Mem>
         requires can { (o : Over mmb.now) × (t : Target) × (m : Marks) × (us : List UnifyCommand)
@@ -142,7 +142,7 @@ impl<'a> Reading<'a> {
     }
 
     /// Ends the innermost application where its last operand is read, or else reads a command.
-    fn go_on(&mut self, mmb: &Mmb, names: &Names, phrases: &mut Phrases) -> Result<(), Mem>
+    fn go_on(&mut self, mmb: &Mmb, names: &PairNames, phrases: &mut Phrases) -> Result<(), Mem>
         requires can { (o : Over mmb.now) × (t : Target) × IsGoing mmb.now o (vocabulary_by names.now) phrases.old self.old t }
         requires some { self.old.pending.items ≡ [] → ⊥ }
         ensures grows { Grows phrases.old phrases.new }
@@ -187,7 +187,7 @@ impl<'a> Reading<'a> {
     }
 
     /// Reads a command where an expression is next.
-    fn step(&mut self, mmb: &Mmb, names: &Names, phrases: &mut Phrases) -> Result<(), Mem>
+    fn step(&mut self, mmb: &Mmb, names: &PairNames, phrases: &mut Phrases) -> Result<(), Mem>
         requires can { (o : Over mmb.now) × (t : Target) × IsNext mmb.now o (vocabulary_by names.now) phrases.old self.old t [] }
         ensures grows { Grows phrases.old phrases.new }
         ensures does { OnOk result ((o : Over mmb.now) (t : Target) → IsNext mmb.now o (vocabulary_by names.now) phrases.old self.old t []
@@ -211,7 +211,7 @@ impl<'a> Reading<'a> {
     fn begin(
         &mut self,
         mmb: &Mmb,
-        names: &Names,
+        names: &PairNames,
         term: u32,
         phrases: &mut Phrases,
     ) -> Result<(), Mem>
@@ -230,7 +230,7 @@ impl<'a> Reading<'a> {
     fn begin_saved(
         &mut self,
         mmb: &Mmb,
-        names: &Names,
+        names: &PairNames,
         term: u32,
         phrases: &mut Phrases,
     ) -> Result<(), Mem>
@@ -278,7 +278,7 @@ impl<'a> Reading<'a> {
     }
 
     /// Meets a dummy of the sort.
-    fn meet(&mut self, names: &Names, sort: u32, phrases: &mut Phrases) -> Result<(), Mem>
+    fn meet(&mut self, names: &PairNames, sort: u32, phrases: &mut Phrases) -> Result<(), Mem>
         requires can { (file : List ℕ) × (o : Over file) × (t : Target) × IsNext file o (vocabulary_by names.now) phrases.old self.old t (u_dummy sort ∷ []) }
         ensures grows { Grows phrases.old phrases.new }
         ensures does { OnOk result ((file : List ℕ) (o : Over file) (t : Target) → IsNext file o (vocabulary_by names.now) phrases.old self.old t (u_dummy sort ∷ [])
@@ -309,7 +309,7 @@ fn phrase_at(marks: &[usize], mark: u32) -> Option<usize>
 /// Pushes the tokens of the first variables.
 fn push_params(
     alloc: Global,
-    names: &Names,
+    names: &PairNames,
     count: u32,
     phrases: &mut Phrases,
 ) -> Result<Vec<usize>, Mem>

@@ -13,7 +13,7 @@ ghost use Rattle.mz_decompile_rows.specs.Rows.{AreArities, IsDefined, IsSaid};
 
 use crate::reading::Reading;
 use mz_cmd::Mem;
-use mz_decompile_names::Names;
+use mz_decompile_names::PairNames;
 use mz_decompile_phrases::Phrases;
 use mz_layout_tables::Mmb;
 use mz_logic_theory::Terms;
@@ -41,7 +41,7 @@ pub struct Defined {
 pub fn assertion(
     alloc: Global,
     mmb: &Mmb,
-    names: &Names,
+    names: &PairNames,
     row: u32,
     phrases: &mut Phrases,
 ) -> Result<Said, Mem>
@@ -70,7 +70,7 @@ pub fn assertion(
 pub fn definition(
     alloc: Global,
     mmb: &Mmb,
-    names: &Names,
+    names: &PairNames,
     row: u32,
     phrases: &mut Phrases,
 ) -> Result<Defined, Mem>

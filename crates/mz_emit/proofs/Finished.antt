@@ -16,7 +16,7 @@ use Rattle.mz_mmu_theory.proofs.Offered.{stated_is_legal}
 use Rattle.mz_emit_theory.specs.SpelledLists.{list_spelled}
 use Rattle.mz_emit_theory.specs.FileWriting.{IsWrittenAs}
 use Rattle.mz_emit_theory.proofs.Offered.{written-gapped, files-good, files-spell, written-same}
-use Rattle.mz_emit_accepted_theory.proofs.Offered.{files-accepted, accepted-by-address}
+use Rattle.mz_emit_accepted_theory.proofs.Offered.{files-accepted, accepted-by-identity}
 use Rattle.mz_emit_accepted_theory.specs.Compiling.{IsBinaryOf}
 use Rattle.mz_emit.specs.Emitting.{HasWritten}
 use Rattle.mz_emit_accepted_theory.specs.CompiledFile.{compiled_file}
@@ -47,7 +47,7 @@ binary_of gaps ss p made fit legal says gapped short compiled = record {
   };
   accepted = λ spec ds is_spec agrees. files-accepted gaps p (marked ss) made fit legal says spec ds is_spec agrees;
   by_identity = λ finished spec ds is_spec agrees.
-      accepted-by-address p (marked ss) made fit (subst (λ (g : Bool). LegalBy (allowed_with g) (marked ss)) finished legal) (subst (λ (g : Bool). IsWrittenAs g p (marked ss) made) finished says) spec ds is_spec agrees;
+      accepted-by-identity p (marked ss) made fit (subst (λ (g : Bool). LegalBy (allowed_with g) (marked ss)) finished legal) (subst (λ (g : Bool). IsWrittenAs g p (marked ss) made) finished says) spec ds is_spec agrees;
   compiled = compiled;
 }
 

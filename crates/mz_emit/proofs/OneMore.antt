@@ -15,7 +15,7 @@ use Rattle.mz_mmu_theory.specs.Statements.{Statement}
 use Rattle.mz_mmu_theory.specs.Meaning.{marked}
 use Rattle.mz_type.specs.TypedText.{declared}
 use Rattle.mz_mmu_theory.specs.Weight.{declaration_weight, statement_weight}
-use Rattle.mz_emit_theory.specs.Sameness.{IsSameForm}
+use Rattle.mz_emit_theory.specs.AlphaEquivalence.{IsSameForm}
 use Rattle.mz_emit_theory.specs.SpelledLists.{form_spelled, decl_spelled, statement_spelled, list_spelled}
 use Rattle.mz_emit_theory.specs.FileGrowing.{HasOneMore}
 use Rattle.mz_emit_theory.specs.FileWriting.{SayParams, SaySignature, IsWrittenDeclaration, IsWrittenStatement, IsWrittenAssertion, HaveNoMore, IsWrittenAs}

@@ -15,7 +15,7 @@ use Rattle.mz_binary_theory.specs.Spelling.{HasKind, is_local_code}
 use Rattle.mz_emit_theory.proofs.Offered.{words-say-params}
 use Rattle.mz_logic_theory.specs.Words.{signatures_of}
 use Rattle.mz_emit_bodies.specs.Rows.{words_of_row}
-use Rattle.mz_emit_bodies.specs.declared.table.Table.{Table}
+use Rattle.mz_emit_bodies.specs.declared.table.TermTable.{TermTable}
 use Rattle.mz_emit_accepted_theory.specs.ClaimsLaws.{StatedProofsAreSound}
 use Rattle.mz_emit.specs.Emitting.{IsConcrete, MayFollow, SaysDefinition, SaysAssertion, IsProvedBy, HasWritten, table_of, HasRows, IsNext}
 use Rattle.mz_emit_accepted_theory.specs.CompiledFile.{with_sort, with_term, with_thm, term_row, thm_row, definition_code, assertion_code}
@@ -96,8 +96,8 @@ module _ (gaps : Bool) (b : List Statement) (s : Statement) (follows : MayFollow
         (assertion_next gaps b e.writer rows.written s a s.dummies code stream bytes is kind
         (words-say-params (sorts (declared b)) a.params (thm_words gaps b s follows a is))
         (λ i d at. (each_from_all IsDummy s.dummies can.ready.dummies_are i d at).1) says code_is refl))
-        (ap (λ (t : Table). t.sorts.items) same ∙ sym (append-nil e.table.sorts.items) ∙ ap (λ d. e.table.sorts.items ++ sorts (d ∷ [])) (sym is))
-        (ap (λ (t : Table). signatures_of (map words_of_row t.terms.items)) same ∙ sym (append-nil (table_of e)) ∙ ap (λ d. table_of e ++ signatures (d ∷ [])) (sym is))
+        (ap (λ (t : TermTable). t.sorts.items) same ∙ sym (append-nil e.table.sorts.items) ∙ ap (λ d. e.table.sorts.items ++ sorts (d ∷ [])) (sym is))
+        (ap (λ (t : TermTable). signatures_of (map words_of_row t.terms.items)) same ∙ sym (append-nil (table_of e)) ∙ ap (λ d. table_of e ++ signatures (d ∷ [])) (sym is))
 
 -- the next statement, an axiom or a theorem, is proved over what the emitter has declared
 pub proved_here : (gaps : Bool) (b : List Statement) (s : Statement) (e : Emitter) → IsNext gaps b s e → StatedProofsAreSound → (a : Assertion) → s.decl ≡ assertion_decl a

@@ -26,7 +26,7 @@ use Rattle.mz_mmu_theory.specs.Names.{ProofThere, DummiesThere, TermThere, State
 use Rattle.mz_mmu_theory.specs.Meaning.{IsProofOf, IsProvedAsStated}
 use Rattle.mz_type.specs.TypedText.{declared}
 use Rattle.mz_mmu_theory.specs.Weight.{params_of, dummy_count, declaration_weight, weight_after}
-use Rattle.mz_emit_theory.specs.Sameness.{IsSameForm}
+use Rattle.mz_emit_theory.specs.AlphaEquivalence.{IsSameForm}
 use Rattle.mz_emit_theory.specs.SpelledLists.{form_spelled}
 use Rattle.mz_emit_theory.proofs.Offered.{bodies-same, words-say-signatures}
 use Rattle.mz_binary_theory.specs.Spelling.{HasKind, is_local_code}

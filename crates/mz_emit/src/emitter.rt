@@ -32,7 +32,7 @@ ghost use Rattle.mz_emit_accepted_theory.specs.CompiledFile.{term_row, thm_row, 
 use crate::statement::{assertion_stream, definition_stream};
 use mz_cmd::{Mem, StatementCode};
 use mz_emit_accepted_theory::stated_proofs_are_sound;
-use mz_emit_bodies::{Before, Shared, Table, Words, axiom_body, definition_body, theorem_body};
+use mz_emit_bodies::{Before, Shared, TermTable, BinderWords, axiom_body, definition_body, theorem_body};
 use mz_layout::LayoutWriter;
 use mz_logic_copy::copy_of_decl;
 use mz_logic_theory::{Binder, Decl, Env, Expr, SortMods, TermDecl, ThmDecl, ThmForm};
@@ -46,7 +46,7 @@ use std::alloc::Global;
 pub(crate) struct Emitter {
     pub(crate) alloc: Global,
     pub(crate) env: Env,
-    pub(crate) table: Table,
+    pub(crate) table: TermTable,
     pub(crate) writer: LayoutWriter,
 }
 
@@ -94,7 +94,7 @@ impl Emitter {
         Emitter {
             alloc,
             env: Env::new(alloc),
-            table: Table::new(alloc),
+            table: TermTable::new(alloc),
             writer: LayoutWriter::new(alloc),
         }
     }
@@ -121,7 +121,7 @@ impl Emitter {
         ensures terms { OnOk result (table_of self.new ≡ table_of self.old ++ signature term.now ∷ []) }
         ensures env { OnOk result (self.new.env ≡ self.old.env) }
     {
-        let words = Words::of(self.alloc, term.params.as_slice())?;
+        let words = BinderWords::of(self.alloc, term.params.as_slice())?;
         let ret = words.result_word(&term.result);
         self.writer.add_term(&words.params, ret, None)?;
         self.writer.add_stmt(StatementCode::Term as u8, &[])?;
@@ -143,7 +143,7 @@ impl Emitter {
         ensures terms { OnOk result (table_of self.new ≡ table_of self.old ++ signature term.now ∷ []) }
         ensures env { OnOk result (self.new.env ≡ self.old.env) }
     {
-        let words = Words::of(self.alloc, term.params.as_slice())?;
+        let words = BinderWords::of(self.alloc, term.params.as_slice())?;
         let ret = words.result_word(&term.result);
         let emitted = self.defined(&words, term.form.dummies(), body)?;
         self.writer
@@ -174,7 +174,7 @@ impl Emitter {
         ensures table { OnOk result (self.new.table ≡ self.old.table) }
         ensures env { OnOk result (self.new.env ≡ self.old.env) }
     {
-        let words = Words::of(self.alloc, thm.params.as_slice())?;
+        let words = BinderWords::of(self.alloc, thm.params.as_slice())?;
         let emitted = self.asserted(&words, thm, dummies, proof)?;
         self.writer.add_thm(&words.params, &emitted.stream)?;
         self.writer.add_stmt(code, &emitted.body)?;
@@ -280,7 +280,7 @@ impl Emitter {
     }
 
     /// The stream and the body of a definition.
-    fn defined(&self, words: &Words, dummies: &[Binder], body: &Expr) -> Result<Emitted, Mem>
+    fn defined(&self, words: &BinderWords, dummies: &[Binder], body: &Expr) -> Result<Emitted, Mem>
         requires legal { IsLegalEnv self.now.env }
         requires table { signatures_of (map words_of_row self.now.table.terms.items) ≡ signatures self.now.env }
         requires right { BitsRight words.now.params.items }
@@ -337,7 +337,7 @@ impl Emitter {
     /// The stream and the body of an axiom, or of a theorem with these dummies and this proof.
     fn asserted(
         &self,
-        words: &Words,
+        words: &BinderWords,
         thm: &ThmDecl,
         dummies: &[Binder],
         proof: Option<&Proof>,

@@ -1,7 +1,7 @@
-pub mod BodiesByAddress
-pub mod StatementsByAddress
-pub mod FilesByAddress
-pub mod AcceptedByAddress
+pub mod BodiesByIdentity
+pub mod StatementsByIdentity
+pub mod FilesByIdentity
+pub mod AcceptedByIdentity
 pub mod SameBodies
 pub mod Agreeing
 pub mod ItselfSame

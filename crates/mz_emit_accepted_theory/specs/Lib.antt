@@ -1,4 +1,4 @@
-pub mod LawsByAddress
+pub mod LawsByIdentity
 pub mod AcceptedLaws
 pub mod ClaimsLaws
 pub mod Limits

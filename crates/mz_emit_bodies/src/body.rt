@@ -21,7 +21,7 @@ ghost use Rattle.mz_unify_theory.specs.Profile.{expr, proof};
 
 use crate::cells::{Cells, Chain};
 use crate::task::Task;
-use crate::{Heap, Shared, Table};
+use crate::{Heap, Shared, TermTable};
 use mz_cmd::{END, Mem, ProofCode, put_cmd};
 use mz_logic_theory::{Env, Expr, Exprs};
 use mz_mmu_theory::{Conv, Proof, Vars};
@@ -34,7 +34,7 @@ pub struct Before<'t> {
     /// Its declarations.
     pub env: &'t Env,
     /// Its terms.
-    pub table: &'t Table,
+    pub table: &'t TermTable,
 }
 
 /// A body that is being written.

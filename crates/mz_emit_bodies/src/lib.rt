@@ -25,5 +25,5 @@ pub use laws::{
 };
 pub use shared::Shared;
 pub use statement::{axiom_body, definition_body, theorem_body};
-pub use table::{Row, Table};
-pub use words::Words;
+pub use table::{TermEntry, TermTable};
+pub use words::BinderWords;

@@ -13,7 +13,7 @@ ghost use Rattle.mz_emit_theory.specs.InReach.{InReach, AllInReach, AreSorted};
 ghost use Rattle.mz_emit_bodies.specs.Rows.{words_of_row};
 ghost use Rattle.mz_emit_bodies.specs.Variables.{IsShared};
 
-use crate::table::Table;
+use crate::table::TermTable;
 use mz_cmd::Mem;
 use mz_logic_theory::{Binder, Expr, Exprs, Hyps, Terms, Word};
 use mz_mmu_theory::Vars;
@@ -166,7 +166,7 @@ impl Shared {
     /// # Errors
     ///
     /// Where there is no memory.
-    pub fn id(&mut self, table: &Table, expr: &Expr) -> Result<Id, Mem>
+    pub fn id(&mut self, table: &TermTable, expr: &Expr) -> Result<Id, Mem>
         requires shared { IsShared (signatures_of (map words_of_row table.now.terms.items)) self.old.store self.old.variables.items }
         requires sorted { (s : ℕ) × HasSort (signatures_of (map words_of_row table.now.terms.items)) self.old.store.context (tree expr.now) s }
         ensures holds { IfOk result (λ id. Holds self.new.store id.0 (tree expr.now)) }
@@ -183,7 +183,7 @@ impl Shared {
     /// # Errors
     ///
     /// Where there is no memory.
-    pub fn ids(&mut self, table: &Table, es: &Exprs) -> Result<Vec<Id>, Mem>
+    pub fn ids(&mut self, table: &TermTable, es: &Exprs) -> Result<Vec<Id>, Mem>
         requires shared { IsShared (signatures_of (map words_of_row table.now.terms.items)) self.old.store self.old.variables.items }
         requires sorted { AreSorted (signatures_of (map words_of_row table.now.terms.items)) self.old.store.context es.now }
         ensures ids { IfOk result (λ ids. AreIn self.new.store ids.items) }
@@ -201,7 +201,7 @@ impl Shared {
     /// # Errors
     ///
     /// Where there is no memory.
-    pub fn hyp_ids(&mut self, table: &Table, hyps: &Hyps) -> Result<Vec<Id>, Mem>
+    pub fn hyp_ids(&mut self, table: &TermTable, hyps: &Hyps) -> Result<Vec<Id>, Mem>
         requires shared { IsShared (signatures_of (map words_of_row table.now.terms.items)) self.old.store self.old.variables.items }
         requires sorted { AreSorted (signatures_of (map words_of_row table.now.terms.items)) self.old.store.context hyps.now }
         ensures ids { IfOk result (λ ids. AreIn self.new.store ids.items) }
@@ -219,7 +219,7 @@ impl Shared {
     /// # Errors
     ///
     /// Where there is no memory.
-    pub fn instance(&mut self, table: &Table, operands: &[Id], expr: &Expr) -> Result<Id, Mem>
+    pub fn instance(&mut self, table: &TermTable, operands: &[Id], expr: &Expr) -> Result<Id, Mem>
         requires shared { IsShared (signatures_of (map words_of_row table.now.terms.items)) self.old.store self.old.variables.items }
         requires ids { AreIn self.old.store operands.now }
         requires there { InReach (length operands.now) (tree expr.now) }
@@ -238,7 +238,7 @@ impl Shared {
     /// # Errors
     ///
     /// Where there is no memory.
-    pub fn app(&mut self, table: &Table, term: u32, operands: &[Id]) -> Result<Id, Mem>
+    pub fn app(&mut self, table: &TermTable, term: u32, operands: &[Id]) -> Result<Id, Mem>
         requires shared { IsShared (signatures_of (map words_of_row table.now.terms.items)) self.old.store self.old.variables.items }
         requires ids { AreIn self.old.store operands.now }
         requires sorted { (s : ℕ) × HasSort (signatures_of (map words_of_row table.now.terms.items)) self.old.store.context (app term (trees_of self.old.store operands.now)) s }

@@ -7,7 +7,7 @@ use std::alloc::{AllocError, Global};
 
 /// A term's words.
 #[derive(Drop)]
-pub struct Row {
+pub struct TermEntry {
     /// Those of its parameters.
     pub params: Vec<Word>,
     /// That of its result.
@@ -19,24 +19,24 @@ pub struct Row {
 
 /// The sorts and terms of the statements so far.
 #[derive(Drop)]
-pub struct Table {
+pub struct TermTable {
     /// The sorts' modifiers.
     pub sorts: Vec<SortMods>,
     /// The terms' words.
-    pub terms: Vec<Row>,
+    pub terms: Vec<TermEntry>,
     ghost few_sorts: { length sorts.items < 2 ^ 32 },
     ghost few_terms: { length terms.items < 2 ^ 32 },
 }
 
-impl Table {
+impl TermTable {
     ghost use Rattle.mz_emit_bodies.specs.Rows.{words_of_row};
 
     /// No sorts and no terms.
-    pub fn new(alloc: Global) -> Table
+    pub fn new(alloc: Global) -> TermTable
         ensures sorts { result.sorts.items ≡ [] }
         ensures terms { result.terms.items ≡ [] }
     {
-        Table {
+        TermTable {
             sorts: Vec::new(alloc),
             terms: Vec::new(alloc),
         }
@@ -75,7 +75,7 @@ impl Table {
         if self.terms.len() >= u32::MAX as usize || params.len() > u32::MAX as usize {
             return Err(AllocError);
         }
-        self.terms.push(Row {
+        self.terms.push(TermEntry {
             params,
             result_word,
             has_body,
@@ -84,7 +84,7 @@ impl Table {
     }
 }
 
-impl Terms for Table {
+impl Terms for TermTable {
     ghost use Rattle.std.specs.Prelude.{map};
     ghost use Rattle.mz_emit_bodies.specs.Rows.{words_of_row};
 

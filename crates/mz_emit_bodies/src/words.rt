@@ -12,7 +12,7 @@ use std::alloc::Global;
 
 /// The words of parameters, and at each place the bit of its bound parameter, 0 for a regular one.
 #[derive(Drop)]
-pub struct Words {
+pub struct BinderWords {
     /// The words, in order.
     pub params: Vec<Word>,
     // the bit at each place
@@ -40,13 +40,13 @@ fn word(sort: u32, bound: bool, deps: u64) -> Word
     Word((u64::from(bound) << 63) + (u64::from(sort) << 56) + deps)
 }
 
-impl Words {
+impl BinderWords {
     /// The words of these parameters, at most 55 of them bound (the .mmb format, on parameters).
     ///
     /// # Errors
     ///
     /// Where there is no memory.
-    pub fn of(alloc: Global, binders: &[Binder]) -> Result<Words, Mem>
+    pub fn of(alloc: Global, binders: &[Binder]) -> Result<BinderWords, Mem>
         requires { (ss : List SortMods) × CanBeWords ss binders.now }
         ensures words { IfOk result (λ w. AreWordsOf binders.now w) }
         ensures binders { IfOk result (λ w. binders_of w.params.items ≡ binders.now) }
@@ -67,7 +67,7 @@ impl Words {
                 bits.push(0)?;
             }
         }
-        Ok(Words { params, bits })
+        Ok(BinderWords { params, bits })
     }
 
     /// The word of a result over these parameters.

@@ -19,7 +19,7 @@ use Rattle.mz_machine_theory.specs.Lists.{kind_of, assertion_of, definition_of}
 use Rattle.mz_machine_theory.specs.MachineState.{RowsBefore, Heading, is_definition, Declares}
 use Rattle.mz_emit_theory.specs.Endings.{IsAsserted, IsEnding}
 use Rattle.mz_emit_theory.specs.BodyLaws.{DependOnFirst}
-use Rattle.mz_emit_theory.specs.Sameness.{IsSameEnv, IsSameForm}
+use Rattle.mz_emit_theory.specs.AlphaEquivalence.{IsSameEnv, IsSameForm}
 use Rattle.mz_emit_theory.specs.Works.{Work}
 use Rattle.mz_emit_theory.proofs.Joining.{contexts-depend}
 use Rattle.mz_emit_theory.proofs.WholeBodies.{bodies-run}

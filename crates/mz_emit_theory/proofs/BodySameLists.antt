@@ -3,7 +3,7 @@ use Rattle.std.proofs.Common.{List, [], ◌∷◌, refl, ap, subst}
 use Rattle.mz_logic_theory.specs.Declaration.{Term, Assertion, Declaration, sort_decl, term_decl, assertion_decl}
 use Rattle.mz_logic_theory.specs.LegalLists.{declarations}
 use Rattle.mz_logic_theory.specs.declared.binder.SortMods.{SortMods}
-use Rattle.mz_emit_theory.specs.Sameness.{IsSameTerm, IsSameEnv}
+use Rattle.mz_emit_theory.specs.AlphaEquivalence.{IsSameTerm, IsSameEnv}
 use Rattle.mz_emit_theory.specs.SameLists.{IsSameDeclaration, SameListsAreSameEnvs}
 
 env-sort : (m : SortMods) (env env' : List Declaration) → IsSameEnv env env' → IsSameEnv (sort_decl m ∷ env) (sort_decl m ∷ env')

@@ -29,7 +29,7 @@ use Rattle.mz_emit_theory.specs.Steps.{Step}
 use Rattle.mz_emit_theory.specs.Works.{Work, work_start}
 use Rattle.mz_logic_theory.specs.Sorts.{HasSort}
 use Rattle.mz_layout_tables.specs.RowWords.{AreParamWords}
-use Rattle.mz_emit_theory.specs.Sameness.{IsInside, IsSameForm}
+use Rattle.mz_emit_theory.specs.AlphaEquivalence.{IsInside, IsSameForm}
 use Rattle.mz_emit_theory.specs.Example.{constant, two_bound, constructor, truth, pair, a_term, holds, text, made, result_word, bound_words, parts_by, ExampleIsWritten, DraftIsWritten}
 use Rattle.mz_emit_theory.specs.SharedBodies.{AreDistinct, IsSharedBody}
 use Rattle.mz_emit_theory.specs.SharedTexts.{IsSharedText}

@@ -16,7 +16,7 @@ use Rattle.mz_machine_theory.specs.ProofMachine.{sides}
 use Rattle.mz_machine_theory.proofs.Offered.{pairs-push}
 use Rattle.mz_emit_theory.specs.Works.{Work}
 use Rattle.mz_emit_theory.specs.Steps.{stacked, kept, IsReferred, Step, Steps}
-use Rattle.mz_emit_theory.specs.Sameness.{IsSameTerm}
+use Rattle.mz_emit_theory.specs.AlphaEquivalence.{IsSameTerm}
 use Rattle.mz_emit_theory.specs.BodyGrowing.{StepsJoin, StepsKeepTheHeap, ContextsDependOnParams, SameAtFirst, SameWithSort, SameWithTerm, SameWithAssertion}
 
 pub steps-join : StepsJoin

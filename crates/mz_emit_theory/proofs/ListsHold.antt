@@ -25,7 +25,7 @@ use Rattle.mz_binary_theory.specs.Chains.{IsGoodStatement, GoodTo, EndsAt}
 use Rattle.mz_binary_theory.specs.Checking.{counts, kind_checks, checks_of}
 use Rattle.mz_binary_theory.specs.Spelling.{IsKindOf, is_local_code}
 use Rattle.mz_binary_theory.proofs.Offered.{well-chain}
-use Rattle.mz_emit_theory.specs.Sameness.{IsSameTerm, IsSameEnv}
+use Rattle.mz_emit_theory.specs.AlphaEquivalence.{IsSameTerm, IsSameEnv}
 use Rattle.mz_emit_theory.proofs.Joining.{same-with-sort, same-with-term, same-with-assertion}
 use Rattle.mz_emit_theory.specs.FileWriting.{SaySignature, IsWrittenForm, IsWrittenDeclaration, IsWrittenStatement, HaveNoMore, AreWritten}
 use Rattle.mz_emit_theory.proofs.RowsHold.{IsGoodRow, term_code, assertion_code, sort-good, plain-good, definition-good, assertion-good}

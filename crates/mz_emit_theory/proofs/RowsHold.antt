@@ -32,7 +32,7 @@ use Rattle.mz_machine_theory.specs.MachineState.{RowsBefore, Heading, is_definit
 use Rattle.mz_machine_theory.proofs.Offered.{pairs-long, bodies-checked}
 use Rattle.mz_binary_theory.specs.Checking.{term_body_checks, term_checks, thm_checks, kind_checks}
 use Rattle.mz_binary_theory.specs.Spelling.{SpellsRow}
-use Rattle.mz_emit_theory.specs.Sameness.{IsSameTerm, IsSameForm, IsSameEnv}
+use Rattle.mz_emit_theory.specs.AlphaEquivalence.{IsSameTerm, IsSameForm, IsSameEnv}
 use Rattle.mz_emit_theory.proofs.SameTables.{same-signatures}
 use Rattle.mz_emit_theory.specs.Bodies.{IsBody}
 use Rattle.mz_emit_theory.specs.SpellsBefore.{SpellsBefore}

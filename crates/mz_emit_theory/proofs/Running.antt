@@ -29,7 +29,7 @@ use Rattle.mz_machine_theory.specs.Premises.{is_obligation, may_be_dummy_sort, i
 use Rattle.mz_machine_theory.specs.ProofMachine.{built, cited, sides, proof_step}
 use Rattle.mz_emit_theory.specs.Works.{renamed, all_renamed, item_renamed, name_in, Work, met_binders, machine}
 use Rattle.mz_emit_theory.specs.Steps.{stacked, kept, above, IsBuilt, IsCited, Step, Steps, command_bytes, run_commands}
-use Rattle.mz_emit_theory.specs.Sameness.{IsSameEnv}
+use Rattle.mz_emit_theory.specs.AlphaEquivalence.{IsSameEnv}
 use Rattle.mz_emit_theory.specs.BodyLaws.{IsRightTree, IsRightItem, AreRightItems, DependOnFirst, IsRight}
 use Rattle.mz_emit_theory.proofs.Naming.{DepsAreKept, deps-kept, own-more, once-more, place-new, renamed-trees, renamed-instance, renamed-instances, renamed-listed, renamed-followed, renamed-variables, sort-forward, fits-forward, apart-forward, fresh-forward}
 use Rattle.mz_emit_theory.proofs.Passing.{provable-passes, dummy-passes, fits-pass, apart-passes}

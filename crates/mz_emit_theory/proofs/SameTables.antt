@@ -6,7 +6,7 @@ use Rattle.mz_logic_theory.specs.Declaration.{Term, Assertion, Declaration, sort
 use Rattle.mz_unify_theory.specs.Spells.{SpelledTerm, SpelledThm, SpellsThm, SpellsTerm}
 use Rattle.mz_machine_theory.specs.MachineState.{RowsBefore, signatures_in, Pairwise, Declares}
 use Rattle.mz_machine_theory.proofs.Offered.{pair-at, signatures-are, signatures-of}
-use Rattle.mz_emit_theory.specs.Sameness.{IsSameTerm, IsSameEnv}
+use Rattle.mz_emit_theory.specs.AlphaEquivalence.{IsSameTerm, IsSameEnv}
 
 pub pair-back : {A B : Type 0} (R : A → B → Type 0) (xs : List A) (ys : List B) → Pairwise R xs ys → (i : ℕ) (y : B) → slice_get ys i ≡ Some y → (x : A) × (slice_get xs i ≡ Some x) × R x y
 pair-back R [] [] h i y at = absurd cc

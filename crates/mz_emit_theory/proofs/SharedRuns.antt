@@ -20,7 +20,7 @@ use Rattle.mz_machine_theory.specs.Bodies.{body_start, body_run, Runs}
 use Rattle.mz_machine_theory.proofs.Offered.{own-are}
 use Rattle.mz_emit_theory.specs.Works.{renamed, item_renamed, name_in, Work, work_start, machine}
 use Rattle.mz_emit_theory.specs.Steps.{Step, Steps, command_bytes, run_commands}
-use Rattle.mz_emit_theory.specs.Sameness.{IsSameEnv}
+use Rattle.mz_emit_theory.specs.AlphaEquivalence.{IsSameEnv}
 use Rattle.mz_emit_theory.specs.Endings.{spelled_body, MayStand}
 use Rattle.mz_emit_theory.specs.Bodies.{last_item}
 use Rattle.mz_emit_theory.specs.SharedBodies.{IsSharedBody}
@@ -37,7 +37,7 @@ use Rattle.mz_pmachine_theory.specs.Numbered.{portable}
 use Rattle.mz_pmachine_theory.specs.Making.{portable_trees, makes_from, body_makes, MadeOnce}
 use Rattle.mz_pmachine_theory.proofs.Offered.{rows-too, shared-run}
 use Rattle.mz_emit_theory.specs.SharedRows.{AreSharedRows, IsSharedHeading}
-use Rattle.mz_emit_theory.specs.PortableLaws.{SharedBodiesRunByAddress}
+use Rattle.mz_emit_theory.specs.PortableLaws.{SharedBodiesRunByIdentity}
 use Rattle.mz_emit_theory.proofs.Turns.{may-stand, end-of}
 use Rattle.mz_emit_theory.proofs.RowsGo.{is-unfold, unfold-too, own-too, end-too}
 use Rattle.mz_emit_theory.proofs.Making.{GoThrough, run-makes, made-once}
@@ -119,9 +119,9 @@ from-table tables env env' declares same rows h dummies own first e hyps at byte
     (made-once Sigs ctx w.met (makes_from portable_trees tables h (length (spelled_body cs)) at (spelled_body cs) (machine ctx (work_start h.params))) b.built_are makes built-right b.distinct) in
     subst (Runs portable tables h at) (sym b.body.spelled) (shared-run tables h at (spelled_body cs) runs once)
 
-pub shared-runs : SharedBodiesRunByAddress
+pub shared-runs : SharedBodiesRunByIdentity
 shared-runs tables env env' declares same rows h dummies own first e hyps at bytes b =
-    let by-address : Runs strict tables h at bytes → Runs portable tables h at bytes = from-table tables env env' declares same rows h dummies own first e hyps at bytes b in (
-      by-address,
-      (λ ends. by-address (subst (Runs strict tables h at) (sym b.body.spelled) (bodies-run false tables env env' declares same h dummies first b.body.few at b.body.commands b.body.work b.body.may_stand b.body.steps ends))),
+    let by-identity : Runs strict tables h at bytes → Runs portable tables h at bytes = from-table tables env env' declares same rows h dummies own first e hyps at bytes b in (
+      by-identity,
+      (λ ends. by-identity (subst (Runs strict tables h at) (sym b.body.spelled) (bodies-run false tables env env' declares same h dummies first b.body.few at b.body.commands b.body.work b.body.may_stand b.body.steps ends))),
     )

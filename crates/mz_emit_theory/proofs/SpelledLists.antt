@@ -7,7 +7,7 @@ use Rattle.mz_logic_theory.specs.Modifiers.{MayBeDummySort}
 use Rattle.mz_logic_theory.specs.Signature.{Signature}
 use Rattle.mz_logic_theory.specs.declared.binder.Binder.{Binder}
 use Rattle.mz_logic_theory.proofs.Offered.{terms_are_sorted, each_from_all}
-use Rattle.mz_emit_theory.specs.Sameness.{IsSameForm}
+use Rattle.mz_emit_theory.specs.AlphaEquivalence.{IsSameForm}
 use Rattle.mz_emit_theory.specs.SameLists.{IsSameDeclaration, IsSameList}
 use Rattle.mz_emit_theory.specs.SpelledLists.{form_spelled, decl_spelled, list_spelled, SpelledListsAreSame}
 use Rattle.mz_emit_theory.proofs.SameForms.{bodies-same}

@@ -13,7 +13,7 @@ use Rattle.mz_emit_theory.proofs.Joining.{contexts-depend}
 use Rattle.mz_emit_theory.proofs.SameTables.{in-tables}
 use Rattle.mz_pmachine_theory.specs.Numbered.{portable}
 use Rattle.mz_emit_theory.specs.SharedRows.{SharesBody, IsSharedRow, AreSharedRows}
-use Rattle.mz_emit_theory.specs.PortableLaws.{AssertionsRunByAddress, DefinitionsRunByAddress}
+use Rattle.mz_emit_theory.specs.PortableLaws.{AssertionsRunByIdentity, DefinitionsRunByIdentity}
 use Rattle.mz_emit_theory.proofs.LongerRows.{texts-share, shared-with-term}
 use Rattle.mz_emit_theory.proofs.SharedRuns.{shared-runs}
 
@@ -21,12 +21,12 @@ no-definition : (without_proof : Bool) → kind_of without_proof ≡ is_definiti
 no-definition true is = cc
 no-definition false is = cc
 
-pub assertions-run : AssertionsRunByAddress
+pub assertions-run : AssertionsRunByIdentity
 assertions-run tables env env' declares same rows a dummies stream at bytes params plain-ones b ran =
     let h : Heading = assertion_of a.is_axiom (record { params = a.params; stream = stream }) in
     (shared-runs tables env env' declares same rows h dummies (λ kind. absurd (no-definition a.is_axiom kind)) (contexts-depend (sorts env) a.params dummies params plain-ones) a.conclusion (listed a.hyps) at bytes b).0 ran
 
-pub definitions-run : DefinitionsRunByAddress
+pub definitions-run : DefinitionsRunByIdentity
 definitions-run tables env env' declares same rows signature dummies dummies' e e' stream further at bytes params plain-ones text b row is =
     let made : SpelledTerm = record { signature = signature; stream = Some (stream ++ further) } in
     let h : Heading = definition_of made (stream ++ further) in

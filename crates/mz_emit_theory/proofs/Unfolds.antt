@@ -17,7 +17,7 @@ use Rattle.mz_unify_theory.proofs.Offered.{some_is, fits-length, fresh-at, disti
 use Rattle.mz_machine_theory.specs.MachineState.{RowsBefore, Declares}
 use Rattle.mz_machine_theory.proofs.Offered.{signature-at}
 use Rattle.mz_emit_theory.specs.Steps.{IsUnfolding}
-use Rattle.mz_emit_theory.specs.Sameness.{own, IsSameForm, IsSameEnv}
+use Rattle.mz_emit_theory.specs.AlphaEquivalence.{own, IsSameForm, IsSameEnv}
 use Rattle.mz_emit_theory.proofs.SameTables.{same-signatures, definition-row-at}
 
 -- ---- each dummy that is met occurs

@@ -9,7 +9,7 @@ use Rattle.mz_logic_theory.specs.declared.binder.SortMods.{SortMods}
 use Rattle.mz_unify_theory.specs.Profile.{Item}
 use Rattle.mz_emit_theory.specs.Works.{Work}
 use Rattle.mz_emit_theory.specs.Steps.{Steps}
-use Rattle.mz_emit_theory.specs.Sameness.{IsSameTerm, IsSameEnv}
+use Rattle.mz_emit_theory.specs.AlphaEquivalence.{IsSameTerm, IsSameEnv}
 use Rattle.mz_emit_theory.specs.BodyLaws.{DependOnFirst}
 
 -- steps one after another are steps

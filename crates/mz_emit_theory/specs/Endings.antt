@@ -15,7 +15,7 @@ use Rattle.mz_machine_theory.specs.MachineState.{Kind, is_axiom, is_theorem, is_
 use Rattle.mz_machine_theory.specs.Bodies.{stands_in}
 use Rattle.mz_emit_theory.specs.Works.{Work}
 use Rattle.mz_emit_theory.specs.Steps.{command_bytes}
-use Rattle.mz_emit_theory.specs.Sameness.{own}
+use Rattle.mz_emit_theory.specs.AlphaEquivalence.{own}
 
 -- ---- the end
 

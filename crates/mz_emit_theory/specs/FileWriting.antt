@@ -16,7 +16,7 @@ use Rattle.mz_unify_theory.specs.Streams.{of_assertion, of_definition}
 use Rattle.mz_machine_theory.specs.Lists.{kind_of}
 use Rattle.mz_layout_tables.specs.RowWords.{bound_count, AreParamWords}
 use Rattle.mz_machine_theory.specs.MachineState.{is_definition}
-use Rattle.mz_emit_theory.specs.Sameness.{IsSameTerm}
+use Rattle.mz_emit_theory.specs.AlphaEquivalence.{IsSameTerm}
 use Rattle.mz_emit_theory.specs.SharedBodies.{IsSharedBody}
 use Rattle.mz_emit_theory.specs.SharedTexts.{IsSharedText}
 use Rattle.mz_binary_theory.specs.Spelling.{HasKind}

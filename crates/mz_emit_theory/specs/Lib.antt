@@ -1,6 +1,6 @@
 pub mod Works
 pub mod Steps
-pub mod Sameness
+pub mod AlphaEquivalence
 pub mod SameLists
 pub mod Endings
 pub mod BodyLaws

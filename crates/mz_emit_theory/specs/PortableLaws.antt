@@ -14,7 +14,7 @@ use Rattle.mz_machine_theory.specs.Lists.{kind_of, assertion_of, definition_of}
 use Rattle.mz_machine_theory.specs.Bodies.{Runs}
 use Rattle.mz_emit_theory.specs.Endings.{Ends}
 use Rattle.mz_emit_theory.specs.BodyLaws.{DependOnFirst}
-use Rattle.mz_emit_theory.specs.Sameness.{IsSameEnv}
+use Rattle.mz_emit_theory.specs.AlphaEquivalence.{IsSameEnv}
 use Rattle.mz_emit_theory.specs.SharedBodies.{IsSharedBody}
 use Rattle.mz_emit_theory.specs.SharedTexts.{IsSharedText}
 use Rattle.mz_emit_theory.specs.StreamWriting.{definition_written, stream_of, AreShort}
@@ -25,8 +25,8 @@ use Rattle.mz_emit_theory.specs.SharedRows.{SharesBody, IsSharedRow, AreSharedRo
 
 -- Over rows whose definitions' streams share, a body that is shared and has no gaps (`IsSharedBody`) runs by identity:
 -- where it runs by the standard machine, and where its steps have made what its row spells.
-abbrev pub SharedBodiesRunByAddress : Type 0
-SharedBodiesRunByAddress = (tables : RowsBefore) (env env' : List Declaration) → Declares tables env' → IsSameEnv env env' → AreSharedRows tables.terms
+abbrev pub SharedBodiesRunByIdentity : Type 0
+SharedBodiesRunByIdentity = (tables : RowsBefore) (env env' : List Declaration) → Declares tables env' → IsSameEnv env env' → AreSharedRows tables.terms
     → (h : Heading) (dummies : List Binder) → IsSharedHeading (signatures_in tables) h → DependOnFirst (length h.params) (h.params ++ dummies)
     → (e : Tree) (hyps : List Tree) (at : ℕ) (bytes : List ℕ) (b : IsSharedBody false env h.kind h.params dummies e hyps bytes)
     → (Runs strict tables h at bytes → Runs portable tables h at bytes) × (Ends env (h.params ++ dummies) h b.body.work → Runs portable tables h at bytes)
@@ -35,16 +35,16 @@ SharedBodiesRunByAddress = (tables : RowsBefore) (env env' : List Declaration) �
 
 -- The body of an axiom or a theorem whose parameters are right, which shares over dummies without dependencies, runs by
 -- identity where it runs by the standard machine, whatever stream the row has.
-abbrev pub AssertionsRunByAddress : Type 0
-AssertionsRunByAddress = (tables : RowsBefore) (env env' : List Declaration) → Declares tables env' → IsSameEnv env env' → AreSharedRows tables.terms
+abbrev pub AssertionsRunByIdentity : Type 0
+AssertionsRunByIdentity = (tables : RowsBefore) (env env' : List Declaration) → Declares tables env' → IsSameEnv env env' → AreSharedRows tables.terms
     → (a : Assertion) (dummies : List Binder) (stream : List ℕ) (at : ℕ) (bytes : List ℕ) → AreParams (sorts env) a.params → Each dummies (λ _ b. b.deps ≡ [])
     → IsSharedBody false env (kind_of a.is_axiom) a.params dummies a.conclusion (listed a.hyps) bytes
     → Runs strict tables (assertion_of a.is_axiom (record { params = a.params; stream = stream })) at bytes
     → Runs portable tables (assertion_of a.is_axiom (record { params = a.params; stream = stream })) at bytes
 
 -- So does a definition's body, where its stream shares too; and the table with its row shares.
-abbrev pub DefinitionsRunByAddress : Type 0
-DefinitionsRunByAddress = (tables : RowsBefore) (env env' : List Declaration) → Declares tables env' → IsSameEnv env env' → AreSharedRows tables.terms
+abbrev pub DefinitionsRunByIdentity : Type 0
+DefinitionsRunByIdentity = (tables : RowsBefore) (env env' : List Declaration) → Declares tables env' → IsSameEnv env env' → AreSharedRows tables.terms
     → (signature : Signature) (dummies dummies' : List Binder) (e e' : Tree) (stream further : List ℕ) (at : ℕ) (bytes : List ℕ) → AreParams (sorts env) signature.params → Each dummies (λ _ b. b.deps ≡ [])
     → IsSharedText of_definition (signatures env) signature.params stream none e' dummies' → IsSharedBody false env is_definition signature.params dummies e [] bytes
     → (row : SpelledTerm) → row ≡ record { signature = signature; stream = Some (stream ++ further) }

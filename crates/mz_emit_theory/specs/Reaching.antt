@@ -16,7 +16,7 @@ use Rattle.mz_machine_theory.specs.ProofMachine.{proof_end}
 use Rattle.mz_machine_theory.specs.Bodies.{body_start}
 use Rattle.mz_emit_theory.specs.Works.{Work, work_start}
 use Rattle.mz_emit_theory.specs.Steps.{Steps, run_commands}
-use Rattle.mz_emit_theory.specs.Sameness.{IsSameEnv}
+use Rattle.mz_emit_theory.specs.AlphaEquivalence.{IsSameEnv}
 
 -- steps from the parameters on that leave this item and these hypotheses
 abbrev pub HasSteps : Bool → List Declaration → List Binder → List Binder → Item Tree → List Tree → Type 0

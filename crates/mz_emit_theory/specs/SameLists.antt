@@ -4,7 +4,7 @@ use Rattle.std.specs.Prelude.{◌≡◌, List}
 use Rattle.mz_logic_theory.specs.Declaration.{Declaration, sort_decl, term_decl, assertion_decl}
 use Rattle.mz_logic_theory.specs.LegalLists.{Statement, declarations}
 use Rattle.mz_machine_theory.specs.MachineState.{Pairwise}
-use Rattle.mz_emit_theory.specs.Sameness.{IsSameTerm, IsSameEnv}
+use Rattle.mz_emit_theory.specs.AlphaEquivalence.{IsSameTerm, IsSameEnv}
 
 abbrev pub IsSameDeclaration : Declaration → Declaration → Type 0
 IsSameDeclaration (sort_decl m) (sort_decl n) = m ≡ n

@@ -21,7 +21,7 @@ use Rattle.mz_unify_theory.proofs.Offered.{from_bind, from_need, rule_of-ok, tak
 use Rattle.mz_machine_theory.specs.MachineState.{RowsBefore, signatures_in, State, Kind, is_axiom, is_theorem, Heading, Declares}
 use Rattle.mz_machine_theory.specs.ProofMachine.{last_item, ending, own_variables, own_stream, as_proofs, has_provable_sort, matched_by, ends_with, proof_end}
 use Rattle.mz_machine_theory.specs.Bodies.{body_run}
-use Rattle.mz_machine_theory.specs.Facts.{Derivable, StackHolds, AreProvableClaims, Fact}
+use Rattle.mz_machine_theory.specs.Invariant.{Derivable, StackHolds, AreProvableClaims, Fact}
 use Rattle.mz_machine_theory.specs.Sound.{used_by, cites_as, AreRowParams, thm_row}
 use Rattle.mz_machine_theory.proofs.Declared.{signatures-are}
 use Rattle.mz_machine_theory.proofs.RowsKeep.{claim}

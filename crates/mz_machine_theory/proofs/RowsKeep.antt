@@ -29,7 +29,7 @@ use Rattle.mz_unify_theory.proofs.Offered.{from_bind, from_then, from_need, from
 use Rattle.mz_machine_theory.specs.MachineState.{RowsBefore, signatures_in, State, Declares}
 use Rattle.mz_machine_theory.specs.Premises.{pop, pop_expr, pop_proof, pop_obligation, pop_conversion, pop_operands, pop_sides, is_conversion, is_obligation, may_be_dummy_sort, is_provable_sort, bound_count, operands_fit, are_apart}
 use Rattle.mz_machine_theory.specs.ProofMachine.{built, citation, matched_by, cited, referred, sides, same_term, stream_of, unfolding_of, gapped, has_provable_sort, proof_step}
-use Rattle.mz_machine_theory.specs.Facts.{Derivable, Convertible, Holds, StackHolds, IsFront, AreProvableClaims, Fact, Keeps}
+use Rattle.mz_machine_theory.specs.Invariant.{Derivable, Convertible, Holds, StackHolds, IsFront, AreProvableClaims, Fact, Keeps}
 use Rattle.mz_machine_theory.proofs.Declared.{pair-at, signatures-are, signature-at}
 use Rattle.mz_machine_theory.proofs.Operands.{provable-sort, dummy-sort, fits-from, apart-from-test}
 use Rattle.mz_machine_theory.proofs.PlainRows.{row-plain}

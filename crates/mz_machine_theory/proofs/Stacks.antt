@@ -16,7 +16,7 @@ use Rattle.mz_unify_theory.specs.Tests.{same_tree}
 use Rattle.mz_unify_theory.proofs.Offered.{from_bind, from_need, taken-is, listed-trees_of}
 use Rattle.mz_machine_theory.specs.Premises.{pop_expr, pop_proof, pop_obligation, pop_conversion, pop_exprs, pop_operands, pop_sides}
 use Rattle.mz_machine_theory.specs.ProofMachine.{sides}
-use Rattle.mz_machine_theory.specs.Facts.{Derivable, Convertible, Holds, HeapHolds, StackHolds, AreProvableClaims}
+use Rattle.mz_machine_theory.specs.Invariant.{Derivable, Convertible, Holds, HeapHolds, StackHolds, AreProvableClaims}
 
 module _ (P : Uses) (env : List Declaration) (full : List Binder) where
   -- ---- heaps

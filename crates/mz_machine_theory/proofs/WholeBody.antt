@@ -20,7 +20,7 @@ use Rattle.mz_unify_theory.proofs.Offered.{from_bind, from_need, place-ok, taken
 use Rattle.mz_machine_theory.specs.MachineState.{RowsBefore, State, Heading, Declares}
 use Rattle.mz_machine_theory.specs.ProofMachine.{proof_step, proof_end, ends_with, matched_by, own_variables}
 use Rattle.mz_machine_theory.specs.Bodies.{BodyCommand, ends, proves, stands_in, if_allowed, body_command, body_turn, body_turn_by, body_from, body_run, body_start}
-use Rattle.mz_machine_theory.specs.Facts.{HeapHolds, Fact, Keeps}
+use Rattle.mz_machine_theory.specs.Invariant.{HeapHolds, Fact, Keeps}
 use Rattle.mz_machine_theory.specs.Sound.{IsCitation, CitesWithin, GapsWithin, used_by}
 use Rattle.mz_machine_theory.proofs.PlainRows.{end-plain}
 use Rattle.mz_machine_theory.proofs.RowsKeep.{keeps}

@@ -3,7 +3,7 @@ pub mod FreeVars
 pub mod Premises
 pub mod ProofMachine
 pub mod Bodies
-pub mod Facts
+pub mod Invariant
 pub mod Laws
 pub mod Sound
 pub mod Lists

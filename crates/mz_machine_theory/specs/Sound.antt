@@ -21,7 +21,7 @@ use Rattle.mz_unify_theory.specs.Profile.{plain}
 use Rattle.mz_unify_theory.specs.Spells.{SpelledTerm, SpelledThm, SpellsTerm, SpellsThm}
 use Rattle.mz_machine_theory.specs.MachineState.{RowsBefore, State, is_axiom, is_theorem, is_definition, Heading, Declares}
 use Rattle.mz_machine_theory.specs.ProofMachine.{proof_step}
-use Rattle.mz_machine_theory.specs.Facts.{Keeps}
+use Rattle.mz_machine_theory.specs.Invariant.{Keeps}
 use Rattle.mz_machine_theory.specs.Bodies.{Runs}
 
 -- the command cites assertion T

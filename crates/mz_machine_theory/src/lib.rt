@@ -1,7 +1,7 @@
 //! The proof machine as a definition, and why what it accepts is proved.
 //!
 //! `specs/ProofMachine.antt` has the machine's rows, one clause a command, `specs/Bodies.antt` whole
-//! bodies, and `specs/Facts.antt` the fact that every row keeps. A body runs or stops at one place by
+//! bodies, and `specs/Invariant.antt` the fact that every row keeps. A body runs or stops at one place by
 //! one rule; what it accepts is legal and derivable (`specs/Sound.antt`). The machine that runs over a
 //! store is `mz_machine`.
 #![tactic(auto)]

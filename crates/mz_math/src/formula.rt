@@ -11,7 +11,7 @@ ghost use Rattle.mz_math_theory.specs.declared.wanted.Wanted.{Wanted};
 ghost use Rattle.mz_math_theory.specs.Readable.{IsReadable};
 ghost use Rattle.mz_math_theory.specs.Kept.{AreVariables};
 ghost use Rattle.mz_math.specs.Claims.{IsOnlyClaim};
-ghost use Rattle.mz_math_tokens.specs.Pieces.{Pieces, piece_texts};
+ghost use Rattle.mz_math_tokens.specs.MathTokens.{MathTokens, token_texts};
 
 use crate::meaning::{coerced, sort_of};
 use crate::parser::parse;
@@ -21,7 +21,7 @@ use mz_logic_theory::{Context, Env, Expr};
 use mz_math_coercions::{Coercions, Reached, distance, reached_from, wrap};
 use mz_math_notation::{Notations, Scope};
 use mz_math_theory::{Built, Parsed, Syntax, Wanted};
-use mz_math_tokens::{Piece, Tokens};
+use mz_math_tokens::{MathToken, Tokens};
 use std::alloc::{AllocError, Global};
 
 /// At most so many tokens, and at most so high a tree.
@@ -51,7 +51,7 @@ pub fn parse_formula(
     requires { length text.now < 2 ^ 32 }
     ensures { IsParsed (record { env = env.now; table = notations.now; scope = scope.now }) wanted text.now result }
 {
-    let Ok(pieces) = notations.delimiters().pieces(alloc, text) else {
+    let Ok(pieces) = notations.delimiters().tokens(alloc, text) else {
         return Parsed::Mem;
     };
     let words = Vocabulary::new(notations, env, scope);
@@ -78,11 +78,11 @@ fn parse_few(alloc: Global, words: &Vocabulary<'_>, tokens: &Tokens<'_>) -> Synt
 
 /// Why a string is refused whose tokens are too many or have no tree. Tokens that have one are known,
 /// so only here they are looked up once more.
-fn unread(words: &Vocabulary<'_>, text: &[u8], pieces: &[Piece]) -> Parsed
+fn unread(words: &Vocabulary<'_>, text: &[u8], pieces: &[MathToken]) -> Parsed
     requires within { All (λ p. (p.from ≤ p.to) × (p.to ≤ length text.now)) pieces.now }
     requires small { length text.now < 2 ^ 32 }
-    requires no_tree { IsTreeOfFew words.now (piece_texts text.now pieces.now) Syntax.No }
-    ensures { (r : Reader) (wanted : Wanted) → words_lem r ≡ words.now → Pieces r.table.delimiters text.now pieces.now → IsParsed r wanted text.now result }
+    requires no_tree { IsTreeOfFew words.now (token_texts text.now pieces.now) Syntax.No }
+    ensures { (r : Reader) (wanted : Wanted) → words_lem r ≡ words.now → MathTokens r.table.delimiters text.now pieces.now → IsParsed r wanted text.now result }
 {
     if let Some(at) = first_unknown(words, text, pieces) {
         return Parsed::Refused {
@@ -97,7 +97,7 @@ fn unread(words: &Vocabulary<'_>, text: &[u8], pieces: &[Piece]) -> Parsed
 }
 
 /// The first byte of the first token that is unknown.
-fn first_unknown(words: &Vocabulary<'_>, text: &[u8], pieces: &[Piece]) -> Option<u32>
+fn first_unknown(words: &Vocabulary<'_>, text: &[u8], pieces: &[MathToken]) -> Option<u32>
     requires within { All (λ p. (p.from ≤ p.to) × (p.to ≤ length text.now)) pieces.now }
     requires small { length text.now < 2 ^ 32 }
     ensures { IsFirstUnknown words.now text.now pieces.now result }

@@ -23,4 +23,4 @@ pub use mz_math_notation::{Notations, Scope};
 pub use mz_math_theory::{
     Coercion, Element, ElementRef, Elements, Literal, Notation, NoteFault, Parsed, Tail, Wanted,
 };
-pub use mz_math_tokens::{Bytes, Delimiters, Piece};
+pub use mz_math_tokens::{Bytes, Delimiters, MathToken};

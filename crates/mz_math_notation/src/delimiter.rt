@@ -1,6 +1,6 @@
 // The delimiters that a statement declares, where it is of its form.
 ghost use Rattle.std.specs.Prelude.{option_map};
-ghost use Rattle.mz_math_tokens.specs.Pieces.{AreCharacters, AreDelimiters};
+ghost use Rattle.mz_math_tokens.specs.MathTokens.{AreCharacters, AreDelimiters};
 ghost use Rattle.mz_math_theory.specs.NotationAnswers.{AreBoth, IsMade};
 
 use mz_math_theory::NoteFault;
@@ -41,14 +41,14 @@ fn characters(alloc: Global, text: &[u8]) -> Result<ByteSet, NoteFault>
     let whole = Delimiters::new(alloc);
     let mut characters = ByteSet::new(alloc);
     let mut at = 0;
-    'tokens: while let Some(piece) = whole.next_piece(text, at) {
-        if piece.to - piece.from != 1 {
+    'tokens: while let Some(token) = whole.next_token(text, at) {
+        if token.to - token.from != 1 {
             return Err(NoteFault::Form);
         }
-        let Ok(()) = characters.push(text[piece.from]) else {
+        let Ok(()) = characters.push(text[token.from]) else {
             return Err(NoteFault::Mem);
         };
-        at = piece.to;
+        at = token.to;
     }
     Ok(characters)
 }

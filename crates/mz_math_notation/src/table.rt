@@ -38,7 +38,7 @@ pub struct Notations {
 
 impl Model for Notations {
     ghost use Rattle.mz_math_theory.specs.Notation.{Table};
-    ghost use Rattle.mz_math_tokens.specs.declared.pieces.Delimiters.{Delimiters};
+    ghost use Rattle.mz_math_tokens.specs.declared.tokens.Delimiters.{Delimiters};
     ghost use Rattle.mz_math_theory.specs.Kept.{IsTable};
 
     ghost Value = { Table };

@@ -7,9 +7,9 @@ use Rattle.mz_base_theory.specs.Checks.{AreDecided, AllHold, FailsFirst}
 use Rattle.mz_lex.specs.Kinds.{is_space}
 use Rattle.mz_logic_theory.specs.Tree.{Tree}
 use Rattle.mz_logic_theory.specs.Declaration.{signatures}
-use Rattle.mz_math_tokens.specs.Pieces.{IsSpaces, IsPiece, PiecesFrom, Pieces, piece_texts, piece_text}
-use Rattle.mz_math_tokens.specs.declared.pieces.Delimiters.{Delimiters}
-use Rattle.mz_math_tokens.specs.declared.pieces.Piece.{Piece}
+use Rattle.mz_math_tokens.specs.MathTokens.{IsSpaces, IsMathToken, MathTokensFrom, MathTokens, token_texts, token_text}
+use Rattle.mz_math_tokens.specs.declared.tokens.Delimiters.{Delimiters}
+use Rattle.mz_math_tokens.specs.declared.tokens.MathToken.{MathToken}
 use Rattle.mz_math_theory.specs.declared.notation.Element.{Element}
 use Rattle.mz_math_theory.specs.declared.notation.Element.TheVariants.{Fixed as fixed, Slot as slot}
 use Rattle.mz_math_theory.specs.declared.notation.Notation.{Notation}
@@ -23,7 +23,7 @@ use Rattle.mz_math_theory.specs.Formula.{Reader, words, most, StandsFor, Means, 
 use Rattle.mz_math_tokens.specs.Answers.{EndsAt, IsWhole}
 use Rattle.mz_math_theory.specs.FormulaAnswers.{settled}
 use Rattle.mz_math_theory.proofs.Readable.{table-readable}
-use Rattle.mz_math_tokens.proofs.Offered.{next-first, whole-first, whole-more, whole-piece}
+use Rattle.mz_math_tokens.proofs.Offered.{next-first, whole-first, whole-more, whole-math_token}
 use Rattle.mz_math_theory.proofs.Judging.{parts, stands, same}
 use Rattle.mz_math_theory.proofs.Deciding.{found, placed, equal-decided, tree-decided}
 use Rattle.mz_math_theory.proofs.Standing.{path-decided, coerced-decided, claimed-decided}
@@ -67,10 +67,10 @@ module _ (d : Delimiters) (text : List ℕ) where
 
   -- a token from a place on
   abbrev Whole : ℕ → Type 0
-  Whole from = (to : ℕ) × (from < to) × (to ≤ length text) × IsPiece d text (record { from = from; to = to })
+  Whole from = (to : ℕ) × (from < to) × (to ≤ length text) × IsMathToken d text (record { from = from; to = to })
 
   ended : (from to : ℕ) → IsWhole d text from to → (to ≡ length text) ⊎ EndsAt d text to → Whole from
-  ended from to whole end = (to, whole.later, whole.within, whole-piece d text from to whole end)
+  ended from to whole end = (to, whole.later, whole.within, whole-math_token d text from to whole end)
 
   end-got : (n from to : ℕ) → IsWhole d text from to → length text ≤ to + n → Whole from
   end-got zero from to whole many = ended from to whole (inl (let within = whole.within in omega (arith, within, many)))
@@ -89,7 +89,7 @@ module _ (d : Delimiters) (text : List ℕ) where
           below differs = let within = whole.within in elim (eq-or-lt_of_le within) [ inl same ↦ absurd (differs same) | inr less ↦ less ]
 
   abbrev From : ℕ → Type 0
-  From from = (ps : List Piece) × PiecesFrom d text from ps
+  From from = (ps : List MathToken) × MathTokensFrom d text from ps
 
   one-then : (from at : ℕ) → IsSpaces text from at → Whole at → ((to : ℕ) → from < to → to ≤ length text → From to) → From from
   one-then from at spaces (to, some, within, piece) rest =
@@ -97,16 +97,16 @@ module _ (d : Delimiters) (text : List ℕ) where
       let more = rest to (omega (arith, le, some)) within in
       (record { from = at; to = to } ∷ more.0, next-first d text from (record { from = at; to = to }) more.0 (spaces, piece) more.1)
 
-  pieces-got : (n from : ℕ) → from ≤ length text → length text ≤ from + n → From from
-  pieces-got zero from le many = ([], subst (IsSpaces text from) (omega (arith, le, many)) (none-between from))
-  pieces-got (suc n) from le many = go (spaces-got (suc n) from le many) (λ to some within. pieces-got n to within (omega (arith, many, some)))
+  math_tokens-got : (n from : ℕ) → from ≤ length text → length text ≤ from + n → From from
+  math_tokens-got zero from le many = ([], subst (IsSpaces text from) (omega (arith, le, many)) (none-between from))
+  math_tokens-got (suc n) from le many = go (spaces-got (suc n) from le many) (λ to some within. math_tokens-got n to within (omega (arith, many, some)))
     where
       go : Spaces from → ((to : ℕ) → from < to → to ≤ length text → From to) → From from
       go (at, spaces, inl done) rest = ([], subst (IsSpaces text from) done spaces)
       go (at, spaces, inr (below, solid)) rest = one-then from at spaces (end-got (length text) at (at + 1) (whole-first d text at below solid) (omega arith)) rest
 
-  pub some-pieces : (ps : List Piece) × Pieces d text ps
-  some-pieces = pieces-got (length text) 0 (omega arith) (omega arith)
+  pub some-math_tokens : (ps : List MathToken) × MathTokens d text ps
+  some-math_tokens = math_tokens-got (length text) 0 (omega arith) (omega arith)
 
 -- ---- which tokens are known
 
@@ -232,19 +232,19 @@ tokens-decided r w is vs tokens = (
 -- ---- the whole string
 
 pub some-reading : (r : Reader) (w : Wanted) (text : List ℕ) → IsTable r.table → AreVariables r.scope.names → ((e : Tree) × IsFormula r w text e) ⊎ ((m : Misreading) × Misreads r w text m)
-some-reading r w text is vs = go (some-pieces r.table.delimiters text)
+some-reading r w text is vs = go (some-math_tokens r.table.delimiters text)
   where
-    go : (ps : List Piece) × Pieces r.table.delimiters text ps → ((e : Tree) × IsFormula r w text e) ⊎ ((m : Misreading) × Misreads r w text m)
+    go : (ps : List MathToken) × MathTokens r.table.delimiters text ps → ((e : Tree) × IsFormula r w text e) ⊎ ((m : Misreading) × Misreads r w text m)
     go (ps, pieces) = told (all_hold-or_fails (formula_checks r w text ps) decided)
       where
         decided : AreDecided (formula_checks r w text ps)
-        decided = are_decided-both (known_checks (words r) text ps) (token_checks r w (piece_texts text ps))
-            (are_decided-rows (is_known (words r) text) (λ p. (known-decided (words r) (piece_text text p), λ known. tt)) ps)
-            (λ known. tokens-decided r w is vs (piece_texts text ps))
+        decided = are_decided-both (known_checks (words r) text ps) (token_checks r w (token_texts text ps))
+            (are_decided-rows (is_known (words r) text) (λ p. (known-decided (words r) (token_text text p), λ known. tt)) ps)
+            (λ known. tokens-decided r w is vs (token_texts text ps))
 
-        read : AllHold (formula_checks r w text ps) → AllHold (token_checks r w (piece_texts text ps)) → (e : Tree) × IsFormula r w text e
+        read : AllHold (formula_checks r w text ps) → AllHold (token_checks r w (token_texts text ps)) → (e : Tree) × IsFormula r w text e
         read all held = let means = held.1.1.1.1.0 in (means.0, (ps, pieces, all, means.1))
 
         told : AllHold (formula_checks r w text ps) ⊎ ((m : Misreading) × FailsFirst (formula_checks r w text ps) m) → ((e : Tree) × IsFormula r w text e) ⊎ ((m : Misreading) × Misreads r w text m)
-        told (inl all) = inl (read all (all_hold-rest (known_checks (words r) text ps) (token_checks r w (piece_texts text ps)) all))
+        told (inl all) = inl (read all (all_hold-rest (known_checks (words r) text ps) (token_checks r w (token_texts text ps)) all))
         told (inr (m, fails)) = inr (m, (ps, pieces, fails))

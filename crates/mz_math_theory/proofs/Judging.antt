@@ -9,8 +9,8 @@ use Rattle.mz_logic_theory.specs.Declaration.{Declaration, signatures, sorts}
 use Rattle.mz_logic_theory.specs.Modifiers.{MayBeClaimSort}
 use Rattle.std.specs.Prelude.{IfSome, MatchOption, slice_get}
 use Rattle.mz_logic_theory.specs.declared.binder.Binder.{Binder}
-use Rattle.mz_math_tokens.specs.Pieces.{Pieces, piece_texts}
-use Rattle.mz_math_tokens.specs.declared.pieces.Piece.{Piece}
+use Rattle.mz_math_tokens.specs.MathTokens.{MathTokens, token_texts}
+use Rattle.mz_math_tokens.specs.declared.tokens.MathToken.{MathToken}
 use Rattle.mz_math_theory.specs.declared.coercion.Coercion.{Coercion}
 use Rattle.mz_math_theory.specs.Coercions.{IsPath, OnePath, Reaches, wrapped}
 use Rattle.mz_math_theory.specs.Grammar.{Exp, tree_of}
@@ -127,15 +127,15 @@ module _ (r : Reader) (w : Wanted) (is : IsTable r.table) (vs : AreVariables r.s
 
 -- ---- the whole string
 
-module _ (r : Reader) (w : Wanted) (text : List ℕ) (ps : List Piece) (pieces : Pieces r.table.delimiters text ps) where
+module _ (r : Reader) (w : Wanted) (text : List ℕ) (ps : List MathToken) (pieces : MathTokens r.table.delimiters text ps) where
   pub unknown-first : (at : ℕ) → IsFirstUnknown (words r) text ps (Some at) → Misreads r w text (record { at = at; rule = rules.MathToken })
-  unknown-first at fails = (ps, pieces, fails-before (known_checks (words r) text ps) (token_checks r w (piece_texts text ps)) (record { at = at; rule = rules.MathToken }) fails)
+  unknown-first at fails = (ps, pieces, fails-before (known_checks (words r) text ps) (token_checks r w (token_texts text ps)) (record { at = at; rule = rules.MathToken }) fails)
 
-  pub known-then : AllHold (known_checks (words r) text ps) → (m : Misreading) → FailsFirst (token_checks r w (piece_texts text ps)) m → Misreads r w text m
-  known-then known m fails = (ps, pieces, fails-after (known_checks (words r) text ps) (token_checks r w (piece_texts text ps)) m known fails)
+  pub known-then : AllHold (known_checks (words r) text ps) → (m : Misreading) → FailsFirst (token_checks r w (token_texts text ps)) m → Misreads r w text m
+  known-then known m fails = (ps, pieces, fails-after (known_checks (words r) text ps) (token_checks r w (token_texts text ps)) m known fails)
 
-  pub known-all : AllHold (known_checks (words r) text ps) → (answer : Parsed) → IsMeant r w (piece_texts text ps) answer → IsParsed r w text answer
-  known-all known (parsed.Tree e) (all, means) = (ps, pieces, all_hold-both (known_checks (words r) text ps) (token_checks r w (piece_texts text ps)) known all, means)
+  pub known-all : AllHold (known_checks (words r) text ps) → (answer : Parsed) → IsMeant r w (token_texts text ps) answer → IsParsed r w text answer
+  known-all known (parsed.Tree e) (all, means) = (ps, pieces, all_hold-both (known_checks (words r) text ps) (token_checks r w (token_texts text ps)) known all, means)
   known-all known (parsed.Refused at rule) fails = known-then known (record { at = at; rule = rule }) fails
   known-all known parsed.Mem meant = tt
 

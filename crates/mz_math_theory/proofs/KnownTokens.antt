@@ -7,8 +7,8 @@ use Rattle.mz_logic_theory.specs.Tree.{Tree}
 use Rattle.mz_math_theory.specs.declared.notation.Element.{Element}
 use Rattle.mz_math_theory.specs.declared.notation.Element.TheVariants.{Fixed as fixed, Slot as slot}
 use Rattle.mz_math_theory.specs.declared.notation.Notation.{Notation}
-use Rattle.mz_math_tokens.specs.Pieces.{piece_texts}
-use Rattle.mz_math_tokens.specs.declared.pieces.Piece.{Piece}
+use Rattle.mz_math_tokens.specs.MathTokens.{token_texts}
+use Rattle.mz_math_tokens.specs.declared.tokens.MathToken.{MathToken}
 use Rattle.mz_math_theory.specs.Formula.{known_checks}
 use Rattle.mz_math_theory.specs.Grammar.{Item, token, expr, items, operands_at_max, Head, variable, parens, applied, notated, head_items, behind_first, last_level, infix_items, Parse, Parts, headed, joined, end, word, part, tokens_of, part_tokens, Words, IsHead, IsExp, AreParts, Exp, IsKnown}
 use Rattle.mz_math_theory.proofs.Knowing.{known-constant, known-name}
@@ -76,9 +76,9 @@ mutual
 
 -- ---- the tokens of a math string
 
-pub checks-hold : (ws : Words) (text : List ℕ) (ps : List Piece) → AllKnown ws (piece_texts text ps) → AllHold (known_checks ws text ps)
+pub checks-hold : (ws : Words) (text : List ℕ) (ps : List MathToken) → AllKnown ws (token_texts text ps) → AllHold (known_checks ws text ps)
 checks-hold ws text [] known = tt
 checks-hold ws text (p ∷ ps) known = (known.0, checks-hold ws text ps known.1)
 
-pub read-known : (ws : Words) (text : List ℕ) (ps : List Piece) (level : ℕ) (t : Tree) → Exp ws level t (piece_texts text ps) → AllHold (known_checks ws text ps)
+pub read-known : (ws : Words) (text : List ℕ) (ps : List MathToken) (level : ℕ) (t : Tree) → Exp ws level t (token_texts text ps) → AllHold (known_checks ws text ps)
 read-known ws text ps level t (p, is, enough, tokens, made) = checks-hold ws text ps (subst (AllKnown ws) tokens (exp-known ws p is))

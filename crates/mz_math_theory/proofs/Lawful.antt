@@ -5,9 +5,9 @@ use Rattle.mz_base_theory.proofs.Offered.{fails_first-unique, all_hold-excludes}
 use Rattle.mz_logic_theory.specs.Tree.{Tree}
 use Rattle.mz_logic_theory.specs.Signature.{Signature}
 use Rattle.mz_logic_theory.specs.Declaration.{signatures}
-use Rattle.mz_math_tokens.specs.Pieces.{piece_texts}
-use Rattle.mz_math_tokens.specs.declared.pieces.Delimiters.{Delimiters}
-use Rattle.mz_math_tokens.specs.declared.pieces.Piece.{Piece}
+use Rattle.mz_math_tokens.specs.MathTokens.{token_texts}
+use Rattle.mz_math_tokens.specs.declared.tokens.Delimiters.{Delimiters}
+use Rattle.mz_math_tokens.specs.declared.tokens.MathToken.{MathToken}
 use Rattle.mz_math_theory.specs.Notation.{begins_with_slot, with_notation}
 use Rattle.mz_math_theory.specs.declared.notation.Notation.{Notation}
 use Rattle.mz_math_theory.specs.Grammar.{words_of, tree_of}
@@ -17,7 +17,7 @@ use Rattle.mz_math_theory.specs.Formula.{Reader, Means, formula_checks}
 use Rattle.mz_math_theory.specs.NotationAnswers.{IsShaped, IsClearTable}
 use Rattle.mz_math_theory.specs.Laws.{IsNoted, NotationsKeepTables, OneTree, OneTokens, OneMeaning, OneMisreading, OneReading}
 use Rattle.mz_math_theory.proofs.Unique.{one-expression}
-use Rattle.mz_math_tokens.proofs.Offered.{pieces-one}
+use Rattle.mz_math_tokens.proofs.Offered.{math_tokens-one}
 use Rattle.mz_math_theory.proofs.OneMeaning.{coerced-one, settled-one, claimed-one}
 use Rattle.mz_math_theory.proofs.Judging.{exp-one}
 use Rattle.mz_math_theory.proofs.Readable.{table-readable}
@@ -43,7 +43,7 @@ one-tree t sigs variables is vs tokens e f (p, is_p, le_p, toks_p, tree_p) (q, i
     sym tree_p ∙ ap tree_of (one-expression (words_of t sigs variables) (table-readable t sigs variables is vs) p q is_p is_q (toks_p ∙ sym toks_q)) ∙ tree_q
 
 pub one-tokens : OneTokens
-one-tokens d text ps qs a b = pieces-one d text 0 ps qs a b
+one-tokens d text ps qs a b = math_tokens-one d text 0 ps qs a b
 
 means-one : (r : Reader) (w : Wanted) (tokens : List (List ℕ)) → IsTable r.table → AreVariables r.scope.names → (e f : Tree) → Means r w tokens e → Means r w tokens f → e ≡ f
 means-one r w tokens is vs e f (g, s, (t, x, exp, coerced, settles), claimed) (h, q, (u, y, exp_u, coerced_u, settles_u), claimed_u) =
@@ -56,15 +56,15 @@ means-one r w tokens is vs e f (g, s, (t, x, exp, coerced, settles), claimed) (h
 
 pub one-meaning : OneMeaning
 one-meaning r w text is vs e f (ps, on, all, means) (qs, on_q, all_q, means_q) =
-    let same : qs ≡ ps = pieces-one r.table.delimiters text 0 qs ps on_q on in
-    means-one r w (piece_texts text ps) is vs e f means (subst (λ (xs : List Piece). Means r w (piece_texts text xs) f) same means_q)
+    let same : qs ≡ ps = math_tokens-one r.table.delimiters text 0 qs ps on_q on in
+    means-one r w (token_texts text ps) is vs e f means (subst (λ (xs : List MathToken). Means r w (token_texts text xs) f) same means_q)
 
 pub one-misreading : OneMisreading
 one-misreading r w text m n (ps, on, fails) (qs, on_q, fails_q) =
-    let same : qs ≡ ps = pieces-one r.table.delimiters text 0 qs ps on_q on in
-    fails_first-unique (formula_checks r w text ps) m n fails (subst (λ (xs : List Piece). FailsFirst (formula_checks r w text xs) n) same fails_q)
+    let same : qs ≡ ps = math_tokens-one r.table.delimiters text 0 qs ps on_q on in
+    fails_first-unique (formula_checks r w text ps) m n fails (subst (λ (xs : List MathToken). FailsFirst (formula_checks r w text xs) n) same fails_q)
 
 pub one-reading : OneReading
 one-reading r w text e m (ps, on, all, means) (qs, on_q, fails) =
-    let same : qs ≡ ps = pieces-one r.table.delimiters text 0 qs ps on_q on in
-    all_hold-excludes (formula_checks r w text ps) m all (subst (λ (xs : List Piece). FailsFirst (formula_checks r w text xs) m) same fails)
+    let same : qs ≡ ps = math_tokens-one r.table.delimiters text 0 qs ps on_q on in
+    all_hold-excludes (formula_checks r w text ps) m all (subst (λ (xs : List MathToken). FailsFirst (formula_checks r w text xs) m) same fails)

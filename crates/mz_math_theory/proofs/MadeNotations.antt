@@ -8,9 +8,9 @@ use Rattle.mz_base_theory.specs.Checks.{AllHold, FailsFirst}
 use Rattle.mz_logic_theory.specs.Signature.{Signature}
 use Rattle.mz_logic_theory.specs.declared.binder.Binder.{Binder}
 use Rattle.mz_logic_theory.specs.declared.binder.ResultType.{ResultType}
-use Rattle.mz_math_tokens.specs.Pieces.{Pieces, piece_text, IsConstant}
-use Rattle.mz_math_tokens.specs.declared.pieces.Delimiters.{Delimiters}
-use Rattle.mz_math_tokens.specs.declared.pieces.Piece.{Piece}
+use Rattle.mz_math_tokens.specs.MathTokens.{MathTokens, token_text, IsConstant}
+use Rattle.mz_math_tokens.specs.declared.tokens.Delimiters.{Delimiters}
+use Rattle.mz_math_tokens.specs.declared.tokens.MathToken.{MathToken}
 use Rattle.mz_math_theory.specs.Notation.{level_of, places, infixed, prefixed, Table, with_notation}
 use Rattle.mz_math_theory.specs.declared.notation.Element.{Element}
 use Rattle.mz_math_theory.specs.declared.notation.Element.TheVariants.{Fixed as fixed, Slot as slot}
@@ -22,10 +22,10 @@ use Rattle.mz_math_theory.specs.declared.literal.Literal.TheVariants.{Constant a
 use Rattle.mz_math_theory.specs.declared.literal.Tail.{Tail}
 use Rattle.mz_math_theory.specs.declared.fault.NoteFault.{NoteFault}
 use Rattle.mz_math_theory.specs.NotationAnswers.{IsClearTable}
-use Rattle.mz_math_tokens.proofs.Offered.{pieces-one}
+use Rattle.mz_math_tokens.proofs.Offered.{math_tokens-one}
 use Rattle.mz_math_theory.proofs.Tables.{constant-one, infix-one, prefix-one, begins-one}
 use Rattle.mz_math_theory.proofs.Deciding.{equal-decided, true-decided}
-use Rattle.mz_math_theory.proofs.Existing.{some-pieces}
+use Rattle.mz_math_theory.proofs.Existing.{some-math_tokens}
 use Rattle.mz_math_theory.proofs.StayingClear.{clear-decided}
 
 -- ---- options, numbers and lists
@@ -105,29 +105,29 @@ signature-decided a b = elim (both-decided (lists-decided binder-decided a.param
 -- ---- constants
 
 constant-decided : (d : Delimiters) (text : List ℕ) → Decided ((w : List ℕ) × IsConstant d text w)
-constant-decided d text = go (some-pieces d text)
+constant-decided d text = go (some-math_tokens d text)
   where
-    one : (p q : Piece) (ps : List Piece) → p ∷ ps ≡ q ∷ [] → p ≡ q
+    one : (p q : MathToken) (ps : List MathToken) → p ∷ ps ≡ q ∷ [] → p ≡ q
     one p q ps e = heads e
 
-    go : (ps : List Piece) × Pieces d text ps → Decided ((w : List ℕ) × IsConstant d text w)
+    go : (ps : List MathToken) × MathTokens d text ps → Decided ((w : List ℕ) × IsConstant d text w)
     go ([], pieces) = inr no
       where
         no : (w : List ℕ) × IsConstant d text w → ⊥
-        no (w, (q, others, is, open_, close)) = nil-cons (pieces-one d text 0 [] (q ∷ []) pieces others)
+        no (w, (q, others, is, open_, close)) = nil-cons (math_tokens-one d text 0 [] (q ∷ []) pieces others)
     go (p ∷ r ∷ ps, pieces) = inr no
       where
         no : (w : List ℕ) × IsConstant d text w → ⊥
-        no (w, (q, others, is, open_, close)) = nil-cons (sym (tails (pieces-one d text 0 (p ∷ r ∷ ps) (q ∷ []) pieces others)))
-    go (p ∷ [], pieces) = told (both-decided (not-decided (bytes-decided (piece_text text p) (codes "("))) (not-decided (bytes-decided (piece_text text p) (codes ")"))))
+        no (w, (q, others, is, open_, close)) = nil-cons (sym (tails (math_tokens-one d text 0 (p ∷ r ∷ ps) (q ∷ []) pieces others)))
+    go (p ∷ [], pieces) = told (both-decided (not-decided (bytes-decided (token_text text p) (codes "("))) (not-decided (bytes-decided (token_text text p) (codes ")"))))
       where
-        told : Decided ((piece_text text p ≢ codes "(") × (piece_text text p ≢ codes ")")) → Decided ((w : List ℕ) × IsConstant d text w)
-        told (inl both) = inl (piece_text text p, (p, pieces, refl, both.0, both.1))
+        told : Decided ((token_text text p ≢ codes "(") × (token_text text p ≢ codes ")")) → Decided ((w : List ℕ) × IsConstant d text w)
+        told (inl both) = inl (token_text text p, (p, pieces, refl, both.0, both.1))
         told (inr out) = inr no
           where
             no : (w : List ℕ) × IsConstant d text w → ⊥
             no (w, (q, others, is, open_, close)) =
-                let same : w ≡ piece_text text p = is ∙ ap (piece_text text) (sym (one p q [] (pieces-one d text 0 (p ∷ []) (q ∷ []) pieces others))) in
+                let same : w ≡ token_text text p = is ∙ ap (token_text text) (sym (one p q [] (math_tokens-one d text 0 (p ∷ []) (q ∷ []) pieces others))) in
                 out ((λ e. open_ (same ∙ e)), (λ e. close (same ∙ e)))
 
 -- ---- infix and prefix

@@ -5,9 +5,9 @@ use Rattle.mz_base_theory.proofs.Offered.{some-decided, Decided, all_hold-or_fai
 use Rattle.mz_base_theory.specs.Checks.{AllHold, FailsFirst}
 use Rattle.mz_logic_theory.specs.Signature.{Signature}
 use Rattle.mz_logic_theory.specs.declared.binder.Binder.{Binder}
-use Rattle.mz_math_tokens.specs.Pieces.{no_delimiters, Pieces, piece_texts, AreCharacters, AreDelimiters}
-use Rattle.mz_math_tokens.specs.declared.pieces.Delimiters.{Delimiters}
-use Rattle.mz_math_tokens.specs.declared.pieces.Piece.{Piece}
+use Rattle.mz_math_tokens.specs.MathTokens.{no_delimiters, MathTokens, token_texts, AreCharacters, AreDelimiters}
+use Rattle.mz_math_tokens.specs.declared.tokens.Delimiters.{Delimiters}
+use Rattle.mz_math_tokens.specs.declared.tokens.MathToken.{MathToken}
 use Rattle.mz_math_theory.specs.Notation.{Table}
 use Rattle.mz_math_theory.specs.declared.coercion.Coercion.{Coercion}
 use Rattle.mz_math_theory.specs.Coercions.{IsPath, OnePath}
@@ -15,11 +15,11 @@ use Rattle.mz_math_theory.specs.Kept.{IsTable}
 use Rattle.mz_math_theory.specs.Forms.{IsCoercion, coercion_checks, delimiter_checks}
 use Rattle.mz_math_theory.specs.declared.fault.NoteFault.{NoteFault}
 use Rattle.mz_math_theory.specs.CoercionAnswers.{MayStart, MayEnd, IsClashAt}
-use Rattle.mz_math_tokens.proofs.Offered.{pieces-one}
+use Rattle.mz_math_tokens.proofs.Offered.{math_tokens-one}
 use Rattle.mz_math_theory.proofs.Paths.{stays-one, clash-two, clash-parts, clash-made}
 use Rattle.mz_math_theory.proofs.Deciding.{found, equal-decided, true-decided}
 use Rattle.mz_math_theory.proofs.Standing.{path-decided}
-use Rattle.mz_math_theory.proofs.Existing.{some-pieces}
+use Rattle.mz_math_theory.proofs.Existing.{some-math_tokens}
 
 -- ---- delimiters
 
@@ -46,17 +46,17 @@ one-each ((c ∷ []) ∷ ts) = go (one-each ts)
         no (x ∷ cs) e = never (cs, (let tail : ts ≡ map (λ y. y ∷ []) cs = cc in tail))
 
 characters-decided : (text : List ℕ) → Decided ((cs : List ℕ) × AreCharacters text cs)
-characters-decided text = go (some-pieces no_delimiters text)
+characters-decided text = go (some-math_tokens no_delimiters text)
   where
-    go : (ps : List Piece) × Pieces no_delimiters text ps → Decided ((cs : List ℕ) × AreCharacters text cs)
-    go (ps, pieces) = told (one-each (piece_texts text ps))
+    go : (ps : List MathToken) × MathTokens no_delimiters text ps → Decided ((cs : List ℕ) × AreCharacters text cs)
+    go (ps, pieces) = told (one-each (token_texts text ps))
       where
-        told : Decided ((cs : List ℕ) × (piece_texts text ps ≡ map (λ c. c ∷ []) cs)) → Decided ((cs : List ℕ) × AreCharacters text cs)
+        told : Decided ((cs : List ℕ) × (token_texts text ps ≡ map (λ c. c ∷ []) cs)) → Decided ((cs : List ℕ) × AreCharacters text cs)
         told (inl (cs, is)) = inl (cs, (ps, pieces, is))
         told (inr never) = inr no
           where
             no : (cs : List ℕ) × AreCharacters text cs → ⊥
-            no (cs, (qs, others, is)) = never (cs, ap (piece_texts text) (pieces-one no_delimiters text 0 ps qs pieces others) ∙ is)
+            no (cs, (qs, others, is)) = never (cs, ap (token_texts text) (math_tokens-one no_delimiters text 0 ps qs pieces others) ∙ is)
 
 delimiters-decided : (left : List ℕ) (right : Option (List ℕ)) → Decided ((d : Delimiters) × AreDelimiters left right d)
 delimiters-decided left None = go (characters-decided left)

@@ -6,8 +6,8 @@ use Rattle.std.proofs.lemmas.List.Elements.{Contains-push_cases}
 use Rattle.mz_base_theory.proofs.Offered.{contains_none, same-head, slice_get-push_cases, contains_at}
 use Rattle.mz_base.specs.Identifiers.{is_name}
 use Rattle.mz_logic_theory.specs.Signature.{Signature}
-use Rattle.mz_math_tokens.specs.Pieces.{piece_text, no_delimiters, AreDelimiters, IsConstant}
-use Rattle.mz_math_tokens.specs.declared.pieces.Delimiters.{Delimiters}
+use Rattle.mz_math_tokens.specs.MathTokens.{token_text, no_delimiters, AreDelimiters, IsConstant}
+use Rattle.mz_math_tokens.specs.declared.tokens.Delimiters.{Delimiters}
 use Rattle.mz_math_theory.specs.Notation.{level_of, Element, fixed, slot, slots, Notation, TermName, Coercion, Table, empty_table, begins_with_slot, with_delimiters, with_leading, with_infix, with_notation, with_name, with_coercion, infixed, prefixed}
 use Rattle.mz_math_theory.specs.Clear.{HasConstant, LedBy, JoinedBy, IsClear}
 use Rattle.mz_math_theory.specs.Coercions.{OnePath}
@@ -17,7 +17,7 @@ use Rattle.mz_math_theory.specs.declared.fault.NoteFault.TheVariants as faults
 use Rattle.mz_math_theory.specs.NotationAnswers.{IsShaped, IsAdded, IsMade, IsClearTable}
 use Rattle.mz_math_theory.proofs.Constants.{fixed-same}
 use Rattle.mz_math_theory.proofs.Clearing.{constant-either}
-use Rattle.mz_math_tokens.proofs.Offered.{pieces-one}
+use Rattle.mz_math_tokens.proofs.Offered.{math_tokens-one}
 
 -- ---- the empty table
 
@@ -102,7 +102,7 @@ delimiters-is t d is = record { clear = is.clear; led = is.led; joined = is.join
 -- ---- a statement makes one notation at most
 
 pub constant-one : (d : Delimiters) (text v w : List ℕ) → IsConstant d text v → IsConstant d text w → v ≡ w
-constant-one d text v w (p, all, is, o, c) (q, all_q, is_q, o', c') = is ∙ ap (piece_text text) (same-head (pieces-one d text 0 (p ∷ []) (q ∷ []) all all_q)) ∙ sym is_q
+constant-one d text v w (p, all, is, o, c) (q, all_q, is_q, o', c') = is ∙ ap (token_text text) (same-head (math_tokens-one d text 0 (p ∷ []) (q ∷ []) all all_q)) ∙ sym is_q
 
 pub infix-one : (sigs : List Signature) (d : Delimiters) (term : ℕ) (text : List ℕ) (level : Option ℕ) (right : Bool) (k l : Notation) → IsInfix sigs d term text level right k → IsInfix sigs d term text level right l → k ≡ l
 infix-one sigs d term text level right k l (w, s, con, at, many, is) (v, r, con_v, at_r, many_r, is_l) =

@@ -8,8 +8,8 @@ use Rattle.mz_logic_theory.specs.Tree.{Tree}
 use Rattle.mz_logic_theory.specs.View.{tree}
 use Rattle.mz_logic_theory.specs.Declaration.{Declaration, signatures}
 use Rattle.mz_math_theory.specs.Notation.{Table, Variables}
-use Rattle.mz_math_tokens.specs.Pieces.{Pieces, piece_text, piece_texts}
-use Rattle.mz_math_tokens.specs.declared.pieces.Piece.{Piece}
+use Rattle.mz_math_tokens.specs.MathTokens.{MathTokens, token_text, token_texts}
+use Rattle.mz_math_tokens.specs.declared.tokens.MathToken.{MathToken}
 use Rattle.mz_math_theory.specs.Grammar.{Words, words_of, Exp, IsKnown}
 use Rattle.mz_math_theory.specs.Meaning.{Wanted, Coerced, IsSettled, IsClaimed, height}
 use Rattle.mz_math_theory.specs.declared.wanted.Parsed.{Parsed}
@@ -53,10 +53,10 @@ pub record Misreading : Type 0 where
 abbrev pub breaks : S → Misreading
 breaks rule = record { at = 0; rule = rule }
 
-abbrev pub is_known : Words → List ℕ → Piece → Checks Misreading
-is_known ws text p = demand (record { at = p.from; rule = rules.MathToken }) (IsKnown ws (piece_text text p))
+abbrev pub is_known : Words → List ℕ → MathToken → Checks Misreading
+is_known ws text p = demand (record { at = p.from; rule = rules.MathToken }) (IsKnown ws (token_text text p))
 
-abbrev pub known_checks : Words → List ℕ → List Piece → Checks Misreading
+abbrev pub known_checks : Words → List ℕ → List MathToken → Checks Misreading
 known_checks ws text ps = each_in_order (is_known ws text) ps
 
 -- what is asked of tokens: there aren't too many, they have a tree, its operands can be wrapped and
@@ -69,18 +69,18 @@ token_checks r wanted tokens =
     >> demand (breaks rules.Depth) ((e : Tree) × (s : ℕ) × StandsFor r wanted tokens e s × (height e ≤ most))
     >> demand (breaks rules.NotProvable) ((e : Tree) × Means r wanted tokens e)
 
-abbrev pub formula_checks : Reader → Wanted → List ℕ → List Piece → Checks Misreading
-formula_checks r wanted text ps = known_checks (words r) text ps >> token_checks r wanted (piece_texts text ps)
+abbrev pub formula_checks : Reader → Wanted → List ℕ → List MathToken → Checks Misreading
+formula_checks r wanted text ps = known_checks (words r) text ps >> token_checks r wanted (token_texts text ps)
 
 -- ---- answers
 
 -- the text between the `$` of a math string is right, and means the expression
 abbrev pub IsFormula : Reader → Wanted → List ℕ → Tree → Type 0
-IsFormula r wanted text e = (ps : List Piece) × Pieces r.table.delimiters text ps × AllHold (formula_checks r wanted text ps) × Means r wanted (piece_texts text ps) e
+IsFormula r wanted text e = (ps : List MathToken) × MathTokens r.table.delimiters text ps × AllHold (formula_checks r wanted text ps) × Means r wanted (token_texts text ps) e
 
 -- or this is the first rule that it breaks
 abbrev pub Misreads : Reader → Wanted → List ℕ → Misreading → Type 0
-Misreads r wanted text m = (ps : List Piece) × Pieces r.table.delimiters text ps × FailsFirst (formula_checks r wanted text ps) m
+Misreads r wanted text m = (ps : List MathToken) × MathTokens r.table.delimiters text ps × FailsFirst (formula_checks r wanted text ps) m
 
 abbrev pub IsParsed : Reader → Wanted → List ℕ → Parsed → Type 0
 IsParsed r wanted text (parsed.Tree e) = IsFormula r wanted text (tree e)

@@ -8,7 +8,7 @@ use Rattle.mz_logic_theory.specs.Signature.{Signature}
 use Rattle.mz_logic_theory.specs.Declaration.{Declaration}
 use Rattle.mz_logic_theory.specs.Sorts.{IsBoundVar}
 use Rattle.mz_logic_theory.specs.declared.binder.Binder.{Binder}
-use Rattle.mz_math_tokens.specs.declared.pieces.Piece.{Piece}
+use Rattle.mz_math_tokens.specs.declared.tokens.MathToken.{MathToken}
 use Rattle.mz_math_theory.specs.Notation.{above, max_level}
 use Rattle.mz_math_theory.specs.declared.notation.Notation.{Notation}
 use Rattle.mz_math_theory.specs.declared.coercion.Coercion.{Coercion}
@@ -58,7 +58,7 @@ AddsWrapped cs s goal e before after added.Mem = ⊤
 
 -- ---- formulas
 
-abbrev pub IsFirstUnknown : Words → List ℕ → List Piece → Option ℕ → Type 0
+abbrev pub IsFirstUnknown : Words → List ℕ → List MathToken → Option ℕ → Type 0
 IsFirstUnknown ws text ps None = AllHold (known_checks ws text ps)
 IsFirstUnknown ws text ps (Some at) = FailsFirst (known_checks ws text ps) (record { at = at; rule = rules.MathToken })
 

@@ -4,9 +4,9 @@ use Rattle.mz_base_theory.specs.Checks.{AllHold, FailsFirst}
 use Rattle.mz_base.specs.Identifiers.{is_name}
 use Rattle.mz_logic_theory.specs.Tree.{Tree}
 use Rattle.mz_logic_theory.specs.Signature.{Signature}
-use Rattle.mz_math_tokens.specs.Pieces.{Pieces}
-use Rattle.mz_math_tokens.specs.declared.pieces.Delimiters.{Delimiters}
-use Rattle.mz_math_tokens.specs.declared.pieces.Piece.{Piece}
+use Rattle.mz_math_tokens.specs.MathTokens.{MathTokens}
+use Rattle.mz_math_tokens.specs.declared.tokens.Delimiters.{Delimiters}
+use Rattle.mz_math_tokens.specs.declared.tokens.MathToken.{MathToken}
 use Rattle.mz_math_theory.specs.Notation.{Table, empty_table, with_notation, with_name, with_coercion, with_delimiters, TermName}
 use Rattle.mz_math_theory.specs.declared.notation.Notation.{Notation}
 use Rattle.mz_math_theory.specs.declared.coercion.Coercion.{Coercion}
@@ -55,7 +55,7 @@ OneTree = (t : Table) (sigs : List Signature) (variables : List (List ℕ)) → 
 -- ---- strings
 
 abbrev pub OneTokens : Type 0
-OneTokens = (d : Delimiters) (text : List ℕ) (ps qs : List Piece) → Pieces d text ps → Pieces d text qs → ps ≡ qs
+OneTokens = (d : Delimiters) (text : List ℕ) (ps qs : List MathToken) → MathTokens d text ps → MathTokens d text qs → ps ≡ qs
 
 abbrev pub OneMeaning : Type 0
 OneMeaning = (r : Reader) (w : Wanted) (text : List ℕ) → IsTable r.table → AreVariables r.scope.names → (e f : Tree) → IsFormula r w text e → IsFormula r w text f → e ≡ f

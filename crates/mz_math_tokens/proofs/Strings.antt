@@ -3,57 +3,57 @@ use Rattle.std.proofs.Common.{◌≡◌, ◌<◌, ◌≤◌, ◌+◌, ◌-◌, �
 use Rattle.std.specs.Prelude.{slice_index, slice_range, IsTrue, codes}
 use Rattle.std.proofs.lemmas.List.{append-nil}
 use Rattle.mz_base_theory.proofs.Offered.{nil-cons, below-or-last}
-use Rattle.mz_math_tokens.specs.Pieces.{IsConstant, Delimiters, no_delimiters, Piece, IsSpaces, IsPiece, PiecesFrom, Pieces, piece_text, piece_texts, AreCharacters}
+use Rattle.mz_math_tokens.specs.MathTokens.{IsConstant, Delimiters, no_delimiters, MathToken, IsSpaces, IsMathToken, MathTokensFrom, MathTokens, token_text, token_texts, AreCharacters}
 use Rattle.mz_lex.specs.Kinds.{is_space}
 use Rattle.mz_math_tokens.specs.Answers.{IsNext, EndsAt, IsWhole}
 use Rattle.mz_lex.proofs.Offered.{slice-first, slice-empty}
-use Rattle.mz_math_tokens.proofs.Cutting.{piece-one, no-piece}
+use Rattle.mz_math_tokens.proofs.Cutting.{math_token-one, no-math_token}
 
 cons_same : {A : Type 0} {x y : A} {xs ys : List A} → x ∷ xs ≡ y ∷ ys → (x ≡ y) × (xs ≡ ys)
 cons_same e = (cc, cc)
 
 -- the tokens of a list, by number
-pub drop-texts : (text : List ℕ) (ps : List Piece) (i : ℕ) → drop i (piece_texts text ps) ≡ piece_texts text (drop i ps)
+pub drop-texts : (text : List ℕ) (ps : List MathToken) (i : ℕ) → drop i (token_texts text ps) ≡ token_texts text (drop i ps)
 drop-texts text ps zero = refl
 drop-texts text [] (suc i) = refl
 drop-texts text (p ∷ ps) (suc i) = drop-texts text ps i
 
 -- ---- one more token
 
-pub next-first : (d : Delimiters) (text : List ℕ) (from : ℕ) (p : Piece) (rest : List Piece) → IsNext d text from p → PiecesFrom d text p.to rest → PiecesFrom d text from (p ∷ rest)
+pub next-first : (d : Delimiters) (text : List ℕ) (from : ℕ) (p : MathToken) (rest : List MathToken) → IsNext d text from p → MathTokensFrom d text p.to rest → MathTokensFrom d text from (p ∷ rest)
 next-first d text from p rest (before, is) on = (before, is, on)
 
 -- where a token comes next, the list begins with it
-pub next-begins : (d : Delimiters) (text : List ℕ) (from : ℕ) (p : Piece) (all : List Piece) → IsNext d text from p → PiecesFrom d text from all
-    → (rest : List Piece) × PiecesFrom d text p.to rest × (all ≡ p ∷ rest)
-next-begins d text from p [] (before, is) on = absurd (no-piece d text from p on before is)
+pub next-begins : (d : Delimiters) (text : List ℕ) (from : ℕ) (p : MathToken) (all : List MathToken) → IsNext d text from p → MathTokensFrom d text from all
+    → (rest : List MathToken) × MathTokensFrom d text p.to rest × (all ≡ p ∷ rest)
+next-begins d text from p [] (before, is) on = absurd (no-math_token d text from p on before is)
 next-begins d text from p (q ∷ qs) (before, is) (other, is_q, on) =
-    let same = piece-one d text from q p other before is_q is in
-    (qs, subst (λ i. PiecesFrom d text i qs) same.1 on, ap₂ make same.0 same.1)
+    let same = math_token-one d text from q p other before is_q is in
+    (qs, subst (λ i. MathTokensFrom d text i qs) same.1 on, ap₂ make same.0 same.1)
   where
-    make : ℕ → ℕ → List Piece
+    make : ℕ → ℕ → List MathToken
     make i j = record { from = i; to = j } ∷ qs
 
 -- ---- constants
 
-pub only-piece : (d : Delimiters) (text : List ℕ) (p q : Piece) → IsNext d text 0 p → Pieces d text (q ∷ []) → (q ≡ p) × PiecesFrom d text p.to []
-only-piece d text p q next all =
+pub only-math_token : (d : Delimiters) (text : List ℕ) (p q : MathToken) → IsNext d text 0 p → MathTokens d text (q ∷ []) → (q ≡ p) × MathTokensFrom d text p.to []
+only-math_token d text p q next all =
     let found = next-begins d text 0 p (q ∷ []) next all in
     let parts = cons_same found.2 in
-    (parts.0, subst (PiecesFrom d text p.to) (sym parts.1) found.1)
+    (parts.0, subst (MathTokensFrom d text p.to) (sym parts.1) found.1)
 
-pub two-pieces : (d : Delimiters) (text : List ℕ) (p q : Piece) → IsNext d text p.to q → PiecesFrom d text p.to [] → ⊥
-two-pieces d text p q (before, is) on = no-piece d text p.to q on before is
+pub two-math_tokens : (d : Delimiters) (text : List ℕ) (p q : MathToken) → IsNext d text p.to q → MathTokensFrom d text p.to [] → ⊥
+two-math_tokens d text p q (before, is) on = no-math_token d text p.to q on before is
 
 -- ---- characters
 
-pub one-character : (text : List ℕ) (p : Piece) → p.to - p.from ≡ 1 → p.to ≤ length text → piece_text text p ≡ slice_index text p.from ∷ []
+pub one-character : (text : List ℕ) (p : MathToken) → p.to - p.from ≡ 1 → p.to ≤ length text → token_text text p ≡ slice_index text p.from ∷ []
 one-character text p one within =
     let some : p.from < p.to = omega (arith, one) in
     let rest : p.to - (p.from + 1) ≡ 0 = omega (arith, one) in
     slice-first text p.from p.to some within ∙ ap (λ n. get_or text p.from 0 ∷ take n (drop (p.from + 1) text)) rest
 
-pub many-characters : (text : List ℕ) (p : Piece) (c : ℕ) → p.to ≤ length text → p.from < p.to → piece_text text p ≡ c ∷ [] → p.to - p.from ≡ 1
+pub many-characters : (text : List ℕ) (p : MathToken) (c : ℕ) → p.to ≤ length text → p.from < p.to → token_text text p ≡ c ∷ [] → p.to - p.from ≡ 1
 many-characters text p c within some is =
     let rest : slice_range text (p.from + 1) p.to ≡ [] = (cons_same (sym (slice-first text p.from p.to some within) ∙ is)).1 in
     let end : p.to ≡ p.from + 1 = slice-empty text (p.from + 1) p.to (omega (arith, some)) within rest in
@@ -95,34 +95,34 @@ whole-more d text from to whole within never = record {
     right i less has (inl before) = whole.no_right i less before has
     right i less has (inr same) = never (inr (inr (subst (λ k. Contains d.right (slice_index text k)) same has)))
 
-pub whole-piece : (d : Delimiters) (text : List ℕ) (from to : ℕ) → IsWhole d text from to → (to ≡ length text) ⊎ EndsAt d text to → IsPiece d text (record { from = from; to = to })
-whole-piece d text from to whole end = record { some = whole.later; within = whole.within; solid = whole.solid; no_left = whole.no_left; no_right = whole.no_right; cut = end }
+pub whole-math_token : (d : Delimiters) (text : List ℕ) (from to : ℕ) → IsWhole d text from to → (to ≡ length text) ⊎ EndsAt d text to → IsMathToken d text (record { from = from; to = to })
+whole-math_token d text from to whole end = record { some = whole.later; within = whole.within; solid = whole.solid; no_left = whole.no_left; no_right = whole.no_right; cut = end }
 
 -- ---- lists of tokens in a text
 
-pub pieces-within : (d : Delimiters) (text : List ℕ) (from : ℕ) (ps : List Piece) → PiecesFrom d text from ps → All (λ p. (p.from ≤ p.to) × (p.to ≤ length text)) ps
-pieces-within d text from [] on = λ k e below. absurd (omega (arith, below))
-pieces-within d text from (p ∷ ps) (before, is, on) = λ k e below. at k e below (pieces-within d text p.to ps on)
+pub math_tokens-within : (d : Delimiters) (text : List ℕ) (from : ℕ) (ps : List MathToken) → MathTokensFrom d text from ps → All (λ p. (p.from ≤ p.to) × (p.to ≤ length text)) ps
+math_tokens-within d text from [] on = λ k e below. absurd (omega (arith, below))
+math_tokens-within d text from (p ∷ ps) (before, is, on) = λ k e below. at k e below (math_tokens-within d text p.to ps on)
   where
-    at : (k : ℕ) (e : Piece) → k < length (p ∷ ps) → All (λ q. (q.from ≤ q.to) × (q.to ≤ length text)) ps → ((get_or (p ∷ ps) k e).from ≤ (get_or (p ∷ ps) k e).to) × ((get_or (p ∷ ps) k e).to ≤ length text)
+    at : (k : ℕ) (e : MathToken) → k < length (p ∷ ps) → All (λ q. (q.from ≤ q.to) × (q.to ≤ length text)) ps → ((get_or (p ∷ ps) k e).from ≤ (get_or (p ∷ ps) k e).to) × ((get_or (p ∷ ps) k e).to ≤ length text)
     at zero e below rest = (let s = is.some in omega (arith, s), is.within)
     at (suc k) e below rest = rest k e (omega (arith, below))
 
-pub no-constant : (d : Delimiters) (text : List ℕ) (q : Piece) → ((p : Piece) → Pieces d text (p ∷ []) → p ≡ q) → (piece_text text q ≡ codes "(") ⊎ (piece_text text q ≡ codes ")") → (w : List ℕ) → IsConstant d text w → ⊥
-no-constant d text q only (inl open_) w (p, all, is, no_open, no_close) = no_open (is ∙ ap (piece_text text) (only p all) ∙ open_)
-no-constant d text q only (inr close) w (p, all, is, no_open, no_close) = no_close (is ∙ ap (piece_text text) (only p all) ∙ close)
+pub no-constant : (d : Delimiters) (text : List ℕ) (q : MathToken) → ((p : MathToken) → MathTokens d text (p ∷ []) → p ≡ q) → (token_text text q ≡ codes "(") ⊎ (token_text text q ≡ codes ")") → (w : List ℕ) → IsConstant d text w → ⊥
+no-constant d text q only (inl open_) w (p, all, is, no_open, no_close) = no_open (is ∙ ap (token_text text) (only p all) ∙ open_)
+no-constant d text q only (inr close) w (p, all, is, no_open, no_close) = no_close (is ∙ ap (token_text text) (only p all) ∙ close)
 
 -- ---- characters so far
 
 abbrev pub SoFar : List ℕ → ℕ → List ℕ → Type 0
-SoFar text at cs = (ps : List Piece) × (piece_texts text ps ≡ map (λ c. c ∷ []) cs)
-    × ((rest : List Piece) → PiecesFrom no_delimiters text at rest → Pieces no_delimiters text (ps ++ rest))
-    × ((all : List Piece) → Pieces no_delimiters text all → (rest : List Piece) × PiecesFrom no_delimiters text at rest × (all ≡ ps ++ rest))
+SoFar text at cs = (ps : List MathToken) × (token_texts text ps ≡ map (λ c. c ∷ []) cs)
+    × ((rest : List MathToken) → MathTokensFrom no_delimiters text at rest → MathTokens no_delimiters text (ps ++ rest))
+    × ((all : List MathToken) → MathTokens no_delimiters text all → (rest : List MathToken) × MathTokensFrom no_delimiters text at rest × (all ≡ ps ++ rest))
     × (at ≤ length text)
 
-texts-append : (text : List ℕ) (ps qs : List Piece) → piece_texts text (ps ++ qs) ≡ piece_texts text ps ++ piece_texts text qs
+texts-append : (text : List ℕ) (ps qs : List MathToken) → token_texts text (ps ++ qs) ≡ token_texts text ps ++ token_texts text qs
 texts-append text [] qs = refl
-texts-append text (p ∷ ps) qs = ap (λ ts. piece_text text p ∷ ts) (texts-append text ps qs)
+texts-append text (p ∷ ps) qs = ap (λ ts. token_text text p ∷ ts) (texts-append text ps qs)
 
 ones-append : (cs ds : List ℕ) → map (λ c. c ∷ []) (cs ++ ds) ≡ map (λ c. c ∷ []) cs ++ map (λ c. c ∷ []) ds
 ones-append [] ds = refl
@@ -131,32 +131,32 @@ ones-append (c ∷ cs) ds = ap (λ ts. (c ∷ []) ∷ ts) (ones-append cs ds)
 pub so-far-none : (text : List ℕ) → SoFar text 0 []
 so-far-none text = ([], refl, (λ rest on. on), (λ all on. (all, on, refl)), omega arith)
 
-pub so-far-more : (text : List ℕ) (at : ℕ) (cs : List ℕ) (p : Piece) → SoFar text at cs → IsNext no_delimiters text at p → p.to - p.from ≡ 1 → SoFar text p.to (cs ++ slice_index text p.from ∷ [])
+pub so-far-more : (text : List ℕ) (at : ℕ) (cs : List ℕ) (p : MathToken) → SoFar text at cs → IsNext no_delimiters text at p → p.to - p.from ≡ 1 → SoFar text p.to (cs ++ slice_index text p.from ∷ [])
 so-far-more text at cs p (ps, texts, goes, begins, within) next one = (
   ps ++ p ∷ [],
   texts-append text ps (p ∷ []) ∙ ap₂ ◌++◌ texts (ap (λ t. t ∷ []) (one-character text p one next.1.within)) ∙ sym (ones-append cs (slice_index text p.from ∷ [])),
-  (λ rest on. subst (Pieces no_delimiters text) (sym (append_assoc ps (p ∷ []) rest)) (goes (p ∷ rest) (next-first no_delimiters text at p rest next on))),
+  (λ rest on. subst (MathTokens no_delimiters text) (sym (append_assoc ps (p ∷ []) rest)) (goes (p ∷ rest) (next-first no_delimiters text at p rest next on))),
   (λ all on. back all (begins all on)),
   next.1.within,
 )
   where
-    back : (all : List Piece) → (rest : List Piece) × PiecesFrom no_delimiters text at rest × (all ≡ ps ++ rest) → (rest : List Piece) × PiecesFrom no_delimiters text p.to rest × (all ≡ (ps ++ p ∷ []) ++ rest)
+    back : (all : List MathToken) → (rest : List MathToken) × MathTokensFrom no_delimiters text at rest × (all ≡ ps ++ rest) → (rest : List MathToken) × MathTokensFrom no_delimiters text p.to rest × (all ≡ (ps ++ p ∷ []) ++ rest)
     back all (rest, on, is) = let found = next-begins no_delimiters text at p rest next on in (found.0, found.1, is ∙ ap (λ r. ps ++ r) found.2 ∙ sym (append_assoc ps (p ∷ []) found.0))
 
 pub so-far-all : (text : List ℕ) (at : ℕ) (cs : List ℕ) → SoFar text at cs → IsSpaces text at (length text) → AreCharacters text cs
-so-far-all text at cs (ps, texts, goes, begins, within) spaces = (ps, subst (Pieces no_delimiters text) (append-nil ps) (goes [] spaces), texts)
+so-far-all text at cs (ps, texts, goes, begins, within) spaces = (ps, subst (MathTokens no_delimiters text) (append-nil ps) (goes [] spaces), texts)
 
 -- each token of a list of characters has one byte
-member-one : (text : List ℕ) (ps : List Piece) (p : Piece) (rest : List Piece) (cs : List ℕ) → piece_texts text (ps ++ p ∷ rest) ≡ map (λ c. c ∷ []) cs → (c : ℕ) × (piece_text text p ≡ c ∷ [])
+member-one : (text : List ℕ) (ps : List MathToken) (p : MathToken) (rest : List MathToken) (cs : List ℕ) → token_texts text (ps ++ p ∷ rest) ≡ map (λ c. c ∷ []) cs → (c : ℕ) × (token_text text p ≡ c ∷ [])
 member-one text [] p rest [] e = absurd (nil-cons (sym e))
 member-one text [] p rest (c ∷ cs) e = (c, (cons_same e).0)
 member-one text (q ∷ ps) p rest [] e = absurd (nil-cons (sym e))
 member-one text (q ∷ ps) p rest (c ∷ cs) e = member-one text ps p rest cs (cons_same e).1
 
-pub so-far-never : (text : List ℕ) (at : ℕ) (cs : List ℕ) (p : Piece) → SoFar text at cs → IsNext no_delimiters text at p → (p.to - p.from ≡ 1 → ⊥) → (ds : List ℕ) → AreCharacters text ds → ⊥
+pub so-far-never : (text : List ℕ) (at : ℕ) (cs : List ℕ) (p : MathToken) → SoFar text at cs → IsNext no_delimiters text at p → (p.to - p.from ≡ 1 → ⊥) → (ds : List ℕ) → AreCharacters text ds → ⊥
 so-far-never text at cs p (ps, texts, goes, begins, within) next long ds (all, on, is) =
     let rest = begins all on in
     let found = next-begins no_delimiters text at p rest.0 next rest.1 in
     let here : all ≡ ps ++ p ∷ found.0 = rest.2 ∙ ap (λ r. ps ++ r) found.2 in
-    let one = member-one text ps p found.0 ds (sym (ap (piece_texts text) here) ∙ is) in
+    let one = member-one text ps p found.0 ds (sym (ap (token_texts text) here) ∙ is) in
     long (many-characters text p one.0 next.1.within next.1.some one.1)

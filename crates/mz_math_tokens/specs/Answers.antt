@@ -1,11 +1,11 @@
 -- What the calls on tokens answer.
 use Rattle.std.specs.Prelude.{◌≡◌, ◌≤◌, ◌<◌, ◌+◌, ◌-◌, ◌⊎◌, ℕ, List, false, Contains, length, IsTrue, slice_index}
 use Rattle.mz_lex.specs.Kinds.{is_space}
-use Rattle.mz_math_tokens.specs.Pieces.{Delimiters, Piece, IsSpaces, IsPiece}
+use Rattle.mz_math_tokens.specs.MathTokens.{Delimiters, MathToken, IsSpaces, IsMathToken}
 
 -- the next token from a place on
-abbrev pub IsNext : Delimiters → List ℕ → ℕ → Piece → Type 0
-IsNext d text from p = IsSpaces text from p.from × IsPiece d text p
+abbrev pub IsNext : Delimiters → List ℕ → ℕ → MathToken → Type 0
+IsNext d text from p = IsSpaces text from p.from × IsMathToken d text p
 
 -- a token that goes up to a place ends there
 abbrev pub EndsAt : Delimiters → List ℕ → ℕ → Type 0

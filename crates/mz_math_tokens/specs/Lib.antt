@@ -1,4 +1,4 @@
-pub mod Pieces
+pub mod MathTokens
 pub mod Sets
 pub mod Places
 pub mod Names

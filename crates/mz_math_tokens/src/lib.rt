@@ -1,15 +1,15 @@
 //! The tokens of a math string (mm0.md, section on math strings and delimiters), and what is found by
-//! its bytes: places by keys, names of variables. `specs/Pieces.antt` says which tokens a string has.
+//! its bytes: places by keys, names of variables. `specs/MathTokens.antt` says which tokens a string has.
 #![tactic(auto)]
 
 mod bytes;
-mod pieces;
+mod tokens;
 mod places;
 mod set;
 mod variables;
 
 pub use bytes::Bytes;
-pub use pieces::{Delimiters, Piece, Tokens, is_parenthesis};
+pub use tokens::{Delimiters, MathToken, Tokens, is_parenthesis};
 pub use places::Places;
 pub use set::ByteSet;
 pub use variables::VariableNames;

@@ -13,7 +13,7 @@ ghost use Rattle.mz_mmu_theory.specs.Cursor.{nodes_size};
 
 use mz_base::{Hashing, Mode};
 use mz_logic_theory::{Binders, Decl};
-use mz_mmu_forms::{Names, Reader};
+use mz_mmu_forms::{NameTable, Reader};
 use mz_mmu_statements::statement;
 use mz_mmu_theory::{Declared, Fault, Proof, Stop};
 use mz_sexpr::{SexprRead, Sexprs, TextRefusal, read_sexprs};
@@ -90,7 +90,7 @@ pub fn in_statement(statement: u32, stop: Stop) -> TextStop
 
 /// Puts a statement behind the others, and its name to theirs.
 fn put<'a>(
-    names: &mut Names<'a>,
+    names: &mut NameTable<'a>,
     entries: &mut Vec<Entry<'a>>,
     entry: Entry<'a>,
 ) -> Result<(), AllocError>
@@ -109,7 +109,7 @@ fn put<'a>(
 fn read_all<'a>(
     alloc: Global,
     nodes: &Sexprs<'a>,
-    names: &mut Names<'a>,
+    names: &mut NameTable<'a>,
     entries: &mut Vec<Entry<'a>>,
 ) -> Result<(), TextStop>
     requires few { nodes_size nodes.now < 2 ^ 32 }
@@ -143,7 +143,7 @@ fn read_all<'a>(
 fn read_named<'a>(
     alloc: Global,
     nodes: &Sexprs<'a>,
-    names: &mut Names<'a>,
+    names: &mut NameTable<'a>,
 ) -> Result<Vec<Entry<'a>>, TextStop>
     requires few { nodes_size nodes.now < 2 ^ 32 }
     requires no_names { names_view names.old ≡ no_names (gaps_of names.old.mode) }
@@ -166,7 +166,7 @@ fn read_entries<'a>(
     ensures read { IfOk result (λ entries. IsRooted (gaps_of mode) nodes.now entries.items) }
     ensures stops { IfErr result (λ stop. TextStops stop (statements_asked 1 (no_names (gaps_of mode)) nodes.now)) }
 {
-    read_named(alloc, nodes, &mut Names::new(alloc, hashing, mode))
+    read_named(alloc, nodes, &mut NameTable::new(alloc, hashing, mode))
 }
 
 /// The answer where a text has no statements.

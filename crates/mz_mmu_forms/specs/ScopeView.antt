@@ -1,7 +1,7 @@
 -- What the code's names and scopes stand for.
 use Rattle.mz_base.specs.Gaps.{gaps_of}
 use Rattle.mz_mmu_theory.specs.Name.{Names, Scope}
-use Rattle.mz_mmu_forms.specs.declared.scope.Names.{Names as Kept}
+use Rattle.mz_mmu_forms.specs.declared.scope.NameTable.{NameTable as Kept}
 use Rattle.mz_mmu_forms.specs.declared.scope.Scope.{Scope as Seen}
 
 abbrev pub names : Kept → Names

@@ -13,5 +13,5 @@ mod space;
 
 pub use mz_base::Hashing;
 pub use reader::Reader;
-pub use scope::{Names, Scope};
+pub use scope::{NameTable, Scope};
 pub use space::Space;

@@ -14,7 +14,7 @@ use std::alloc::{AllocError, Global};
 
 /// The names of the statements so far, how names are hashed, and the mode in which the text is read.
 #[derive(Drop)]
-pub struct Names<'a> {
+pub struct NameTable<'a> {
     /// Whether proofs may have gaps.
     pub mode: Mode,
     /// How these names are hashed, and those in a statement.
@@ -29,13 +29,13 @@ pub struct Names<'a> {
     pub assertions: Space<'a>,
 }
 
-impl<'a> Names<'a> {
+impl<'a> NameTable<'a> {
     /// No names.
-    pub fn new(alloc: Global, hashing: Hashing, mode: Mode) -> Names<'a>
+    pub fn new(alloc: Global, hashing: Hashing, mode: Mode) -> NameTable<'a>
         ensures none { names result ≡ no_names (gaps_of mode) }
         ensures mode { result.mode ≡ mode }
     {
-        Names {
+        NameTable {
             mode,
             hashing,
             sorts: Space::new(alloc, hashing),
@@ -84,7 +84,7 @@ impl<'a> Names<'a> {
 #[derive(Clone, Copy)]
 pub struct Scope<'s, 'a> {
     /// The names of the statements before.
-    pub names: &'s Names<'a>,
+    pub names: &'s NameTable<'a>,
     /// The variables of its own statement.
     pub vars: &'s Space<'a>,
 }

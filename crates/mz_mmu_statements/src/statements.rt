@@ -17,7 +17,7 @@ ghost use Rattle.mz_mmu_theory.specs.StatementView.{modifiers as modifiers_view,
 ghost use Rattle.mz_mmu_theory.specs.Stops.{Stops};
 
 use mz_logic_theory::{Binders, Decl, Expr, Hyps, TermDecl, TermForm, ThmDecl, ThmForm};
-use mz_mmu_forms::{Names, Reader, Scope, Space};
+use mz_mmu_forms::{NameTable, Reader, Scope, Space};
 use mz_mmu_theory::{Declared, Kind, Modifiers, ProofBox, Stop, is};
 use mz_sexpr::U;
 
@@ -104,7 +104,7 @@ fn push_hyps<'a>(
 /// What is left of `(sort N mod ..)`.
 fn sort<'a>(
     reader: &Reader<'_, 'a>,
-    names: &Names<'a>,
+    names: &NameTable<'a>,
     n: u32,
     rest: Option<u32>,
 ) -> Result<Declared<'a>, Stop>
@@ -130,7 +130,7 @@ fn sort<'a>(
 /// What is left of `(term N (binder ..) (s (dep ..)))`.
 fn term<'a>(
     reader: &Reader<'_, 'a>,
-    names: &Names<'a>,
+    names: &NameTable<'a>,
     vars: &mut Space<'a>,
     n: u32,
     rest: Option<u32>,
@@ -164,7 +164,7 @@ fn term<'a>(
 /// The hypotheses and the conclusion of an axiom that sees these variables.
 fn plain_claims<'a>(
     reader: &Reader<'_, 'a>,
-    names: &Names<'a>,
+    names: &NameTable<'a>,
     vars: &Space<'a>,
     hyps_at: u32,
     conclusion_at: u32,
@@ -186,7 +186,7 @@ fn plain_claims<'a>(
 /// What is left of `(axiom N (binder ..) (expr ..) expr)`.
 fn axiom<'a>(
     reader: &Reader<'_, 'a>,
-    names: &Names<'a>,
+    names: &NameTable<'a>,
     vars: &mut Space<'a>,
     n: u32,
     rest: Option<u32>,
@@ -221,7 +221,7 @@ fn axiom<'a>(
 /// The dummies and the body of a definition that sees these variables.
 fn defined<'a>(
     reader: &Reader<'_, 'a>,
-    names: &Names<'a>,
+    names: &NameTable<'a>,
     vars: &mut Space<'a>,
     dummies_at: u32,
     body_at: u32,
@@ -241,7 +241,7 @@ fn defined<'a>(
 /// What is left of `(def N (binder ..) (s (dep ..)) (dummy ..) expr)`.
 fn def<'a>(
     reader: &Reader<'_, 'a>,
-    names: &Names<'a>,
+    names: &NameTable<'a>,
     vars: &mut Space<'a>,
     n: u32,
     rest: Option<u32>,
@@ -276,7 +276,7 @@ fn def<'a>(
 /// The hypotheses and the conclusion of a theorem that sees these variables.
 fn claims<'a>(
     reader: &Reader<'_, 'a>,
-    names: &Names<'a>,
+    names: &NameTable<'a>,
     vars: &Space<'a>,
     labels: &mut Space<'a>,
     hyps_at: u32,
@@ -299,7 +299,7 @@ fn claims<'a>(
 /// A proof that sees these variables and hypotheses, and no let yet.
 fn proof_over<'a>(
     reader: &Reader<'_, 'a>,
-    names: &Names<'a>,
+    names: &NameTable<'a>,
     vars: &Space<'a>,
     labels: &Space<'a>,
     n: u32,
@@ -316,7 +316,7 @@ fn proof_over<'a>(
 /// The dummies and the proof of a theorem that sees these variables and hypotheses.
 fn proved<'a>(
     reader: &Reader<'_, 'a>,
-    names: &Names<'a>,
+    names: &NameTable<'a>,
     vars: &mut Space<'a>,
     labels: &Space<'a>,
     dummies_at: u32,
@@ -338,7 +338,7 @@ fn proved<'a>(
 /// What is left of `(theorem N (binder ..) ((h expr) ..) expr (dummy ..) proof)`.
 fn theorem<'a>(
     reader: &Reader<'_, 'a>,
-    names: &Names<'a>,
+    names: &NameTable<'a>,
     vars: &mut Space<'a>,
     labels: &mut Space<'a>,
     n: u32,
@@ -376,7 +376,7 @@ fn theorem<'a>(
 /// What is left of a statement of this kind.
 fn of_kind<'a>(
     reader: &Reader<'_, 'a>,
-    names: &Names<'a>,
+    names: &NameTable<'a>,
     vars: &mut Space<'a>,
     labels: &mut Space<'a>,
     kind: Kind,
@@ -404,7 +404,7 @@ fn of_kind<'a>(
 /// What is left of a local statement of this kind.
 fn local<'a>(
     reader: &Reader<'_, 'a>,
-    names: &Names<'a>,
+    names: &NameTable<'a>,
     vars: &mut Space<'a>,
     labels: &mut Space<'a>,
     kind: Kind,
@@ -430,7 +430,7 @@ fn local<'a>(
 /// hypotheses are put into the spaces, which are empty.
 fn statement_in<'a>(
     reader: &Reader<'_, 'a>,
-    names: &Names<'a>,
+    names: &NameTable<'a>,
     vars: &mut Space<'a>,
     labels: &mut Space<'a>,
     n: u32,
@@ -474,7 +474,7 @@ fn statement_in<'a>(
 /// there is no memory.
 pub fn statement<'a>(
     reader: &Reader<'_, 'a>,
-    names: &Names<'a>,
+    names: &NameTable<'a>,
     n: u32,
 ) -> Result<(bool, Declared<'a>), Stop>
     requires within { n < node_count reader.now.nodes.now }

@@ -5,7 +5,7 @@ pub mod RowsGo
 pub mod BodiesGo
 pub mod Equal
 pub mod ByTable
-pub mod ByAddress
+pub mod ByIdentity
 pub mod AskedAlone
 pub mod WholeSaves
 pub mod Offered

@@ -13,19 +13,19 @@ use Rattle.mz_logic_theory.specs.Legality.{InRange, AllInRange}
 use Rattle.mz_logic_theory.specs.declared.binder.Binder.{Binder}
 use Rattle.mz_logic_theory.proofs.Offered.{range_of_sort}
 use Rattle.mz_math_theory.specs.declared.coercion.Coercion.{Coercion}
-use Rattle.mz_math_tokens.specs.declared.pieces.Delimiters.{Delimiters}
+use Rattle.mz_math_tokens.specs.declared.tokens.Delimiters.{Delimiters}
 use Rattle.mz_math_theory.specs.declared.wanted.Wanted.{Wanted}
 use Rattle.mz_math_theory.specs.declared.wanted.Wanted.TheVariants.{Provable as provable, Sort as of_sort}
-use Rattle.mz_math_tokens.specs.Pieces.{Pieces, piece_texts}
+use Rattle.mz_math_tokens.specs.MathTokens.{MathTokens, token_texts}
 use Rattle.mz_math_theory.specs.Grammar.{Words, IsKnown}
 use Rattle.mz_math_theory.specs.Meaning.{Coerced, CoercedAll, IsSettled, IsClaimed}
 use Rattle.mz_math_theory.specs.Formula.{Reader, words, StandsFor, Means, known_checks, token_checks}
 use Rattle.mz_math_theory.proofs.Offered.{AllKnown, known-both, checks-hold}
 use Rattle.mz_prefix_theory.specs.Lines.{Tokens, math_text}
-use Rattle.mz_prefix_theory.specs.Plain.{pieces_at}
+use Rattle.mz_prefix_theory.specs.Plain.{tokens_at}
 use Rattle.mz_prefix_theory.specs.Prefix.{tokens_of, operand_tokens, enclosed, IsSpoken, IsOfWanted}
 use Rattle.mz_prefix_theory.specs.PrintLaws.{PrefixFormsAreMeant}
-use Rattle.mz_prefix_theory.proofs.Tokens.{tokens-are-pieces}
+use Rattle.mz_prefix_theory.proofs.Tokens.{tokens-are-math_tokens}
 use Rattle.mz_prefix_theory.proofs.Prefix.{prefix-read}
 
 -- ---- no coercion is needed
@@ -85,21 +85,21 @@ pub prefix-meant : PrefixFormsAreMeant
 prefix-meant r wanted term name e s bare spoken many sorted fits tokens short =
     let ts : Tokens = tokens_of term name e in
     let text : List ℕ = inside_of (math_text ts) in
-    let (pieces, same) = tokens-are-pieces ts tokens in
+    let (pieces, same) = tokens-are-math_tokens ts tokens in
     let range : InRange (signatures r.env) (length r.scope.names) e =
     (let P : ℕ → Type 0 = λ n. InRange (signatures r.env) n e in subst P (sym many) (range_of_sort (signatures r.env) r.scope.binders e s sorted)) in
     let stands : StandsFor r wanted ts e s =
     (e, e, prefix-read (words r) term name e spoken range, coerced-itself (signatures r.env) r.table.coercions r.scope.binders e s sorted, settled-itself r.table.coercions r wanted e s fits) in
     let means : Means r wanted ts e = (e, s, stands, claimed-itself r r.table.coercions wanted e s fits) in
-    let D : Delimiters → Type 0 = λ d. Pieces d text (pieces_at 1 ts) in
+    let D : Delimiters → Type 0 = λ d. MathTokens d text (tokens_at 1 ts) in
     let K : Tokens → Type 0 = λ us. AllKnown (words r) us in
     let C : Tokens → Type 0 = λ us. AllHold (token_checks r wanted us) in
     let M : Tokens → Type 0 = λ us. Means r wanted us e in
     let checks : AllHold (token_checks r wanted ts) = (short.few, ((e, stands.2), ((e, s, stands), ((e, s, stands, short.low), ((e, means), tt))))) in (
-      pieces_at 1 ts,
+      tokens_at 1 ts,
       subst D (sym bare.delimiters) pieces,
-      all_hold-both (known_checks (words r) text (pieces_at 1 ts)) (token_checks r wanted (piece_texts text (pieces_at 1 ts)))
-          (checks-hold (words r) text (pieces_at 1 ts) (subst K (sym same) (tokens-known (words r) term name spoken e range)))
+      all_hold-both (known_checks (words r) text (tokens_at 1 ts)) (token_checks r wanted (token_texts text (tokens_at 1 ts)))
+          (checks-hold (words r) text (tokens_at 1 ts) (subst K (sym same) (tokens-known (words r) term name spoken e range)))
           (subst C (sym same) checks),
       subst M (sym same) means,
     )

@@ -14,9 +14,9 @@ use Rattle.mz_logic_theory.specs.Sorts.{HasSort}
 use Rattle.mz_logic_theory.specs.Legality.{InRange, AllInRange}
 use Rattle.mz_logic_theory.specs.declared.binder.Binder.{Binder}
 use Rattle.mz_logic_theory.proofs.Offered.{range_of_sort}
-use Rattle.mz_math_tokens.specs.declared.pieces.Piece.{Piece}
+use Rattle.mz_math_tokens.specs.declared.tokens.MathToken.{MathToken}
 use Rattle.mz_math_theory.specs.declared.wanted.Wanted.{Wanted}
-use Rattle.mz_math_tokens.specs.Pieces.{no_delimiters}
+use Rattle.mz_math_tokens.specs.MathTokens.{no_delimiters}
 use Rattle.mz_math_theory.specs.Formula.{words, IsFormula}
 use Rattle.mz_prefix_theory.specs.Lines.{Tokens, math_text}
 use Rattle.mz_prefix_theory.specs.Plain.{is_token_byte, IsToken, AreTokens as AllTokens}
@@ -142,7 +142,7 @@ abbrev pub AllMeant : State → List Variable → List Formula → Type 0
 AllMeant σ vs [] = ⊤
 AllMeant σ vs (f ∷ fs) = ((e : Tree) × IsMeant σ vs f e) × AllMeant σ vs fs
 
-pub strung : (σ : State) (vs : List Variable) (fs : List Formula) → AllMeant σ vs fs → (tokens : List (List Piece)) × AreTokens σ fs tokens × AllHold (strings_checks σ vs fs tokens)
+pub strung : (σ : State) (vs : List Variable) (fs : List Formula) → AllMeant σ vs fs → (tokens : List (List MathToken)) × AreTokens σ fs tokens × AllHold (strings_checks σ vs fs tokens)
 strung σ vs [] meant = ([], tt, tt)
 strung σ vs (f ∷ fs) ((e, (ps, pieces, holds, means)), rest) =
     let further = strung σ vs fs rest in

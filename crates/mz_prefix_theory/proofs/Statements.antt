@@ -21,7 +21,7 @@ use Rattle.mz_logic_theory.specs.declared.binder.Binder.{Binder}
 use Rattle.mz_logic_theory.specs.declared.binder.ResultType.{ResultType}
 use Rattle.mz_logic_theory.specs.declared.binder.SortMods.{SortMods}
 use Rattle.mz_logic_theory.proofs.Offered.{sort_by_rules}
-use Rattle.mz_math_tokens.specs.declared.pieces.Piece.{Piece}
+use Rattle.mz_math_tokens.specs.declared.tokens.MathToken.{MathToken}
 use Rattle.mz_spec_theory.specs.Statement.{TypeText}
 use Rattle.mz_prefix_theory.specs.Words.{lexeme_at, stop}
 use Rattle.mz_prefix_theory.specs.Lines.{PlainBinder, Tokens, math_word, math_text, hyp_words, binders_at, type_at, hyps_at}
@@ -43,7 +43,7 @@ use Rattle.mz_prefix_theory.proofs.Legal.{bound-there, params-there}
 -- ---- what is asked of a statement, by what the rules see of it
 
 abbrev pub GoodBy : State → ℕ → List NamedIn → List Variable → List TypeText → List TypeText → List Formula → Type 0
-GoodBy σ place names vs types results fs = (tokens : List (List Piece)) × AreTokens σ fs tokens
+GoodBy σ place names vs types results fs = (tokens : List (List MathToken)) × AreTokens σ fs tokens
     × AllHold (nothing >> (each_in_order (is_new σ) names >> are_others [] vs) >> (nothing >> each_in_order (type_checks σ (names_of vs)) types)
     >> binder_rules σ place vs results >> body_rules σ place vs fs tokens >> nothing)
 

@@ -4,7 +4,7 @@ use Rattle.std.specs.List.{list_all}
 use Rattle.mz_base.specs.Identifiers.{is_name}
 use Rattle.mz_lex.specs.Kinds.{is_space, is_math_byte}
 use Rattle.mz_lex.specs.Lexemes.{Lexeme}
-use Rattle.mz_math_tokens.specs.declared.pieces.Piece.{Piece}
+use Rattle.mz_math_tokens.specs.declared.tokens.MathToken.{MathToken}
 use Rattle.mz_prefix_theory.specs.Words.{lexemes_at}
 use Rattle.mz_prefix_theory.specs.Lines.{PlainType, PlainBinder, Tokens, Line, sort_line, term_line, assert_line, definition_line, line_words, next_line}
 
@@ -65,6 +65,6 @@ lines_lexemes p [] = []
 lines_lexemes p (l ∷ ls) = lexemes_at p (line_words l) ++ lines_lexemes (next_line p l) ls
 
 -- the tokens, where the first begins at a place and between each two stands one byte
-abbrev pub pieces_at : ℕ → Tokens → List Piece
-pieces_at p [] = []
-pieces_at p (t ∷ ts) = record { from = p; to = p + length t } ∷ pieces_at (p + length t + 1) ts
+abbrev pub tokens_at : ℕ → Tokens → List MathToken
+tokens_at p [] = []
+tokens_at p (t ∷ ts) = record { from = p; to = p + length t } ∷ tokens_at (p + length t + 1) ts

@@ -5,7 +5,7 @@ use Rattle.mz_lex.specs.declared.token.LexFault.{LexFault}
 use Rattle.mz_spec_theory.specs.Statement.{Spells}
 use Rattle.mz_prefix_theory.specs.Words.{Word, written, lexemes_at, AreWords}
 use Rattle.mz_prefix_theory.specs.Lines.{Line, Tokens, line_words, lines_text, math_text, statement_at, HasItsDummies}
-use Rattle.mz_prefix_theory.specs.Plain.{ArePlain, AreTokens, lines_lexemes, pieces_at}
+use Rattle.mz_prefix_theory.specs.Plain.{ArePlain, AreTokens, lines_lexemes, tokens_at}
 use Rattle.mz_lex.specs.Kinds.{inside_of}
 use Rattle.mz_logic_theory.specs.Tree.{Tree}
 use Rattle.mz_logic_theory.specs.Declaration.{signatures}
@@ -15,7 +15,7 @@ use Rattle.mz_math_theory.specs.Grammar.{Words, Exp}
 use Rattle.mz_math_theory.specs.declared.wanted.Wanted.{Wanted}
 use Rattle.mz_math_theory.specs.Formula.{Reader, words, IsFormula}
 use Rattle.mz_prefix_theory.specs.Prefix.{tokens_of, IsSpoken, HasNoNotation, IsOfWanted, IsShort}
-use Rattle.mz_math_tokens.specs.Pieces.{Pieces, no_delimiters, piece_texts}
+use Rattle.mz_math_tokens.specs.MathTokens.{MathTokens, no_delimiters, token_texts}
 
 -- behind other bytes and before a rest, tokens are the next lexemes, and then comes what comes behind them
 abbrev pub WordsAreLexemes : Type 0
@@ -33,8 +33,8 @@ abbrev pub LinesLex : Type 0
 LinesLex = (ls : List Line) → ArePlain ls → Lexes (lines_text ls) (lines_lexemes 0 ls)
 
 -- between the two `$` of a math string that is written stand its math tokens
-abbrev pub TokensArePieces : Type 0
-TokensArePieces = (ts : Tokens) → AreTokens ts → Pieces no_delimiters (inside_of (math_text ts)) (pieces_at 1 ts) × (piece_texts (inside_of (math_text ts)) (pieces_at 1 ts) ≡ ts)
+abbrev pub TokensAreMathTokens : Type 0
+TokensAreMathTokens = (ts : Tokens) → AreTokens ts → MathTokens no_delimiters (inside_of (math_text ts)) (tokens_at 1 ts) × (token_texts (inside_of (math_text ts)) (tokens_at 1 ts) ≡ ts)
 
 -- where names are found, the prefix form of an expression is read as it
 abbrev pub PrefixFormsAreRead : Type 0

@@ -9,7 +9,7 @@ mod read_laws;
 
 pub use agree_laws::specifications_of_texts_declare;
 pub use print_laws::{
-    lines_spell_statements, prefix_forms_are_read, tokens_are_pieces, words_are_lexemes,
+    lines_spell_statements, prefix_forms_are_read, tokens_are_math_tokens, words_are_lexemes,
 };
 pub use public_laws::public_parts_are_legal;
 pub use read_laws::printed_specifications_declare;

@@ -8,10 +8,10 @@ use Rattle.mz_logic_theory.specs.Tree.{Tree}
 use Rattle.mz_logic_theory.specs.Declaration.{signatures}
 use Rattle.mz_logic_theory.specs.Variables.{InFV}
 use Rattle.mz_logic_theory.specs.declared.binder.ResultType.{ResultType}
-use Rattle.mz_math_tokens.specs.declared.pieces.Piece.{Piece}
+use Rattle.mz_math_tokens.specs.declared.tokens.MathToken.{MathToken}
 use Rattle.mz_math_theory.specs.declared.wanted.Wanted.TheVariants.{Sort as of_sort}
 use Rattle.mz_math_theory.specs.Notation.{Variables}
-use Rattle.mz_math_tokens.specs.Pieces.{Pieces}
+use Rattle.mz_math_tokens.specs.MathTokens.{MathTokens}
 use Rattle.mz_math_theory.specs.Kept.{IsTable, AreVariables}
 use Rattle.mz_math_theory.proofs.Offered.{one-meaning}
 use Rattle.mz_spec_theory.specs.Reading.{OnFault}
@@ -30,15 +30,15 @@ use Rattle.mz_spec_theory.proofs.Offered.{mem-before, body-small, last-halt, all
 
 -- ---- its rules
 
-module _ (σ : State) (place : ℕ) (vs : List Variable) (l : Lexeme) (t : TypeText) (tokens : List (List Piece)) (are : AreTokens σ (body l t ∷ []) tokens) where
+module _ (σ : State) (place : ℕ) (vs : List Variable) (l : Lexeme) (t : TypeText) (tokens : List (List MathToken)) (are : AreTokens σ (body l t ∷ []) tokens) where
   -- the string breaks a rule, or it is out of memory there
-  pub body-halt : (halt : Halt) → ((ps : List Piece) → Pieces σ.table.delimiters (inner l) ps → OnFault halt (FailsFirst (string_checks σ vs (body l t) ps)))
+  pub body-halt : (halt : Halt) → ((ps : List MathToken) → MathTokens σ.table.delimiters (inner l) ps → OnFault halt (FailsFirst (string_checks σ vs (body l t) ps)))
       → OnFault halt (FailsFirst (body_rules σ place vs (body l t ∷ []) tokens))
   body-halt halt fails =
       mem-before (strings_checks σ vs (body l t ∷ []) tokens) (each_in_order (free_checks σ place vs) (body l t ∷ [])) halt
       (last-halt σ vs [] (body l t) tokens halt are (λ before cut. tt) fails)
 
-  module _ (holds : (ps : List Piece) → Pieces σ.table.delimiters (inner l) ps → AllHold (string_checks σ vs (body l t) ps)) (e : Tree) (meant : IsMeant σ vs (body l t) e) where
+  module _ (holds : (ps : List MathToken) → MathTokens σ.table.delimiters (inner l) ps → AllHold (string_checks σ vs (body l t) ps)) (e : Tree) (meant : IsMeant σ vs (body l t) e) where
     strings-hold : AllHold (strings_checks σ vs (body l t ∷ []) tokens)
     strings-hold = all-strings σ vs [] (body l t) tokens are (λ before cut. tt) holds
 

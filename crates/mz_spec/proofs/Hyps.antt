@@ -4,8 +4,8 @@ use Rattle.mz_base_theory.proofs.Offered.{drop-item, Decides, decides-after, fai
 use Rattle.mz_base_theory.specs.Checks.{Checks, AllHold, FailsFirst}
 use Rattle.mz_logic_theory.specs.Tree.{Tree, Trees, none, followed_by}
 use Rattle.mz_logic_theory.proofs.Offered.{followed_by_assoc, followed_by_none}
-use Rattle.mz_math_tokens.specs.declared.pieces.Piece.{Piece}
-use Rattle.mz_math_tokens.specs.Pieces.{Pieces}
+use Rattle.mz_math_tokens.specs.declared.tokens.MathToken.{MathToken}
+use Rattle.mz_math_tokens.specs.MathTokens.{MathTokens}
 use Rattle.mz_spec_theory.specs.Reading.{OnFault}
 use Rattle.mz_spec_theory.specs.declared.refusal.Fault.{Fault}
 use Rattle.mz_spec_theory.specs.declared.refusal.Halt.{Halt}
@@ -21,20 +21,20 @@ use Rattle.mz_spec_theory.specs.Formulas.{AreHyps, AreTokens, IsMeant, copies, i
 
 module _ (σ : State) (vs : List Variable) (f : Formula) (fs : List Formula) (whole : Checks Fault) where
   -- the first of them holds
-  pub strings-step : (tokens : List (List Piece)) → AreTokens σ (f ∷ fs) tokens → Decides (strings_checks σ vs (f ∷ fs) tokens) whole
-      → ((ps : List Piece) → Pieces σ.table.delimiters (inner (math_of f)) ps → AllHold (string_checks σ vs f ps))
-      → (rest : List (List Piece)) × AreTokens σ fs rest × Decides (strings_checks σ vs fs rest) whole
+  pub strings-step : (tokens : List (List MathToken)) → AreTokens σ (f ∷ fs) tokens → Decides (strings_checks σ vs (f ∷ fs) tokens) whole
+      → ((ps : List MathToken) → MathTokens σ.table.delimiters (inner (math_of f)) ps → AllHold (string_checks σ vs f ps))
+      → (rest : List (List MathToken)) × AreTokens σ fs rest × Decides (strings_checks σ vs fs rest) whole
   strings-step [] are d holds = absurd are
   strings-step (ps ∷ pss) (cut, are) d holds = (pss, are, decides-after (string_checks σ vs f ps) (strings_checks σ vs fs pss) whole (holds ps cut) d)
 
   -- or it fails
-  pub strings-fail : (tokens : List (List Piece)) (halt : Halt) → AreTokens σ (f ∷ fs) tokens → Decides (strings_checks σ vs (f ∷ fs) tokens) whole
-      → ((ps : List Piece) → Pieces σ.table.delimiters (inner (math_of f)) ps → OnFault halt (FailsFirst (string_checks σ vs f ps))) → OnFault halt (FailsFirst whole)
+  pub strings-fail : (tokens : List (List MathToken)) (halt : Halt) → AreTokens σ (f ∷ fs) tokens → Decides (strings_checks σ vs (f ∷ fs) tokens) whole
+      → ((ps : List MathToken) → MathTokens σ.table.delimiters (inner (math_of f)) ps → OnFault halt (FailsFirst (string_checks σ vs f ps))) → OnFault halt (FailsFirst whole)
   strings-fail [] halt are d fails = absurd are
   strings-fail (ps ∷ pss) (halts.Fault fault) (cut, are) d fails = d.fails fault (fails-before (string_checks σ vs f ps) (strings_checks σ vs fs pss) fault (fails ps cut))
   strings-fail (ps ∷ pss) halts.Mem are d fails = tt
 
-pub strings-none : (σ : State) (vs : List Variable) (whole : Checks Fault) (tokens : List (List Piece)) → AreTokens σ [] tokens → Decides (strings_checks σ vs [] tokens) whole → AllHold whole
+pub strings-none : (σ : State) (vs : List Variable) (whole : Checks Fault) (tokens : List (List MathToken)) → AreTokens σ [] tokens → Decides (strings_checks σ vs [] tokens) whole → AllHold whole
 strings-none σ vs whole tokens are d = d.holds tt
 
 -- ---- meaning
@@ -55,21 +55,21 @@ module _ (σ : State) (vs : List Variable) (xs : List StatedRead) (i : ℕ) (x :
   at = ap (map stated) (drop-item xs i x within is)
 
   abbrev Left : ℕ → Checks Fault → Type 0
-  Left j whole = (rest : List (List Piece)) × AreTokens σ (map stated_claim (map stated (drop j xs))) rest × Decides (strings_checks σ vs (map stated_claim (map stated (drop j xs))) rest) whole
+  Left j whole = (rest : List (List MathToken)) × AreTokens σ (map stated_claim (map stated (drop j xs))) rest × Decides (strings_checks σ vs (map stated_claim (map stated (drop j xs))) rest) whole
 
   split-left : (whole : Checks Fault) → Left i whole
-      → (rest : List (List Piece)) × AreTokens σ (claim (stated x).math ∷ map stated_claim (map stated (drop (i + 1) xs))) rest
+      → (rest : List (List MathToken)) × AreTokens σ (claim (stated x).math ∷ map stated_claim (map stated (drop (i + 1) xs))) rest
       × Decides (strings_checks σ vs (claim (stated x).math ∷ map stated_claim (map stated (drop (i + 1) xs))) rest) whole
   split-left whole (rest, are, d) =
       (rest, subst (λ hs. AreTokens σ (map stated_claim hs) rest) at are, subst (λ hs. Decides (strings_checks σ vs (map stated_claim hs) rest) whole) at d)
 
-  pub left-step : (whole : Checks Fault) → Left i whole → ((ps : List Piece) → Pieces σ.table.delimiters (inner (stated x).math) ps → AllHold (string_checks σ vs (claim (stated x).math) ps)) → Left (i + 1) whole
+  pub left-step : (whole : Checks Fault) → Left i whole → ((ps : List MathToken) → MathTokens σ.table.delimiters (inner (stated x).math) ps → AllHold (string_checks σ vs (claim (stated x).math) ps)) → Left (i + 1) whole
   left-step whole left holds =
       let here = split-left whole left in
       strings-step σ vs (claim (stated x).math) (map stated_claim (map stated (drop (i + 1) xs))) whole here.0 here.1 here.2 holds
 
   pub left-fail : (whole : Checks Fault) (halt : Halt) → Left i whole
-      → ((ps : List Piece) → Pieces σ.table.delimiters (inner (stated x).math) ps → OnFault halt (FailsFirst (string_checks σ vs (claim (stated x).math) ps))) → OnFault halt (FailsFirst whole)
+      → ((ps : List MathToken) → MathTokens σ.table.delimiters (inner (stated x).math) ps → OnFault halt (FailsFirst (string_checks σ vs (claim (stated x).math) ps))) → OnFault halt (FailsFirst whole)
   left-fail whole halt left fails =
       let here = split-left whole left in
       strings-fail σ vs (claim (stated x).math) (map stated_claim (map stated (drop (i + 1) xs))) whole here.0 halt here.1 here.2 fails

@@ -6,8 +6,8 @@ use Rattle.mz_base_theory.specs.Checks.{Checks, nothing, each_in_order, ◌>>◌
 use Rattle.mz_base_theory.proofs.Offered.{fails-before, fails-after, all_hold-both, retold-fails, retold-holds}
 use Rattle.mz_logic_theory.specs.Declaration.{signatures}
 use Rattle.mz_logic_theory.specs.Signature.{Signature}
-use Rattle.mz_math_tokens.specs.declared.pieces.Delimiters.{Delimiters}
-use Rattle.mz_math_tokens.specs.declared.pieces.Piece.{Piece}
+use Rattle.mz_math_tokens.specs.declared.tokens.Delimiters.{Delimiters}
+use Rattle.mz_math_tokens.specs.declared.tokens.MathToken.{MathToken}
 use Rattle.mz_math_theory.specs.declared.coercion.Coercion.{Coercion}
 use Rattle.mz_math_theory.specs.declared.notation.Notation.{Notation}
 use Rattle.mz_math_theory.specs.declared.fault.NoteFault.{NoteFault}
@@ -40,7 +40,7 @@ use Rattle.mz_spec.proofs.TableChanges.{over_table, same-names, notation-same, d
 
 -- ---- statements without formulas
 
-no-tokens : (σ : State) (tokens : List (List Piece)) → AreTokens σ [] tokens → tokens ≡ []
+no-tokens : (σ : State) (tokens : List (List MathToken)) → AreTokens σ [] tokens → tokens ≡ []
 no-tokens σ [] are = refl
 no-tokens σ (ps ∷ pss) are = absurd are
 

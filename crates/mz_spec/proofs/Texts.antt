@@ -21,7 +21,7 @@ use Rattle.mz_spec_theory.specs.Declaring.{After}
 use Rattle.mz_spec_theory.specs.Spec.{Stand, SpecMakes, SpecFault, IsGood, Fails}
 use Rattle.mz_spec.specs.Reading.{StandTo}
 use Rattle.mz_base_theory.specs.Checks.{AllHold, FailsFirst}
-use Rattle.mz_math_tokens.specs.declared.pieces.Piece.{Piece}
+use Rattle.mz_math_tokens.specs.declared.tokens.MathToken.{MathToken}
 use Rattle.mz_spec_theory.proofs.Offered.{lexemes-long, signs-long, formulas-tokens}
 use Rattle.mz_spec_theory.specs.Formulas.{AreTokens}
 use Rattle.mz_spec_theory.specs.Rules.{statement_checks}
@@ -56,10 +56,10 @@ pub stand-begins : (text : List ℕ) → StandTo text 0 0 nothing
 stand-begins text = ([], [], refl, (refl, refl), refl)
 
 -- a statement that passes its rules is good
-pub judged-good : (σ : State) (place : ℕ) (s : Statement) → ((tokens : List (List Piece)) → AreTokens σ (view s).formulas tokens → AllHold (statement_checks σ place s tokens)) → IsGood σ place s
+pub judged-good : (σ : State) (place : ℕ) (s : Statement) → ((tokens : List (List MathToken)) → AreTokens σ (view s).formulas tokens → AllHold (statement_checks σ place s tokens)) → IsGood σ place s
 judged-good σ place s judged = let tokens = formulas-tokens σ (view s).formulas in (tokens.0, tokens.1, judged tokens.0 tokens.1)
 
-pub judged-fails : (σ : State) (place : ℕ) (s : Statement) (fault : Fault) → ((tokens : List (List Piece)) → AreTokens σ (view s).formulas tokens → FailsFirst (statement_checks σ place s tokens) fault) → Fails σ place s fault
+pub judged-fails : (σ : State) (place : ℕ) (s : Statement) (fault : Fault) → ((tokens : List (List MathToken)) → AreTokens σ (view s).formulas tokens → FailsFirst (statement_checks σ place s tokens) fault) → Fails σ place s fault
 judged-fails σ place s fault judged = let tokens = formulas-tokens σ (view s).formulas in (tokens.0, tokens.1, judged tokens.0 tokens.1)
 
 pub stand-next : (text : List ℕ) (count at : ℕ) (σ τ : State) (read : StatementRead) → StandTo text count at σ → IsRead text at read
@@ -178,7 +178,7 @@ halt-stops text count at σ (halts.Fault fault) stand stops = spec-stops text co
 halt-stops text count at σ halts.Mem stand stops = tt
 
 pub halt-breaks : (text : List ℕ) (count at : ℕ) (σ : State) (read : StatementRead) (halt : Halt) → StandTo text count at σ → IsRead text at read
-    → ((tokens : List (List Piece)) → AreTokens σ (view (statement read.statement)).formulas tokens → OnFault halt (FailsFirst (statement_checks σ read.place (statement read.statement) tokens)))
+    → ((tokens : List (List MathToken)) → AreTokens σ (view (statement read.statement)).formulas tokens → OnFault halt (FailsFirst (statement_checks σ read.place (statement read.statement) tokens)))
     → IsAnswer text (halted (count + 1) halt)
 halt-breaks text count at σ read (halts.Fault fault) stand is fails =
     spec-breaks text count at σ read fault stand is (judged-fails σ read.place (statement read.statement) fault fails)

@@ -4,7 +4,7 @@ use Rattle.std.proofs.Common.{Result}
 use Rattle.mz_spec_theory.specs.Statement.{Statement}
 use Rattle.mz_spec_theory.specs.declared.refusal.Halt.{Halt}
 use Rattle.mz_spec_theory.specs.declared.refusal.Halt.TheVariants as halts
-use Rattle.mz_math_tokens.specs.declared.pieces.Piece.{Piece}
+use Rattle.mz_math_tokens.specs.declared.tokens.MathToken.{MathToken}
 use Rattle.mz_spec.specs.declared.reader.SpecRead.{SpecRead}
 use Rattle.mz_spec.specs.declared.reader.SpecRead.TheVariants.{Spec, Refused, Mem}
 use Rattle.mz_spec_theory.specs.View.{view}
@@ -22,7 +22,7 @@ IsAnswer text Mem = ⊤
 
 -- all rules of a statement hold, or the first that does not has this fault, or it is out of memory, by whatever tokens its formulas have
 abbrev pub JudgesStatement : {A : Type 0} → Result A Halt → State → ℕ → Statement → Type 0
-JudgesStatement result σ place s = (tokens : List (List Piece)) → AreTokens σ (view s).formulas tokens → JudgesOrMem result (statement_checks σ place s tokens)
+JudgesStatement result σ place s = (tokens : List (List MathToken)) → AreTokens σ (view s).formulas tokens → JudgesOrMem result (statement_checks σ place s tokens)
 
 -- what a fault of a statement, or out of memory, makes of the whole text
 abbrev pub halted : ℕ → Halt → SpecRead

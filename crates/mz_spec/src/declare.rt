@@ -8,7 +8,7 @@ ghost use Rattle.mz_logic_theory.specs.DeclView.{assertion_of as assertion_of_le
 ghost use Rattle.mz_logic_theory.specs.Legality.{IsLegalDecl};
 ghost use Rattle.mz_logic_theory.specs.View.{tree};
 ghost use Rattle.mz_math_theory.specs.Kept.{AreVariables};
-ghost use Rattle.mz_math_tokens.specs.declared.pieces.Piece.{Piece};
+ghost use Rattle.mz_math_tokens.specs.declared.tokens.MathToken.{MathToken};
 ghost use Rattle.mz_spec_rules.specs.Answers.{JudgesOrMem};
 ghost use Rattle.mz_spec.specs.Answers.{JudgesStatement};
 ghost use Rattle.mz_spec_variables.specs.Code.{AreGrouped, AreParts, all_of, variable};
@@ -232,7 +232,7 @@ fn form_of<'a>(
     requires small { Every EndsSmall (all_of (option_map lexeme body)) }
     requires parts { (vs : List VariableLem) × (ts : List TypeLem) × (t : TypeLem) × AreParts parts.now vs ts (t ∷ []) }
     ensures judged { (vs : List VariableLem) (ts : List TypeLem) (t : TypeLem) → AreParts parts.now vs ts (t ∷ []) → result_type.now ≡ result_of (state_lem state.now) vs t
-        → (tokens : List (List Piece)) → AreTokens (state_lem state.now) (body_formulas t (option_map lexeme body.entry)) tokens
+        → (tokens : List (List MathToken)) → AreTokens (state_lem state.now) (body_formulas t (option_map lexeme body.entry)) tokens
         → JudgesOrMem result (body_rules (state_lem state.now) place vs (body_formulas t (option_map lexeme body.entry)) tokens) }
     ensures form { IfOk result (λ f. (vs : List VariableLem) (ts : List TypeLem) (t : TypeLem) → AreParts parts.now vs ts (t ∷ []) → result_type.now ≡ result_of (state_lem state.now) vs t
         → IsForm (state_lem state.now) vs t (option_map lexeme body.entry) (form f)) }
@@ -261,7 +261,7 @@ fn body_of<'a>(
     requires small { EndsSmall (lexeme math) }
     requires parts { (vs : List VariableLem) × (ts : List TypeLem) × (t : TypeLem) × AreParts parts.now vs ts (t ∷ []) }
     ensures judged { (vs : List VariableLem) (ts : List TypeLem) (t : TypeLem) → AreParts parts.now vs ts (t ∷ []) → result_type.now ≡ result_of (state_lem state.now) vs t
-        → (tokens : List (List Piece)) → AreTokens (state_lem state.now) (body (lexeme math.entry) t ∷ []) tokens
+        → (tokens : List (List MathToken)) → AreTokens (state_lem state.now) (body (lexeme math.entry) t ∷ []) tokens
         → JudgesOrMem result (body_rules (state_lem state.now) place vs (body (lexeme math.entry) t ∷ []) tokens) }
     ensures form { IfOk result (λ f. (vs : List VariableLem) (ts : List TypeLem) (t : TypeLem) → AreParts parts.now vs ts (t ∷ []) → result_type.now ≡ result_of (state_lem state.now) vs t
         → IsForm (state_lem state.now) vs t (Some (lexeme math.entry)) (form f)) }
@@ -290,7 +290,7 @@ fn body_in<'a>(
     requires parts { (vs : List VariableLem) × (ts : List TypeLem) × (t : TypeLem) × AreParts parts.now vs ts (t ∷ []) }
     requires scope { (vs : List VariableLem) (types results : List TypeLem) → AreParts parts.now vs types results → scope.now ≡ scope_of (state_lem state.now) vs }
     ensures judged { (vs : List VariableLem) (ts : List TypeLem) (t : TypeLem) → AreParts parts.now vs ts (t ∷ []) → result_type.now ≡ result_of (state_lem state.now) vs t
-        → (tokens : List (List Piece)) → AreTokens (state_lem state.now) (body (lexeme math.entry) t ∷ []) tokens
+        → (tokens : List (List MathToken)) → AreTokens (state_lem state.now) (body (lexeme math.entry) t ∷ []) tokens
         → JudgesOrMem result (body_rules (state_lem state.now) place vs (body (lexeme math.entry) t ∷ []) tokens) }
     ensures form { IfOk result (λ f. (vs : List VariableLem) (ts : List TypeLem) (t : TypeLem) → AreParts parts.now vs ts (t ∷ []) → result_type.now ≡ result_of (state_lem state.now) vs t
         → IsForm (state_lem state.now) vs t (Some (lexeme math.entry)) (form f)) }
@@ -418,7 +418,7 @@ fn claims_of<'a>(
     requires grouped_dummies { AreGrouped parts.now.dummies.items }
     requires small { Every (λ f. EndsSmall (math_of f)) (view (assertion_lem assertion.now)).formulas }
     ensures judged { AreParts parts.now (view (assertion_lem assertion.now)).variables (view (assertion_lem assertion.now)).types []
-        → (tokens : List (List Piece)) → AreTokens (state_lem state.now) (view (assertion_lem assertion.now)).formulas tokens
+        → (tokens : List (List MathToken)) → AreTokens (state_lem state.now) (view (assertion_lem assertion.now)).formulas tokens
         → JudgesOrMem result (strings_checks (state_lem state.now) (view (assertion_lem assertion.now)).variables (view (assertion_lem assertion.now)).formulas tokens) }
     ensures claims { IfOk result (λ claims. AreParts parts.now (view (assertion_lem assertion.now)).variables (view (assertion_lem assertion.now)).types []
         → AreHyps (state_lem state.now) (view (assertion_lem assertion.now)).variables (stated_of_lem (head assertion.now.head).groups (map source assertion.now.premises.items)) claims.0
@@ -440,7 +440,7 @@ fn claims_in<'a>(
     requires stated { map stated_lem stated.now ≡ stated_of_lem (head assertion.now.head).groups (map source assertion.now.premises.items) }
     requires small { Every (λ f. EndsSmall (math_of f)) (view (assertion_lem assertion.now)).formulas }
     ensures judged { scope.now ≡ scope_of (state_lem state.now) (view (assertion_lem assertion.now)).variables
-        → (tokens : List (List Piece)) → AreTokens (state_lem state.now) (view (assertion_lem assertion.now)).formulas tokens
+        → (tokens : List (List MathToken)) → AreTokens (state_lem state.now) (view (assertion_lem assertion.now)).formulas tokens
         → JudgesOrMem result (strings_checks (state_lem state.now) (view (assertion_lem assertion.now)).variables (view (assertion_lem assertion.now)).formulas tokens) }
     ensures claims { IfOk result (λ claims. scope.now ≡ scope_of (state_lem state.now) (view (assertion_lem assertion.now)).variables
         → AreHyps (state_lem state.now) (view (assertion_lem assertion.now)).variables (stated_of_lem (head assertion.now.head).groups (map source assertion.now.premises.items)) claims.0

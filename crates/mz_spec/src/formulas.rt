@@ -8,9 +8,9 @@ ghost use Rattle.mz_logic_theory.specs.Tree.{Tree, followed_by};
 ghost use Rattle.mz_logic_theory.specs.Variables.{InFV};
 ghost use Rattle.mz_logic_theory.specs.View.{tree};
 ghost use Rattle.mz_math_theory.specs.Formula.{IsFormula, formula_checks};
-ghost use Rattle.mz_math_tokens.specs.Pieces.{Pieces};
+ghost use Rattle.mz_math_tokens.specs.MathTokens.{MathTokens};
 ghost use Rattle.mz_math_theory.specs.declared.wanted.Wanted.TheVariants.{Provable as provable};
-ghost use Rattle.mz_math_tokens.specs.declared.pieces.Piece.{Piece};
+ghost use Rattle.mz_math_tokens.specs.declared.tokens.MathToken.{MathToken};
 ghost use Rattle.mz_spec_rules.specs.Answers.{JudgesOrMem};
 ghost use Rattle.mz_spec_theory.specs.SpecCode.{EndsSmall, stated as stated_lem};
 ghost use Rattle.mz_spec_rules.specs.Entries.{state as state_lem};
@@ -100,7 +100,7 @@ pub fn formula<'a>(
     wanted: Wanted,
 ) -> Result<Expr, Halt>
     requires small { EndsSmall (lexeme math) }
-    ensures judged { (ps : List Piece) → Pieces state.now.notations.delimiters (inner_lem (lexeme math.entry)) ps
+    ensures judged { (ps : List MathToken) → MathTokens state.now.notations.delimiters (inner_lem (lexeme math.entry)) ps
         → JudgesOrMem result (retold (told_lem (lexeme math.entry)) (formula_checks (record { env = state.now.env; table = state.now.notations; scope = scope.now }) wanted (inner_lem (lexeme math.entry)) ps)) }
     ensures meant { IfOk result (λ e. IsFormula (record { env = state.now.env; table = state.now.notations; scope = scope.now }) wanted (inner_lem (lexeme math.entry)) (tree e)) }
 {
@@ -130,7 +130,7 @@ fn push_hyp<'a>(
     hyp: &Stated<'a>,
 ) -> Result<(), Halt>
     requires small { EndsSmall (stated_lem hyp.now).math }
-    ensures judged { (ps : List Piece) → Pieces state.now.notations.delimiters (inner_lem (stated_lem hyp.now).math) ps
+    ensures judged { (ps : List MathToken) → MathTokens state.now.notations.delimiters (inner_lem (stated_lem hyp.now).math) ps
         → JudgesOrMem result (retold (told_lem (stated_lem hyp.now).math) (formula_checks (record { env = state.now.env; table = state.now.notations; scope = scope.now }) provable (inner_lem (stated_lem hyp.now).math) ps)) }
     ensures meant { OnOk result ((e : Tree) × IsFormula (record { env = state.now.env; table = state.now.notations; scope = scope.now }) provable (inner_lem (stated_lem hyp.now).math) e
         × (hyps.new ≡ followed_by hyps.old (copies (stated_lem hyp.now).times e))) }
@@ -149,7 +149,7 @@ pub fn hyps_of<'a>(
 ) -> Result<Hyps, Halt>
     requires small { Every (λ h. EndsSmall h.math) (map stated_lem stated.now) }
     ensures judged { (vs : List Variable) → scope.now ≡ scope_of (state_lem state.now) vs
-        → (tokens : List (List Piece)) → AreTokens (state_lem state.now) (map stated_claim (map stated_lem stated.now)) tokens
+        → (tokens : List (List MathToken)) → AreTokens (state_lem state.now) (map stated_claim (map stated_lem stated.now)) tokens
         → JudgesOrMem result (strings_checks (state_lem state.now) vs (map stated_claim (map stated_lem stated.now)) tokens) }
     ensures meant { IfOk result (λ hyps. (vs : List Variable) → scope.now ≡ scope_of (state_lem state.now) vs → AreHyps (state_lem state.now) vs (map stated_lem stated.now) hyps) }
 {

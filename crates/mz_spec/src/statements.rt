@@ -9,7 +9,7 @@ ghost use Rattle.mz_spec_theory.specs.Kept.{IsKept, IsSpelled};
 use crate::declare::{add_assertion, add_definition, add_sort, add_term};
 use crate::notations::{add_coercion, add_delimiter, add_notation, add_operator};
 use mz_spec_rules::State;
-use mz_spec_theory::{Halt, Statement};
+use mz_spec_theory::{Halt, SyntaxStatement};
 use std::alloc::Global;
 
 /// Adds what the statement at a place declares.
@@ -21,7 +21,7 @@ pub fn add<'a>(
     state: &mut State<'a>,
     alloc: Global,
     place: u32,
-    statement: Statement<'a>,
+    statement: SyntaxStatement<'a>,
 ) -> Result<(), Halt>
     requires kept { IsKept (state_lem state.old) }
     requires few { length state.old.marks.items + 1 < 2 ^ 32 }
@@ -37,7 +37,7 @@ fn add_read<'a>(
     state: &mut State<'a>,
     alloc: Global,
     place: u32,
-    statement: &Statement<'a>,
+    statement: &SyntaxStatement<'a>,
 ) -> Result<(), Halt>
     requires kept { IsKept (state_lem state.old) }
     requires few { length state.old.marks.items + 1 < 2 ^ 32 }
@@ -46,13 +46,13 @@ fn add_read<'a>(
     ensures after { OnOk result (After (state_lem state.old) place (statement_lem statement.now) (state_lem state.new)) }
 {
     match statement {
-        Statement::Sort { modifiers, name } => add_sort(state, place, *modifiers, *name),
-        Statement::Term(term) => add_term(state, alloc, place, term),
-        Statement::Assert(assertion) => add_assertion(state, alloc, place, assertion),
-        Statement::Definition(definition) => add_definition(state, alloc, place, definition),
-        Statement::Operator(operator) => add_operator(state, place, *operator),
-        Statement::Coercion(coercion) => add_coercion(state, place, *coercion),
-        Statement::Delimiter(delimiter) => add_delimiter(state, place, *delimiter),
-        Statement::Notation(notation) => add_notation(state, alloc, place, notation),
+        SyntaxStatement::Sort { modifiers, name } => add_sort(state, place, *modifiers, *name),
+        SyntaxStatement::Term(term) => add_term(state, alloc, place, term),
+        SyntaxStatement::Assert(assertion) => add_assertion(state, alloc, place, assertion),
+        SyntaxStatement::Definition(definition) => add_definition(state, alloc, place, definition),
+        SyntaxStatement::Operator(operator) => add_operator(state, place, *operator),
+        SyntaxStatement::Coercion(coercion) => add_coercion(state, place, *coercion),
+        SyntaxStatement::Delimiter(delimiter) => add_delimiter(state, place, *delimiter),
+        SyntaxStatement::Notation(notation) => add_notation(state, alloc, place, notation),
     }
 }

@@ -7,7 +7,7 @@ ghost use Rattle.mz_spec_theory.specs.Statement.{assert_statement, definition_st
 
 use mz_spec_theory::{
     AssertKind, AssertText, CoercionText, DefinitionText, DelimiterText, Fixity, Head, Kind, Level,
-    Lexeme, LiteralText, Modifiers, NameText, NotationText, OperatorText, Source, Statement,
+    Lexeme, LiteralText, Modifiers, NameText, NotationText, OperatorText, Source, SyntaxStatement,
     TailText, TermText, TypeText,
 };
 use opening::after_modifiers;
@@ -292,11 +292,11 @@ impl<'a> Parts<'a> {
     }
 
     /// The whole statement, which leaves none of its parts here.
-    pub fn whole(&mut self, alloc: Global, whole: Whole) -> Statement<'a>
+    pub fn whole(&mut self, alloc: Global, whole: Whole) -> SyntaxStatement<'a>
         ensures { statement result ≡ whole_lem self.old whole }
     {
         match whole {
-            Whole::Sort(modifiers) => Statement::Sort {
+            Whole::Sort(modifiers) => SyntaxStatement::Sort {
                 modifiers,
                 name: self.head.name,
             },
@@ -304,22 +304,22 @@ impl<'a> Parts<'a> {
             Whole::Assert(kind) => self.assertion(alloc, kind),
             Whole::Definition => self.definition(alloc, Some(self.formula)),
             Whole::Abstract => self.definition(alloc, None),
-            Whole::Operator(fixity) => Statement::Operator(OperatorText {
+            Whole::Operator(fixity) => SyntaxStatement::Operator(OperatorText {
                 fixity,
                 name: self.head.name,
                 constant: self.formula,
                 level: self.level,
             }),
-            Whole::Coercion => Statement::Coercion(CoercionText {
+            Whole::Coercion => SyntaxStatement::Coercion(CoercionText {
                 name: self.head.name,
                 from: self.left,
                 to: self.right,
             }),
-            Whole::Delimiter => Statement::Delimiter(DelimiterText {
+            Whole::Delimiter => SyntaxStatement::Delimiter(DelimiterText {
                 left: self.left,
                 right: None,
             }),
-            Whole::Delimiters => Statement::Delimiter(DelimiterText {
+            Whole::Delimiters => SyntaxStatement::Delimiter(DelimiterText {
                 left: self.left,
                 right: Some(self.right),
             }),
@@ -331,20 +331,20 @@ impl<'a> Parts<'a> {
         }
     }
 
-    fn term(&mut self, alloc: Global) -> Statement<'a>
+    fn term(&mut self, alloc: Global) -> SyntaxStatement<'a>
         ensures { statement result ≡ term_statement (head_lem self.old.head) (map type_text self.old.arguments.items) (type_text self.old.ty) }
     {
-        Statement::Term(TermText {
+        SyntaxStatement::Term(TermText {
             head: self.taken_head(alloc),
             arguments: mem::replace(&mut self.arguments, Vec::new(alloc)),
             result: self.taken_type(alloc),
         })
     }
 
-    fn assertion(&mut self, alloc: Global, kind: AssertKind) -> Statement<'a>
+    fn assertion(&mut self, alloc: Global, kind: AssertKind) -> SyntaxStatement<'a>
         ensures { statement result ≡ assert_statement kind (head_lem self.old.head) (map source self.old.premises.items) (lexeme self.old.formula) }
     {
-        Statement::Assert(AssertText {
+        SyntaxStatement::Assert(AssertText {
             kind,
             head: self.taken_head(alloc),
             premises: mem::replace(&mut self.premises, Vec::new(alloc)),
@@ -352,20 +352,20 @@ impl<'a> Parts<'a> {
         })
     }
 
-    fn definition(&mut self, alloc: Global, body: Option<Lexeme<'a>>) -> Statement<'a>
+    fn definition(&mut self, alloc: Global, body: Option<Lexeme<'a>>) -> SyntaxStatement<'a>
         ensures { statement result ≡ definition_statement (head_lem self.old.head) (type_text self.old.ty) (option_map lexeme body.entry) }
     {
-        Statement::Definition(DefinitionText {
+        SyntaxStatement::Definition(DefinitionText {
             head: self.taken_head(alloc),
             result: self.taken_type(alloc),
             body,
         })
     }
 
-    fn notation_with(&mut self, alloc: Global, tail: Option<TailText<'a>>) -> Statement<'a>
+    fn notation_with(&mut self, alloc: Global, tail: Option<TailText<'a>>) -> SyntaxStatement<'a>
         ensures { statement result ≡ notation_lem self.old (option_map tail_lem tail.entry) }
     {
-        Statement::Notation(NotationText {
+        SyntaxStatement::Notation(NotationText {
             head: self.taken_head(alloc),
             result: self.taken_type(alloc),
             literals: mem::replace(&mut self.literals, Vec::new(alloc)),

@@ -14,7 +14,7 @@ ghost use Rattle.mz_spec_theory.specs.View.{Variable as VariableLem};
 use crate::rules::push_names;
 use crate::state::State;
 use mz_spec_theory::{Halt, Lexeme};
-use mz_spec_variables::{NameIndex, Names, Parts, TypeAt, Variable};
+use mz_spec_variables::{NameIndex, NameMap, Parts, TypeAt, Variable};
 use std::alloc::Global;
 
 impl<'a> State<'a> {
@@ -45,14 +45,14 @@ impl<'a> State<'a> {
     ) -> Result<(), Halt>
         ensures { JudgesOrMem result (variable_rules (state self.now) (map variable variables.now) (map (λ t. type_text t.ty.now) types.now)) }
     {
-        let mut names = Names::new(alloc, self.hashing);
+        let mut names = NameMap::new(alloc, self.hashing);
         self.check_variables_in(&mut names, variables, types)
     }
 
     /// The same with room for the names.
     fn check_variables_in(
         &self,
-        names: &mut Names<'a>,
+        names: &mut NameMap<'a>,
         variables: &[Variable<'_, 'a>],
         types: &[TypeAt<'_, 'a>],
     ) -> Result<(), Halt>
@@ -74,14 +74,14 @@ impl<'a> State<'a> {
     ) -> Result<(), Halt>
         ensures { JudgesOrMem result (named_rules (state self.now) (lexeme name.entry) (map variable variables.now) (map (λ t. type_text t.ty.now) types.now)) }
     {
-        let mut names = Names::new(alloc, self.hashing);
+        let mut names = NameMap::new(alloc, self.hashing);
         self.check_names_in(&mut names, name, variables, types)
     }
 
     /// The same with room for the names of variables.
     fn check_names_in(
         &self,
-        names: &mut Names<'a>,
+        names: &mut NameMap<'a>,
         name: Lexeme<'a>,
         variables: &[Variable<'_, 'a>],
         types: &[TypeAt<'_, 'a>],

@@ -18,11 +18,11 @@ use mz_base::Hashing;
 use mz_lex::S;
 use mz_logic_theory::SortMods;
 use mz_spec_theory::{Fault, Halt, Lexeme, TypeText};
-use mz_spec_variables::{NameIndex, Names, Parts, TypeAt, Variable, are_bound_before, places_of};
+use mz_spec_variables::{NameIndex, NameMap, Parts, TypeAt, Variable, are_bound_before, places_of};
 use std::alloc::{AllocError, Global};
 
 /// The name is none of these.
-pub fn check_new<'a>(names: &Names<'a>, name: Lexeme<'a>) -> Result<(), Fault>
+pub fn check_new<'a>(names: &NameMap<'a>, name: Lexeme<'a>) -> Result<(), Fault>
     ensures { Judges result (new_name names.now (lexeme name.entry)) }
 {
     if names.number_of(name.bytes).is_some() {
@@ -35,7 +35,7 @@ pub fn check_new<'a>(names: &Names<'a>, name: Lexeme<'a>) -> Result<(), Fault>
 }
 
 /// The name is one of these.
-pub fn check_known<'a>(names: &Names<'a>, name: Lexeme<'a>) -> Result<(), Fault>
+pub fn check_known<'a>(names: &NameMap<'a>, name: Lexeme<'a>) -> Result<(), Fault>
     ensures { Judges result (is_known names.now (lexeme name.entry)) }
 {
     if names.number_of(name.bytes).is_none() {
@@ -47,7 +47,7 @@ pub fn check_known<'a>(names: &Names<'a>, name: Lexeme<'a>) -> Result<(), Fault>
     Ok(())
 }
 
-fn check_all_known<'a>(names: &Names<'a>, found: &[Lexeme<'a>]) -> Result<(), Fault>
+fn check_all_known<'a>(names: &NameMap<'a>, found: &[Lexeme<'a>]) -> Result<(), Fault>
     ensures { Judges result (each_in_order (is_known names.now) (map lexeme found.now)) }
 {
     for name in found {
@@ -57,7 +57,7 @@ fn check_all_known<'a>(names: &Names<'a>, found: &[Lexeme<'a>]) -> Result<(), Fa
 }
 
 /// Adds the name of a variable, where it has one, to those before it.
-fn push_name<'a>(names: &mut Names<'a>, name: Option<Lexeme<'a>>) -> Result<(), Halt>
+fn push_name<'a>(names: &mut NameMap<'a>, name: Option<Lexeme<'a>>) -> Result<(), Halt>
     ensures judged { JudgesOrMem result (is_other names.old (option_map lexeme name.entry)) }
     ensures names { OnOk result (names.new ≡ names.old ++ name_texts (option_map lexeme name.entry)) }
 {
@@ -69,7 +69,7 @@ fn push_name<'a>(names: &mut Names<'a>, name: Option<Lexeme<'a>>) -> Result<(), 
 }
 
 /// Adds the names of the variables, where no two share one.
-pub fn push_names<'a>(names: &mut Names<'a>, variables: &[Variable<'_, 'a>]) -> Result<(), Halt>
+pub fn push_names<'a>(names: &mut NameMap<'a>, variables: &[Variable<'_, 'a>]) -> Result<(), Halt>
     requires none { names.old ≡ [] }
     ensures judged { JudgesOrMem result (are_others [] (map variable_lem variables.now)) }
     ensures names { OnOk result (names.new ≡ names_of (map variable_lem variables.now)) }
@@ -108,7 +108,7 @@ impl<'a> State<'a> {
     }
 
     /// The sort of the type, and the variables on which it depends, are known.
-    fn check_type(&self, names: &Names<'a>, ty: &TypeText<'a>) -> Result<(), Fault>
+    fn check_type(&self, names: &NameMap<'a>, ty: &TypeText<'a>) -> Result<(), Fault>
         ensures { Judges result (type_checks (state self.now) names.now (type_text ty.now)) }
     {
         check_known(&self.sort_names, ty.sort)?;
@@ -118,7 +118,7 @@ impl<'a> State<'a> {
     /// Those of each type are.
     pub(crate) fn check_types(
         &self,
-        names: &Names<'a>,
+        names: &NameMap<'a>,
         types: &[TypeAt<'_, 'a>],
     ) -> Result<(), Fault>
         ensures { Judges result (each_in_order (type_checks (state self.now) names.now) (map (λ t. type_text t.ty.now) types.now)) }

@@ -7,7 +7,7 @@ use mz_base::Hashing;
 use mz_logic_theory::Env;
 use mz_math_notation::Notations;
 use mz_spec_theory::NameSpan;
-use mz_spec_variables::Names;
+use mz_spec_variables::NameMap;
 use std::alloc::Global;
 
 /// The names of sorts and of axioms and theorems, the declarations, the name span of each, and what has been
@@ -16,8 +16,8 @@ use std::alloc::Global;
 #[derive(Drop)]
 pub struct State<'a> {
     pub hashing: Hashing,
-    pub sort_names: Names<'a>,
-    pub assertion_names: Names<'a>,
+    pub sort_names: NameMap<'a>,
+    pub assertion_names: NameMap<'a>,
     pub env: Env,
     pub marks: Vec<NameSpan>,
     pub notations: Notations,
@@ -30,8 +30,8 @@ impl<'a> State<'a> {
     {
         State {
             hashing,
-            sort_names: Names::new(alloc, hashing),
-            assertion_names: Names::new(alloc, hashing),
+            sort_names: NameMap::new(alloc, hashing),
+            assertion_names: NameMap::new(alloc, hashing),
             env: Env::new(alloc),
             marks: Vec::new(alloc),
             notations: Notations::with_hashing(alloc, hashing),

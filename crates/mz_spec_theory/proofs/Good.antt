@@ -2,7 +2,7 @@
 use Rattle.std.proofs.Common.{List, [], ℕ}
 use Rattle.mz_base_theory.specs.Checks.{each_in_order, ◌>>◌, AllHold}
 use Rattle.mz_base_theory.proofs.Offered.{all_hold-first, all_hold-rest}
-use Rattle.mz_math_tokens.specs.declared.pieces.Piece.{Piece}
+use Rattle.mz_math_tokens.specs.declared.tokens.MathToken.{MathToken}
 use Rattle.mz_spec_theory.specs.Statement.{Statement}
 use Rattle.mz_spec_theory.specs.View.{view, names_of, dummies_of}
 use Rattle.mz_spec_theory.specs.State.{State}
@@ -11,7 +11,7 @@ use Rattle.mz_spec_theory.specs.Forms.{form_checks}
 use Rattle.mz_spec_theory.specs.Dependencies.{Every}
 use Rattle.mz_spec_theory.specs.Rules.{is_level, is_new, are_others, is_known, type_checks, name_rules, use_rules, HaveBinders, binder_rules, body_rules, statement_checks, IsDummySort, IsNotPure}
 
-module _ (σ : State) (place : ℕ) (s : Statement) (tokens : List (List Piece)) (good : AllHold (statement_checks σ place s tokens)) where
+module _ (σ : State) (place : ℕ) (s : Statement) (tokens : List (List MathToken)) (good : AllHold (statement_checks σ place s tokens)) where
   behind_levels : AllHold (name_rules σ (view s) >> use_rules σ (view s) >> binder_rules σ place (view s).variables (view s).result >> body_rules σ place (view s).variables (view s).formulas tokens >> form_checks σ place s)
   behind_levels = all_hold-rest (each_in_order is_level (view s).levels) _ good
 

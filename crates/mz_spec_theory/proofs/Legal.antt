@@ -17,7 +17,7 @@ use Rattle.mz_logic_theory.specs.Variables.{InFV, IsBoundAt}
 use Rattle.mz_logic_theory.specs.declared.binder.Binder.{Binder}
 use Rattle.mz_logic_theory.specs.declared.binder.SortMods.{SortMods}
 use Rattle.mz_logic_theory.proofs.Offered.{all_from_each, terms_are_sorted, assertions_are_sorted}
-use Rattle.mz_math_tokens.specs.declared.pieces.Piece.{Piece}
+use Rattle.mz_math_tokens.specs.declared.tokens.MathToken.{MathToken}
 use Rattle.mz_math_theory.specs.declared.wanted.Wanted.TheVariants.{Sort as of_sort}
 use Rattle.mz_math_theory.specs.Kept.{IsTable, AreVariables}
 use Rattle.mz_math_theory.proofs.Offered.{one-meaning}
@@ -214,7 +214,7 @@ statement-sorted σ (delimiter_statement left right) all = tt
 statement-sorted σ (notation_statement h t ls l tail) all = groups-sorted σ h.groups (every-front (SortIsKnown σ) (group_types h.groups) (t ∷ []) all).0
 
 module _ (σ : State) (place : ℕ) (kept : IsKept σ) where
-  module _ (s : Statement) (tokens : List (List Piece)) (good : AllHold (statement_checks σ place s tokens)) where
+  module _ (s : Statement) (tokens : List (List MathToken)) (good : AllHold (statement_checks σ place s tokens)) where
     known : Every (SortIsKnown σ) (view s).types
     known = types-known σ (names_of (view s).variables) (view s).types (good-types σ place s tokens good)
 
@@ -229,7 +229,7 @@ module _ (σ : State) (place : ℕ) (kept : IsKept σ) where
 
   -- ---- terms and definitions
 
-  good-term : (h : Head) (ts : List TypeText) (t : TypeText) (tokens : List (List Piece)) → AllHold (statement_checks σ place (term_statement h ts t) tokens)
+  good-term : (h : Head) (ts : List TypeText) (t : TypeText) (tokens : List (List MathToken)) → AllHold (statement_checks σ place (term_statement h ts t) tokens)
       → IsLegalDecl σ.env (term_decl (record { signature = signature_of σ (view (term_statement h ts t)).variables t; form = plain_form }))
   good-term h ts t tokens good =
       let s = term_statement h ts t in
@@ -241,7 +241,7 @@ module _ (σ : State) (place : ℕ) (kept : IsKept σ) where
   HasBody vs t None f = f ≡ abstract_form
   HasBody vs t (Some l) f = (e : Tree) × IsMeant σ vs (body l t) e × CoversFreeVariables σ vs t e × (f ≡ defined (dummy_binders σ vs) e)
 
-  pub good-definition : (h : Head) (t : TypeText) (b : Option Lexeme) (f : Form) (tokens : List (List Piece)) → AllHold (statement_checks σ place (definition_statement h t b) tokens)
+  pub good-definition : (h : Head) (t : TypeText) (b : Option Lexeme) (f : Form) (tokens : List (List MathToken)) → AllHold (statement_checks σ place (definition_statement h t b) tokens)
       → HasBody (view (definition_statement h t b)).variables t b f
       → IsLegalDecl σ.env (term_decl (record { signature = signature_of σ (view (definition_statement h t b)).variables t; form = f }))
   good-definition h t None f tokens good is =
@@ -287,7 +287,7 @@ module _ (σ : State) (place : ℕ) (kept : IsKept σ) where
     hyps-provable (h ∷ hs) es (e, rest, meant, are, same) =
         subst Each (sym same) (each-followed (copies h.times e) rest (each-copies h.times e (claim-provable h.math e meant)) (hyps-provable hs rest are))
 
-  pub good-assertion : (k : AssertKind) (h : Head) (ps : List Source) (c : Lexeme) (d : Declaration) (tokens : List (List Piece)) → IsWritten (assert_statement k h ps c)
+  pub good-assertion : (k : AssertKind) (h : Head) (ps : List Source) (c : Lexeme) (d : Declaration) (tokens : List (List MathToken)) → IsWritten (assert_statement k h ps c)
       → AllHold (statement_checks σ place (assert_statement k h ps c) tokens) → Declares σ (assert_statement k h ps c) d → IsLegalDecl σ.env d
   good-assertion k h ps c d tokens spelled good (hyps, e, are, meant, same) =
       let s = assert_statement k h ps c in
@@ -306,7 +306,7 @@ module _ (σ : State) (place : ℕ) (kept : IsKept σ) where
   -- ---- all of them
 
   -- the body that a good definition declares
-  body-has : (h : Head) (t : TypeText) (b : Option Lexeme) (f : Form) (tokens : List (List Piece)) → AllHold (statement_checks σ place (definition_statement h t b) tokens)
+  body-has : (h : Head) (t : TypeText) (b : Option Lexeme) (f : Form) (tokens : List (List MathToken)) → AllHold (statement_checks σ place (definition_statement h t b) tokens)
       → IsTable σ.table → AreVariables (scope_of σ (view (definition_statement h t b)).variables).names
       → IsForm σ (view (definition_statement h t b)).variables t b f → HasBody (view (definition_statement h t b)).variables t b f
   body-has h t None f tokens good table names is = is
@@ -316,7 +316,7 @@ module _ (σ : State) (place : ℕ) (kept : IsKept σ) where
       let same = one-meaning (reader_of σ (view s).variables) (of_sort (sort_number σ t)) _ table names free.0 e free.1 meant in
       (e, meant, subst (CoversFreeVariables σ (view s).variables t) same free.2, is)
 
-  pub legal-written : (s : Statement) (d : Declaration) (tokens : List (List Piece)) → IsWritten s → AllHold (statement_checks σ place s tokens) → Declares σ s d → IsLegalDecl σ.env d
+  pub legal-written : (s : Statement) (d : Declaration) (tokens : List (List MathToken)) → IsWritten s → AllHold (statement_checks σ place s tokens) → Declares σ s d → IsLegalDecl σ.env d
   legal-written (sort_statement m n) d tokens spelled good is = subst (IsLegalDecl σ.env) (sym is) (tt, (tt, (tt, (tt, (tt, (tt, (tt, (tt, tt))))))))
   legal-written (term_statement h ts t) d tokens spelled good is = subst (IsLegalDecl σ.env) (sym is) (good-term h ts t tokens good)
   legal-written (assert_statement k h ps c) d tokens spelled good is = good-assertion k h ps c d tokens spelled good is
@@ -330,5 +330,5 @@ module _ (σ : State) (place : ℕ) (kept : IsKept σ) where
   legal-written (notation_statement h t ls l tail) d tokens spelled good is = absurd is
 
   -- the same of lexemes of a text
-  pub declared-legal : (s : Statement) (d : Declaration) (tokens : List (List Piece)) → IsSpelled s → AllHold (statement_checks σ place s tokens) → Declares σ s d → IsLegalDecl σ.env d
+  pub declared-legal : (s : Statement) (d : Declaration) (tokens : List (List MathToken)) → IsSpelled s → AllHold (statement_checks σ place s tokens) → Declares σ s d → IsLegalDecl σ.env d
   declared-legal s d tokens spelled good is = legal-written s d tokens (spelled-written s spelled) good is

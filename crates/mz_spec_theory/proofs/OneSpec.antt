@@ -6,7 +6,7 @@ use Rattle.mz_lex.proofs.Offered.{one-lexing}
 use Rattle.mz_logic_theory.specs.Legality.{IsLegalEnv}
 use Rattle.mz_base_theory.specs.Checks.{FailsFirst}
 use Rattle.mz_base_theory.proofs.Offered.{fails_first-unique, all_hold-excludes}
-use Rattle.mz_math_tokens.specs.declared.pieces.Piece.{Piece}
+use Rattle.mz_math_tokens.specs.declared.tokens.MathToken.{MathToken}
 use Rattle.mz_spec_theory.specs.declared.refusal.Fault.{Fault}
 use Rattle.mz_spec_theory.specs.Statement.{Statement, Spells}
 use Rattle.mz_spec_theory.specs.Stops.{Stops, StopsBy}
@@ -47,12 +47,12 @@ kinds-split ls front back is kinds = every-front IsOfKind front back (subst (Eve
 fails-one : (σ : State) (place : ℕ) (s : Statement) (f g : Fault) → Fails σ place s f → Fails σ place s g → f ≡ g
 fails-one σ place s f g (tokens, are, fails) (others, are_g, fails_g) =
     let same = tokens-one σ (view s).formulas others tokens are_g are in
-    fails_first-unique (statement_checks σ place s tokens) f g fails (subst (λ (xs : List (List Piece)). FailsFirst (statement_checks σ place s xs) g) same fails_g)
+    fails_first-unique (statement_checks σ place s tokens) f g fails (subst (λ (xs : List (List MathToken)). FailsFirst (statement_checks σ place s xs) g) same fails_g)
 
 good-fails : (σ : State) (place : ℕ) (s : Statement) (f : Fault) → IsGood σ place s → Fails σ place s f → ⊥
 good-fails σ place s f (tokens, are, good) (others, are_f, fails) =
     let same = tokens-one σ (view s).formulas others tokens are_f are in
-    all_hold-excludes (statement_checks σ place s tokens) f good (subst (λ (xs : List (List Piece)). FailsFirst (statement_checks σ place s xs) f) same fails)
+    all_hold-excludes (statement_checks σ place s tokens) f good (subst (λ (xs : List (List MathToken)). FailsFirst (statement_checks σ place s xs) f) same fails)
 
 -- what holds of a statement and the place of its first lexeme holds of the same statement and lexemes
 turned : (P : ℕ → Statement → Type 0) (s r : Statement) (front other : List Lexeme) → s ≡ r → front ≡ other → P (place_of_first other) r → P (place_of_first front) s

@@ -8,13 +8,13 @@ use Rattle.mz_logic_theory.specs.Tree.{Tree, Trees, none, followed_by}
 use Rattle.mz_logic_theory.specs.Declaration.{sort_decl, term_decl, assertion_decl, plain_form, abstract_form, defined, signatures}
 use Rattle.mz_logic_theory.specs.Variables.{InFV}
 use Rattle.mz_base_theory.specs.Checks.{Checks, each_in_order, ◌>>◌, AllHold, FailsFirst, AreDecided}
-use Rattle.mz_math_tokens.specs.declared.pieces.Piece.{Piece}
-use Rattle.mz_math_tokens.specs.Pieces.{Pieces}
+use Rattle.mz_math_tokens.specs.declared.tokens.MathToken.{MathToken}
+use Rattle.mz_math_tokens.specs.MathTokens.{MathTokens}
 use Rattle.mz_math_theory.specs.Notation.{with_notation, with_coercion, with_delimiters}
 use Rattle.mz_math_theory.specs.Formula.{Misreading, IsFormula, Misreads, formula_checks}
 use Rattle.mz_math_theory.specs.Kept.{AreVariables}
 use Rattle.mz_math_theory.proofs.Offered.{some-reading, one-meaning, one-reading as one-string}
-use Rattle.mz_math_tokens.proofs.Offered.{pieces-one}
+use Rattle.mz_math_tokens.proofs.Offered.{math_tokens-one}
 use Rattle.mz_spec_theory.specs.declared.refusal.Fault.{Fault}
 use Rattle.mz_spec_theory.specs.Statement.{TypeText, Statement, sort_statement, term_statement, assert_statement, definition_statement, operator_statement, coercion_statement, delimiter_statement, notation_statement, Spells}
 use Rattle.mz_spec_theory.specs.Stops.{Stops}
@@ -56,17 +56,17 @@ judged-both bs cs (inl all) more = go (more all)
 -- ---- formulas
 
 module _ (σ : State) (kept : IsKept σ) (vs : List Variable) (vars : AreVariables (scope_of σ vs).names) where
-  string-judged : (f : Formula) (ps : List Piece) → Pieces σ.table.delimiters (inner (math_of f)) ps → Judged (string_checks σ vs f ps)
+  string-judged : (f : Formula) (ps : List MathToken) → MathTokens σ.table.delimiters (inner (math_of f)) ps → Judged (string_checks σ vs f ps)
   string-judged f ps cut = retold-judged (told (math_of f)) (formula_checks (reader_of σ vs) (wanted_of σ f) (inner (math_of f)) ps) (go (some-reading (reader_of σ vs) (wanted_of σ f) (inner (math_of f)) kept.table vars))
     where
       go : ((e : Tree) × IsFormula (reader_of σ vs) (wanted_of σ f) (inner (math_of f)) e) ⊎ ((m : Misreading) × Misreads (reader_of σ vs) (wanted_of σ f) (inner (math_of f)) m)
           → Judged (formula_checks (reader_of σ vs) (wanted_of σ f) (inner (math_of f)) ps)
       go (inl (e, (qs, other, all, means))) =
-          inl (subst (λ (xs : List Piece). AllHold (formula_checks (reader_of σ vs) (wanted_of σ f) (inner (math_of f)) xs)) (pieces-one σ.table.delimiters (inner (math_of f)) 0 qs ps other cut) all)
+          inl (subst (λ (xs : List MathToken). AllHold (formula_checks (reader_of σ vs) (wanted_of σ f) (inner (math_of f)) xs)) (math_tokens-one σ.table.delimiters (inner (math_of f)) 0 qs ps other cut) all)
       go (inr (m, (qs, other, fails))) =
-          inr (m, subst (λ (xs : List Piece). FailsFirst (formula_checks (reader_of σ vs) (wanted_of σ f) (inner (math_of f)) xs) m) (pieces-one σ.table.delimiters (inner (math_of f)) 0 qs ps other cut) fails)
+          inr (m, subst (λ (xs : List MathToken). FailsFirst (formula_checks (reader_of σ vs) (wanted_of σ f) (inner (math_of f)) xs) m) (math_tokens-one σ.table.delimiters (inner (math_of f)) 0 qs ps other cut) fails)
 
-  strings-judged : (fs : List Formula) (pss : List (List Piece)) → AreTokens σ fs pss → Judged (strings_checks σ vs fs pss)
+  strings-judged : (fs : List Formula) (pss : List (List MathToken)) → AreTokens σ fs pss → Judged (strings_checks σ vs fs pss)
   strings-judged [] pss are = inl tt
   strings-judged (f ∷ fs) [] are = absurd are
   strings-judged (f ∷ fs) (ps ∷ pss) (cut, are) = judged-both (string_checks σ vs f ps) (strings_checks σ vs fs pss) (string-judged f ps cut) (λ _. strings-judged fs pss are)
@@ -92,14 +92,14 @@ module _ (σ : State) (kept : IsKept σ) (vs : List Variable) (vars : AreVariabl
   frees-decided place (claim l) = tt
   frees-decided place (body l t) = (body-decided l t, λ _. tt)
 
-  bodies-judged : (place : ℕ) (fs : List Formula) (pss : List (List Piece)) → AreTokens σ fs pss → Judged (body_rules σ place vs fs pss)
+  bodies-judged : (place : ℕ) (fs : List Formula) (pss : List (List MathToken)) → AreTokens σ fs pss → Judged (body_rules σ place vs fs pss)
   bodies-judged place fs pss are =
       judged-both (strings_checks σ vs fs pss) (each_in_order (free_checks σ place vs) fs) (strings-judged fs pss are)
       (λ _. all_hold-or_fails (each_in_order (free_checks σ place vs) fs) (are_decided-rows (free_checks σ place vs) (frees-decided place) fs))
 
 -- ---- statements
 
-module _ (σ : State) (kept : IsKept σ) (place : ℕ) (s : Statement) (written : IsWritten s) (tokens : List (List Piece)) (are : AreTokens σ (view s).formulas tokens) where
+module _ (σ : State) (kept : IsKept σ) (place : ℕ) (s : Statement) (written : IsWritten s) (tokens : List (List MathToken)) (are : AreTokens σ (view s).formulas tokens) where
   named : AllHold (name_rules σ (view s)) → AreVariables (scope_of σ (view s).variables).names
   named all = split-variables (view s).variables (all_hold-rest (each_in_order (is_new σ) (view s).declares) (are_others [] (view s).variables) all) (variables-written s written)
 
@@ -132,7 +132,7 @@ module _ (σ : State) (kept : IsKept σ) (place : ℕ) (s : Statement) (written 
 statement-judged : (σ : State) (place : ℕ) (s : Statement) → IsKept σ → IsWritten s → IsGood σ place s ⊎ ((f : Fault) × Fails σ place s f)
 statement-judged σ place s kept written = go (formulas-tokens σ (view s).formulas)
   where
-    go : (pss : List (List Piece)) × AreTokens σ (view s).formulas pss → IsGood σ place s ⊎ ((f : Fault) × Fails σ place s f)
+    go : (pss : List (List MathToken)) × AreTokens σ (view s).formulas pss → IsGood σ place s ⊎ ((f : Fault) × Fails σ place s f)
     go (pss, are) = by (checks-judged σ kept place s written pss are)
       where
         by : Judged (statement_checks σ place s pss) → IsGood σ place s ⊎ ((f : Fault) × Fails σ place s f)
@@ -142,7 +142,7 @@ statement-judged σ place s kept written = go (formulas-tokens σ (view s).formu
 -- ---- what a good statement makes
 
 module _ (σ : State) (kept : IsKept σ) (vs : List Variable) (vars : AreVariables (scope_of σ vs).names) where
-  string-meant : (f : Formula) (ps : List Piece) → Pieces σ.table.delimiters (inner (math_of f)) ps → AllHold (string_checks σ vs f ps) → (e : Tree) × IsMeant σ vs f e
+  string-meant : (f : Formula) (ps : List MathToken) → MathTokens σ.table.delimiters (inner (math_of f)) ps → AllHold (string_checks σ vs f ps) → (e : Tree) × IsMeant σ vs f e
   string-meant f ps cut all = go (some-reading (reader_of σ vs) (wanted_of σ f) (inner (math_of f)) kept.table vars)
     where
       excluded : (m : Misreading) → FailsFirst (formula_checks (reader_of σ vs) (wanted_of σ f) (inner (math_of f)) ps) m → ⊥
@@ -152,9 +152,9 @@ module _ (σ : State) (kept : IsKept σ) (vs : List Variable) (vars : AreVariabl
       go : ((e : Tree) × IsFormula (reader_of σ vs) (wanted_of σ f) (inner (math_of f)) e) ⊎ ((m : Misreading) × Misreads (reader_of σ vs) (wanted_of σ f) (inner (math_of f)) m) → (e : Tree) × IsMeant σ vs f e
       go (inl meant) = meant
       go (inr (m, (qs, other, fails))) =
-          absurd (excluded m (subst (λ (xs : List Piece). FailsFirst (formula_checks (reader_of σ vs) (wanted_of σ f) (inner (math_of f)) xs) m) (pieces-one σ.table.delimiters (inner (math_of f)) 0 qs ps other cut) fails))
+          absurd (excluded m (subst (λ (xs : List MathToken). FailsFirst (formula_checks (reader_of σ vs) (wanted_of σ f) (inner (math_of f)) xs) m) (math_tokens-one σ.table.delimiters (inner (math_of f)) 0 qs ps other cut) fails))
 
-  strings-meant : (fs : List Formula) (pss : List (List Piece)) → AreTokens σ fs pss → AllHold (strings_checks σ vs fs pss) → Every (λ f. (e : Tree) × IsMeant σ vs f e) fs
+  strings-meant : (fs : List Formula) (pss : List (List MathToken)) → AreTokens σ fs pss → AllHold (strings_checks σ vs fs pss) → Every (λ f. (e : Tree) × IsMeant σ vs f e) fs
   strings-meant [] pss are all = tt
   strings-meant (f ∷ fs) [] are all = absurd are
   strings-meant (f ∷ fs) (ps ∷ pss) (cut, are) all =

@@ -2,8 +2,8 @@
 use Rattle.std.proofs.Common.{◌≡◌, ◌++◌, ℕ, List, [], ◌∷◌, map, refl, sym, subst}
 use Rattle.mz_base_theory.specs.Checks.{Checks, nothing, ◌>>◌, AllHold, FailsFirst, each_in_order}
 use Rattle.mz_base_theory.proofs.Offered.{all_hold-both}
-use Rattle.mz_math_tokens.specs.declared.pieces.Piece.{Piece}
-use Rattle.mz_math_tokens.specs.Pieces.{Pieces}
+use Rattle.mz_math_tokens.specs.declared.tokens.MathToken.{MathToken}
+use Rattle.mz_math_tokens.specs.MathTokens.{MathTokens}
 use Rattle.mz_spec_theory.specs.Reading.{OnFault}
 use Rattle.mz_spec_theory.specs.declared.refusal.Fault.{Fault}
 use Rattle.mz_spec_theory.specs.declared.refusal.Halt.{Halt}
@@ -17,8 +17,8 @@ use Rattle.mz_spec_theory.proofs.Loops.{assoc, mem-before, mem-after}
 
 module _ (σ : State) (vs : List Variable) where
   -- the tokens of formulas and of one more
-  pub split-tokens : (fs : List Formula) (f : Formula) (tokens : List (List Piece)) → AreTokens σ (fs ++ f ∷ []) tokens
-      → (before : List (List Piece)) × (ps : List Piece) × AreTokens σ fs before × Pieces σ.table.delimiters (inner (math_of f)) ps
+  pub split-tokens : (fs : List Formula) (f : Formula) (tokens : List (List MathToken)) → AreTokens σ (fs ++ f ∷ []) tokens
+      → (before : List (List MathToken)) × (ps : List MathToken) × AreTokens σ fs before × MathTokens σ.table.delimiters (inner (math_of f)) ps
       × (strings_checks σ vs (fs ++ f ∷ []) tokens ≡ (strings_checks σ vs fs before >> (string_checks σ vs f ps >> nothing)))
   split-tokens [] f [] are = absurd are
   split-tokens [] f (ps ∷ []) (cut, none) = ([], ps, tt, cut, refl)
@@ -31,23 +31,23 @@ module _ (σ : State) (vs : List Variable) where
       go : (cs before last : Checks Fault) → cs ≡ (before >> last) → (string_checks σ vs g ps >> cs) ≡ ((string_checks σ vs g ps >> before) >> last)
       go cs before last is = subst (λ x. (string_checks σ vs g ps >> x) ≡ ((string_checks σ vs g ps >> before) >> last)) (sym is) (sym (assoc (string_checks σ vs g ps) before last))
 
-  pub before-halt : (fs : List Formula) (f : Formula) (tokens : List (List Piece)) (halt : Halt) → AreTokens σ (fs ++ f ∷ []) tokens
-      → ((before : List (List Piece)) → AreTokens σ fs before → OnFault halt (FailsFirst (strings_checks σ vs fs before))) → OnFault halt (FailsFirst (strings_checks σ vs (fs ++ f ∷ []) tokens))
+  pub before-halt : (fs : List Formula) (f : Formula) (tokens : List (List MathToken)) (halt : Halt) → AreTokens σ (fs ++ f ∷ []) tokens
+      → ((before : List (List MathToken)) → AreTokens σ fs before → OnFault halt (FailsFirst (strings_checks σ vs fs before))) → OnFault halt (FailsFirst (strings_checks σ vs (fs ++ f ∷ []) tokens))
   before-halt fs f tokens halt are fails =
       let parts = split-tokens fs f tokens are in
       subst (λ cs. OnFault halt (FailsFirst cs)) (sym parts.4) (mem-before (strings_checks σ vs fs parts.0) (string_checks σ vs f parts.1 >> nothing) halt (fails parts.0 parts.2))
 
-  pub last-halt : (fs : List Formula) (f : Formula) (tokens : List (List Piece)) (halt : Halt) → AreTokens σ (fs ++ f ∷ []) tokens
-      → ((before : List (List Piece)) → AreTokens σ fs before → AllHold (strings_checks σ vs fs before))
-      → ((ps : List Piece) → Pieces σ.table.delimiters (inner (math_of f)) ps → OnFault halt (FailsFirst (string_checks σ vs f ps))) → OnFault halt (FailsFirst (strings_checks σ vs (fs ++ f ∷ []) tokens))
+  pub last-halt : (fs : List Formula) (f : Formula) (tokens : List (List MathToken)) (halt : Halt) → AreTokens σ (fs ++ f ∷ []) tokens
+      → ((before : List (List MathToken)) → AreTokens σ fs before → AllHold (strings_checks σ vs fs before))
+      → ((ps : List MathToken) → MathTokens σ.table.delimiters (inner (math_of f)) ps → OnFault halt (FailsFirst (string_checks σ vs f ps))) → OnFault halt (FailsFirst (strings_checks σ vs (fs ++ f ∷ []) tokens))
   last-halt fs f tokens halt are holds fails =
       let parts = split-tokens fs f tokens are in
       subst (λ cs. OnFault halt (FailsFirst cs)) (sym parts.4)
       (mem-after (strings_checks σ vs fs parts.0) (string_checks σ vs f parts.1 >> nothing) halt (holds parts.0 parts.2) (mem-before (string_checks σ vs f parts.1) nothing halt (fails parts.1 parts.3)))
 
-  pub all-strings : (fs : List Formula) (f : Formula) (tokens : List (List Piece)) → AreTokens σ (fs ++ f ∷ []) tokens
-      → ((before : List (List Piece)) → AreTokens σ fs before → AllHold (strings_checks σ vs fs before))
-      → ((ps : List Piece) → Pieces σ.table.delimiters (inner (math_of f)) ps → AllHold (string_checks σ vs f ps)) → AllHold (strings_checks σ vs (fs ++ f ∷ []) tokens)
+  pub all-strings : (fs : List Formula) (f : Formula) (tokens : List (List MathToken)) → AreTokens σ (fs ++ f ∷ []) tokens
+      → ((before : List (List MathToken)) → AreTokens σ fs before → AllHold (strings_checks σ vs fs before))
+      → ((ps : List MathToken) → MathTokens σ.table.delimiters (inner (math_of f)) ps → AllHold (string_checks σ vs f ps)) → AllHold (strings_checks σ vs (fs ++ f ∷ []) tokens)
   all-strings fs f tokens are holds last =
       let parts = split-tokens fs f tokens are in
       subst AllHold (sym parts.4) (all_hold-both (strings_checks σ vs fs parts.0) (string_checks σ vs f parts.1 >> nothing) (holds parts.0 parts.2) (all_hold-both (string_checks σ vs f parts.1) nothing (last parts.1 parts.3) tt))

@@ -4,11 +4,11 @@ use Rattle.std.specs.Prelude.{slice_index, IsTrue}
 use Rattle.std.proofs.lemmas.Bool.{cases_lt}
 use Rattle.mz_base_theory.proofs.Offered.{contains-decided}
 use Rattle.mz_lex.specs.Kinds.{is_space}
-use Rattle.mz_math_tokens.specs.declared.pieces.Delimiters.{Delimiters}
-use Rattle.mz_math_tokens.specs.declared.pieces.Piece.{Piece}
-use Rattle.mz_math_tokens.specs.Pieces.{IsSpaces, IsPiece, PiecesFrom, Pieces}
+use Rattle.mz_math_tokens.specs.declared.tokens.Delimiters.{Delimiters}
+use Rattle.mz_math_tokens.specs.declared.tokens.MathToken.{MathToken}
+use Rattle.mz_math_tokens.specs.MathTokens.{IsSpaces, IsMathToken, MathTokensFrom, MathTokens}
 use Rattle.mz_math_tokens.specs.Answers.{EndsAt, IsWhole}
-use Rattle.mz_math_tokens.proofs.Offered.{pieces-one, whole-first, whole-more, whole-piece}
+use Rattle.mz_math_tokens.proofs.Offered.{math_tokens-one, whole-first, whole-more, whole-math_token}
 use Rattle.mz_spec_theory.specs.View.{Formula}
 use Rattle.mz_spec_theory.specs.State.{State}
 use Rattle.mz_spec_theory.specs.Formulas.{AreTokens, inner, math_of}
@@ -40,10 +40,10 @@ ends-decided d text at = elim (true-decided (is_space (slice_index text at))) [
 ]
 
 module _ (d : Delimiters) (text : List ℕ) where
-  token-end : (n from to : ℕ) → IsWhole d text from to → n + to ≡ length text → (p : Piece) × (p.from ≡ from) × IsPiece d text p
-  token-end zero from to whole all = (record { from = from; to = to }, refl, whole-piece d text from to whole (inl (let e : to ≡ length text = omega (arith, all) in e)))
+  token-end : (n from to : ℕ) → IsWhole d text from to → n + to ≡ length text → (p : MathToken) × (p.from ≡ from) × IsMathToken d text p
+  token-end zero from to whole all = (record { from = from; to = to }, refl, whole-math_token d text from to whole (inl (let e : to ≡ length text = omega (arith, all) in e)))
   token-end (suc n) from to whole all = elim (ends-decided d text to) [
-    | inl ends ↦ (record { from = from; to = to }, refl, whole-piece d text from to whole (inr ends))
+    | inl ends ↦ (record { from = from; to = to }, refl, whole-math_token d text from to whole (inr ends))
     | inr never ↦ token-end n from (to + 1) (whole-more d text from to whole (omega (arith, all)) never) (omega (arith, all))
   ]
 
@@ -57,14 +57,14 @@ module _ (d : Delimiters) (text : List ℕ) where
         | inr more ↦ subst (λ k. IsTrue (is_space (slice_index text k))) (let e : from ≡ i = omega (arith, le, more) in e) space
       ]
 
-  space-before : (from : ℕ) (ps : List Piece) → IsTrue (is_space (slice_index text from)) → PiecesFrom d text (from + 1) ps → PiecesFrom d text from ps
+  space-before : (from : ℕ) (ps : List MathToken) → IsTrue (is_space (slice_index text from)) → MathTokensFrom d text (from + 1) ps → MathTokensFrom d text from ps
   space-before from [] space on = spaces-more from (length text) space on
   space-before from (p ∷ ps) space (before, is, on) = (spaces-more from p.from space before, is, on)
 
   no-spaces : (from : ℕ) → IsSpaces text from from
   no-spaces from = (omega arith, λ i le below. absurd (omega (arith, le, below)))
 
-  tokens-from : (fuel from : ℕ) → length text ≤ from + fuel → from ≤ length text → (ps : List Piece) × PiecesFrom d text from ps
+  tokens-from : (fuel from : ℕ) → length text ≤ from + fuel → from ≤ length text → (ps : List MathToken) × MathTokensFrom d text from ps
   tokens-from zero from enough within = ([], subst (IsSpaces text from) (let e : from ≡ length text = omega (arith, enough, within) in e) (no-spaces from))
   tokens-from (suc fuel) from enough within = elim (cases_lt from (length text)) [
     | inr past ↦ ([], subst (IsSpaces text from) (let e : from ≡ length text = omega (arith, past, within) in e) (no-spaces from))
@@ -78,23 +78,23 @@ module _ (d : Delimiters) (text : List ℕ) where
     ]
   ]
 
-  pub tokens-there : (ps : List Piece) × Pieces d text ps
+  pub tokens-there : (ps : List MathToken) × MathTokens d text ps
   tokens-there = tokens-from (length text) 0 (omega arith) (omega arith)
 
 -- ---- the formulas of a statement
 
-pub formulas-tokens : (σ : State) (fs : List Formula) → (pss : List (List Piece)) × AreTokens σ fs pss
+pub formulas-tokens : (σ : State) (fs : List Formula) → (pss : List (List MathToken)) × AreTokens σ fs pss
 formulas-tokens σ [] = ([], tt)
 formulas-tokens σ (f ∷ fs) =
     let first = tokens-there σ.table.delimiters (inner (math_of f)) in
     let rest = formulas-tokens σ fs in
     (first.0 ∷ rest.0, (first.1, rest.1))
 
-pub tokens-one : (σ : State) (fs : List Formula) (pss qss : List (List Piece)) → AreTokens σ fs pss → AreTokens σ fs qss → pss ≡ qss
+pub tokens-one : (σ : State) (fs : List Formula) (pss qss : List (List MathToken)) → AreTokens σ fs pss → AreTokens σ fs qss → pss ≡ qss
 tokens-one σ [] [] [] are other = refl
 tokens-one σ [] [] (qs ∷ qss) are other = absurd other
 tokens-one σ [] (ps ∷ pss) qss are other = absurd are
 tokens-one σ (f ∷ fs) [] qss are other = absurd are
 tokens-one σ (f ∷ fs) (ps ∷ pss) [] are other = absurd other
 tokens-one σ (f ∷ fs) (ps ∷ pss) (qs ∷ qss) (is, are) (also, other) =
-    ap₂ ◌∷◌ (pieces-one σ.table.delimiters (inner (math_of f)) 0 ps qs is also) (tokens-one σ fs pss qss are other)
+    ap₂ ◌∷◌ (math_tokens-one σ.table.delimiters (inner (math_of f)) 0 ps qs is also) (tokens-one σ fs pss qss are other)

@@ -10,8 +10,8 @@ use Rattle.mz_logic_theory.specs.Tree.{Tree, Trees, none, followed_by}
 pub use Rattle.mz_logic_theory.specs.Tree.{copies}
 use Rattle.mz_logic_theory.specs.Declaration.{signatures}
 use Rattle.mz_logic_theory.specs.Variables.{InFV}
-use Rattle.mz_math_tokens.specs.declared.pieces.Piece.{Piece}
-use Rattle.mz_math_tokens.specs.Pieces.{Pieces}
+use Rattle.mz_math_tokens.specs.declared.tokens.MathToken.{MathToken}
+use Rattle.mz_math_tokens.specs.MathTokens.{MathTokens}
 use Rattle.mz_math_theory.specs.declared.wanted.Wanted.{Wanted}
 use Rattle.mz_math_theory.specs.declared.wanted.Wanted.TheVariants.{Provable as provable, Sort as of_sort}
 use Rattle.mz_math_theory.specs.Formula.{Misreading, formula_checks, IsFormula}
@@ -47,11 +47,11 @@ AreHyps σ vs (h ∷ hs) es = (e : Tree) × (rest : Trees) × IsMeant σ vs (cla
 -- ---- tokens
 
 -- the tokens of each formula
-abbrev pub AreTokens : State → List Formula → List (List Piece) → Type 0
+abbrev pub AreTokens : State → List Formula → List (List MathToken) → Type 0
 AreTokens σ [] [] = ⊤
 AreTokens σ [] (ps ∷ pss) = ⊥
 AreTokens σ (f ∷ fs) [] = ⊥
-AreTokens σ (f ∷ fs) (ps ∷ pss) = Pieces σ.table.delimiters (inner (math_of f)) ps × AreTokens σ fs pss
+AreTokens σ (f ∷ fs) (ps ∷ pss) = MathTokens σ.table.delimiters (inner (math_of f)) ps × AreTokens σ fs pss
 
 -- ---- rules
 
@@ -64,11 +64,11 @@ abbrev pub told : Lexeme → Misreading → Fault
 told l m = record { at = place_of l m.rule m.at; rule = m.rule }
 
 -- what is asked of a formula with these tokens
-abbrev pub string_checks : State → List Variable → Formula → List Piece → Checks Fault
+abbrev pub string_checks : State → List Variable → Formula → List MathToken → Checks Fault
 string_checks σ vs f ps = retold (told (math_of f)) (formula_checks (reader_of σ vs) (wanted_of σ f) (inner (math_of f)) ps)
 
 -- string by string
-abbrev pub strings_checks : State → List Variable → List Formula → List (List Piece) → Checks Fault
+abbrev pub strings_checks : State → List Variable → List Formula → List (List MathToken) → Checks Fault
 strings_checks σ vs [] pss = nothing
 strings_checks σ vs (f ∷ fs) [] = nothing
 strings_checks σ vs (f ∷ fs) (ps ∷ pss) = string_checks σ vs f ps >> strings_checks σ vs fs pss

@@ -7,7 +7,7 @@ use Rattle.mz_base_theory.specs.Checks.{Checks, nothing, demand, each_in_order, 
 use Rattle.mz_logic_theory.specs.Declaration.{sorts as sorts_in}
 use Rattle.mz_logic_theory.specs.Modifiers.{IsPure, IsStrict, IsFree}
 use Rattle.mz_logic_theory.specs.declared.binder.SortMods.{SortMods}
-use Rattle.mz_math_tokens.specs.declared.pieces.Piece.{Piece}
+use Rattle.mz_math_tokens.specs.declared.tokens.MathToken.{MathToken}
 use Rattle.mz_spec_theory.specs.declared.refusal.Fault.{Fault}
 use Rattle.mz_base.specs.Names.{number_of, IsNew, IsKnown}
 use Rattle.mz_spec_theory.specs.Dependencies.{Every, IsBoundAmong}
@@ -113,11 +113,11 @@ abbrev pub parts_rules : State → ℕ → List Variable → List TypeText → L
 parts_rules σ place vs types results = variable_rules σ vs types >> binder_rules σ place vs results
 
 -- formulas, string by string, then the free variables of a body
-abbrev pub body_rules : State → ℕ → List Variable → List Formula → List (List Piece) → Checks Fault
+abbrev pub body_rules : State → ℕ → List Variable → List Formula → List (List MathToken) → Checks Fault
 body_rules σ place vs formulas tokens = strings_checks σ vs formulas tokens >> each_in_order (free_checks σ place vs) formulas
 
 -- what is asked of the statement at a place, whose formulas have these tokens, over what was declared before
-abbrev pub statement_checks : State → ℕ → Statement → List (List Piece) → Checks Fault
+abbrev pub statement_checks : State → ℕ → Statement → List (List MathToken) → Checks Fault
 statement_checks σ place s tokens =
     each_in_order is_level (view s).levels
     >> name_rules σ (view s)

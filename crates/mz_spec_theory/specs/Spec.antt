@@ -5,7 +5,7 @@ use Rattle.mz_lex.specs.Lexemes.{Lexeme, LexesFrom, Lexes}
 use Rattle.mz_lex.specs.declared.token.LexFault.{LexFault}
 use Rattle.mz_logic_theory.specs.Declaration.{Declaration}
 use Rattle.mz_base_theory.specs.Checks.{AllHold, FailsFirst}
-use Rattle.mz_math_tokens.specs.declared.pieces.Piece.{Piece}
+use Rattle.mz_math_tokens.specs.declared.tokens.MathToken.{MathToken}
 use Rattle.mz_spec_theory.specs.declared.refusal.Fault.{Fault}
 use Rattle.mz_spec_theory.specs.Statement.{Statement, Spells}
 use Rattle.mz_spec_theory.specs.Stops.{Stops}
@@ -21,11 +21,11 @@ use Rattle.mz_spec_theory.specs.Declaring.{After}
 
 -- no rule fails
 abbrev pub IsGood : State → ℕ → Statement → Type 0
-IsGood σ place s = (tokens : List (List Piece)) × AreTokens σ (view s).formulas tokens × AllHold (statement_checks σ place s tokens)
+IsGood σ place s = (tokens : List (List MathToken)) × AreTokens σ (view s).formulas tokens × AllHold (statement_checks σ place s tokens)
 
 -- this is the first rule that fails
 abbrev pub Fails : State → ℕ → Statement → Fault → Type 0
-Fails σ place s fault = (tokens : List (List Piece)) × AreTokens σ (view s).formulas tokens × FailsFirst (statement_checks σ place s tokens) fault
+Fails σ place s fault = (tokens : List (List MathToken)) × AreTokens σ (view s).formulas tokens × FailsFirst (statement_checks σ place s tokens) fault
 
 -- the lexemes begin with these statements, one after the other, each good over what those before it
 -- declare; behind them stand further lexemes

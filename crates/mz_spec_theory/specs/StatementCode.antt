@@ -21,8 +21,8 @@ use Rattle.mz_spec_theory.specs.declared.statement.OperatorText.{OperatorText}
 use Rattle.mz_spec_theory.specs.declared.statement.CoercionText.{CoercionText}
 use Rattle.mz_spec_theory.specs.declared.statement.DelimiterText.{DelimiterText}
 use Rattle.mz_spec_theory.specs.declared.statement.NotationText.{NotationText}
-use Rattle.mz_spec_theory.specs.declared.statement.Statement.{Statement as StatementRead}
-use Rattle.mz_spec_theory.specs.declared.statement.Statement.TheVariants as statements
+use Rattle.mz_spec_theory.specs.declared.statement.SyntaxStatement.{SyntaxStatement as StatementRead}
+use Rattle.mz_spec_theory.specs.declared.statement.SyntaxStatement.TheVariants as statements
 use Rattle.mz_spec_theory.specs.Statement.{Modifiers, TypeText, Source, type_source, formula_source, NameText, Group, Head, Level, number_level, max_level, LiteralText, constant_literal, name_literal, TailText, Statement, sort_statement, term_statement, assert_statement, definition_statement, operator_statement, coercion_statement, delimiter_statement, notation_statement}
 
 abbrev pub lexeme : LexemeRead → Lexeme

@@ -24,6 +24,6 @@ pub use spec_refusal::SpecRefusal;
 pub use stated::Stated;
 pub use statement::{
     AssertText, CoercionText, DefinitionText, DelimiterText, Group, Head, Level, LiteralText,
-    Modifiers, NameText, NotationText, OperatorText, Source, Statement, TailText, TermText,
+    Modifiers, NameText, NotationText, OperatorText, Source, SyntaxStatement, TailText, TermText,
     TypeText,
 };

@@ -143,7 +143,7 @@ pub struct NotationText<'a> {
 
 /// A statement, whose names and strings are lexemes of the text.
 #[derive(Drop)]
-pub enum Statement<'a> {
+pub enum SyntaxStatement<'a> {
     Sort {
         modifiers: Modifiers,
         name: Lexeme<'a>,

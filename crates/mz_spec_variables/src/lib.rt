@@ -14,6 +14,6 @@ mod variables;
 
 pub use by_name::{are_bound_before, places_among, places_of};
 pub use index::NameIndex;
-pub use names::Names;
+pub use names::NameMap;
 pub use parts::{Parts, TypeAt};
 pub use variables::Variable;

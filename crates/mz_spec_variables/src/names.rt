@@ -12,14 +12,14 @@ const FEW: usize = 8;
 
 /// Names in the order in which they were declared, borrowed from the text.
 #[derive(Drop)]
-pub struct Names<'a> {
+pub struct NameMap<'a> {
     // the first ones
     first: Vec<&'a [u8]>,
     // those behind them
     others: IndexSet<&'a [u8], Hashing>,
 }
 
-impl<'a> Model for Names<'a> {
+impl<'a> Model for NameMap<'a> {
     ghost use Rattle.std.specs.Prelude.{List, ℕ, map, ◌++◌};
 
     ghost Value = { List (List ℕ) };
@@ -27,12 +27,12 @@ impl<'a> Model for Names<'a> {
     ghost view = { λ a. map (λ name. name.now) a.first.items ++ map (λ name. name.now) a.others.keys };
 }
 
-impl<'a> Names<'a> {
+impl<'a> NameMap<'a> {
     /// No names.
-    pub fn new(alloc: Global, hashing: Hashing) -> Names<'a>
+    pub fn new(alloc: Global, hashing: Hashing) -> NameMap<'a>
         ensures { result ≡ [] }
     {
-        Names {
+        NameMap {
             first: Vec::new(alloc),
             others: IndexSet::with_hasher(alloc, hashing),
         }

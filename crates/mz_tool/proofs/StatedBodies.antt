@@ -9,7 +9,7 @@ use Rattle.mz_logic_theory.specs.declared.binder.Binder.{Binder}
 use Rattle.mz_logic_theory.proofs.Offered.{split_at}
 use Rattle.mz_unify_theory.specs.Spells.{variables_from}
 use Rattle.mz_unify_theory.proofs.Offered.{some_is, distinct, in-some, operand-trees_of, length-params}
-use Rattle.mz_emit_theory.specs.Sameness.{own}
+use Rattle.mz_emit_theory.specs.AlphaEquivalence.{own}
 use Rattle.mz_emit_theory.proofs.Offered.{operand-front, operand-behind, operand-variables}
 use Rattle.mz_emit_accepted_theory.proofs.Offered.{fresh-back, own-of}
 use Rattle.mz_spec_proved_theory.specs.Trees.{SameOver, AllSameOver, Pairs, IsPaired, SameBody}

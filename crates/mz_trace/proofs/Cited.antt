@@ -14,7 +14,7 @@ use Rattle.mz_unify_theory.specs.UnifyMachine.{UnifyState, unify}
 use Rattle.mz_unify_theory.proofs.Offered.{citation-is}
 use Rattle.mz_machine_theory.specs.MachineState.{RowsBefore, State, Declares, signatures_in}
 use Rattle.mz_machine_theory.specs.Premises.{pop_expr, pop_operands}
-use Rattle.mz_machine_theory.specs.Facts.{Fact}
+use Rattle.mz_machine_theory.specs.Invariant.{Fact}
 use Rattle.mz_machine_theory.proofs.Offered.{pair-at, signatures-are, expr-top, operands-top}
 use Rattle.mz_trace.specs.Nodes.{conclusion_under}
 use Rattle.mz_trace.specs.Commands.{anything}

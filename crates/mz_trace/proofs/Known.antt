@@ -7,7 +7,7 @@ use Rattle.mz_unify_theory.specs.Profile.{strict}
 use Rattle.mz_machine_theory.specs.MachineState.{RowsBefore, State, Heading}
 use Rattle.mz_machine_theory.specs.Bodies.{body_start}
 use Rattle.mz_machine_theory.specs.ProofMachine.{proof_step}
-use Rattle.mz_machine_theory.specs.Facts.{Fact}
+use Rattle.mz_machine_theory.specs.Invariant.{Fact}
 use Rattle.mz_machine_theory.proofs.Offered.{keeps, start-fact}
 use Rattle.mz_trace.specs.Commands.{Stage, state_of, anything, IsKnown}
 

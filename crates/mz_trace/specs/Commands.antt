@@ -8,7 +8,7 @@ use Rattle.mz_logic_theory.specs.declared.binder.Binder.{Binder}
 use Rattle.mz_unify_theory.specs.Profile.{strict}
 use Rattle.mz_unify_theory.specs.Spells.{dummy_of}
 use Rattle.mz_machine_theory.specs.MachineState.{RowsBefore, State, Declares}
-use Rattle.mz_machine_theory.specs.Facts.{IsFront, Fact}
+use Rattle.mz_machine_theory.specs.Invariant.{IsFront, Fact}
 use Rattle.mz_machine_theory.specs.ProofMachine.{proof_step}
 use Rattle.mz_machine_env.specs.Before.{AreWithin, tables_before}
 use Rattle.mz_layout_tables.specs.declared.taken.Rows.{Rows}

@@ -23,7 +23,7 @@ use Rattle.mz_unify_theory.proofs.Offered.{some_is, parts-are, operands-sorted, 
 use Rattle.mz_machine_theory.specs.MachineState.{RowsBefore, State, Declares}
 use Rattle.mz_machine_theory.specs.Premises.{operands_fit}
 use Rattle.mz_machine_theory.specs.ProofMachine.{proof_step}
-use Rattle.mz_machine_theory.specs.Facts.{IsFront, Fact}
+use Rattle.mz_machine_theory.specs.Invariant.{IsFront, Fact}
 use Rattle.mz_machine_theory.proofs.Offered.{pair-at, signatures-are, signature-at, fits-from, apart-from-test, expr-top, sides-top, operands-top, keeps, stream-row, definition-of}
 use Rattle.mz_trace_theory.specs.Traces.{Trace, variables_in, traced}
 use Rattle.mz_trace_theory.proofs.Standing.{Asked, EachIs, EachFrom, EachProves}

@@ -19,7 +19,7 @@ use Rattle.mz_unify_theory.proofs.Offered.{taken-is, one-assertion, assertion-sp
 use Rattle.mz_machine_theory.specs.MachineState.{RowsBefore, State, Kind, is_theorem, Heading, Declares}
 use Rattle.mz_machine_theory.specs.ProofMachine.{last_item, ending, own_variables, own_stream, as_proofs, proof_step, proof_end}
 use Rattle.mz_machine_theory.specs.Bodies.{body_start}
-use Rattle.mz_machine_theory.specs.Facts.{Fact}
+use Rattle.mz_machine_theory.specs.Invariant.{Fact}
 use Rattle.mz_machine_theory.specs.Sound.{thm_row}
 use Rattle.mz_machine_theory.proofs.Offered.{end-ran, own-run, made, start-fact, claims-sorted}
 use Rattle.mz_trace_theory.specs.Traces.{Trace, traced, trace_start, trace_body, under_lets}

@@ -2,7 +2,7 @@ use Rattle.std.proofs.Common.{◌≤◌, Some, sym, subst, refl, length, inl, in
 use Rattle.std.proofs.lemmas.List.{length-map}
 use Rattle.mz_base_theory.specs.Checks.{AllHold}
 use Rattle.mz_lex.specs.declared.rule.S.TheVariants as rules
-use Rattle.mz_math_tokens.specs.Pieces.{piece_text, piece_texts}
+use Rattle.mz_math_tokens.specs.MathTokens.{token_text, token_texts}
 use Rattle.mz_math_theory.specs.FormulaAnswers.{IsFirstUnknown}
 use Rattle.mz_math_theory.specs.Grammar.{Exp}
 use Rattle.mz_math_theory.specs.Formula.{words, most, known_checks, IsParsed, breaks}
@@ -20,7 +20,7 @@ returns-then-pieces-gt-MOST c = λ r wanted is pieces.
     let text = c.args.text.now in
     let ps = c.args.pieces.now in
     let known : AllHold (known_checks (words r) text ps) = subst (λ ws. AllHold (known_checks ws text ps)) (sym is) c.in_default.ensures in
-    let many = length-map ps (piece_text text) in
+    let many = length-map ps (token_text text) in
     subst (IsParsed r wanted text) (sym c.refused.ensures)
     (known-then r wanted text ps pieces known (breaks rules.Depth) (inl ((λ few. absurd (omega (arith, few, many, c.if-pieces-gt-MOST.true))), refl)))
 
@@ -29,8 +29,8 @@ returns c = λ r wanted is pieces.
     let text = c.args.text.now in
     let ps = c.args.pieces.now in
     let known : AllHold (known_checks (words r) text ps) = subst (λ ws. AllHold (known_checks ws text ps)) (sym is) c.in_default.ensures in
-    let many = length-map ps (piece_text text) in
-    let few : length (piece_texts text ps) ≤ most = omega (arith, many, c.if-pieces-gt-MOST.false) in
+    let many = length-map ps (token_text text) in
+    let few : length (token_texts text ps) ≤ most = omega (arith, many, c.if-pieces-gt-MOST.false) in
     subst (IsParsed r wanted text) (sym c.refused-2.ensures)
     (known-then r wanted text ps pieces known (breaks rules.MathSyntax)
-    (inr (few, inl ((λ h. c.requires.no_tree few h.0 (subst (λ ws. Exp ws 0 h.0 (piece_texts text ps)) is h.1)), refl))))
+    (inr (few, inl ((λ h. c.requires.no_tree few h.0 (subst (λ ws. Exp ws 0 h.0 (token_texts text ps)) is h.1)), refl))))

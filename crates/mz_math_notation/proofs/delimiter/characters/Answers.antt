@@ -1,5 +1,5 @@
 use Rattle.std.proofs.Common.{sym, subst}
-use Rattle.mz_math_tokens.specs.declared.pieces.Delimiters.{Delimiters}
+use Rattle.mz_math_tokens.specs.declared.tokens.Delimiters.{Delimiters}
 use Rattle.mz_math_tokens.specs.Answers.{IsNext}
 use Rattle.mz_math_tokens.proofs.Offered.{SoFar, so-far-none, so-far-more, so-far-all, so-far-never}
 use Rattle.mz_math_notation.proofs.delimiter.characters.Goals as goal
@@ -9,14 +9,14 @@ tokens-init c = subst (SoFar c.args.text.now 0) (sym c.new-characters.ensures) (
 
 pub tokens-preserved : goal.tokens-preserved
 tokens-preserved c =
-    let next = subst (λ (d : Delimiters). IsNext d c.args.text.now c.tokens.at c.in-Some.piece) c.new-whole.ensures c.in-Some.ensures in
-    subst (SoFar c.args.text.now c.in-Some.piece.to) (sym c.in-Ok.ensures.ok)
-    (so-far-more c.args.text.now c.tokens.at c.tokens.characters c.in-Some.piece c.tokens.invariant next c.if-piece-ne1.false)
+    let next = subst (λ (d : Delimiters). IsNext d c.args.text.now c.tokens.at c.in-Some.token) c.new-whole.ensures c.in-Some.ensures in
+    subst (SoFar c.args.text.now c.in-Some.token.to) (sym c.in-Ok.ensures.ok)
+    (so-far-more c.args.text.now c.tokens.at c.tokens.characters c.in-Some.token c.tokens.invariant next c.if-token-ne1.false)
 
-pub returns-then-piece-ne1 : goal.returns-then-piece-ne1
-returns-then-piece-ne1 c =
-    let next = subst (λ (d : Delimiters). IsNext d c.args.text.now c.tokens.at c.in-Some.piece) c.new-whole.ensures c.in-Some.ensures in
-    so-far-never c.args.text.now c.tokens.at c.tokens.characters c.in-Some.piece c.tokens.invariant next c.if-piece-ne1.true
+pub returns-then-token-ne1 : goal.returns-then-token-ne1
+returns-then-token-ne1 c =
+    let next = subst (λ (d : Delimiters). IsNext d c.args.text.now c.tokens.at c.in-Some.token) c.new-whole.ensures c.in-Some.ensures in
+    so-far-never c.args.text.now c.tokens.at c.tokens.characters c.in-Some.token c.tokens.invariant next c.if-token-ne1.true
 
 pub returns : goal.returns
 returns c = so-far-all c.args.text.now c.tokens.at c.tokens.characters c.tokens.invariant c.in_default.ensures
