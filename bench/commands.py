@@ -6,7 +6,7 @@ import sys
 from running import HERE, bytes_of, growth, instructions, shown, sizes, timed
 
 FIRST, LAST, PROFILED = 1000, 8000, 4000
-USAGE = 2  # the exit number where the words are no command
+USAGE = 2  # the exit number where the arguments are no command
 COMMANDS = ("compile", "spec", "decompile", "show", "assemble")
 
 
@@ -24,7 +24,7 @@ def prepared(work, program, n):
 
 
 def words_of(program, command, path):
-    """The program's words for a command over what was prepared, the files that it reads, and the one that it makes."""
+    """The program's arguments for a command over what was prepared, the files that it reads, and the one that it makes."""
     read = {"compile": ["s.mmu"], "spec": ["s.mmu"], "decompile": ["s.mm0", "b.mmb"], "show": ["b.mmb"], "assemble": ["b.list"]}[command]
     out = path("out." + command)
     paths = list(map(path, read))
@@ -38,7 +38,7 @@ def can_run(program, command, path):
 
 
 def runs(work, program, chosen=COMMANDS, n=PROFILED):
-    """Each command, its size, the program's words and the bytes that it reads."""
+    """Each command, its size, the program's arguments and the bytes that it reads."""
     path = prepared(work, program, n)
     for command in chosen:
         words, paths, _ = words_of(program, command, path)

@@ -40,7 +40,7 @@ def measured(work, words):
 
 
 def table(runs, work):
-    """The table's lines, of runs: a name, a size, the program's words and the bytes that it reads."""
+    """The table's lines, of runs: a name, a size, the program's arguments and the bytes that it reads."""
     yield "| Command and files | N | Bytes read | Heap at its largest, MB | The %d functions that asked for most of it, and their shares |" % MOST
     yield "|---|---|---|---|---|"
     for name, n, words, read in runs:

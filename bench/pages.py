@@ -1,4 +1,4 @@
-"""The tables of docs/PERFORMANCE.md, each between its marks."""
+"""The tables of docs/PERFORMANCE.md, each between its comments."""
 import os
 
 PAGE = os.path.join(os.path.dirname(os.path.dirname(os.path.abspath(__file__))), "docs", "PERFORMANCE.md")

@@ -7,7 +7,7 @@ import sys
 
 MOST, LEAST = 5, 0.005  # functions of a row, and the share from which they are named
 PARTS, WIDE, SMALL = 7, 0.5, 0.03  # parts of a row; the share from which a part is taken apart, and that from which it is named
-USAGE = 2  # the exit number where the words are no command
+USAGE = 2  # the exit number where the arguments are no command
 ALLOCATOR = "allocator"
 ALLOCATING = re.compile(r"_*(int_)?(malloc|free|realloc|calloc|memalign)$|(unlink_chunk|malloc_consolidate|sysmalloc|systrim|alloc_perturb)$|rattle_(alloc|realloc|dealloc)$")
 COPYING = re.compile(r"_*(memcpy|memmove|memset|memcmp|bcmp)(_|$)")
@@ -15,7 +15,7 @@ COPYING = re.compile(r"_*(memcpy|memmove|memset|memcmp|bcmp)(_|$)")
 
 def readable(name):
     """crate::module::function, without what it is made for; what allocates and copies in the C library in one word each."""
-    plain = re.sub(r"'\d+$", "", name)  # callgrind's mark of a function within itself
+    plain = re.sub(r"'\d+$", "", name)  # callgrind's sign of a function within itself
     plain = re.split(r"::<|\.(?:constprop|isra|part|cold|llvm)\b", plain)[0]
     if ALLOCATING.match(plain):
         return ALLOCATOR
@@ -92,7 +92,7 @@ def begin_of(costs):
 
 
 def measured(runs, work):
-    """The costs of runs: a name, a size and the program's words; without those for which the program has no command."""
+    """The costs of runs: a name, a size and the program's arguments; without those for which the program has no command."""
     for name, n, words in runs:
         costs = profiled(words, os.path.join(work, "%s.%d.callgrind" % (name, n)))
         print(name, n, costs and costs.whole, file=sys.stderr, flush=True)

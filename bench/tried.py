@@ -23,7 +23,7 @@ def row_of(work, name, n, words, peer):
 
 
 def table(runs, work):
-    """The table's lines, of runs: a name, a size, the program's words and those of the verifier in C, if it has such."""
+    """The table's lines, of runs: a name, a size, the program's arguments and those of the verifier in C, if it has such."""
     yield "| Command and files | N | Instructions, millions | With an allocator that only counts up, millions | Less | Times those in C | With that allocator |"
     yield "|---|---|---|---|---|---|---|"
     for run in runs:

@@ -161,7 +161,7 @@ static __attribute__((noinline)) void store_grow(Store *s) {
 #define HASH_START(head, n) (((u64)(head) << 17 ^ (n)) * HASH_K)
 #define HASH_STEP(h, a) ((((h) << 23 | (h) >> 41) ^ (a)) * HASH_K)
 
-// The node at the tip has head, nargs and args; hash h. Fresh tells whether it
+// The node at the tip has head, nargs and args; hash h. Fresh says whether it
 // is new: then the caller fills in the rest.
 static inline u32 store_enter(Store *s, Node *n, u64 h64, int *fresh) {
   u32 h = (u32)(h64 >> 32), i = h & s->mask;

@@ -19,7 +19,7 @@ USAGE, MEMORY = 2, 4  # exit numbers
 
 
 def words_of(command, folder):
-    """The program's words for the files of a folder."""
+    """The program's arguments for the files of a folder."""
     spec, binary, text = (os.path.join(folder, name) for name in FILES)
     if command in ("compile", "spec"):
         return [command, text, os.path.join(folder, "out")]

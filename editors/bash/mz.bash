@@ -1,4 +1,4 @@
-# Completion of the words of ./mz in bash: the command, then files of the kinds that it reads and writes.
+# Completion of the arguments of ./mz in bash: the command, then files of the kinds that it reads and writes.
 
 # (begin: made of scripts/manual/commands.txt)
 _mz_commands=$'verify\ncompile\ncompile_draft\nspec\ndecompile\nshow\nassemble\naxioms\ndraft\nportable\nsample\ncheck\nprove\nexplore\nserve\nbuild\ninstall\nversion\nhelp'

@@ -5,7 +5,7 @@ const vscode = require("vscode");
 
 const languages = ["mm0", "mmu", "proofs"];
 
-/** Messages to and from the server: JSON with a head that tells its length. */
+/** Messages to and from the server: JSON with a head that has its length. */
 class Connection {
   constructor(process, notice) {
     this.process = process;
@@ -103,7 +103,7 @@ function register(server) {
   ];
 }
 
-/** Tells the server of documents that are opened, changed, saved and closed. */
+/** Notifies the server of documents that are opened, changed, saved and closed. */
 function follow(server) {
   const ours = document => languages.includes(document.languageId);
   const open = document => {

@@ -2,7 +2,7 @@
 
     scripts/build CRATE
 
-Where it is built of the sources as they stand nothing is done. Progress is told on standard error. Two builds at once wait
+Where it is built of the sources as they stand nothing is done. Progress is reported on standard error. Two builds at once wait
 for one another; one that is interrupted leaves nothing but what `rt` keeps of what it has proved. The exit number is 125
 where the program could not be built.
 """

@@ -1,4 +1,4 @@
-"""Tells how far a build is, by the lines that `rt ci` prints."""
+"""Says how far a build is, by the lines that `rt ci` prints."""
 import re
 import sys
 import time

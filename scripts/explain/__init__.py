@@ -1,4 +1,4 @@
-"""Explains what the program says: a refusal, words that are none of its, a file that could not be read.
+"""Explains what the program says: a refusal, arguments that are none of its, a file that could not be read.
 
     refusal(line, words)    of a line that the program wrote for these words: the place, the rule, what was expected and found
     fault(status, words)    of an exit number from 3 to 7

@@ -127,7 +127,7 @@ class Explaining:
         found = self.found_command()
         if found and found[0] not in STATEMENTS:
             return [f"the command is {found[0]:02X}; a statement begins with {STATEMENT_COMMANDS}"]
-        return [f"row {self.statement.row} of the term table has no mark of a definition (bit 7 of its third byte)"] if self.statement else []
+        return [f"row {self.statement.row} of the term table has no flag of a definition (bit 7 of its third byte)"] if self.statement else []
 
     def rule_K6(self):
         counts = {0x04: (self.binary.sorts, "sorts"), 0x05: (self.binary.terms, "terms"), 0x0D: (self.binary.terms, "terms")}
@@ -339,7 +339,7 @@ class Explaining:
         return []
 
     def alike(self, same):
-        return ["both are the same expression, made by two commands: verifiers that compare addresses tell them apart"] if same and self.verb == "portable" else []
+        return ["both are the same expression, made by two commands: verifiers that compare by identity take them for two"] if same and self.verb == "portable" else []
 
     def cause_K26(self, machine, code, value):
         return self.sides(machine)
@@ -374,7 +374,7 @@ class Explaining:
         name = left if isinstance(left, str) else left[0]
         if name in machine.words:
             return [f"{name} is a variable: only the application of a definition is unfolded"]
-        said = [] if self.verb != "portable" or middle is None else ["both are the same expression, made by two commands: verifiers that compare addresses tell them apart"]
+        said = [] if self.verb != "portable" or middle is None else ["both are the same expression, made by two commands: verifiers that compare by identity take them for two"]
         row = self.names.row_of(name)
         return [f"{name} is a plain term, and has no definition"] if row is not None and not self.binary.term(row)[3] else said
 
@@ -387,7 +387,7 @@ class Explaining:
             want = wanted if isinstance(wanted, str) else f"{wanted[0]} {self.show(wanted[1])} is wanted"
             return [f"{where}: {want}" + (f"; found: {self.show(found)}" if found is not None else "")]
         if self.verb == "portable":
-            return ["the trees are the same, made by several commands: verifiers that compare addresses tell them apart"]
+            return ["the trees are the same, made by several commands: verifiers that compare by identity take them for two"]
         return []
 
     def unify(self, machine, code, value):

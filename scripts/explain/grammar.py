@@ -30,7 +30,7 @@ class Statement:
         """Which of these stands next; raises them where nothing stands."""
         if self.at < len(self.lexemes):
             lexeme = self.lexemes[self.at]
-            # (a word of the language comes before a name)
+            # (a keyword comes before a name)
             for option in sorted(options, key=lambda it: it == NAME):
                 if fits(lexeme, option):
                     self.at += 1

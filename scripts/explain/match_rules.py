@@ -1,4 +1,4 @@
-"""What is said where a binary doesn't state what the specification declares: both side by side, the difference marked."""
+"""What is said where a binary doesn't state what the specification declares: both side by side, carets below the difference."""
 from . import specs
 from .binaries import Binary, Names, Speller
 from .notations import Writer
@@ -137,7 +137,7 @@ def renamed(e, names):
 
 
 def marked(one, other, width):
-    """A line with marks below the part in which two texts differ, if they do."""
+    """A line with carets below the part in which two texts differ, if they do."""
     if one == other:
         return ["both are written alike: they differ in what isn't shown, as the sorts of dummies or coercions"]
     first = next((i for i, (a, b) in enumerate(zip(one, other)) if a != b), min(len(one), len(other)))

@@ -7,7 +7,7 @@ OF_TERM = 1024
 
 @dataclass
 class Form:
-    """How a term is written: literals are numbers of operands, or a constant with its level."""
+    """How a term is written: literals are numbers of operands, or a constant with its precedence."""
 
     term: str
     level: float
@@ -106,7 +106,7 @@ class Notations:
         return found
 
     def levels(self, form):
-        """The literals of a form, each operand with the level that it has."""
+        """The literals of a form, each operand with the precedence that it has."""
         for at, it in enumerate(form.literals):
             behind = form.literals[at + 1] if at + 1 < len(form.literals) else None
             if isinstance(it, tuple):

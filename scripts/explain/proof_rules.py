@@ -131,7 +131,7 @@ class Explaining:
             said.append(f"a statement that begins with {head} is written {shapes[head]}")
             if found is self.statement.node or found is None:
                 parts = len(self.statement.node)
-                said.append(f"this one has {parts - 1} parts behind the word {head}")
+                said.append(f"this one has {parts - 1} parts behind the keyword {head}")
         elif found is self.statement.node or not head:
             said.append("a statement begins with sort, term, axiom, def, theorem, local def or local theorem")
         if len(nodes) > 1:

@@ -30,7 +30,7 @@ class Reading:
             return f"`)` closes nothing that was opened in `{before}`"
         form = self.notations.infix.get(token)
         if form:
-            return f"`{token}` of level {form.level} can't take `{before}` on its left: parentheses are missing"
+            return f"`{token}` of precedence {form.level} can't take `{before}` on its left: parentheses are missing"
         return f"behind `{before}` an infix constant or the end belongs, and not `{token}`"
 
     def peek(self):
@@ -66,7 +66,7 @@ class Reading:
         if token in self.notations.leading:
             form = self.notations.leading[token]
             if form.level < level:
-                raise Stopped(begun, f"`{token}` has level {form.level}, and one of {named_level(level)} belongs here: put it into parentheses")
+                raise Stopped(begun, f"`{token}` has precedence {form.level}, and one of {named_level(level)} belongs here: put it into parentheses")
             return self.applied(form.term, self.operands(form, 1, {}), begun)
         if token in self.spec.terms:
             binders = self.spec.terms[token].binders
@@ -120,4 +120,4 @@ class Reading:
 
 
 def named_level(level):
-    return "level max" if level == MAX else f"at least level {level}"
+    return "precedence max" if level == MAX else f"at least precedence {level}"

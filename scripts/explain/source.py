@@ -29,7 +29,7 @@ class Source:
         return start, len(self.data) if end < 0 else end
 
     def shown(self, at):
-        """Where the place is, the line itself, and a mark below the place: three lines."""
+        """Where the place is, the line itself, and a caret below the place: three lines."""
         said, at = self.settled(at)
         start, end = self.bounds(at)
         column = at - start

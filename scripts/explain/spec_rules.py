@@ -69,7 +69,7 @@ class Explaining:
         return said
 
     def rule_S15(self):
-        return [f"the level is {self.word()}, and 4294967294 is the greatest; above all levels is max"]
+        return [f"the precedence is {self.word()}, and 4294967294 is the greatest; above all is max"]
 
     def rule_S16(self):
         return [f"{self.word()} statements can be left out by hand: no declaration depends on one"]
@@ -234,7 +234,7 @@ class Explaining:
         if not forms:
             return ["no infix constant is declared before this statement"]
         named = [f"{it} ({'max' if form.level == MAX else form.level}, {'left' if form.is_left else 'right'})" for it, form in list(forms.items())[:12]]
-        return [f"infix constants and their levels: {', '.join(named)}"]
+        return [f"infix constants and their precedences: {', '.join(named)}"]
 
     def rule_S11(self):
         reading = self.reading()
@@ -315,20 +315,20 @@ class Explaining:
             where = self.line(other.at)
             is_infix = not isinstance(other.literals[0], tuple)
             if infix and is_infix and other.level == own.level and other.is_left != own.is_left:
-                said.append(f"level {own.level} groups to the {'left' if other.is_left else 'right'} since {where}; here it is to group to the {'left' if own.is_left else 'right'}")
+                said.append(f"precedence {own.level} groups to the {'left' if other.is_left else 'right'} since {where}; here it is to group to the {'left' if own.is_left else 'right'}")
             for constant in mine:
                 if constant in theirs and theirs[constant] != mine[constant]:
-                    said.append(f"`{constant}` has level {shown_level(theirs[constant])} since {where}; here it is to have {shown_level(mine[constant])}")
+                    said.append(f"`{constant}` has precedence {shown_level(theirs[constant])} since {where}; here it is to have {shown_level(mine[constant])}")
             if not infix and not is_infix and isinstance(first, tuple) and other.literals[0][0] == first[0]:
                 said.append(f"`{first[0]}` begins a notation already, of {where}")
             if infix and is_infix and len(other.literals) > 1 and isinstance(other.literals[1], tuple) and other.literals[1][0] == infix:
                 said.append(f"`{infix}` is an infix constant already, of {where}")
         if infix and own.level == MAX:
-            said.append(f"`{infix}` is infix, and can't have level max")
+            said.append(f"`{infix}` is infix, and can't have precedence max")
         levels = {}
         for constant, level in (it for it in own.literals if isinstance(it, tuple)):
             if levels.setdefault(constant, level) != level:
-                said.append(f"`{constant}` has two levels in this notation: {shown_level(levels[constant])} and {shown_level(level)}")
+                said.append(f"`{constant}` has two precedences in this notation: {shown_level(levels[constant])} and {shown_level(level)}")
         return said[:6]
 
     def rule_S13(self):
@@ -383,7 +383,7 @@ class Explaining:
         if missing:
             said.append(f"each parameter stands once among the literals; {', '.join(missing)} doesn't")
         if not said:
-            said.append(f"binders, sorts and type have to be those of {where}; the literals begin with a constant, or with a parameter and a constant of the level behind them")
+            said.append(f"binders, sorts and type have to be those of {where}; the literals begin with a constant, or with a parameter and a constant of the precedence behind them")
         return said
 
     def rule_S14(self):

@@ -1,4 +1,4 @@
-"""The words that explain each rule's example, kept in table.txt, so that whoever changes them sees what changes.
+"""The text that explains each rule's example, kept in table.txt, so that whoever changes them sees what changes.
 
 Each entry is the command that docs/RULES.md shows for a rule, the line that the program prints, and what is said of it.
 """
@@ -15,7 +15,7 @@ MOST = 220
 
 
 def last_line(words):
-    """The line that the program prints for these words."""
+    """The line that the program prints for these arguments."""
     program = os.environ.get("MZ_PROGRAM") or os.environ.get("MZ") or os.path.join(TOP, "mz")
     how = {"cwd": TOP, "stdout": subprocess.PIPE, "stderr": subprocess.DEVNULL, "stdin": subprocess.DEVNULL, "env": {**os.environ, "MZ_EXPLAIN": "0"}}
     ran = subprocess.run([program, *words], check=False, **how)
@@ -48,6 +48,6 @@ def main(given):
         print(f"{code}: nothing is said of its example")
     wrong = [one for one, other in zip(text.split("\n\n"), kept.split("\n\n")) if one != other] if text != kept else []
     for one in wrong:
-        print(f"scripts/explain/table.txt has other words than:\n{one}")
+        print(f"scripts/explain/table.txt has another text than:\n{one}")
     print(f"{len(found)} refusals are explained as scripts/explain/table.txt has them" if text == kept else "scripts/explain/table.txt isn't what is said: scripts/explain --table --write")
     return 1 if silent or text != kept else 0

@@ -34,7 +34,7 @@ def with_room(call, *given):
 
 
 def path_of(refusal, given):
-    """The file that a refusal speaks of, by the program's words."""
+    """The file that a refusal speaks of, by the program's arguments."""
     number = {"specification": 1, "text": 1, "listing": 1, "limit": 1}.get(refusal.of)
     if refusal.of == "binary":
         number = 1 if given[0] == "show" else 2
@@ -65,7 +65,7 @@ def details(refusal, given):
 
 
 def refusal(line, given):
-    """What is to be said of a line that the program wrote for these words; an empty text where it says no refusal."""
+    """What is to be said of a line that the program wrote for these arguments; an empty text where it says no refusal."""
     found = Refusal.of_line(line)
     if found is None or not given:
         return ""

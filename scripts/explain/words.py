@@ -1,4 +1,4 @@
-"""Words that the program doesn't take, and files that it could not read or write."""
+"""Arguments that the program doesn't take, and files that it could not read or write."""
 import difflib
 import os
 import re
@@ -8,7 +8,7 @@ import manual
 
 
 def usage(words):
-    """What is wrong with the words, or an empty text where the program takes them."""
+    """What is wrong with the arguments, or an empty text where the program takes them."""
     book = manual.read()
     if not words:
         return "no command is named: ./mz help lists all"
@@ -34,11 +34,11 @@ def of_command(command, given):
 
 
 def counted(number):
-    return {1: "one word", 2: "two words", 3: "three words"}.get(number, f"{number} words")
+    return {1: "one argument", 2: "two arguments", 3: "three arguments"}.get(number, f"{number} arguments")
 
 
 def inputs_and_outputs(words):
-    """The files that the words name: those that are read, and those that are written."""
+    """The files that the arguments name: those that are read, and those that are written."""
     command = manual.read().named(words[0]) if words else None
     pairs = list(zip(command.words, words[1:])) if command else []
     return [path for word, path in pairs if word not in ("OUT", "N")], [path for word, path in pairs if word == "OUT"]
@@ -99,7 +99,7 @@ def room_at(path, folder):
 
 
 def why_fault(status, words):
-    """Why a file was not read (3), nothing could be written (5, 6), memory was wanting (4) or a file is too long (7)."""
+    """Why a file was not read (3), nothing could be written (5, 6), memory ran out (4) or a file is too long (7)."""
     read, written = inputs_and_outputs(words)
     if status == 3:
         return [it for it in map(why_not_read, read) if it] or ["each file that is named can be read now: it was not when the program ran, or can be read only once"]

@@ -1,4 +1,4 @@
-"""Names under which terms and variables are written, so that a formula's words are read as what they stand for."""
+"""Names under which terms and variables are written, so that a formula's tokens are read as what they stand for."""
 from collections import Counter, defaultdict
 
 
@@ -55,7 +55,7 @@ class Names:
             yield from (it for it in behind if it not in others)
 
     def _is_taken(self, name):
-        """Whether this word would be read as another thing's constant, or as several words."""
+        """Whether this token would be read as another thing's constant, or as several tokens."""
         return name in self.theory.notations.leading or not self.theory.notations.is_token(name)
 
     def _is_clash(self, name):

@@ -5,7 +5,7 @@ from typing import NamedTuple, Optional
 from .lexemes import Unreadable
 
 MAX = float("inf")
-APPLICATION = 1024  # the level of a term's name with its operands
+APPLICATION = 1024  # the precedence of a term's name with its operands
 
 
 class Constant(NamedTuple):
@@ -15,11 +15,11 @@ class Constant(NamedTuple):
 class Operand(NamedTuple):
     index: int
     level: float
-    left: Optional[float] = None  # a form of this level that groups to the left may stand here too
+    left: Optional[float] = None  # a form of this precedence that groups to the left may stand here too
 
 
 class Form(NamedTuple):
-    """One way to write a term: its level, its literals, and whether it is an infix that groups to the left."""
+    """One way to write a term: its precedence, its literals, and whether it is an infix that groups to the left."""
 
     term: object
     level: float
@@ -51,7 +51,7 @@ def infix(term, constant, level, to_left):
 
 
 def general(term, literals, tail):
-    """A form of `notation`: literals are numbers of parameters and constants with their levels; `tail` is the level and the
+    """A form of `notation`: literals are numbers of parameters and constants with their precedences; `tail` is the precedence and the
     side that stand behind them, or nothing."""
     level, side = tail or (literals[0][1], None)
     made = []

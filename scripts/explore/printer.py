@@ -12,7 +12,7 @@ _GLUE = "\0"
 
 
 class _Literal(NamedTuple):
-    """A constant as it stands in HTML, or an operand's place: its number, sort, and levels."""
+    """A constant as it stands in HTML, or an operand's place: its number, sort, and precedences."""
 
     constant: Optional[str]
     index: int = 0
@@ -50,7 +50,7 @@ class Printer:
         return None
 
     def _glued(self, word):
-        """A word in HTML, with a mark where a delimiter makes the space beside it needless. Browsers would break an arrow."""
+        """A token in HTML, with a mark where a delimiter makes the space beside it needless. Browsers would break an arrow."""
         before = _GLUE if word[0] in self.notations.right else ""
         after = _GLUE if word[-1] in self.notations.left else ""
         shown = escape(word, quote=False)

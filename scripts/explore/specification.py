@@ -314,7 +314,7 @@ class Reader:
         return Notation(word, name, start, at)
 
     def _literal(self, term, names):
-        """The number of a parameter, or a constant and its level."""
+        """The number of a parameter, or a constant and its precedence."""
         if self.lexer.skip("("):
             constant = self._constant(term)
             self.lexer.want(":")

@@ -9,7 +9,7 @@ _PART = re.compile(r"--[^\n]*|[()]|[^\s()]+")
 
 
 def nodes(text):
-    """The top nodes, one after another. A node is a word or a list of nodes."""
+    """The top nodes, one after another. A node is an atom or a list of nodes."""
     stack, here = [], None
     for found in _PART.finditer(text):
         word = found.group()
@@ -65,7 +65,7 @@ class Assertion:
 
 
 class Scope:
-    """The variables of a statement by their words in the text, and its expressions."""
+    """The variables of a statement by their tokens in the text, and its expressions."""
 
     def __init__(self, text, variables, words):
         self.text, self.trees = text, Trees(variables)
@@ -106,7 +106,7 @@ class Text:
         return made
 
     def _variables(self, binders, dummies, declared):
-        """The variables of a statement, and the text's words for them."""
+        """The variables of a statement, and the text's tokens for them."""
         known = declared.parameters if declared else []
         binders = [*binders, *dummies]
         words = [it[0] for it in binders]

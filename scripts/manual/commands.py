@@ -8,7 +8,7 @@ SOURCE = os.path.join(os.path.dirname(os.path.abspath(__file__)), "commands.txt"
 
 @dataclass
 class Command:
-    """One command: its name, the words behind it, and what is said of it."""
+    """One command: its name, the arguments behind it, and what is said of it."""
 
     name: str
     words: list

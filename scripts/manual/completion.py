@@ -3,7 +3,7 @@ BEGIN, END = "# (begin: made of scripts/manual/commands.txt)", "# (end)"
 
 
 def table(manual):
-    """The lines between the marks: the commands, and which files stand at which place."""
+    """The lines between the comments: the commands, and which files stand at which place."""
     names = "\\n".join(it.name for it in manual.commands)
     lines = [f"_mz_commands=$'{names}'", "_mz_ending() { # the ending of the file at a place behind a command", "    case $1:$2 in"]
     ends = {}

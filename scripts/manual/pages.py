@@ -5,7 +5,7 @@ WIDTH = 100
 TITLE = "mz: a verifier for Metamath Zero and a compiler of proof texts, proved right"
 EXAMPLE = "./mz verify examples/double_negation.mm0 examples/double_negation.mmb"
 FIRST = ("The first command that needs the program proves and builds it, for verify and show the verifier alone. "
-         "That takes some minutes, is told step by step, and is done once.")
+         "That takes some minutes, is reported step by step, and is done once.")
 
 
 def wrapped(text, before=""):
@@ -22,7 +22,7 @@ def row(shape, does):
 def overview(manual):
     """All commands, a line each."""
     parts = [
-        "usage: mz COMMAND [WORD..]",
+        "usage: mz COMMAND [ARGUMENT..]",
         TITLE,
         "The program:\n" + "\n".join(row(it.shape(), it.does) for it in manual.of_program()),
         "Around it:\n" + "\n".join(row(it.shape(), it.does) for it in manual.commands if not it.of_program),
@@ -70,7 +70,7 @@ def man_page(manual):
         '.\\" Made of scripts/manual/commands.txt by scripts/manual --write.',
         '.TH MZ 1 "" "mz" "User commands"',
         f".SH NAME\n{name} \\- {roff(is_what)}",
-        ".SH SYNOPSIS\n\\fBmz\\fR \\fICOMMAND\\fR [\\fIWORD\\fR..]",
+        ".SH SYNOPSIS\n\\fBmz\\fR \\fICOMMAND\\fR [\\fIARGUMENT\\fR..]",
         f".SH DESCRIPTION\n{roff(FIRST)}",
         ".SH COMMANDS OF THE PROGRAM",
         *map(man_entry, manual.of_program()),

@@ -1,4 +1,4 @@
-"""Checks a whole proof by the rules of proof texts, before the program does: what is wrong is told at the source's place.
+"""Checks a whole proof by the rules of proof texts, before the program does: what is wrong is reported at the source's place.
 Nothing rests on it. It shares no step with unification."""
 from .logic import App, Var, walk
 from .places import Wrong

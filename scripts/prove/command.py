@@ -43,7 +43,7 @@ class Program:
         self.path = os.environ.get("MZ") or os.path.join(TOP, "mz")
 
     def line(self, *words):
-        """What it prints for these words, and whether its answer is yes."""
+        """What it prints for these arguments, and whether its answer is yes."""
         try:
             ran = subprocess.run([self.path, *words], stdout=subprocess.PIPE, env={**os.environ, "MZ_EXPLAIN": "0"})
         except OSError as why:

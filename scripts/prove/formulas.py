@@ -127,7 +127,7 @@ class Formula:
         raise self.wrong(f"'{token}' is no variable, constant or term here{infix}", begin)
 
     def operands(self, last, term, literals, found):
-        """The operands with where they begin; some are found; `last` is the level of one in the last place."""
+        """The operands with where they begin; some are found; `last` is the precedence of one in the last place."""
         for i, literal in enumerate(literals):
             if isinstance(literal, int):
                 behind = literals[i + 1] if i + 1 < len(literals) else None

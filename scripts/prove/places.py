@@ -67,7 +67,7 @@ class Wrong(Exception):
 
 
 def excerpt(place):
-    """The line of a place, with a mark below it."""
+    """The line of a place, with a caret below it."""
     try:
         line = Source(place.path).text.split("\n")[place.line - 1]
     except (Wrong, IndexError):
@@ -77,7 +77,7 @@ def excerpt(place):
 
 
 def report(why, place, details=(), with_line=False):
-    """A report in lines: the place and the words, the line if that is asked for, and the details below in two columns."""
+    """A report in lines: the place and the message, the line if that is asked for, and the details below in two columns."""
     lines = [f"{place}: {why}" if place else why, *(excerpt(place) if with_line and place else ())]
     width = max((len(label) for label, _ in details), default=0)
     for label, texts in details:

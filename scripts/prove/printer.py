@@ -41,7 +41,7 @@ class Printer:
         return ["(", *tokens, ")"] if own < level else tokens
 
     def whole(self, e, names):
-        """The level of an application, and its tokens."""
+        """The precedence of an application, and its tokens."""
         if e.term.name in self.infix:
             constant, level, to_left, first, literals = self.infix[e.term.name]
             head = self.tokens(e.operands[first], level if to_left else level + 1, names)

@@ -41,7 +41,7 @@ class Node(list):
 
 
 class Atom(str):
-    """A word of a proof text, with its place."""
+    """An atom of a proof text, with its place."""
 
     def __new__(cls, place, text):
         made = super().__new__(cls, text)

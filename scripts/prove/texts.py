@@ -95,7 +95,7 @@ def statement_name(node):
 
 
 def atoms(node):
-    """The words of a node."""
+    """The tokens of a node."""
     if isinstance(node, str):
         return set(node.replace("(", " ").replace(")", " ").split())
     return set().union(*map(atoms, node)) if node else set()

@@ -1,4 +1,4 @@
-"""Messages of the language server protocol: JSON with a head that tells its length."""
+"""Messages of the language server protocol: JSON with a head that has its length."""
 import json
 import threading
 

@@ -33,7 +33,7 @@ class Source:
         return self.made.finish()
 
     def _ends(self, start, i):
-        """Whether a `;` ends the item: behind it nothing, or the word that begins another."""
+        """Whether a `;` ends the item: behind it nothing, or the keyword that begins another."""
         behind = self.lexemes[i + 1].group() if i + 1 < len(self.lexemes) else "theorem"
         return behind in ("theorem", "def", "local", "import", "neighbour") and start < i
 

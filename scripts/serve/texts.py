@@ -9,7 +9,7 @@ _NAME = re.compile(r"[A-Za-z_][A-Za-z0-9_]*\Z")
 
 
 class Word(str):
-    """A word and where it begins."""
+    """An atom and where it begins."""
 
     start = 0
 

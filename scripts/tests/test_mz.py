@@ -1,4 +1,4 @@
-"""Tries ./mz over a small repository, with a kit that proves nothing and a program that only tells what it was given."""
+"""Tries ./mz over a small repository, with a kit that proves nothing and a program that only prints what it was given."""
 import os
 import shutil
 import signal

@@ -9,8 +9,8 @@ use Rattle.mz_asm.specs.declared.kind.Kind.{Kind}
 use Rattle.mz_asm.specs.declared.kind.Kind.TheVariants as kinds
 use Rattle.mz_asm.specs.declared.line.Line.{Line}
 use Rattle.mz_asm.specs.declared.line.Line.TheVariants as lines
-use Rattle.mz_asm.specs.declared.want.Want.{Want}
-use Rattle.mz_asm.specs.declared.want.Want.TheVariants as wants
+use Rattle.mz_asm.specs.declared.expected.Want.{Want}
+use Rattle.mz_asm.specs.declared.expected.Want.TheVariants as wants
 use Rattle.mz_asm.specs.Statements.{Statement, unify_line, proof_line, stream_lines, statement_lines, all_lines, listing_lines, has_result}
 use Rattle.mz_asm.specs.Progress.{opened, next, next_of, next_from}
 use Rattle.mz_asm.specs.Assembling.{Begins}

@@ -13,8 +13,8 @@ use Rattle.mz_asm.specs.declared.kind.Kind.{Kind}
 use Rattle.mz_asm.specs.declared.kind.Kind.TheVariants as kinds
 use Rattle.mz_asm.specs.declared.line.Line.{Line}
 use Rattle.mz_asm.specs.declared.line.Line.TheVariants as lines
-use Rattle.mz_asm.specs.declared.want.Want.{Want}
-use Rattle.mz_asm.specs.declared.want.Want.TheVariants as wants
+use Rattle.mz_asm.specs.declared.expected.Want.{Want}
+use Rattle.mz_asm.specs.declared.expected.Want.TheVariants as wants
 use Rattle.mz_asm.specs.Statements.{Statement, unify_line, proof_line, outcome_lines, stream_lines, lines_of, statement_lines, all_lines, listing_lines, is_sort, has_result, has_streams, unify_bytes, proof_bytes, with_statement, parts_from, parts_of}
 use Rattle.mz_asm.specs.Progress.{next, next_of}
 use Rattle.mz_asm.specs.Making.{Made, sort_parts, with_end, with_line}

@@ -9,8 +9,8 @@ use Rattle.mz_asm.specs.declared.kind.Kind.TheVariants as kinds
 use Rattle.mz_asm.specs.declared.line.Line.{Line}
 use Rattle.mz_asm.specs.declared.line.Line.TheVariants as lines
 use Rattle.mz_asm.specs.declared.rows.Rows.{Rows}
-use Rattle.mz_asm.specs.declared.want.Want.{Want}
-use Rattle.mz_asm.specs.declared.want.Want.TheVariants as wants
+use Rattle.mz_asm.specs.declared.expected.Want.{Want}
+use Rattle.mz_asm.specs.declared.expected.Want.TheVariants as wants
 use Rattle.mz_asm.specs.Statements.{is_sort, has_result, has_streams}
 use Rattle.mz_asm.specs.Rows.{no_rows, rows_after, rows_of, most_of, HasRoom, IsInRange, TakesRow, number_checks}
 use Rattle.mz_asm.specs.Progress.{begun, next, next_of, next_from}

@@ -8,8 +8,8 @@ use Rattle.mz_asm.specs.declared.line.Line.{Line}
 use Rattle.mz_asm.specs.declared.rows.Rows.{Rows}
 use Rattle.mz_asm.specs.declared.rule.A.{A}
 use Rattle.mz_asm.specs.declared.rule.A.TheVariants as rules
-use Rattle.mz_asm.specs.declared.want.Want.{Want}
-use Rattle.mz_asm.specs.declared.want.Want.TheVariants as wants
+use Rattle.mz_asm.specs.declared.expected.Want.{Want}
+use Rattle.mz_asm.specs.declared.expected.Want.TheVariants as wants
 use Rattle.mz_asm.specs.Reading.{line_in}
 use Rattle.mz_asm.specs.Rows.{no_rows, rows_of, IsInRange, TakesRow, number_checks}
 use Rattle.mz_asm.specs.Statements.{Statement, listing_lines, parts_of}

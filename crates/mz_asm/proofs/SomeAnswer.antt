@@ -12,8 +12,8 @@ use Rattle.mz_asm.specs.declared.line.Line.TheVariants as lines
 use Rattle.mz_asm.specs.declared.rows.Rows.{Rows}
 use Rattle.mz_asm.specs.declared.rule.A.{A}
 use Rattle.mz_asm.specs.declared.rule.A.TheVariants as rules
-use Rattle.mz_asm.specs.declared.want.Want.{Want}
-use Rattle.mz_asm.specs.declared.want.Want.TheVariants as wants
+use Rattle.mz_asm.specs.declared.expected.Want.{Want}
+use Rattle.mz_asm.specs.declared.expected.Want.TheVariants as wants
 use Rattle.mz_asm.specs.Reading.{line_in}
 use Rattle.mz_asm.specs.Rows.{next_row, most_of, HasRoom, IsInRange, TakesRow, number_checks}
 use Rattle.mz_asm.specs.Statements.{Statement, is_sort, parts_of}

@@ -13,8 +13,8 @@ use Rattle.mz_asm.specs.declared.rule.A.{A}
 use Rattle.mz_asm.specs.declared.rule.A.TheVariants as rules
 use Rattle.mz_asm.specs.declared.stop.Fault.{Fault}
 use Rattle.mz_asm.specs.declared.stop.Fault.TheVariants as faults
-use Rattle.mz_asm.specs.declared.want.Want.{Want}
-use Rattle.mz_asm.specs.declared.want.Want.TheVariants as wants
+use Rattle.mz_asm.specs.declared.expected.Want.{Want}
+use Rattle.mz_asm.specs.declared.expected.Want.TheVariants as wants
 use Rattle.mz_asm.specs.Reading.{line_in}
 use Rattle.mz_asm.specs.Statements.{is_sort, has_result, code_of}
 use Rattle.mz_asm.specs.Rows.{no_rows, taken, number_checks}

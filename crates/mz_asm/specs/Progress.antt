@@ -3,8 +3,8 @@ use Rattle.std.specs.Prelude.{ℕ, ◌==◌, ◌-◌, ◌&&◌, not, List, [], �
 use Rattle.mz_asm.specs.declared.kind.Kind.{Kind}
 use Rattle.mz_asm.specs.declared.line.Line.{Line}
 use Rattle.mz_asm.specs.declared.line.Line.TheVariants as lines
-use Rattle.mz_asm.specs.declared.want.Want.{Want}
-use Rattle.mz_asm.specs.declared.want.Want.TheVariants as wants
+use Rattle.mz_asm.specs.declared.expected.Want.{Want}
+use Rattle.mz_asm.specs.declared.expected.Want.TheVariants as wants
 use Rattle.mz_asm.specs.Statements.{is_sort, has_result, has_streams}
 
 -- where no word is left of a row without a result, its unify stream is wanted

@@ -6,11 +6,11 @@ ghost use Rattle.mz_asm.specs.Assembling.{GivesBack, IsAssembly, IsListedBack, I
 ghost use Rattle.mz_asm.specs.Making.{nothing_made};
 
 use crate::assembled::Assembled;
-use crate::assembly::Assembly;
+use crate::builder::Assembly;
 use crate::bytes::{behind, place_of};
+use crate::expected::Want;
 use crate::rule::A;
 use crate::stop::Stop;
-use crate::want::Want;
 use mz_layout::LayoutWriter;
 use std::alloc::Global;
 

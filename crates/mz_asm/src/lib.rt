@@ -8,17 +8,17 @@
 
 mod assemble;
 mod assembled;
-mod assembly;
+mod builder;
 mod bytes;
+mod expected;
 mod kind;
 mod laws;
 mod line;
 mod number;
+mod printed;
 mod rows;
 mod rule;
-mod spoken;
 mod stop;
-mod want;
 
 pub use assemble::assemble_bytes;
 pub use assembled::Assembled;
@@ -26,5 +26,5 @@ pub use laws::{
     assembly_is_one, compiled_files_are_normal, lines_are_one, listings_are_assembled,
     normal_files_are_binaries,
 };
+pub use printed::assembled_line;
 pub use rule::A;
-pub use spoken::assembled_line;

@@ -10,7 +10,7 @@ use Rattle.mz_cmd.specs.declared.code.StatementCode.{StatementCode}
 use Rattle.mz_cmd.specs.declared.code.StatementCode.TheVariants as codes
 use Rattle.mz_layout_tables.specs.Heads.{next_row, row_count, rows_after}
 use Rattle.mz_layout_tables.specs.Tables.{thm_count}
-use Rattle.mz_layout_tables.specs.declared.taken.Rows.{Rows}
+use Rattle.mz_layout_tables.specs.declared.rows_so_far.Rows.{Rows}
 use Rattle.mz_axioms.specs.declared.lists.Support.{Support}
 use Rattle.mz_axioms.specs.declared.rows.Place.{Place}
 use Rattle.mz_axioms.specs.declared.rows.Row.{Row}

@@ -15,7 +15,7 @@ use Rattle.mz_cmd.specs.StatementList.{statement_at}
 use Rattle.mz_layout_tables.specs.Heads.{IsHeadAt, IsNextHead, AllTaken, body_bytes, empty_checks, end_checks, head_checks, next_row, row_checks}
 use Rattle.mz_layout_tables.specs.Heads as heads
 use Rattle.mz_layout_tables.specs.declared.head.Head.{Head}
-use Rattle.mz_layout_tables.specs.declared.taken.Rows.{Rows}
+use Rattle.mz_layout_tables.specs.declared.rows_so_far.Rows.{Rows}
 use Rattle.mz_layout_tables.specs.Tables.{sort_count, term_row, thm_row}
 use Rattle.mz_unify_theory.specs.Steps.{◌>>◌ as ◌then◌}
 use Rattle.mz_machine_theory.specs.MachineState.{Heading}
@@ -28,8 +28,8 @@ use Rattle.mz_machine_env.specs.Before.{taken_before}
 use Rattle.mz_binary_theory.specs.Checking.{counts}
 use Rattle.mz_binary_theory.specs.FileRun.{Passing, test, test_params, test_words, test_row, Found, list_ends, stands_alone, has_body, is_empty_body, with_term, with_thm, after_kind, find_empty, find_term_body, find_term_parts, find_thm_parts, find_parts, find_kind, find_of, find_at, all_taken}
 use Rattle.mz_binary.specs.Progress.{Finds, IsOf, StandsAt, found_of, kind_byte, is_axiom_kind, IsTermKind, IsAssertionKind}
-use Rattle.mz_binary.specs.declared.place.Found.{Found as Seen}
-use Rattle.mz_binary.specs.declared.place.Found.TheVariants as seen
+use Rattle.mz_binary.specs.declared.statement.Found.{Found as Seen}
+use Rattle.mz_binary.specs.declared.statement.Found.TheVariants as seen
 use Rattle.mz_binary_theory.proofs.Offered.{code-of, judges-test, params-judged, words-judged, row-judged, empty-decides, taken-decides}
 
 -- ---- one after another

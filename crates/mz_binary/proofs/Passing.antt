@@ -18,9 +18,9 @@ use Rattle.mz_machine_theory.specs.MachineState.{Heading, Kind, State}
 use Rattle.mz_machine_theory.specs.Bodies.{body_run, body_steps}
 use Rattle.mz_machine_theory.specs.Headings.{heading_by, kind_at}
 use Rattle.mz_machine_env.specs.Before.{tables_before, taken_before}
-use Rattle.mz_binary.specs.declared.place.Found.TheVariants as seen
+use Rattle.mz_binary.specs.declared.statement.Found.TheVariants as seen
 use Rattle.mz_layout_tables.specs.declared.head.Head.{Head}
-use Rattle.mz_layout_tables.specs.declared.taken.Rows.{Rows}
+use Rattle.mz_layout_tables.specs.declared.rows_so_far.Rows.{Rows}
 use Rattle.mz_layout_tables.specs.Heads.{IsHead, body_bytes, next_row, rows_after}
 use Rattle.mz_binary_theory.specs.declared.statement.Statement.{Statement as Told}
 use Rattle.mz_machine_theory.specs.FileRows.{Taken, taken_by}

@@ -15,7 +15,7 @@ use Rattle.mz_machine_env.specs.OwnRow.{IsNextRow, MayRun}
 use Rattle.mz_machine_theory.specs.Headings.{kind_at}
 use Rattle.mz_machine_env.specs.Before.{taken_before}
 use Rattle.mz_machine_theory.specs.Lists.{assertion_of}
-use Rattle.mz_layout_tables.specs.declared.taken.Rows.{Rows}
+use Rattle.mz_layout_tables.specs.declared.rows_so_far.Rows.{Rows}
 use Rattle.mz_logic_theory.specs.Declaration.{sorts, terms, assertions}
 use Rattle.mz_binary_theory.specs.Checking.{counts}
 use Rattle.mz_binary_theory.specs.FileRun.{Passing, test, test_params, test_row, test_words, Found, stands_alone, has_body, is_empty_body, with_sort, with_term, with_thm, find_empty, find_term_body, find_term_parts, find_thm_parts, find_parts, find_kind}

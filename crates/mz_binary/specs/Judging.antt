@@ -8,8 +8,8 @@ use Rattle.mz_layout_tables.specs.Layout.{Layout}
 use Rattle.mz_binary_theory.specs.declared.statement.Statement.{Statement as Told}
 use Rattle.mz_binary.specs.declared.checker.Next.{Next}
 use Rattle.mz_binary.specs.declared.checker.Next.TheVariants as next
-use Rattle.mz_binary.specs.declared.whole.Checked.{Checked}
-use Rattle.mz_binary.specs.declared.whole.Checked.TheVariants as checked
+use Rattle.mz_binary.specs.declared.check_file.Checked.{Checked}
+use Rattle.mz_binary.specs.declared.check_file.Checked.TheVariants as checked
 use Rattle.mz_machine_theory.specs.FileRows.{taken_by}
 use Rattle.mz_binary_theory.specs.FileRun.{RunsBody}
 use Rattle.mz_binary_theory.specs.Chains.{IsGoodStatement, GoodTo}

@@ -10,13 +10,13 @@ use Rattle.mz_layout_tables.specs.Tables.{list_at, sort_count, term_count, thm_c
 use Rattle.mz_layout_tables.specs.Layout.{IsBinary}
 use Rattle.mz_layout_tables.specs.Heads.{IsHeadAt, body_bytes, next_row}
 use Rattle.mz_layout_tables.specs.declared.head.Head.{Head}
-use Rattle.mz_layout_tables.specs.declared.taken.Rows.{Rows}
+use Rattle.mz_layout_tables.specs.declared.rows_so_far.Rows.{Rows}
 use Rattle.mz_machine_theory.specs.Headings.{heading_of}
 use Rattle.mz_machine_env.specs.Before.{taken_before}
 use Rattle.mz_binary_theory.specs.FileRun.{Found, list_ends, stands_alone, has_body, after_kind, find_at, found_steps, list_steps}
 use Rattle.mz_binary_theory.specs.declared.statement.Statement.{Statement as Told}
-use Rattle.mz_binary.specs.declared.place.Found.{Found as Seen}
-use Rattle.mz_binary.specs.declared.place.Found.TheVariants as seen
+use Rattle.mz_binary.specs.declared.statement.Found.{Found as Seen}
+use Rattle.mz_binary.specs.declared.statement.Found.TheVariants as seen
 use Rattle.mz_machine_theory.specs.Sound.{HasGap}
 use Rattle.mz_binary_theory.specs.Chains.{GoodTo, IsListEnd}
 use Rattle.mz_binary_theory.specs.Gapped.{AreMarks, CitesMarked}

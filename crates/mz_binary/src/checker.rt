@@ -14,7 +14,7 @@ ghost use Rattle.mz_binary_theory.specs.Standards.{lets_gaps};
 
 use crate::bodies::Bodies;
 use crate::gaps::cites_marked;
-use crate::place::{Found, found_at, is_local};
+use crate::statement::{Found, found_at, is_local};
 use mz_binary_theory::{Standard, Statement};
 use mz_cmd::{Mem, Refusal, StatementCode, Steps};
 use mz_layout_tables::{Fault, Head, Mmb, Rows};

@@ -6,15 +6,15 @@
 #![tactic(auto)]
 
 mod bodies;
+mod check_file;
 mod checker;
 mod gaps;
 mod line;
-mod place;
-mod whole;
+mod statement;
 
 pub use bodies::{Bodies, DraftBodies, StrictBodies};
+pub use check_file::{Checked, check_all};
 pub use checker::{Checker, Next};
 pub use line::refusal_line;
 pub use mz_binary_theory::Statement;
 pub use mz_layout_tables::Rows;
-pub use whole::{Checked, check_all};

@@ -22,7 +22,7 @@ use Rattle.mz_cmd.specs.StatementList.{statement_at}
 use Rattle.mz_layout_tables.specs.Heads.{AllTaken, IsEmptyBody, body_bytes, empty_checks, next_row, row_count, suits_checks}
 use Rattle.mz_layout_tables.specs.Heads as heads
 use Rattle.mz_layout_tables.specs.Numbers.{byte_at}
-use Rattle.mz_layout_tables.specs.declared.taken.Rows.{Rows}
+use Rattle.mz_layout_tables.specs.declared.rows_so_far.Rows.{Rows}
 use Rattle.mz_layout_tables.specs.Tables.{term_row, thm_row, sort_count, term_count, thm_count, terms_at, thms_at, list_at, term_record, thm_record, words_at, param_count, TermRow}
 use Rattle.mz_layout_tables.specs.Layout.{HoldsRecords, HoldsWords, header_checks, table_checks, row_checks, term_check, thm_check, layout_checks}
 use Rattle.mz_logic_theory.specs.Words.{word_bound, word_sort, word_deps}

@@ -14,7 +14,7 @@ use Rattle.mz_logic_theory.specs.Declaration.{Declaration}
 use Rattle.mz_layout_tables.specs.Heads.{body_bytes, empty_checks, head_checks}
 use Rattle.mz_layout_tables.specs.Heads as heads
 use Rattle.mz_layout_tables.specs.Tables.{term_row, thm_row}
-use Rattle.mz_layout_tables.specs.declared.taken.Rows.{Rows}
+use Rattle.mz_layout_tables.specs.declared.rows_so_far.Rows.{Rows}
 use Rattle.mz_machine_theory.specs.Bodies.{body_checks}
 use Rattle.mz_machine_theory.specs.Lists.{definition_of, assertion_of}
 use Rattle.mz_layout_tables.specs.RowWords.{param_checks, word_checks}

@@ -17,7 +17,7 @@ use Rattle.mz_logic_theory.specs.declared.binder.SortMods.{SortMods}
 use Rattle.mz_logic_theory.specs.declared.word.Word.{Word}
 use Rattle.mz_layout_tables.specs.Numbers.{byte_at}
 use Rattle.mz_layout_tables.specs.Heads.{body_bytes, next_row, row_count, rule_of}
-use Rattle.mz_layout_tables.specs.declared.taken.Rows.{Rows}
+use Rattle.mz_layout_tables.specs.declared.rows_so_far.Rows.{Rows}
 use Rattle.mz_layout_tables.specs.Tables.{TermRow, sort_count, term_count, thm_count, terms_at, thms_at, list_at, term_record, thm_record, param_count, words_at, mods_of, term_row, thm_row}
 use Rattle.mz_unify_theory.specs.Steps.{◌>>=◌, ◌>>◌}
 use Rattle.mz_unify_theory.specs.Tests.{has_bit}

@@ -4,7 +4,7 @@ use Rattle.mz_base.specs.declared.mode.Mode.{Mode}
 use Rattle.mz_base.specs.declared.mode.Mode.TheVariants.{Strict, Draft}
 use Rattle.mz_base.specs.Gaps.{gaps_of}
 use Rattle.mz_unify_theory.specs.Profile.{Profile, plain}
-use Rattle.mz_pmachine_theory.specs.Numbered.{portable}
+use Rattle.mz_pmachine_theory.specs.NodeIdentity.{portable}
 use Rattle.mz_binary_theory.specs.declared.standard.Standard.{Standard}
 use Rattle.mz_binary_theory.specs.declared.standard.Standard.TheVariants.{Published, Portable}
 

@@ -4,7 +4,7 @@ use Rattle.std.specs.Prelude.{◌≡◌, ℕ, List, [], ◌∷◌, take, Option,
 use Rattle.mz_cmd.specs.declared.rule.K.{K}
 use Rattle.mz_cmd.specs.declared.rule.K.TheVariants as k
 use Rattle.mz_cmd.specs.declared.rule.Refusal.{Refusal}
-use Rattle.mz_machine_theory.specs.Cases.{with_byte}
+use Rattle.mz_machine_theory.specs.WorkedRuns.{with_byte}
 use Rattle.mz_binary_theory.specs.declared.standard.Standard.TheVariants.{Portable}
 use Rattle.mz_binary_theory.specs.Standards.{strict_standard, draft_standard}
 use Rattle.mz_binary_theory.specs.FileRun.{run_file, file_steps}

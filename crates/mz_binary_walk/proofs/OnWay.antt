@@ -13,7 +13,7 @@ use Rattle.mz_logic_theory.specs.LegalLists.{Statement}
 use Rattle.mz_layout_tables.specs.Heads.{IsHeadAt, head_checks, rows_after}
 use Rattle.mz_layout_tables.specs.Tables.{list_at}
 use Rattle.mz_layout_tables.specs.declared.head.Head.{Head}
-use Rattle.mz_layout_tables.specs.declared.taken.Rows.{Rows}
+use Rattle.mz_layout_tables.specs.declared.rows_so_far.Rows.{Rows}
 use Rattle.mz_machine_theory.specs.FileRows.{taken_by}
 use Rattle.mz_binary_theory.specs.Chains.{GoodTo, IsGoodStatement, IsListEnd}
 use Rattle.mz_binary_theory.specs.Checking.{counts, list_checks, rest_checks}

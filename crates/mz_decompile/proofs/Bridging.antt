@@ -31,7 +31,7 @@ use Rattle.mz_machine_theory.proofs.Offered.{signature-at}
 use Rattle.mz_machine_env.specs.Before.{AreWithin, HasRightParams, taken_before}
 use Rattle.mz_machine_env.specs.OwnRow.{MayRun}
 use Rattle.mz_machine_theory.specs.Headings.{heading_of}
-use Rattle.mz_layout_tables.specs.declared.taken.Rows.{Rows}
+use Rattle.mz_layout_tables.specs.declared.rows_so_far.Rows.{Rows}
 use Rattle.mz_binary_theory.specs.Chains.{IsGoodStatement, GoodTo}
 use Rattle.mz_binary_theory.specs.Checking.{checks_of, counts as taken-counts}
 use Rattle.mz_binary_theory.specs.Good.{Good}

@@ -13,7 +13,7 @@ use Rattle.mz_layout_tables.specs.Tables.{tables_of, term_count, thm_count}
 use Rattle.mz_unify_theory.specs.Spells.{SpellsTerm, SpellsThm}
 use Rattle.mz_machine_theory.specs.FileRows.{term_of_file, thm_of_file}
 use Rattle.mz_layout_tables.specs.declared.head.Head.{Head}
-use Rattle.mz_layout_tables.specs.declared.taken.Rows.{Rows}
+use Rattle.mz_layout_tables.specs.declared.rows_so_far.Rows.{Rows}
 use Rattle.mz_binary.specs.Progress.{IsTermKind}
 use Rattle.mz_binary_theory.specs.Spelling.{IsKindOf, SpellsRow}
 use Rattle.mz_binary_walk.proofs.Offered.{one-code}

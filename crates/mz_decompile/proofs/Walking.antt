@@ -25,8 +25,8 @@ use Rattle.mz_decompile_theory.specs.Restated.{deep, depth_checks}
 use Rattle.mz_decompile.specs.Telling.{Stands, SomeStands}
 use Rattle.mz_decompile.specs.Standing.{AreStanding, AreAll}
 use Rattle.mz_decompile.specs.Passes.{AreSizes, IsLine}
-use Rattle.mz_decompile.specs.declared.measuring.Line.{Line}
-use Rattle.mz_decompile.specs.declared.measuring.Sizes.{Sizes}
+use Rattle.mz_decompile.specs.declared.measure.Line.{Line}
+use Rattle.mz_decompile.specs.declared.measure.Sizes.{Sizes}
 
 heads-same : (h g : Head) → h.code ≡ g.code → h.at ≡ g.at → h.body ≡ g.body → h.next ≡ g.next → h ≡ g
 heads-same h g code at body next =

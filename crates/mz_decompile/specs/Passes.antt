@@ -11,10 +11,10 @@ use Rattle.mz_decompile_phrases.specs.Measures.{capped}
 use Rattle.mz_decompile_theory.specs.Restated.{deep, depth_checks, too_long, stating_checks}
 use Rattle.mz_decompile.specs.declared.decompiled.Decompiled.{Decompiled}
 use Rattle.mz_decompile.specs.declared.decompiled.Decompiled.TheVariants as answers
-use Rattle.mz_decompile.specs.declared.measuring.Measured.{Measured}
-use Rattle.mz_decompile.specs.declared.measuring.Measured.TheVariants as measured
-use Rattle.mz_decompile.specs.declared.measuring.Line.{Line}
-use Rattle.mz_decompile.specs.declared.measuring.Sizes.{Sizes}
+use Rattle.mz_decompile.specs.declared.measure.Measured.{Measured}
+use Rattle.mz_decompile.specs.declared.measure.Measured.TheVariants as measured
+use Rattle.mz_decompile.specs.declared.measure.Line.{Line}
+use Rattle.mz_decompile.specs.declared.measure.Sizes.{Sizes}
 
 -- of one statement
 pub record AreSizes (v : Vocabulary) (env : List Declaration) (t : Statement) (s : Sizes) : Type 0 where

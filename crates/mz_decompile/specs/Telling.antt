@@ -14,7 +14,7 @@ use Rattle.mz_machine_env.specs.OwnRow.{MayRun}
 use Rattle.mz_machine_theory.specs.Headings.{heading_of}
 use Rattle.mz_machine_env.specs.Before.{tables_before}
 use Rattle.mz_layout_tables.specs.declared.head.Head.{Head}
-use Rattle.mz_layout_tables.specs.declared.taken.Rows.{Rows}
+use Rattle.mz_layout_tables.specs.declared.rows_so_far.Rows.{Rows}
 use Rattle.mz_binary_theory.specs.Spelling.{IsKindOf, is_local_code, SpellsRow}
 use Rattle.mz_mmu_theory.specs.Proof.{Proof}
 use Rattle.mz_mmu_theory.specs.Statements.{Statement}
@@ -27,7 +27,7 @@ use Rattle.mz_decompile_phrases.specs.Measures.{capped}
 use Rattle.mz_decompile_rows.specs.Rows.{AreArities, IsPhrase}
 use Rattle.mz_decompile.specs.Adding.{Adds}
 use Rattle.mz_decompile.specs.Naming.{next_name}
-use Rattle.mz_decompile.specs.declared.told.Told.{Told}
+use Rattle.mz_decompile.specs.declared.size.Told.{Told}
 use Rattle.mz_decompile.specs.declared.proof.Proved.{Proved}
 
 -- ---- what is known

@@ -4,7 +4,7 @@ ghost use Rattle.mz_match_theory.specs.Verdict.{Accepts};
 ghost use Rattle.mz_decompile.specs.Decompiling.{IsDecompilation, IsTextForPair, TicksAs};
 ghost use Rattle.mz_decompile.specs.Passes.{IsOfAccepted};
 
-use crate::answering::answer;
+use crate::text_or_obstacle::answer;
 use mz_cmd::{Mem, Steps};
 use mz_decompile_names::PairNames;
 use mz_decompile_theory::{accepted_are_restated, plain_texts_are_texts};

@@ -5,24 +5,24 @@
 //! `specs/Telling.antt` says what is known of a statement, and what is said of it.
 #![tactic(auto)]
 
-mod answering;
 mod axiom;
 mod decompiled;
 mod dummies;
 mod hypotheses;
 mod laws;
-mod lines;
-mod measuring;
+mod measure;
 mod params;
 mod parts;
 mod printed;
 mod proof;
+mod size;
 mod sort;
-mod telling;
+mod statement;
 mod term;
+mod text_or_obstacle;
 mod theorem;
-mod told;
 mod weight;
+mod write;
 
 pub use decompiled::{Decompiled, decompile_bytes};
 pub use laws::{decompilation_is_decided, good_theorems_are_traced};

@@ -11,7 +11,7 @@ use Rattle.mz_decompile_phrases.proofs.Offered.{capped-small}
 use Rattle.mz_decompile_proofs.specs.Growing.{AreThere, Tells}
 use Rattle.mz_decompile_proofs.specs.Telling.{told_behind, weight_at, weight_behind}
 use Rattle.mz_decompile_proofs.specs.Gathering.{AreTold, IsBehind, phrases_in}
-use Rattle.mz_decompile_proofs.specs.declared.whole.Told.{Told}
+use Rattle.mz_decompile_proofs.specs.declared.proof.Told.{Told}
 use Rattle.mz_decompile_proofs.proofs.Longer.{grows-same, grows-on, same-phrase, chosen-phrase}
 
 -- ---- what is read of a node

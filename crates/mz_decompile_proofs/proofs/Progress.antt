@@ -13,7 +13,7 @@ use Rattle.mz_decompile_proofs.specs.Growing.{AreThere, those_at}
 use Rattle.mz_decompile_proofs.specs.Telling.{told, weight_at, weights_at, weighed, weighed_after, all_weighed, told_after, all_told, AreLowerAfter}
 use Rattle.mz_decompile_proofs.specs.Gathering.{AreTold, AreGathered, IsOneMore, phrases_in}
 use Rattle.mz_decompile_proofs.proofs.Longer.{grows-on, grows-same, no-numbers}
-use Rattle.mz_decompile_proofs.specs.declared.whole.Told.{Told}
+use Rattle.mz_decompile_proofs.specs.declared.proof.Told.{Told}
 
 -- ---- sums of numbers that are cut off
 

@@ -15,7 +15,7 @@ use Rattle.mz_trace.specs.declared.run.Run.{Run}
 use Rattle.mz_decompile_proofs.specs.Telling.{told_behind, weight_at, weight_behind, all_weighed}
 use Rattle.mz_decompile_proofs.specs.Gathering.{AreGathered, IsBehind, phrases_in}
 use Rattle.mz_decompile_proofs.specs.Retelling.{IsRetold, IsWeighed}
-use Rattle.mz_decompile_proofs.specs.declared.whole.Told.{Told}
+use Rattle.mz_decompile_proofs.specs.declared.proof.Told.{Told}
 use Rattle.mz_decompile_proofs.proofs.Values.{value_phrases, value_weights, proof-phrase, proof-weight, nodes-phrases, nodes-weights}
 use Rattle.mz_decompile_proofs.proofs.Progress.{sums-alike, capped-weight}
 use Rattle.mz_decompile_proofs.proofs.Lowering.{proof-low, proofs-low}

@@ -7,7 +7,7 @@ use Rattle.mz_decompile_phrases.specs.Measures.{capped}
 use Rattle.mz_trace.specs.declared.node.RunNode.{RunNode}
 use Rattle.mz_decompile_proofs.specs.Growing.{AreThere, those_at}
 use Rattle.mz_decompile_proofs.specs.Telling.{told, told_behind, weighed, weight_at, weight_behind, all_told, all_weighed}
-use Rattle.mz_decompile_proofs.specs.declared.whole.Told.{Told}
+use Rattle.mz_decompile_proofs.specs.declared.proof.Told.{Told}
 
 -- each has a phrase that is there, and a weight
 pub record AreTold (ps : List Phrase) (t : Told) : Type 0 where

@@ -5,8 +5,8 @@
 #![tactic(auto)]
 
 mod parts;
+mod proof;
 mod tell;
 mod weigh;
-mod whole;
 
-pub use whole::{Retold, retell};
+pub use proof::{Retold, retell};

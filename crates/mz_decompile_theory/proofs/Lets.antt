@@ -20,7 +20,7 @@ use Rattle.mz_machine_theory.specs.Premises.{pop_expr, pop_proof, pop_obligation
 use Rattle.mz_machine_theory.specs.ProofMachine.{citation, matched_by, unfolding_of, proof_step}
 use Rattle.mz_machine_theory.specs.Bodies.{BodyCommand, ends, proves, body_command}
 use Rattle.mz_machine_theory.proofs.Offered.{from_follow}
-use Rattle.mz_trace_theory.specs.Parts.{Part, expression, proved, owed, converted, for_proof, for_turned, for_operand, for_unfolded, for_cut, then_conv, paid, by_operands, proofs_above}
+use Rattle.mz_trace_theory.specs.OneHoleContexts.{Part, expression, proved, owed, converted, for_proof, for_turned, for_operand, for_unfolded, for_cut, then_conv, paid, by_operands, proofs_above}
 use Rattle.mz_trace_theory.specs.Traces.{Trace, stacked, kept, named, saved, referred, conversion_saved, to_convert, below_sides, cited, traced, trace_turn, trace_command, trace_from, trace_start, under_lets, Made}
 use Rattle.mz_decompile_text_theory.specs.Phrasable.{SeesLets, AllSeeLets}
 

@@ -18,7 +18,7 @@ use Rattle.mz_store.specs.declared.item.Id.{Id}
 use Rattle.mz_unify_theory.specs.Streams.{UnifyCommand}
 use Rattle.mz_emit_bodies.specs.Variables.{IsShared}
 use Rattle.mz_emit_bodies.proofs.Offered.{variable_id}
-use Rattle.mz_emit_theory.specs.Works.{from_to}
+use Rattle.mz_emit_theory.specs.SymbolicState.{from_to}
 use Rattle.mz_emit_theory.specs.StreamWriting.{Written, and_then, assertion_written, stream_of, unify_bytes, write, write_hyps, writing_start}
 use Rattle.mz_unify_theory.specs.Spells.{variables_from}
 use Rattle.mz_unify_theory.proofs.Offered.{length-params}

@@ -11,7 +11,7 @@ use Rattle.mz_logic_theory.specs.declared.binder.Binder.{Binder}
 use Rattle.mz_logic_theory.proofs.Offered.{one_at}
 use Rattle.mz_store.specs.Bits.{HasAt, Tells, bound_from, bound_vars}
 use Rattle.mz_store.proofs.Offered.{bound-has, zero-or-one}
-use Rattle.mz_emit_theory.specs.Works.{from_to}
+use Rattle.mz_emit_theory.specs.SymbolicState.{from_to}
 use Rattle.mz_emit_theory.specs.StreamWriting.{are_met}
 use Rattle.mz_emit_theory.proofs.Offered.{all-met, met-all, has-place, own-below}
 use Rattle.mz_emit_theory.specs.InReach.{InReach, AllInReach}

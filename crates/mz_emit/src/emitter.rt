@@ -32,7 +32,9 @@ ghost use Rattle.mz_emit_accepted_theory.specs.CompiledFile.{term_row, thm_row, 
 use crate::statement::{assertion_stream, definition_stream};
 use mz_cmd::{Mem, StatementCode};
 use mz_emit_accepted_theory::stated_proofs_are_sound;
-use mz_emit_bodies::{Before, Shared, TermTable, BinderWords, axiom_body, definition_body, theorem_body};
+use mz_emit_bodies::{
+    Before, BinderWords, Shared, TermTable, axiom_body, definition_body, theorem_body,
+};
 use mz_layout::LayoutWriter;
 use mz_logic_copy::copy_of_decl;
 use mz_logic_theory::{Binder, Decl, Env, Expr, SortMods, TermDecl, ThmDecl, ThmForm};

@@ -5,7 +5,7 @@ ghost use Rattle.mz_cmd.specs.Codes.{unify_byte};
 ghost use Rattle.mz_cmd.specs.Spelling.{shortest};
 ghost use Rattle.mz_logic_theory.specs.Tree.{more, trees_size};
 ghost use Rattle.mz_logic_theory.specs.declared.binder.Binder.{Binder};
-ghost use Rattle.mz_emit_theory.specs.Works.{from_to};
+ghost use Rattle.mz_emit_theory.specs.SymbolicState.{from_to};
 ghost use Rattle.mz_store.specs.Bits.{Tells, bound_vars};
 ghost use Rattle.mz_store.specs.Sharing.{AreIn, IsIn, head_of, tree_of, trees_of};
 ghost use Rattle.mz_emit_theory.specs.StreamWriting.{Writing, are_met, write, writing_start};

@@ -6,7 +6,7 @@ use Rattle.mz_logic_theory.specs.LegalLists.{Statement}
 use Rattle.mz_logic_theory.specs.Signature.{Signature}
 use Rattle.mz_logic_theory.specs.declared.binder.Binder.{Binder}
 use Rattle.mz_emit_theory.specs.AlphaEquivalence.{IsSameForm}
-use Rattle.mz_emit_theory.specs.SameLists.{IsSameDeclaration, IsSameStatement, IsSameList}
+use Rattle.mz_emit_theory.specs.AlphaLists.{IsSameDeclaration, IsSameStatement, IsSameList}
 use Rattle.mz_spec_proved_theory.specs.Match.{term_row_of, term_rows, partner_of, publics_after, kind_of_form, form_checks, match_checks, Agrees}
 use Rattle.mz_emit_theory.specs.SpelledLists.{list_spelled}
 use Rattle.mz_emit_theory.proofs.Offered.{spelled-same}

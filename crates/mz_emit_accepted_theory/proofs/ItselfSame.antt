@@ -5,7 +5,7 @@ use Rattle.mz_logic_theory.specs.Tree.{Tree, Trees, var, app, none, more}
 use Rattle.mz_logic_theory.specs.Signature.{Signature}
 use Rattle.mz_logic_theory.specs.Legality.{InRange, AllInRange}
 use Rattle.mz_logic_theory.specs.declared.binder.Binder.{Binder}
-use Rattle.mz_spec_proved_theory.specs.Trees.{SameOver, AllSameOver, IsPaired}
+use Rattle.mz_spec_proved_theory.specs.AlphaTrees.{SameOver, AllSameOver, IsPaired}
 use Rattle.mz_spec_proved_theory.proofs.Offered.{own_pairs, pairs-own, paired-own}
 use Rattle.mz_emit_accepted_theory.specs.AcceptedLaws.{SameFormsHaveSameBodies}
 use Rattle.mz_emit_accepted_theory.proofs.SameBodies.{same-body-back}

@@ -13,7 +13,7 @@ use Rattle.mz_unify_theory.specs.Spells.{variables_from}
 use Rattle.mz_unify_theory.proofs.Offered.{some_is, distinct, in-some, operand-trees_of, length-params}
 use Rattle.mz_emit_theory.specs.AlphaEquivalence.{own}
 use Rattle.mz_emit_theory.proofs.Offered.{fresh_long, operand-front, operand-behind, operand-variables, get-own}
-use Rattle.mz_spec_proved_theory.specs.Trees.{SameOver, AllSameOver, Pairs, IsPaired, SameBody}
+use Rattle.mz_spec_proved_theory.specs.AlphaTrees.{SameOver, AllSameOver, Pairs, IsPaired, SameBody}
 
 -- ---- parameters
 

@@ -11,10 +11,10 @@ use Rattle.mz_layout_tables.specs.Normal.{Parts, file_of}
 use Rattle.mz_layout_tables.specs.Standing.{Fit}
 use Rattle.mz_spec_theory.specs.Spec.{SpecOf}
 use Rattle.mz_spec_proved_theory.specs.Match.{publics, Agrees}
-use Rattle.mz_spec_proved_theory.specs.Trees.{SameBody}
+use Rattle.mz_spec_proved_theory.specs.AlphaTrees.{SameBody}
 use Rattle.mz_match_theory.specs.Verdict.{AcceptsBy}
 use Rattle.mz_emit_theory.specs.AlphaEquivalence.{IsSameForm}
-use Rattle.mz_emit_theory.specs.SameLists.{IsSameList}
+use Rattle.mz_emit_theory.specs.AlphaLists.{IsSameList}
 use Rattle.mz_emit_theory.specs.SpelledLists.{list_spelled}
 use Rattle.mz_emit_theory.specs.FileWriting.{IsWrittenAs}
 use Rattle.mz_binary_theory.specs.Standards.{by_table}

@@ -15,7 +15,7 @@ use Rattle.mz_mmu_theory.specs.Statements.{HasGapsOnly, Statement}
 use Rattle.mz_mmu_theory.specs.Meaning.{marked}
 use Rattle.mz_mmu_theory.specs.TextOf.{TextOf, TextFault}
 use Rattle.mz_mmu_theory.specs.Weight.{Passed, Passes, IsWithinLimits, byte_bound}
-use Rattle.mz_emit_theory.specs.SameLists.{IsSameList}
+use Rattle.mz_emit_theory.specs.AlphaLists.{IsSameList}
 use Rattle.mz_emit_theory.specs.FileWriting.{IsWrittenAs}
 use Rattle.mz_emit_accepted_theory.specs.Gapped.{proofs_of, IsGappedIn}
 use Rattle.mz_emit_accepted_theory.specs.CompiledFile.{compiled_file}

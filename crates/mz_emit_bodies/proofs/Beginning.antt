@@ -8,13 +8,13 @@ use Rattle.mz_store.specs.Sharing.{Sharing, IsIn, Holds, tree_of}
 use Rattle.mz_store.specs.declared.item.Id.{Id}
 use Rattle.mz_unify_theory.specs.Profile.{expr, proof}
 use Rattle.mz_unify_theory.specs.Spells.{variables_from}
-use Rattle.mz_emit_theory.specs.Works.{from_to, work_start}
+use Rattle.mz_emit_theory.specs.SymbolicState.{from_to, work_start}
 use Rattle.mz_emit_bodies.specs.Instances.{Grows}
 use Rattle.mz_emit_bodies.specs.Places.{place_of}
-use Rattle.mz_emit_bodies.specs.Owes.{to_do}
+use Rattle.mz_emit_bodies.specs.TaskInvariant.{to_do}
 use Rattle.mz_emit_bodies.specs.Going.{Job, PlacesRight, IsGoing}
-use Rattle.mz_emit_bodies.specs.declared.cells.Cell.{Cell}
-use Rattle.mz_emit_bodies.specs.declared.task.Task.{Task as Coded}
+use Rattle.mz_emit_bodies.specs.declared.let_scopes.Cell.{Cell}
+use Rattle.mz_emit_bodies.specs.declared.work_list.Task.{Task as Coded}
 use Rattle.mz_emit_bodies.specs.Stages.{HasDummiesBehind, Begins}
 use Rattle.mz_emit_bodies.proofs.Building.{nothing_built, none_of}
 use Rattle.mz_emit_bodies.proofs.Using.{using_begun}

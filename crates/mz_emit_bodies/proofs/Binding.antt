@@ -12,16 +12,16 @@ use Rattle.mz_mmu_theory.specs.Proof.{Proof, by_let}
 use Rattle.mz_emit_theory.specs.Claims.{proved, IsSound}
 use Rattle.mz_emit_theory.specs.Costs.{cost}
 use Rattle.mz_emit_bodies.specs.Scopes.{in_sight}
-use Rattle.mz_emit_bodies.specs.Owes.{Task, prove, claims, claim_of, let_costs, Owes, left}
+use Rattle.mz_emit_bodies.specs.TaskInvariant.{Task, prove, claims, claim_of, let_costs, Owes, left}
 use Rattle.mz_emit_bodies.specs.Sight.{Part, links, parts, part_at, place_at, AreRight, IsThere}
 use Rattle.mz_emit_bodies.specs.Going.{Job, still, IsGoing}
-use Rattle.mz_emit_bodies.specs.declared.cells.Cell.{Cell}
+use Rattle.mz_emit_bodies.specs.declared.let_scopes.Cell.{Cell}
 use Rattle.mz_emit_bodies.proofs.Lists.{get_end}
 use Rattle.mz_emit_bodies.proofs.Opening.{strict}
 use Rattle.mz_emit_bodies.proofs.Scoping.{parts_long, outer_there, sight_new}
 use Rattle.mz_emit_bodies.specs.Lengths.{begun, is_one_of, waits, IsOutside, IsClear}
 use Rattle.mz_emit_theory.specs.Uses.{uses, commands_use}
-use Rattle.mz_emit_bodies.specs.Using.{part_uses, task_uses, ComesTo}
+use Rattle.mz_emit_bodies.specs.UsesLeft.{part_uses, task_uses, ComesTo}
 use Rattle.mz_emit_bodies.specs.Making.{IsFresh}
 use Rattle.mz_emit_bodies.proofs.Shortening.{outside_new, clear_opened, waits_opened, begun_there}
 use Rattle.mz_emit_bodies.proofs.Using.{part_uses_more, comes_opened}

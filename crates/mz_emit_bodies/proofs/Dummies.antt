@@ -13,15 +13,15 @@ use Rattle.mz_store.specs.Sharing.{Sharing, IsIn, tree_of, head_of}
 use Rattle.mz_store.specs.declared.item.Id.{Id}
 use Rattle.mz_unify_theory.specs.Profile.{Item, expr}
 use Rattle.mz_unify_theory.specs.Spells.{dummy_of}
-use Rattle.mz_emit_theory.specs.Works.{Work}
+use Rattle.mz_emit_theory.specs.SymbolicState.{Work}
 use Rattle.mz_emit_theory.specs.Steps.{Step, command_bytes}
 use Rattle.std.proofs.lemmas.Option.{get_or_from_slice_get, slice_get_within}
 use Rattle.mz_emit_bodies.specs.Places.{place_of}
 use Rattle.mz_emit_bodies.proofs.Owned.{is_var, variable_id}
-use Rattle.mz_emit_bodies.specs.Owes.{Task, push, Owes}
+use Rattle.mz_emit_bodies.specs.TaskInvariant.{Task, push, Owes}
 use Rattle.mz_emit_bodies.specs.Sight.{parts}
 use Rattle.mz_emit_bodies.specs.Going.{Job, IsGoing}
-use Rattle.mz_emit_bodies.specs.declared.cells.Cell.{Cell}
+use Rattle.mz_emit_bodies.specs.declared.let_scopes.Cell.{Cell}
 use Rattle.mz_emit_bodies.proofs.Building.{nothing_more, put_keeps, put_new}
 use Rattle.mz_emit_bodies.proofs.Keeping.{places_put, cells_kept}
 use Rattle.mz_emit_bodies.proofs.Shortening.{command_short}

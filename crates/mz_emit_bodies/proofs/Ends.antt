@@ -15,13 +15,13 @@ use Rattle.mz_machine_theory.specs.Bodies.{stands_in}
 use Rattle.mz_machine_theory.specs.Premises.{bound_count}
 use Rattle.mz_machine_theory.specs.MachineState.{Kind}
 use Rattle.mz_mmu_theory.specs.Proof.{Proof}
-use Rattle.mz_emit_theory.specs.Works.{Work, work_start}
+use Rattle.mz_emit_theory.specs.SymbolicState.{Work, work_start}
 use Rattle.mz_emit_theory.specs.Steps.{Step, command_bytes}
 use Rattle.mz_emit_theory.specs.SharedBodies.{Builds}
 use Rattle.mz_emit_theory.specs.Endings.{spelled_body}
 use Rattle.mz_emit_theory.specs.Bodies.{last_item}
 use Rattle.mz_emit_theory.specs.Claims.{proved, IsSound}
-use Rattle.mz_emit_bodies.specs.Owes.{Task, prove, push, IsOfExpressions, Owes}
+use Rattle.mz_emit_bodies.specs.TaskInvariant.{Task, prove, push, IsOfExpressions, Owes}
 use Rattle.mz_emit_bodies.specs.Sight.{parts}
 use Rattle.mz_emit_bodies.specs.Going.{Job, MayProve, MayDo, PlacesRight, HasPlace, spelled, still, IsGoing}
 use Rattle.mz_emit_bodies.specs.Making.{IsFresh}
@@ -29,13 +29,13 @@ use Rattle.mz_emit_bodies.specs.Lengths.{IsClear}
 use Rattle.mz_emit_theory.specs.Weights.{proof_weight}
 use Rattle.mz_emit_bodies.proofs.Shortening.{command_one}
 use Rattle.mz_emit_theory.specs.Uses.{Use, uses, commands_use, IsBodyUsing}
-use Rattle.mz_emit_bodies.specs.Using.{ComesTo}
+use Rattle.mz_emit_bodies.specs.UsesLeft.{ComesTo}
 use Rattle.mz_emit_bodies.specs.Stages.{job, Begins, Rests, leaving, to_use, spending, writing_too, assuming, with_hyps, Assumes, AssumesAll}
 use Rattle.mz_emit_theory.specs.BodyWriting.{hypothesis, Writing, Written, Writer, and_then, nothing, keeping, write_expr, write_proof, write_hyp, write_hyps}
 use Rattle.mz_emit_bodies.specs.Writers.{write_tasks, behind, IsWriting}
 use Rattle.mz_emit_bodies.specs.declared.body.Before.{Before}
 use Rattle.mz_emit_bodies.specs.declared.body.Body.{Body}
-use Rattle.mz_emit_bodies.specs.declared.cells.Cell.{Cell}
+use Rattle.mz_emit_bodies.specs.declared.let_scopes.Cell.{Cell}
 use Rattle.mz_emit_bodies.proofs.Making.{in_grown, tree_grown}
 use Rattle.mz_emit_bodies.proofs.Building.{builds_steps, nothing_more, none_of}
 use Rattle.mz_emit_bodies.proofs.Lists.{slice_last, last_or_before}

@@ -16,7 +16,7 @@ use Rattle.mz_unify_theory.specs.Profile.{Item, expr, proof, obligation}
 use Rattle.mz_unify_theory.specs.Spells.{trees_of as listed_back}
 use Rattle.mz_unify_theory.proofs.Offered.{trees_of-listed}
 use Rattle.mz_mmu_theory.specs.Proof.{Proof, by_conv, by_gap}
-use Rattle.mz_emit_theory.specs.Works.{Work}
+use Rattle.mz_emit_theory.specs.SymbolicState.{Work}
 use Rattle.mz_emit_theory.specs.Steps.{stacked, above, Step, IsCited}
 use Rattle.mz_emit_bodies.specs.Instances.{Grows}
 use Rattle.mz_emit_theory.specs.InReach.{InReach}
@@ -25,13 +25,13 @@ use Rattle.mz_emit_bodies.specs.Sight.{parts, place_at}
 use Rattle.mz_emit_bodies.specs.Scopes.{in_sight}
 use Rattle.mz_emit_theory.specs.Claims.{proved, conclusion_of, IsCitable}
 use Rattle.mz_emit_theory.specs.Costs.{cost, pay_cost}
-use Rattle.mz_emit_bodies.specs.Owes.{Task, prove, cite, push, pay, give, claims, let_costs, Owes, left}
+use Rattle.mz_emit_bodies.specs.TaskInvariant.{Task, prove, cite, push, pay, give, claims, let_costs, Owes, left}
 use Rattle.mz_emit_bodies.specs.Pushing.{pushes}
 use Rattle.mz_emit_bodies.specs.Going.{Job, CellsRight, IsGoing}
 use Rattle.mz_emit_theory.specs.Uses.{conv_uses, uses, commands_use}
-use Rattle.mz_emit_bodies.specs.Using.{let_uses, ComesTo}
+use Rattle.mz_emit_bodies.specs.UsesLeft.{let_uses, ComesTo}
 use Rattle.mz_emit_bodies.proofs.Using.{or_assoc, pushes_come}
-use Rattle.mz_emit_bodies.specs.declared.cells.Cell.{Cell}
+use Rattle.mz_emit_bodies.specs.declared.let_scopes.Cell.{Cell}
 use Rattle.mz_emit_bodies.proofs.Building.{built_grown, rising_grown, pushes_fresh}
 use Rattle.mz_emit_bodies.proofs.Making.{in_grown, tree_grown, grows_on}
 use Rattle.mz_emit_bodies.specs.Lengths.{waits}

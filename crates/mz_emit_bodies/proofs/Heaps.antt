@@ -17,7 +17,7 @@ use Rattle.mz_emit_bodies.proofs.Making.{in_grown, tree_grown}
 use Rattle.mz_emit_bodies.specs.Sight.{place_at}
 use Rattle.mz_emit_theory.specs.BodyWriting.{Kept, expression, hypothesis, first_part, is_same, Writing, place_in, Written, Writer, and_then, nothing, ◌>>◌, command, keeping, referring, unless_kept, write_expr, write_exprs, variables_below}
 use Rattle.mz_emit_bodies.specs.Writers.{IsKept, behind}
-use Rattle.mz_emit_bodies.specs.declared.cells.Cell.{Cell}
+use Rattle.mz_emit_bodies.specs.declared.let_scopes.Cell.{Cell}
 use Rattle.mz_emit_bodies.proofs.Lists.{slice_last}
 
 -- ---- one after another

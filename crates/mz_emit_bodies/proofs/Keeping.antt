@@ -14,13 +14,13 @@ use Rattle.mz_unify_theory.specs.Profile.{Item, expr}
 use Rattle.mz_unify_theory.specs.Spells.{trees_of as listed_back}
 use Rattle.mz_unify_theory.specs.Sorted.{Sorted}
 use Rattle.mz_unify_theory.proofs.Offered.{trees_of-listed}
-use Rattle.mz_emit_theory.specs.Works.{Work}
+use Rattle.mz_emit_theory.specs.SymbolicState.{Work}
 use Rattle.mz_emit_theory.specs.Steps.{stacked, kept, Step, command_bytes}
 use Rattle.mz_emit_bodies.specs.Places.{place_of}
-use Rattle.mz_emit_bodies.specs.Owes.{Task, make, Owes}
+use Rattle.mz_emit_bodies.specs.TaskInvariant.{Task, make, Owes}
 use Rattle.mz_emit_bodies.specs.Sight.{parts}
 use Rattle.mz_emit_bodies.specs.Going.{Job, CellsRight, PlacesRight, IsGoing}
-use Rattle.mz_emit_bodies.specs.declared.cells.Cell.{Cell}
+use Rattle.mz_emit_bodies.specs.declared.let_scopes.Cell.{Cell}
 use Rattle.mz_emit_bodies.proofs.Building.{one_more_built, put_keeps, put_new, no_place, next_new, rest_fresh}
 use Rattle.mz_emit_bodies.proofs.Lists.{slice_last}
 use Rattle.mz_emit_bodies.proofs.Shortening.{command_short}

@@ -20,15 +20,15 @@ use Rattle.mz_emit_bodies.specs.Sight.{Part, part_at, parts, place_at, IsThere}
 use Rattle.mz_emit_bodies.specs.Scopes.{in_sight}
 use Rattle.mz_emit_theory.specs.Claims.{claim_at, proved, all_proved, IsSound, AreSound}
 use Rattle.mz_emit_theory.specs.Costs.{cost, costs}
-use Rattle.mz_emit_bodies.specs.declared.task.Task.{Task as Coded}
-use Rattle.mz_emit_bodies.specs.Owes.{task_view, to_do, Task, prove, prove_all, cite, push, make, pay, pay_all, give, save, claims, claim_of, IsGiven, Turns, Owes, task_cost, left}
+use Rattle.mz_emit_bodies.specs.declared.work_list.Task.{Task as Coded}
+use Rattle.mz_emit_bodies.specs.TaskInvariant.{task_view, to_do, Task, prove, prove_all, cite, push, make, pay, pay_all, give, save, claims, claim_of, IsGiven, Turns, Owes, task_cost, left}
 use Rattle.mz_emit_bodies.specs.Lengths.{task_bytes, begun, waits, IsClear}
 use Rattle.mz_emit_bodies.specs.Making.{IsFresh}
 use Rattle.mz_emit_bodies.specs.Pushing.{pushes}
 use Rattle.mz_emit_theory.specs.Uses.{Use, is_assertion, uses, some_use, command_uses, commands_use}
-use Rattle.mz_emit_bodies.specs.Using.{let_uses, ComesTo}
+use Rattle.mz_emit_bodies.specs.UsesLeft.{let_uses, ComesTo}
 use Rattle.mz_emit_bodies.specs.Going.{Job, MayDo, spelled, still, IsGoing}
-use Rattle.mz_emit_bodies.specs.declared.cells.Cell.{Cell}
+use Rattle.mz_emit_bodies.specs.declared.let_scopes.Cell.{Cell}
 use Rattle.mz_emit_bodies.proofs.Building.{nothing_more, rest_fresh, parts_fresh}
 use Rattle.mz_emit_bodies.proofs.Making.{in_grown, tree_grown}
 use Rattle.std.proofs.lemmas.Option.{get_or_from_slice_get}

@@ -13,12 +13,12 @@ use Rattle.mz_emit_theory.specs.Steps.{command_bytes}
 use Rattle.mz_emit_theory.specs.Claims.{proved}
 use Rattle.mz_emit_theory.specs.Costs.{cost}
 use Rattle.mz_emit_bodies.specs.Scopes.{in_sight}
-use Rattle.mz_emit_bodies.specs.Owes.{Task, prove, save, claims, claim_of, let_costs, Owes, left}
+use Rattle.mz_emit_bodies.specs.TaskInvariant.{Task, prove, save, claims, claim_of, let_costs, Owes, left}
 use Rattle.mz_emit_bodies.specs.Sight.{Part, links, link_at, parts, part_at, place_at, InSight, IsThere}
 use Rattle.mz_emit_bodies.specs.Going.{Job, IsGoing}
 use Rattle.mz_emit_theory.specs.Uses.{Use, uses, commands_use}
-use Rattle.mz_emit_bodies.specs.Using.{part_uses, task_uses, ComesTo}
-use Rattle.mz_emit_bodies.specs.declared.cells.Cell.{Cell}
+use Rattle.mz_emit_bodies.specs.UsesLeft.{part_uses, task_uses, ComesTo}
+use Rattle.mz_emit_bodies.specs.declared.let_scopes.Cell.{Cell}
 use Rattle.mz_emit_bodies.proofs.Scoping.{long, named, outer_there, there_more, parts_long, links_long}
 use Rattle.mz_emit_bodies.specs.Lengths.{begun, IsOutside}
 use Rattle.mz_emit_bodies.proofs.Shortening.{waits_begun, begun_clear, not_begun, sight_outside}

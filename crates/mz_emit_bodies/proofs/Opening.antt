@@ -3,7 +3,7 @@ use Rattle.std.specs.Prelude.{ℕ, ◌≡◌, ◌≤◌, ◌<◌, ◌+◌, List,
 use Rattle.std.proofs.Common.{zero, suc, refl, sym, ap, ◌∙◌, subst, arith, inl, inr}
 use Rattle.std.proofs.lemmas.List.{get_or_append_left, length-append, map-append}
 use Rattle.std.proofs.lemmas.Bool.{cases_eq}
-use Rattle.mz_emit_bodies.specs.declared.cells.Cell.{Cell}
+use Rattle.mz_emit_bodies.specs.declared.let_scopes.Cell.{Cell}
 use Rattle.mz_emit_bodies.specs.Sight.{Link, link, links, link_at, InSight, here, out, IsRightAt, AreRight, IsThere, IsNext}
 use Rattle.mz_emit_bodies.proofs.Lists.{get_end}
 use Rattle.mz_emit_bodies.proofs.Scoping.{links_long}

@@ -16,7 +16,7 @@ use Rattle.mz_emit_theory.specs.SharedBodies.{Builds, IsPlain, ArePlain}
 use Rattle.mz_emit_theory.specs.Steps.{IsReferred, Step}
 use Rattle.mz_emit_theory.specs.StreamLaws.{IsSmall}
 use Rattle.mz_emit_theory.specs.Weights.{proof_weight}
-use Rattle.mz_emit_theory.specs.Works.{Work, work_start}
+use Rattle.mz_emit_theory.specs.SymbolicState.{Work, work_start}
 use Rattle.mz_emit_bodies.specs.Laws.{TakeFourBytes}
 use Rattle.mz_emit_bodies.specs.WrittenLaws.{DefinitionsTakeFourBytes, AxiomsTakeFourBytes, TheoremsTakeFourBytes}
 use Rattle.mz_emit_bodies.proofs.Beginning.{heap_long}

@@ -17,7 +17,7 @@ use Rattle.mz_store.specs.declared.item.Id.{Id}
 use Rattle.mz_unify_theory.specs.Profile.{Item, expr, obligation}
 use Rattle.mz_unify_theory.proofs.Offered.{trees_of-listed, count-fits}
 use Rattle.mz_machine_theory.specs.ProofMachine.{sides}
-use Rattle.mz_emit_theory.specs.Works.{Work}
+use Rattle.mz_emit_theory.specs.SymbolicState.{Work}
 use Rattle.mz_emit_theory.specs.Steps.{stacked, Step, command_bytes}
 use Rattle.mz_emit_bodies.specs.Instances.{Grows}
 use Rattle.mz_emit_theory.specs.InReach.{InReach}
@@ -27,11 +27,11 @@ use Rattle.mz_emit_theory.specs.Costs.{body_at, pay_cost}
 use Rattle.mz_mmu_theory.specs.ConvView.{conversion, conversions}
 use Rattle.mz_mmu_theory.specs.declared.conv.Conv.{Conv}
 use Rattle.mz_emit_theory.specs.Claims.{Goes, AllGo}
-use Rattle.mz_emit_bodies.specs.Owes.{Task, push, pay, pay_all, give, Owes, left}
+use Rattle.mz_emit_bodies.specs.TaskInvariant.{Task, push, pay, pay_all, give, Owes, left}
 use Rattle.mz_emit_theory.specs.Uses.{conv_uses, convs_use, commands_use}
-use Rattle.mz_emit_bodies.specs.Using.{ComesTo}
+use Rattle.mz_emit_bodies.specs.UsesLeft.{ComesTo}
 use Rattle.mz_emit_bodies.specs.Going.{Job, IsGoing}
-use Rattle.mz_emit_bodies.specs.declared.cells.Cell.{Cell}
+use Rattle.mz_emit_bodies.specs.declared.let_scopes.Cell.{Cell}
 use Rattle.mz_emit_bodies.proofs.Shortening.{command_one}
 use Rattle.mz_emit_bodies.proofs.Building.{rest_fresh}
 use Rattle.mz_emit_bodies.proofs.Lists.{rest_whole}

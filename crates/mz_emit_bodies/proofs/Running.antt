@@ -22,7 +22,7 @@ use Rattle.mz_unify_theory.specs.Profile.{Item, expr, proof, obligation}
 use Rattle.mz_unify_theory.proofs.Offered.{trees_of-listed, same_tree-true, same_tree-refl}
 use Rattle.mz_machine_theory.specs.ProofMachine.{sides}
 use Rattle.mz_mmu_theory.specs.Proof.{Proof, Proofs, by_hyp, by_name, by_citation, by_conv, by_let, by_gap, no_proofs, more_proofs}
-use Rattle.mz_emit_theory.specs.Works.{Work}
+use Rattle.mz_emit_theory.specs.SymbolicState.{Work}
 use Rattle.mz_emit_theory.specs.Steps.{stacked, kept, above, IsReferred, Step}
 use Rattle.mz_emit_theory.specs.SharedBodies.{built, Builds, AreDistinct, IsPlain, ArePlain}
 use Rattle.mz_emit_theory.proofs.Offered.{above-more, proofs-more, has-place as meets}

@@ -11,17 +11,17 @@ use Rattle.mz_logic_theory.proofs.Offered.{extends_append}
 use Rattle.mz_store.specs.Sharing.{Sharing}
 use Rattle.mz_store.specs.declared.item.Id.{Id}
 use Rattle.mz_unify_theory.specs.Profile.{Item, proof}
-use Rattle.mz_emit_theory.specs.Works.{Work}
+use Rattle.mz_emit_theory.specs.SymbolicState.{Work}
 use Rattle.mz_emit_theory.specs.Steps.{kept, Step, command_bytes}
 use Rattle.mz_emit_bodies.specs.Scopes.{in_sight}
 use Rattle.mz_emit_theory.specs.Claims.{IsSound}
-use Rattle.mz_emit_bodies.specs.Owes.{Task, save, claims, claim_of, Owes}
+use Rattle.mz_emit_bodies.specs.TaskInvariant.{Task, save, claims, claim_of, Owes}
 use Rattle.mz_emit_bodies.specs.Sight.{Part, links, parts, part_at, place_at, AreRight}
 use Rattle.mz_emit_bodies.specs.Going.{Job, CellsRight, PlacesRight, HasPlace, IsGoing}
 use Rattle.mz_emit_theory.specs.Uses.{commands_use}
-use Rattle.mz_emit_bodies.specs.Using.{IsUsing}
+use Rattle.mz_emit_bodies.specs.UsesLeft.{IsUsing}
 use Rattle.mz_emit_bodies.specs.Making.{IsFresh}
-use Rattle.mz_emit_bodies.specs.declared.cells.Cell.{Cell}
+use Rattle.mz_emit_bodies.specs.declared.let_scopes.Cell.{Cell}
 use Rattle.mz_emit_bodies.proofs.Building.{nothing_more}
 use Rattle.mz_emit_bodies.proofs.Lists.{slice_last}
 use Rattle.mz_emit_bodies.proofs.Heaps.{some_get, part_kept}

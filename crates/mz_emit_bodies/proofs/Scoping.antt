@@ -3,7 +3,7 @@ use Rattle.std.specs.Prelude.{ℕ, ◌≡◌, ◌<◌, ◌≤◌, ◌+◌, List,
 use Rattle.std.proofs.Common.{zero, suc, refl, sym, ap, ◌∙◌, subst, arith}
 use Rattle.std.proofs.lemmas.List.{get_or_append_left, length-append}
 use Rattle.mz_mmu_theory.specs.Proof.{Proof}
-use Rattle.mz_emit_bodies.specs.declared.cells.Cell.{Cell}
+use Rattle.mz_emit_bodies.specs.declared.let_scopes.Cell.{Cell}
 use Rattle.mz_emit_bodies.specs.Sight.{Link, Part, links, link_at, parts, part_at, InSight, here, out, IsRightAt, AreRight, IsThere}
 use Rattle.mz_emit_bodies.specs.Scopes.{in_sight, row_of, scopes_after, scopes}
 

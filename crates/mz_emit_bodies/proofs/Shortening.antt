@@ -16,11 +16,11 @@ use Rattle.mz_emit_theory.specs.Steps.{command_bytes}
 use Rattle.mz_emit_bodies.specs.Instances.{Grows}
 use Rattle.mz_emit_bodies.specs.Sight.{Part, parts, part_at, links, InSight, here, out, IsRightAt, AreRight, IsThere}
 use Rattle.mz_emit_theory.specs.Weights.{proof_weight}
-use Rattle.mz_emit_bodies.specs.Owes.{Task, prove, prove_all, cite, push, make, pay, pay_all, give, save, Turns, Owes}
+use Rattle.mz_emit_bodies.specs.TaskInvariant.{Task, prove, prove_all, cite, push, make, pay, pay_all, give, save, Turns, Owes}
 use Rattle.mz_emit_bodies.specs.Pushing.{pushes}
 use Rattle.mz_emit_bodies.specs.Lengths.{task_bytes, tasks_bytes, begun, is_one_of, waits_at, waits, IsOutside, itself, farther, IsSeen, Sees, IsClear}
 use Rattle.mz_emit_bodies.proofs.Making.{tree_grown}
-use Rattle.mz_emit_bodies.specs.declared.cells.Cell.{Cell}
+use Rattle.mz_emit_bodies.specs.declared.let_scopes.Cell.{Cell}
 use Rattle.mz_emit_bodies.proofs.Lists.{get_end}
 use Rattle.mz_emit_bodies.proofs.Scoping.{outer_same, links_long}
 

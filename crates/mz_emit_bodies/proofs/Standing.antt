@@ -8,7 +8,7 @@ use Rattle.mz_unify_theory.specs.Profile.{plain}
 use Rattle.mz_machine_theory.specs.MachineState.{Kind, is_theorem}
 use Rattle.mz_machine_theory.specs.Bodies.{stands_in}
 use Rattle.mz_emit_theory.specs.Endings.{MayStand}
-use Rattle.mz_emit_bodies.specs.Owes.{Task, push, make, MakesExpression, IsOfExpressions}
+use Rattle.mz_emit_bodies.specs.TaskInvariant.{Task, push, make, MakesExpression, IsOfExpressions}
 use Rattle.mz_emit_bodies.specs.Pushing.{pushes}
 use Rattle.mz_emit_bodies.specs.Going.{Job, MayProve, MayDo}
 

@@ -10,11 +10,11 @@ use Rattle.mz_store.specs.declared.item.Id.{Id}
 use Rattle.mz_unify_theory.specs.Profile.{Item}
 use Rattle.mz_emit_bodies.specs.Sight.{Part, part_at, parts, place_at, IsThere}
 use Rattle.mz_emit_bodies.specs.Scopes.{in_sight}
-use Rattle.mz_emit_bodies.specs.Owes.{Task, prove, prove_all, cite, push, make, pay, pay_all, give, save, Turns, Owes}
+use Rattle.mz_emit_bodies.specs.TaskInvariant.{Task, prove, prove_all, cite, push, make, pay, pay_all, give, save, Turns, Owes}
 use Rattle.mz_emit_bodies.specs.Pushing.{pushes}
 use Rattle.mz_emit_theory.specs.Uses.{Use, uses, some_use, command_uses, commands_use}
-use Rattle.mz_emit_bodies.specs.Using.{let_uses, part_uses, task_uses, IsUsed, ComesTo, IsUsing}
-use Rattle.mz_emit_bodies.specs.declared.cells.Cell.{Cell}
+use Rattle.mz_emit_bodies.specs.UsesLeft.{let_uses, part_uses, task_uses, IsUsed, ComesTo, IsUsing}
+use Rattle.mz_emit_bodies.specs.declared.let_scopes.Cell.{Cell}
 use Rattle.mz_emit_bodies.proofs.Scoping.{sight_more, there_more}
 use Rattle.std.proofs.lemmas.List.{get_or_append_left}
 use Rattle.std.proofs.lemmas.Bool.{cases_eq, or_right}

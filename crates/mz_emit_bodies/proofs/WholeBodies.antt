@@ -20,7 +20,7 @@ use Rattle.mz_mmu_theory.specs.Proof.{Proof}
 use Rattle.mz_emit_theory.specs.BodyWriting.{Kept, expression, hypothesis, first_part, Writing, place_in, Written, Writer, ◌>>◌, keeping, unless_kept, write_expr, write_exprs, write_proof, write_hyp, write_hyps, at_first, variables_below, definition_written, axiom_written, theorem_written}
 use Rattle.mz_emit_theory.specs.Claims.{proved, IsSound}
 use Rattle.mz_emit_theory.specs.Endings.{MayStand}
-use Rattle.mz_emit_theory.specs.Works.{from_to, work_start}
+use Rattle.mz_emit_theory.specs.SymbolicState.{from_to, work_start}
 use Rattle.mz_emit_theory.proofs.Offered.{has-place as meets, own-below, own-item-at}
 use Rattle.mz_emit_bodies.specs.Laws.{AreDummiesBehind, TakeFourBytes, DefinitionsAreWritten, AxiomsAreWritten, TheoremsAreWritten}
 use Rattle.mz_emit_bodies.specs.WrittenLaws.{TheoremBodiesUse}

@@ -17,11 +17,11 @@ use Rattle.mz_emit_bodies.specs.Places.{place_of}
 use Rattle.mz_emit_bodies.proofs.Making.{tree_grown}
 use Rattle.mz_emit_bodies.specs.Sight.{Part, links, parts, part_at, place_at, InSight, AreRight, IsThere}
 use Rattle.mz_emit_bodies.specs.Scopes.{in_sight}
-use Rattle.mz_emit_bodies.specs.Owes.{Task, prove, prove_all, cite, push, make, pay, pay_all, give, save, Turns, Owes}
+use Rattle.mz_emit_bodies.specs.TaskInvariant.{Task, prove, prove_all, cite, push, make, pay, pay_all, give, save, Turns, Owes}
 use Rattle.mz_emit_bodies.specs.Pushing.{pushes}
 use Rattle.mz_emit_theory.specs.BodyWriting.{Kept, expression, hypothesis, first_part, Writing, place_in, Written, Writer, and_then, nothing, ◌>>◌, command, keeping, write_expr, write_exprs, at_name, write_proof, write_proofs, write_hyp, write_hyps}
 use Rattle.mz_emit_bodies.specs.Writers.{let_writers, term_of, write_task, write_tasks, IsKept, behind, IsWriting}
-use Rattle.mz_emit_bodies.specs.declared.cells.Cell.{Cell}
+use Rattle.mz_emit_bodies.specs.declared.let_scopes.Cell.{Cell}
 use Rattle.mz_emit_bodies.proofs.Scoping.{sight_more, sight_new, named}
 use Rattle.mz_emit_bodies.proofs.Heaps.{written, then_assoc, then_first, then_second, then_nothing, kept_there, not_kept, expr_there, expr_new, dummy_new, expr_absent, met_kept, kept_grown}
 

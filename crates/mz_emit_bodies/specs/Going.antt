@@ -12,7 +12,7 @@ use Rattle.mz_store.specs.declared.item.Id.{Id}
 use Rattle.mz_unify_theory.specs.Spells.{dummy_of}
 use Rattle.mz_unify_theory.specs.Profile.{Item, expr, proof, plain}
 use Rattle.mz_machine_theory.specs.MachineState.{Kind, is_theorem}
-use Rattle.mz_emit_theory.specs.Works.{Work, work_start}
+use Rattle.mz_emit_theory.specs.SymbolicState.{Work, work_start}
 use Rattle.mz_emit_theory.specs.SharedBodies.{Builds, AreDistinct, ArePlain}
 use Rattle.mz_emit_theory.specs.Steps.{command_bytes}
 use Rattle.mz_emit_theory.specs.Endings.{MayStand}
@@ -23,14 +23,14 @@ use Rattle.mz_emit_bodies.specs.Variables.{IsShared}
 use Rattle.mz_emit_bodies.specs.Sight.{links, parts, part_at, place_at, AreRight}
 use Rattle.mz_emit_bodies.specs.Scopes.{in_sight}
 use Rattle.mz_emit_theory.specs.Claims.{IsSound}
-use Rattle.mz_emit_bodies.specs.Owes.{Task, IsOfExpressions, claims, claim_of, Owes, to_do, left}
+use Rattle.mz_emit_bodies.specs.TaskInvariant.{Task, IsOfExpressions, claims, claim_of, Owes, to_do, left}
 use Rattle.mz_emit_bodies.specs.Lengths.{tasks_bytes, begun, waits, IsClear}
 use Rattle.mz_emit_bodies.specs.Making.{IsFresh}
 use Rattle.mz_emit_theory.specs.Uses.{Use, commands_use}
-use Rattle.mz_emit_bodies.specs.Using.{IsUsing}
+use Rattle.mz_emit_bodies.specs.UsesLeft.{IsUsing}
 use Rattle.mz_emit_theory.specs.BodyWriting.{Written}
 use Rattle.mz_emit_bodies.specs.Writers.{IsWriting}
-use Rattle.mz_emit_bodies.specs.declared.cells.Cell.{Cell}
+use Rattle.mz_emit_bodies.specs.declared.let_scopes.Cell.{Cell}
 use Rattle.mz_emit_bodies.specs.declared.body.Before.{Before}
 use Rattle.mz_emit_bodies.specs.declared.body.Body.{Body}
 

@@ -7,7 +7,7 @@ use Rattle.mz_store.specs.Sharing.{Sharing, tree_of}
 use Rattle.mz_emit_theory.specs.Steps.{command_bytes}
 use Rattle.mz_emit_theory.specs.Claims.{conclusion_of}
 use Rattle.mz_emit_bodies.specs.Sight.{Part, part_at}
-use Rattle.mz_emit_bodies.specs.Owes.{Task, prove, prove_all, cite, push, make, pay, pay_all, give, save}
+use Rattle.mz_emit_bodies.specs.TaskInvariant.{Task, prove, prove_all, cite, push, make, pay, pay_all, give, save}
 use Rattle.mz_emit_theory.specs.Weights.{conv_weight, convs_weight, proof_weight, proofs_weight}
 
 -- each command takes five bytes at most, and one where it has no operand

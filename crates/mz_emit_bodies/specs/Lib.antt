@@ -1,8 +1,8 @@
 pub mod Sight
 pub mod Scopes
-pub mod Owes
+pub mod TaskInvariant
 pub mod Writers
-pub mod Using
+pub mod UsesLeft
 pub mod Pushing
 pub mod Going
 pub mod Stages

@@ -3,7 +3,7 @@ use Rattle.std.specs.Prelude.{ℕ, ◌≡◌, ◌<◌, ⊤, true, List, [], ◌�
 use Rattle.mz_logic_theory.specs.Tree.{size}
 use Rattle.mz_store.specs.Sharing.{Sharing, tree_of}
 use Rattle.mz_emit_bodies.specs.Places.{place_of}
-use Rattle.mz_emit_bodies.specs.Owes.{Task, prove, prove_all, cite, push, make, pay, pay_all, give, save}
+use Rattle.mz_emit_bodies.specs.TaskInvariant.{Task, prove, prove_all, cite, push, make, pay, pay_all, give, save}
 use Rattle.mz_emit_bodies.specs.Lengths.{is_one_of}
 
 -- what is to be made of operands on the stack

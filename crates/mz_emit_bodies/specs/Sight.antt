@@ -2,7 +2,7 @@
 use Rattle.std.specs.Prelude.{ℕ, ◌≡◌, ◌<◌, ◌≤◌, ◌+◌, ⊤, List, map, get_or, length, Option, Some, None}
 use Rattle.mz_mmu_theory.specs.Proof.{Proof, by_hyp}
 use Rattle.mz_mmu_theory.specs.ProofView.{proof_view}
-use Rattle.mz_emit_bodies.specs.declared.cells.Cell.{Cell}
+use Rattle.mz_emit_bodies.specs.declared.let_scopes.Cell.{Cell}
 
 pub record Link : Type 0 where
   pub outer : Option ℕ

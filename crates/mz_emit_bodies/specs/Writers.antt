@@ -11,9 +11,9 @@ use Rattle.mz_emit_bodies.specs.Places.{place_of}
 use Rattle.mz_emit_theory.specs.Claims.{conclusion_of}
 use Rattle.mz_emit_bodies.specs.Sight.{Part, parts, place_at}
 use Rattle.mz_emit_bodies.specs.Scopes.{in_sight, scopes}
-use Rattle.mz_emit_bodies.specs.Owes.{Task, prove, prove_all, cite, push, make, pay, pay_all, give, save}
+use Rattle.mz_emit_bodies.specs.TaskInvariant.{Task, prove, prove_all, cite, push, make, pay, pay_all, give, save}
 use Rattle.mz_emit_theory.specs.BodyWriting.{expression, hypothesis, first_part, Writing, place_in, Written, Writer, nothing, ◌>>◌, command, keeping, write_expr, write_exprs, write_payment, write_payments, at_name, write_proof, write_proofs}
-use Rattle.mz_emit_bodies.specs.declared.cells.Cell.{Cell}
+use Rattle.mz_emit_bodies.specs.declared.let_scopes.Cell.{Cell}
 
 -- what is written for the names of the lets in sight of each cell, itself counted
 abbrev pub let_writers : List Declaration → List Binder → List Part → List (List Writer)

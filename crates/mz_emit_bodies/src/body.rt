@@ -10,7 +10,7 @@ ghost use Rattle.mz_logic_theory.specs.Tree.{size};
 ghost use Rattle.mz_store.specs.Sharing.{head_of, tree_of};
 ghost use Rattle.mz_emit_theory.specs.Weights.{proof_weight};
 ghost use Rattle.mz_emit_theory.specs.Steps.{command_bytes};
-ghost use Rattle.mz_emit_bodies.specs.Owes.{prove, prove_all, cite, push, make, pay, pay_all, give, save, task_view, to_do};
+ghost use Rattle.mz_emit_bodies.specs.TaskInvariant.{prove, prove_all, cite, push, make, pay, pay_all, give, save, task_view, to_do};
 ghost use Rattle.mz_emit_bodies.specs.Places.{place_of};
 ghost use Rattle.mz_emit_bodies.specs.Pushing.{pushes};
 ghost use Rattle.mz_emit_bodies.specs.Going.{Job, IsAfter, Does, steps_left};
@@ -19,8 +19,8 @@ ghost use Rattle.mz_emit_theory.specs.BodyWriting.{write_expr, write_hyp, write_
 ghost use Rattle.mz_emit_theory.specs.Claims.{proved};
 ghost use Rattle.mz_unify_theory.specs.Profile.{expr, proof};
 
-use crate::cells::{Cells, Chain};
-use crate::task::Task;
+use crate::let_scopes::{Cells, Chain};
+use crate::work_list::Task;
 use crate::{Heap, Shared, TermTable};
 use mz_cmd::{END, Mem, ProofCode, put_cmd};
 use mz_logic_theory::{Env, Expr, Exprs};

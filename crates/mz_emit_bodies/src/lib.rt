@@ -8,14 +8,14 @@
 #![tactic(auto)]
 
 mod body;
-mod cells;
 mod heap;
 mod laws;
+mod let_scopes;
 mod shared;
 mod statement;
 mod table;
-mod task;
 mod words;
+mod work_list;
 
 pub use body::Before;
 pub use heap::Heap;

@@ -20,7 +20,7 @@ use Rattle.mz_machine_theory.specs.MachineState.{RowsBefore, Heading, is_definit
 use Rattle.mz_emit_theory.specs.Endings.{IsAsserted, IsEnding}
 use Rattle.mz_emit_theory.specs.BodyLaws.{DependOnFirst}
 use Rattle.mz_emit_theory.specs.AlphaEquivalence.{IsSameEnv, IsSameForm}
-use Rattle.mz_emit_theory.specs.Works.{Work}
+use Rattle.mz_emit_theory.specs.SymbolicState.{Work}
 use Rattle.mz_emit_theory.proofs.Joining.{contexts-depend}
 use Rattle.mz_emit_theory.proofs.WholeBodies.{bodies-run}
 use Rattle.mz_emit_theory.specs.Bodies.{last_item, IsBody}

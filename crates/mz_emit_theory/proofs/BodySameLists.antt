@@ -4,7 +4,7 @@ use Rattle.mz_logic_theory.specs.Declaration.{Term, Assertion, Declaration, sort
 use Rattle.mz_logic_theory.specs.LegalLists.{declarations}
 use Rattle.mz_logic_theory.specs.declared.binder.SortMods.{SortMods}
 use Rattle.mz_emit_theory.specs.AlphaEquivalence.{IsSameTerm, IsSameEnv}
-use Rattle.mz_emit_theory.specs.SameLists.{IsSameDeclaration, SameListsAreSameEnvs}
+use Rattle.mz_emit_theory.specs.AlphaLists.{IsSameDeclaration, SameListsAreSameEnvs}
 
 env-sort : (m : SortMods) (env env' : List Declaration) → IsSameEnv env env' → IsSameEnv (sort_decl m ∷ env) (sort_decl m ∷ env')
 env-sort m env env' h = record { sorts_are = ap (λ (z : List SortMods). m ∷ z) h.sorts_are; terms_are = h.terms_are; assertions_are = h.assertions_are }

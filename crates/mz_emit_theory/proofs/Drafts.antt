@@ -16,7 +16,7 @@ use Rattle.mz_machine_theory.specs.MachineState.{Kind, is_axiom, is_theorem, is_
 use Rattle.mz_emit_theory.specs.Endings.{MayStand}
 use Rattle.mz_emit_theory.specs.SharedBodies.{Builds, IsSharedBody}
 use Rattle.mz_emit_theory.specs.Steps.{Step, Steps}
-use Rattle.mz_emit_theory.specs.Works.{Work, work_start}
+use Rattle.mz_emit_theory.specs.SymbolicState.{Work, work_start}
 use Rattle.mz_emit_theory.specs.Gaps.{FinishedIsDraft}
 use Rattle.mz_emit_theory.specs.FileWriting.{IsWrittenForm, IsWrittenDeclaration, AreWritten}
 

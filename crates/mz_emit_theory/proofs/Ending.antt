@@ -23,7 +23,7 @@ use Rattle.mz_machine_theory.specs.Premises.{is_provable_sort}
 use Rattle.mz_machine_theory.specs.FreeVars.{free_within}
 use Rattle.mz_machine_theory.specs.ProofMachine.{last_item, own_stream, as_proofs, ending, ends_with, proof_end, has_provable_sort}
 use Rattle.mz_machine_theory.proofs.Offered.{own-are}
-use Rattle.mz_emit_theory.specs.Works.{renamed, all_renamed, item_renamed, name_in, Work, machine}
+use Rattle.mz_emit_theory.specs.SymbolicState.{renamed, all_renamed, item_renamed, name_in, Work, machine}
 use Rattle.mz_emit_theory.specs.AlphaEquivalence.{own, IsSameEnv}
 use Rattle.mz_emit_theory.specs.Endings.{IsAsserted, IsEnding, Ends}
 use Rattle.mz_emit_theory.specs.BodyLaws.{IsRightTree, AreRightItems, DependOnFirst, IsRight}

@@ -26,7 +26,7 @@ use Rattle.mz_machine_theory.specs.MachineState.{is_axiom, is_theorem, is_defini
 use Rattle.mz_machine_theory.specs.Sound.{HasGap}
 use Rattle.mz_binary_theory.specs.Gapped.{leaves_gap}
 use Rattle.mz_emit_theory.specs.Steps.{Step}
-use Rattle.mz_emit_theory.specs.Works.{Work, work_start}
+use Rattle.mz_emit_theory.specs.SymbolicState.{Work, work_start}
 use Rattle.mz_logic_theory.specs.Sorts.{HasSort}
 use Rattle.mz_layout_tables.specs.RowWords.{AreParamWords}
 use Rattle.mz_emit_theory.specs.AlphaEquivalence.{IsInside, IsSameForm}

@@ -7,7 +7,7 @@ use Rattle.mz_logic_theory.specs.Legality.{binder_at}
 use Rattle.mz_logic_theory.specs.declared.binder.Binder.{Binder}
 use Rattle.mz_unify_theory.specs.Spells.{dummy_of}
 use Rattle.mz_machine_theory.specs.Premises.{bound_count}
-use Rattle.mz_emit_theory.specs.Works.{met_binders}
+use Rattle.mz_emit_theory.specs.SymbolicState.{met_binders}
 use Rattle.mz_emit_theory.specs.BodyLaws.{AreOnce}
 
 count-cons : (b : Binder) (bs : List Binder) → bound_count (b ∷ bs) ≡ bound_count (b ∷ []) + bound_count bs

@@ -3,7 +3,7 @@ use Rattle.std.proofs.Common.{Bool, List, [], ◌∷◌, ◌++◌, ℕ}
 use Rattle.mz_logic_theory.specs.Declaration.{Declaration, sort_decl, term_decl, assertion_decl}
 use Rattle.mz_logic_theory.specs.LegalLists.{Statement}
 use Rattle.mz_layout_tables.specs.Normal.{Written, Parts}
-use Rattle.mz_emit_theory.specs.SameLists.{IsSameDeclaration, IsSameList}
+use Rattle.mz_emit_theory.specs.AlphaLists.{IsSameDeclaration, IsSameList}
 use Rattle.mz_emit_theory.specs.FileLaws.{WrittenListsAreSame}
 use Rattle.mz_emit_theory.specs.FileWriting.{IsWrittenDeclaration, AreWritten}
 

@@ -15,7 +15,7 @@ use Rattle.mz_machine_theory.specs.Sound.{IsCitation, CitesWithin, GapsWithin}
 use Rattle.mz_machine_theory.specs.MachineState.{Kind, is_axiom, is_theorem, is_definition}
 use Rattle.mz_emit_theory.specs.Endings.{spelled_body, MayStand}
 use Rattle.mz_emit_theory.specs.Steps.{Step, Steps, command_bytes}
-use Rattle.mz_emit_theory.specs.Works.{Work, work_start}
+use Rattle.mz_emit_theory.specs.SymbolicState.{Work, work_start}
 use Rattle.mz_emit_theory.proofs.Bytes.{drop-front, known-code as known}
 use Rattle.mz_emit_theory.specs.Gaps.{LeaveGap, Cite, SaysItsGaps, BodiesSayTheirGaps, OnlyDraftsLeaveGaps}
 

@@ -14,10 +14,10 @@ use Rattle.mz_unify_theory.specs.Profile.{Item, expr, proof, obligation, convers
 use Rattle.mz_machine_theory.specs.MachineState.{Pairwise}
 use Rattle.mz_machine_theory.specs.ProofMachine.{sides}
 use Rattle.mz_machine_theory.proofs.Offered.{pairs-push}
-use Rattle.mz_emit_theory.specs.Works.{Work}
+use Rattle.mz_emit_theory.specs.SymbolicState.{Work}
 use Rattle.mz_emit_theory.specs.Steps.{stacked, kept, IsReferred, Step, Steps}
 use Rattle.mz_emit_theory.specs.AlphaEquivalence.{IsSameTerm}
-use Rattle.mz_emit_theory.specs.BodyGrowing.{StepsJoin, StepsKeepTheHeap, ContextsDependOnParams, SameAtFirst, SameWithSort, SameWithTerm, SameWithAssertion}
+use Rattle.mz_emit_theory.specs.BodyMonotonicity.{StepsJoin, StepsKeepTheHeap, ContextsDependOnParams, SameAtFirst, SameWithSort, SameWithTerm, SameWithAssertion}
 
 pub steps-join : StepsJoin
 steps-join gaps env ctx [] ds w mid w' is steps = subst (λ (z : Work). Steps gaps env ctx z ds w') is steps

@@ -19,13 +19,13 @@ use Rattle.mz_unify_theory.proofs.Offered.{from_bind, some_is, taken-is}
 use Rattle.mz_machine_theory.specs.MachineState.{RowsBefore, State, Heading}
 use Rattle.mz_machine_theory.specs.ProofMachine.{push, saved, built as application, proof_step, proof_end}
 use Rattle.mz_machine_theory.specs.Bodies.{body_turn}
-use Rattle.mz_emit_theory.specs.Works.{renamed, item_renamed, name_in, Work, machine}
+use Rattle.mz_emit_theory.specs.SymbolicState.{renamed, item_renamed, name_in, Work, machine}
 use Rattle.mz_emit_theory.specs.Steps.{Step, command_bytes}
 use Rattle.mz_emit_theory.specs.Endings.{spelled_body, MayStand}
 use Rattle.mz_emit_theory.specs.BodyLaws.{AreRightTrees, IsRight}
 use Rattle.mz_emit_theory.specs.SharedBodies.{top, built, Builds, AreDistinct}
 use Rattle.mz_emit_theory.proofs.Bytes.{drop-front}
-use Rattle.mz_pmachine_theory.specs.Making.{portable_trees, made_of, row_makes, first_makes, and_then, makes_from, MadeOnce}
+use Rattle.mz_pmachine_theory.specs.SharedBuilding.{portable_trees, made_of, row_makes, first_makes, and_then, makes_from, MadeOnce}
 use Rattle.mz_emit_theory.proofs.Turns.{turn-is, makes-is}
 use Rattle.mz_emit_theory.proofs.Names.{steps-keep-names, right-both, right-built, known-at, one-tree}
 

@@ -9,7 +9,7 @@ use Rattle.mz_logic_theory.specs.Variables.{Occurs, OccursIn}
 use Rattle.mz_logic_theory.proofs.Offered.{among-true}
 use Rattle.mz_unify_theory.specs.Tests.{same_tree}
 use Rattle.mz_unify_theory.proofs.Offered.{not-both, member-contains, same_tree-true, same_tree-refl}
-use Rattle.mz_emit_theory.specs.Works.{place_of}
+use Rattle.mz_emit_theory.specs.SymbolicState.{place_of}
 use Rattle.mz_emit_theory.specs.StreamWriting.{place_in, are_met, all_are_met}
 
 -- ---- places of expressions

@@ -12,7 +12,7 @@ use Rattle.mz_logic_theory.specs.declared.binder.Binder.{Binder}
 use Rattle.mz_logic_theory.proofs.Offered.{same-variable, same-term, same-operands, same-first, same-rest, no-application, no-trees}
 use Rattle.mz_unify_theory.specs.Profile.{Item, expr, proof, obligation, conversion}
 use Rattle.mz_unify_theory.proofs.Offered.{some_is}
-use Rattle.mz_emit_theory.specs.Works.{renamed, all_renamed, name_in, Work}
+use Rattle.mz_emit_theory.specs.SymbolicState.{renamed, all_renamed, name_in, Work}
 use Rattle.mz_emit_theory.specs.Steps.{IsReferred, Step}
 use Rattle.mz_emit_theory.specs.BodyLaws.{AreRightItems, AreRightTrees}
 use Rattle.mz_emit_theory.specs.SharedBodies.{top, built, Builds}

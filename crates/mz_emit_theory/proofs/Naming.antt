@@ -16,7 +16,7 @@ use Rattle.mz_logic_theory.proofs.Offered.{operand_has_sort, same-variable}
 use Rattle.mz_unify_theory.specs.Spells.{trees_of}
 use Rattle.mz_unify_theory.proofs.Offered.{some_is, not-both}
 use Rattle.mz_machine_theory.proofs.Offered.{no-app}
-use Rattle.mz_emit_theory.specs.Works.{renamed, all_renamed, place_of, name_in, met_binders}
+use Rattle.mz_emit_theory.specs.SymbolicState.{renamed, all_renamed, place_of, name_in, met_binders}
 use Rattle.mz_emit_theory.specs.BodyLaws.{OwnNames, DependOnFirst, AreOnce}
 
 -- ---- places

@@ -12,7 +12,7 @@ use Rattle.mz_logic_theory.specs.Variables.{Occurs, OccursIn}
 use Rattle.mz_logic_theory.specs.declared.binder.Binder.{Binder}
 use Rattle.mz_unify_theory.specs.Spells.{trees_of, variables_from}
 use Rattle.mz_unify_theory.proofs.Offered.{followed-by-variables, operand-trees_of}
-use Rattle.mz_emit_theory.specs.Works.{renamed, all_renamed, place_of, name_in, from_to}
+use Rattle.mz_emit_theory.specs.SymbolicState.{renamed, all_renamed, place_of, name_in, from_to}
 use Rattle.mz_emit_theory.specs.BodyLaws.{OwnNames, AreOnce}
 use Rattle.mz_emit_theory.specs.AlphaEquivalence.{own}
 use Rattle.mz_emit_theory.proofs.Naming.{place-at}

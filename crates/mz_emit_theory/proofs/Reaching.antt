@@ -25,10 +25,10 @@ use Rattle.mz_unify_theory.specs.Sorted.{Sorted}
 use Rattle.mz_unify_theory.specs.Profile.{Item, expr, proof, obligation}
 use Rattle.mz_unify_theory.proofs.Offered.{trees_of-listed}
 use Rattle.mz_machine_theory.specs.ProofMachine.{sides}
-use Rattle.mz_emit_theory.specs.Works.{Work, work_start}
+use Rattle.mz_emit_theory.specs.SymbolicState.{Work, work_start}
 use Rattle.mz_emit_theory.specs.Steps.{stacked, above, IsCited, IsUnfolding, Step, Steps}
 use Rattle.mz_emit_theory.specs.BodyLaws.{IsRight}
-use Rattle.mz_emit_theory.specs.Reaching.{LegalAxiomsHaveSteps, LegalTheoremsHaveSteps, LegalDefinitionsHaveSteps}
+use Rattle.mz_emit_theory.specs.Completeness.{LegalAxiomsHaveSteps, LegalTheoremsHaveSteps, LegalDefinitionsHaveSteps}
 use Rattle.mz_emit_theory.proofs.Allowed.{used_with, allowed-uses}
 use Rattle.mz_emit_theory.proofs.Joining.{steps-join}
 use Rattle.mz_emit_theory.proofs.Starting.{start-right, within}

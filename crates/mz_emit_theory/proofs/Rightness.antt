@@ -13,7 +13,7 @@ use Rattle.mz_unify_theory.specs.Profile.{Item, expr, proof, obligation, convers
 use Rattle.mz_unify_theory.specs.Sorted.{Sorted, AllSorted, ItemSorted, ItemsSorted}
 use Rattle.mz_unify_theory.proofs.Offered.{map-reverse}
 use Rattle.mz_machine_theory.specs.ProofMachine.{sides}
-use Rattle.mz_emit_theory.specs.Works.{renamed, item_renamed, name_in, met_binders}
+use Rattle.mz_emit_theory.specs.SymbolicState.{renamed, item_renamed, name_in, met_binders}
 use Rattle.mz_emit_theory.specs.Steps.{above}
 use Rattle.mz_emit_theory.specs.BodyLaws.{IsRightTree, IsRightItem, AreRightItems, AreRightTrees}
 use Rattle.mz_emit_theory.proofs.Naming.{DepsAreKept, place-more, renamed-alike, sort-forward}

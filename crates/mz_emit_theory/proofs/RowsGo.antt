@@ -21,7 +21,7 @@ use Rattle.mz_machine_theory.specs.MachineState.{RowsBefore, signatures_in, Stat
 use Rattle.mz_machine_theory.specs.FreeVars.{free_within}
 use Rattle.mz_machine_theory.specs.ProofMachine.{push, matched_by, unfolding_of, proof_step, own_variables, ends_with, proof_end}
 use Rattle.mz_machine_theory.proofs.Offered.{own-are}
-use Rattle.mz_pmachine_theory.specs.Making.{portable_trees}
+use Rattle.mz_pmachine_theory.specs.SharedBuilding.{portable_trees}
 use Rattle.mz_pmachine_theory.proofs.Offered.{ends-too}
 use Rattle.mz_emit_theory.specs.SharedRows.{SharesBody, IsSharedHeading}
 use Rattle.mz_emit_theory.proofs.WholeMarks.{shared-stream}

@@ -27,7 +27,7 @@ use Rattle.mz_unify_theory.proofs.Offered.{taken, fits-length, citations-exact, 
 use Rattle.mz_machine_theory.specs.MachineState.{RowsBefore, signatures_in, State, Declares}
 use Rattle.mz_machine_theory.specs.Premises.{is_obligation, may_be_dummy_sort, is_provable_sort, bound_count, operands_fit, are_apart}
 use Rattle.mz_machine_theory.specs.ProofMachine.{built, cited, sides, proof_step}
-use Rattle.mz_emit_theory.specs.Works.{renamed, all_renamed, item_renamed, name_in, Work, met_binders, machine}
+use Rattle.mz_emit_theory.specs.SymbolicState.{renamed, all_renamed, item_renamed, name_in, Work, met_binders, machine}
 use Rattle.mz_emit_theory.specs.Steps.{stacked, kept, above, IsBuilt, IsCited, Step, Steps, command_bytes, run_commands}
 use Rattle.mz_emit_theory.specs.AlphaEquivalence.{IsSameEnv}
 use Rattle.mz_emit_theory.specs.BodyLaws.{IsRightTree, IsRightItem, AreRightItems, DependOnFirst, IsRight}

@@ -18,7 +18,7 @@ use Rattle.mz_machine_theory.specs.Premises.{bound_count}
 use Rattle.mz_machine_theory.specs.ProofMachine.{proof_step, proof_end}
 use Rattle.mz_machine_theory.specs.Bodies.{body_start, body_run, Runs}
 use Rattle.mz_machine_theory.proofs.Offered.{own-are}
-use Rattle.mz_emit_theory.specs.Works.{renamed, item_renamed, name_in, Work, work_start, machine}
+use Rattle.mz_emit_theory.specs.SymbolicState.{renamed, item_renamed, name_in, Work, work_start, machine}
 use Rattle.mz_emit_theory.specs.Steps.{Step, Steps, command_bytes, run_commands}
 use Rattle.mz_emit_theory.specs.AlphaEquivalence.{IsSameEnv}
 use Rattle.mz_emit_theory.specs.Endings.{spelled_body, MayStand}
@@ -33,8 +33,8 @@ use Rattle.mz_emit_theory.proofs.Running.{steps-run}
 use Rattle.mz_emit_theory.proofs.Bytes.{body-from-run}
 use Rattle.mz_emit_theory.proofs.Starting.{start-right, start-machine}
 use Rattle.mz_emit_theory.proofs.WholeBodies.{bodies-run}
-use Rattle.mz_pmachine_theory.specs.Numbered.{portable}
-use Rattle.mz_pmachine_theory.specs.Making.{portable_trees, makes_from, body_makes, MadeOnce}
+use Rattle.mz_pmachine_theory.specs.NodeIdentity.{portable}
+use Rattle.mz_pmachine_theory.specs.SharedBuilding.{portable_trees, makes_from, body_makes, MadeOnce}
 use Rattle.mz_pmachine_theory.proofs.Offered.{rows-too, shared-run}
 use Rattle.mz_emit_theory.specs.SharedRows.{AreSharedRows, IsSharedHeading}
 use Rattle.mz_emit_theory.specs.PortableLaws.{SharedBodiesRunByIdentity}

@@ -13,7 +13,7 @@ use Rattle.mz_logic_theory.specs.declared.binder.Binder.{Binder}
 use Rattle.mz_unify_theory.specs.Streams.{UnifyCommand, u_term, u_term_save, u_ref, u_dummy, u_hyp, u_end}
 use Rattle.mz_unify_theory.specs.Sorted.{Sorted, AllSorted}
 use Rattle.mz_unify_theory.proofs.Offered.{length-params, sorted-reverse}
-use Rattle.mz_emit_theory.specs.Works.{from_to}
+use Rattle.mz_emit_theory.specs.SymbolicState.{from_to}
 use Rattle.mz_emit_theory.specs.StreamWriting.{Writing, Written, writing_start, meeting, place_in, are_met, referred, headed, head_of, marked_if, write, write_all, write_hyps, assertion_written, definition_written, unify_bytes, stream_of, AreShort}
 use Rattle.mz_emit_theory.specs.StreamLaws.{IsSmall, AssertionsAreShort, DefinitionsAreShort, AssertionsAreBounded, DefinitionsAreBounded}
 use Rattle.mz_emit_theory.proofs.Marking.{place-found}

@@ -8,7 +8,7 @@ use Rattle.mz_logic_theory.specs.Signature.{Signature}
 use Rattle.mz_logic_theory.specs.declared.binder.Binder.{Binder}
 use Rattle.mz_logic_theory.proofs.Offered.{terms_are_sorted, each_from_all}
 use Rattle.mz_emit_theory.specs.AlphaEquivalence.{IsSameForm}
-use Rattle.mz_emit_theory.specs.SameLists.{IsSameDeclaration, IsSameList}
+use Rattle.mz_emit_theory.specs.AlphaLists.{IsSameDeclaration, IsSameList}
 use Rattle.mz_emit_theory.specs.SpelledLists.{form_spelled, decl_spelled, list_spelled, SpelledListsAreSame}
 use Rattle.mz_emit_theory.proofs.SameForms.{bodies-same}
 

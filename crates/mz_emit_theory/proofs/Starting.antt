@@ -14,7 +14,7 @@ use Rattle.mz_unify_theory.specs.Profile.{strict, Item, expr}
 use Rattle.mz_machine_theory.specs.MachineState.{State, Heading}
 use Rattle.mz_machine_theory.specs.ProofMachine.{own_variables}
 use Rattle.mz_machine_theory.specs.Bodies.{body_start}
-use Rattle.mz_emit_theory.specs.Works.{item_renamed, place_of, name_in, from_to, work_start, machine}
+use Rattle.mz_emit_theory.specs.SymbolicState.{item_renamed, place_of, name_in, from_to, work_start, machine}
 use Rattle.mz_emit_theory.specs.BodyLaws.{AreRightItems, OwnNames, AreOnce, IsRight}
 
 plus-zero : (a : ℕ) → a + 0 ≡ a

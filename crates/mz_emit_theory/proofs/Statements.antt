@@ -11,7 +11,7 @@ use Rattle.mz_machine_theory.specs.Lists.{kind_of, assertion_of, definition_of}
 use Rattle.mz_unify_theory.proofs.Offered.{some_is}
 use Rattle.mz_emit_theory.proofs.Joining.{contexts-depend}
 use Rattle.mz_emit_theory.proofs.SameTables.{in-tables}
-use Rattle.mz_pmachine_theory.specs.Numbered.{portable}
+use Rattle.mz_pmachine_theory.specs.NodeIdentity.{portable}
 use Rattle.mz_emit_theory.specs.SharedRows.{SharesBody, IsSharedRow, AreSharedRows}
 use Rattle.mz_emit_theory.specs.PortableLaws.{AssertionsRunByIdentity, DefinitionsRunByIdentity}
 use Rattle.mz_emit_theory.proofs.LongerRows.{texts-share, shared-with-term}

@@ -10,12 +10,12 @@ use Rattle.mz_unify_theory.specs.Spells.{trees_of, Text}
 use Rattle.mz_unify_theory.proofs.Offered.{trees_of-listed}
 use Rattle.mz_machine_theory.specs.MachineState.{State, Kind}
 use Rattle.mz_machine_theory.specs.Premises.{bound_count}
-use Rattle.mz_emit_theory.specs.Works.{work_start, machine}
+use Rattle.mz_emit_theory.specs.SymbolicState.{work_start, machine}
 use Rattle.mz_emit_theory.specs.Steps.{Steps, run_commands}
 use Rattle.mz_unify_theory.specs.Profile.{plain}
 use Rattle.mz_emit_theory.specs.Endings.{IsEnding, Ends}
 use Rattle.mz_emit_theory.specs.BodyLaws.{DependOnFirst}
-use Rattle.mz_emit_theory.specs.Reaching.{LegalTheoremsRun}
+use Rattle.mz_emit_theory.specs.Completeness.{LegalTheoremsRun}
 use Rattle.mz_emit_theory.proofs.Running.{steps-run}
 use Rattle.mz_emit_theory.proofs.Ending.{ends-end}
 use Rattle.mz_emit_theory.proofs.Starting.{start-right, start-machine}

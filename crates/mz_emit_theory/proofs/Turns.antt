@@ -17,7 +17,7 @@ use Rattle.mz_emit_theory.specs.Steps.{command_bytes, run_commands}
 use Rattle.mz_emit_theory.specs.Endings.{spelled_body, MayStand}
 use Rattle.mz_emit_theory.specs.SharedBodies.{IsPlain, ArePlain}
 use Rattle.mz_emit_theory.proofs.Bytes.{drop-front}
-use Rattle.mz_pmachine_theory.specs.Making.{portable_trees, row_makes, first_makes}
+use Rattle.mz_pmachine_theory.specs.SharedBuilding.{portable_trees, row_makes, first_makes}
 
 -- ---- the code of a command is read again
 

@@ -4,7 +4,7 @@ use Rattle.mz_logic_theory.specs.Tree.{Tree}
 use Rattle.mz_logic_theory.specs.Declaration.{signatures}
 use Rattle.mz_logic_theory.specs.declared.binder.Binder.{Binder}
 use Rattle.mz_machine_theory.specs.MachineState.{State}
-use Rattle.mz_emit_theory.specs.Works.{work_start, machine}
+use Rattle.mz_emit_theory.specs.SymbolicState.{work_start, machine}
 use Rattle.mz_emit_theory.specs.Steps.{run_commands}
 use Rattle.mz_unify_theory.specs.Profile.{plain}
 use Rattle.mz_emit_theory.specs.BodyLaws.{RightBodiesRun}

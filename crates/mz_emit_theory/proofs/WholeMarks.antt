@@ -19,8 +19,8 @@ use Rattle.mz_unify_theory.specs.Laws.{instances_of, unfolding_by}
 use Rattle.mz_unify_theory.proofs.Offered.{unfoldings-exact, some_is, unfolding-is}
 use Rattle.mz_emit_theory.specs.Sharing.{Built, Builds, BuildsAll, IsWhole}
 use Rattle.mz_emit_theory.proofs.Forgetting.{building-spells}
-use Rattle.mz_pmachine_theory.specs.Making.{portable_trees}
-use Rattle.mz_pmachine_theory.specs.Saving.{AreWhole}
+use Rattle.mz_pmachine_theory.specs.SharedBuilding.{portable_trees}
+use Rattle.mz_pmachine_theory.specs.SafeSaving.{AreWhole}
 use Rattle.mz_pmachine_theory.proofs.Offered.{whole-streams}
 use Rattle.mz_emit_theory.proofs.Unfolds.{get-own}
 use Rattle.mz_emit_theory.specs.SharedRows.{SharesBody}

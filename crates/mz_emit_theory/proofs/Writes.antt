@@ -16,7 +16,7 @@ use Rattle.mz_logic_theory.proofs.Offered.{split_at}
 use Rattle.mz_unify_theory.specs.Streams.{StreamKind, of_assertion, of_definition, UnifyCommand, u_ref, u_dummy}
 use Rattle.mz_unify_theory.specs.Spells.{dummy_of, Marks, with_dummy, HasOperands}
 use Rattle.mz_unify_theory.proofs.Offered.{not-both}
-use Rattle.mz_emit_theory.specs.Works.{renamed, all_renamed, place_of, name_in}
+use Rattle.mz_emit_theory.specs.SymbolicState.{renamed, all_renamed, place_of, name_in}
 use Rattle.mz_emit_theory.specs.BodyLaws.{AreOnce}
 use Rattle.mz_emit_theory.proofs.Naming.{place-new, once-more}
 use Rattle.mz_emit_theory.specs.StreamWriting.{Writing, Written, meeting, place_in, are_met, referred, headed, and_then, head_of, marked_if, write, write_all, spelled_dummies}

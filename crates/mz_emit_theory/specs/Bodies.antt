@@ -9,7 +9,7 @@ use Rattle.mz_machine_theory.specs.Premises.{bound_count}
 use Rattle.mz_machine_theory.specs.MachineState.{Kind, is_axiom, is_theorem, is_definition}
 use Rattle.mz_emit_theory.specs.Endings.{spelled_body, MayStand}
 use Rattle.mz_emit_theory.specs.Steps.{Steps}
-use Rattle.mz_emit_theory.specs.Works.{Work, work_start}
+use Rattle.mz_emit_theory.specs.SymbolicState.{Work, work_start}
 
 -- what stands on the stack in the end, by the body's kind
 abbrev pub last_item : Kind → Tree → Item Tree

@@ -12,7 +12,7 @@ use Rattle.mz_machine_theory.specs.MachineState.{RowsBefore, State, Heading, Dec
 use Rattle.mz_machine_theory.specs.Premises.{bound_count}
 use Rattle.mz_machine_theory.specs.ProofMachine.{proof_end}
 use Rattle.mz_machine_theory.specs.Bodies.{body_start, body_run, Runs}
-use Rattle.mz_emit_theory.specs.Works.{Work, work_start, machine, name_in}
+use Rattle.mz_emit_theory.specs.SymbolicState.{Work, work_start, machine, name_in}
 use Rattle.mz_emit_theory.specs.Steps.{Steps, run_commands}
 use Rattle.mz_emit_theory.specs.AlphaEquivalence.{IsSameEnv}
 use Rattle.mz_emit_theory.specs.Endings.{Ends, spelled_body, MayStand}

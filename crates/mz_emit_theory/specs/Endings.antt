@@ -13,7 +13,7 @@ use Rattle.mz_unify_theory.specs.Spells.{trees_of, Text}
 use Rattle.mz_unify_theory.specs.Profile.{Profile, expr, proof}
 use Rattle.mz_machine_theory.specs.MachineState.{Kind, is_axiom, is_theorem, is_definition, Heading}
 use Rattle.mz_machine_theory.specs.Bodies.{stands_in}
-use Rattle.mz_emit_theory.specs.Works.{Work}
+use Rattle.mz_emit_theory.specs.SymbolicState.{Work}
 use Rattle.mz_emit_theory.specs.Steps.{command_bytes}
 use Rattle.mz_emit_theory.specs.AlphaEquivalence.{own}
 

@@ -5,7 +5,7 @@ use Rattle.mz_layout_tables.specs.Normal.{Parts, file_of}
 use Rattle.mz_layout_tables.specs.Standing.{Fit}
 use Rattle.mz_binary_theory.specs.Chains.{Statements}
 use Rattle.mz_binary_theory.specs.Good.{Good}
-use Rattle.mz_emit_theory.specs.SameLists.{IsSameList}
+use Rattle.mz_emit_theory.specs.AlphaLists.{IsSameList}
 use Rattle.mz_emit_theory.specs.FileWriting.{IsWrittenAs}
 use Rattle.mz_binary_theory.specs.Standards.{by_table}
 

@@ -1,11 +1,11 @@
-pub mod Works
+pub mod SymbolicState
 pub mod Steps
 pub mod AlphaEquivalence
-pub mod SameLists
+pub mod AlphaLists
 pub mod Endings
 pub mod BodyLaws
-pub mod BodyGrowing
-pub mod Reaching
+pub mod BodyMonotonicity
+pub mod Completeness
 pub mod Bodies
 pub mod SharedBodies
 pub mod FileWriting

@@ -18,7 +18,7 @@ use Rattle.mz_emit_theory.specs.AlphaEquivalence.{IsSameEnv}
 use Rattle.mz_emit_theory.specs.SharedBodies.{IsSharedBody}
 use Rattle.mz_emit_theory.specs.SharedTexts.{IsSharedText}
 use Rattle.mz_emit_theory.specs.StreamWriting.{definition_written, stream_of, AreShort}
-use Rattle.mz_pmachine_theory.specs.Numbered.{portable}
+use Rattle.mz_pmachine_theory.specs.NodeIdentity.{portable}
 use Rattle.mz_emit_theory.specs.SharedRows.{SharesBody, IsSharedRow, AreSharedRows, IsSharedHeading}
 
 -- ---- bodies

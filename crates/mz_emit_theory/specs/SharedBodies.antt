@@ -10,7 +10,7 @@ use Rattle.mz_unify_theory.specs.Profile.{Item, expr, proof, obligation, convers
 use Rattle.mz_machine_theory.specs.MachineState.{Kind}
 use Rattle.mz_emit_theory.specs.Bodies.{IsBody}
 use Rattle.mz_emit_theory.specs.Steps.{Step}
-use Rattle.mz_emit_theory.specs.Works.{Work, work_start}
+use Rattle.mz_emit_theory.specs.SymbolicState.{Work, work_start}
 
 -- ---- what is built
 

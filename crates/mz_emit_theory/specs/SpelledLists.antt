@@ -4,7 +4,7 @@ use Rattle.mz_logic_theory.specs.Declaration.{Form, plain_form, abstract_form, d
 use Rattle.mz_logic_theory.specs.Legality.{IsLegalEnv}
 use Rattle.mz_logic_theory.specs.LegalLists.{Statement, declarations}
 use Rattle.mz_logic_theory.specs.declared.binder.Binder.{Binder}
-use Rattle.mz_emit_theory.specs.SameLists.{IsSameList}
+use Rattle.mz_emit_theory.specs.AlphaLists.{IsSameList}
 use Rattle.mz_emit_theory.specs.StreamWriting.{body_spelled, dummies_spelled}
 
 abbrev pub form_spelled : List Binder → Form → Form

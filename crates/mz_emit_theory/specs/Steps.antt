@@ -21,7 +21,7 @@ use Rattle.mz_unify_theory.specs.Laws.{IsCitedAs}
 use Rattle.mz_machine_theory.specs.MachineState.{RowsBefore, State}
 use Rattle.mz_machine_theory.specs.Premises.{is_obligation}
 use Rattle.mz_machine_theory.specs.ProofMachine.{sides, proof_step}
-use Rattle.mz_emit_theory.specs.Works.{Work}
+use Rattle.mz_emit_theory.specs.SymbolicState.{Work}
 
 -- ---- a new stack, and one more item in the heap
 

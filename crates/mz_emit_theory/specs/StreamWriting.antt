@@ -10,7 +10,7 @@ use Rattle.mz_logic_theory.specs.Variables.{is_member}
 use Rattle.mz_unify_theory.specs.Streams.{UnifyCommand, u_term, u_term_save, u_ref, u_dummy, u_hyp, u_end}
 use Rattle.mz_unify_theory.specs.Spells.{variables_from, dummy_of}
 use Rattle.mz_unify_theory.specs.Tests.{same_tree}
-use Rattle.mz_emit_theory.specs.Works.{renamed, name_in, from_to}
+use Rattle.mz_emit_theory.specs.SymbolicState.{renamed, name_in, from_to}
 
 -- ---- what is written
 

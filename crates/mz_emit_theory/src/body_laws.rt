@@ -1,9 +1,9 @@
 // Laws on the definitions: the contract of each function is one, and its body is empty.
 ghost use Rattle.std.specs.Prelude.{Bool};
 ghost use Rattle.mz_emit_theory.specs.BodyLaws.{BodiesRunAsCommands, RightBodiesRun, RightEndsEnd, RightStepsRun};
-ghost use Rattle.mz_emit_theory.specs.BodyGrowing.{ContextsDependOnParams, SameAtFirst, SameWithAssertion, SameWithSort, SameWithTerm, StepsJoin, StepsKeepTheHeap};
-ghost use Rattle.mz_emit_theory.specs.SameLists.{SameListsAreSameEnvs};
-ghost use Rattle.mz_emit_theory.specs.Reaching.{LegalAxiomsHaveSteps, LegalDefinitionsHaveSteps, LegalTheoremsHaveSteps, LegalTheoremsRun};
+ghost use Rattle.mz_emit_theory.specs.BodyMonotonicity.{ContextsDependOnParams, SameAtFirst, SameWithAssertion, SameWithSort, SameWithTerm, StepsJoin, StepsKeepTheHeap};
+ghost use Rattle.mz_emit_theory.specs.AlphaLists.{SameListsAreSameEnvs};
+ghost use Rattle.mz_emit_theory.specs.Completeness.{LegalAxiomsHaveSteps, LegalDefinitionsHaveSteps, LegalTheoremsHaveSteps, LegalTheoremsRun};
 ghost use Rattle.mz_unify_theory.specs.Profile.{plain};
 
 /// Right steps run: the machine goes from what they begin with to what they make.

@@ -1,7 +1,7 @@
 ghost use Rattle.std.specs.Prelude.{◌≡◌, ◌++◌, OnOk};
 ghost use Rattle.mz_layout_tables.specs.Normal.{header_bytes};
 
-use crate::pieces::{put_u32, put_zeros};
+use crate::sections::{put_u32, put_zeros};
 use mz_cmd::Mem;
 use mz_layout_tables::Header;
 

@@ -4,9 +4,9 @@
 
 mod file;
 mod front;
-mod pieces;
-mod runs;
-mod stored;
+mod pending;
+mod sections;
+mod sequences;
 mod words;
 mod writer;
 

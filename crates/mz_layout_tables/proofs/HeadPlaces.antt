@@ -16,7 +16,7 @@ use Rattle.mz_cmd.specs.Codes.{is_known, statement_byte, statement_code, stateme
 use Rattle.mz_cmd.specs.Spelling.{operand_len}
 use Rattle.mz_cmd.specs.Reading.{first_command, command_at}
 use Rattle.mz_cmd.specs.StatementList.{statement_of, statement_at}
-use Rattle.mz_layout_tables.specs.declared.taken.Rows.{Rows}
+use Rattle.mz_layout_tables.specs.declared.rows_so_far.Rows.{Rows}
 use Rattle.mz_layout_tables.specs.Heads.{IsNextHead, next_row, row_checks}
 
 -- ---- a command

@@ -11,7 +11,7 @@ use Rattle.mz_cmd.specs.declared.statement.StmtFault.{StmtFault}
 use Rattle.mz_cmd.specs.Codes.{statement_code}
 use Rattle.mz_cmd.specs.StatementList.{statement_at}
 use Rattle.mz_layout_tables.specs.Tables.{sort_count, term_count, thm_count, term_row}
-use Rattle.mz_layout_tables.specs.declared.taken.Rows.{Rows}
+use Rattle.mz_layout_tables.specs.declared.rows_so_far.Rows.{Rows}
 use Rattle.mz_layout_tables.specs.Heads.{AllTaken, IsEmptyBody, checks_of, head_checks, kind_checks, next_row, row_count, suits_checks}
 
 bool-decided : (b : Bool) → (b ≡ true) ⊎ (b ≡ true → ⊥)

@@ -14,7 +14,7 @@ use Rattle.mz_cmd.specs.declared.statement.StmtFault.TheVariants as faults
 use Rattle.mz_cmd.specs.Codes.{statement_byte, statement_code}
 use Rattle.mz_cmd.specs.StatementList.{statement_at}
 use Rattle.mz_layout_tables.specs.Tables.{sort_count, term_count, thm_count, term_row}
-use Rattle.mz_layout_tables.specs.declared.taken.Rows.{Rows}
+use Rattle.mz_layout_tables.specs.declared.rows_so_far.Rows.{Rows}
 use Rattle.mz_layout_tables.specs.declared.head.Head.{Head}
 use Rattle.mz_layout_tables.specs.declared.head.HeadOrEnd.{HeadOrEnd}
 use Rattle.mz_layout_tables.specs.declared.head.HeadOrEnd.TheVariants as there

@@ -5,7 +5,7 @@ ghost use Rattle.mz_layout_tables.specs.Heads.{StandsAt, end_checks, head_checks
 
 use crate::checks::Fault;
 use crate::mmb::Mmb;
-use crate::taken::Rows;
+use crate::rows_so_far::Rows;
 use mz_cmd::{K, StatementCode, StmtAt, StmtFault, stmt_at};
 use mz_logic_theory::Terms;
 

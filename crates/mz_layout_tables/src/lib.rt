@@ -19,7 +19,7 @@ mod mmb;
 mod records;
 mod row;
 mod row_words;
-mod taken;
+mod rows_so_far;
 mod word;
 mod word_laws;
 
@@ -30,4 +30,4 @@ pub use laws::{each_file_has_one_layout, normal_layout_is_read_back, normal_layo
 pub use mmb::Mmb;
 pub use row::Row;
 pub use row_words::{check_term_words, check_thm_words};
-pub use taken::Rows;
+pub use rows_so_far::Rows;

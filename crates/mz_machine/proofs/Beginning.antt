@@ -14,7 +14,7 @@ use Rattle.mz_machine_env.specs.OwnRow.{MayRun, mode_for, own_words, first_items
 use Rattle.mz_machine_theory.specs.Headings.{kind_at, heading_of}
 use Rattle.mz_machine_env.specs.Before.{tables_before}
 use Rattle.mz_machine.specs.OverStore.{heap_at, state_at, AreFirst, IsUnderway}
-use Rattle.mz_layout_tables.specs.declared.taken.Rows.{Rows}
+use Rattle.mz_layout_tables.specs.declared.rows_so_far.Rows.{Rows}
 use Rattle.mz_machine_env.proofs.Offered.{binders_many, own-binders}
 use Rattle.mz_machine.proofs.Dummies.{no-dummies}
 use Rattle.mz_machine.proofs.EndRows.{own-are}

@@ -23,7 +23,7 @@ use Rattle.mz_machine.specs.declared.command.Command.{Command}
 use Rattle.mz_machine.specs.declared.command.Command.TheVariants.{Makes, Keeps, Converts}
 use Rattle.mz_machine_env.specs.declared.command.Making.TheVariants as making
 use Rattle.mz_machine_env.specs.declared.command.Converting.TheVariants as converting
-use Rattle.mz_layout_tables.specs.declared.taken.Rows.{Rows}
+use Rattle.mz_layout_tables.specs.declared.rows_so_far.Rows.{Rows}
 use Rattle.mz_machine.proofs.TermResults.{tree-kept}
 
 -- ---- commands of theorems

@@ -30,7 +30,7 @@ use Rattle.mz_machine.specs.declared.command.Command.TheVariants.{Makes, Keeps, 
 use Rattle.mz_unify.specs.declared.stop.Stop.{Stop}
 use Rattle.mz_unify.specs.declared.stop.Stop.TheVariants.{Mem}
 use Rattle.mz_unify.specs.Rows.{StopsBy}
-use Rattle.mz_layout_tables.specs.declared.taken.Rows.{Rows}
+use Rattle.mz_layout_tables.specs.declared.rows_so_far.Rows.{Rows}
 
 -- ---- states
 

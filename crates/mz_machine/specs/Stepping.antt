@@ -10,7 +10,7 @@ use Rattle.mz_machine_theory.specs.Bodies.{body_command, body_start}
 use Rattle.mz_machine_theory.specs.Headings.{heading_of}
 use Rattle.mz_machine.specs.Steps.{Underway, tables_for, heading_for, row_of, is_sorry, TakesNone}
 use Rattle.mz_machine.specs.BodyAnswers.{CountsOf}
-use Rattle.mz_layout_tables.specs.declared.taken.Rows.{Rows}
+use Rattle.mz_layout_tables.specs.declared.rows_so_far.Rows.{Rows}
 use Rattle.mz_unify.specs.declared.stop.Stop.{Stop}
 use Rattle.mz_unify.specs.declared.stop.Stop.TheVariants as stop
 use Rattle.mz_machine.specs.declared.machine.Stepped.{Stepped}

@@ -13,7 +13,7 @@ use Rattle.mz_machine_theory.specs.Bodies.{BodyCommand, ends, proves, body_comma
 use Rattle.mz_machine_theory.specs.Headings.{heading_of}
 use Rattle.mz_machine_env.specs.Before.{tables_before}
 use Rattle.mz_machine_env.specs.OneCommand.{row_in, steps_in}
-use Rattle.mz_layout_tables.specs.declared.taken.Rows.{Rows}
+use Rattle.mz_layout_tables.specs.declared.rows_so_far.Rows.{Rows}
 
 -- a machine between two commands: whether gaps are let through, the file, the statement whose body runs with the rows
 -- before it, the state, whether a gap was left, and how many expressions its store holds

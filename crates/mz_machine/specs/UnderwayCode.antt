@@ -7,7 +7,7 @@ use Rattle.mz_logic_theory.specs.declared.binder.Binder.{Binder}
 use Rattle.mz_unify_theory.specs.Profile.{Item, expr, proof, obligation, conversion}
 use Rattle.mz_machine_theory.specs.MachineState.{State}
 use Rattle.mz_machine.specs.Steps.{Underway}
-use Rattle.mz_layout_tables.specs.declared.taken.Rows.{Rows}
+use Rattle.mz_layout_tables.specs.declared.rows_so_far.Rows.{Rows}
 
 abbrev pub parts_of : Item Tree → ℕ × (Tree × Tree)
 parts_of (expr e) = (0, (e, e))

@@ -13,7 +13,7 @@ ghost use Rattle.mz_machine.specs.Running.{IsRunning, machine_of};
 ghost use Rattle.mz_machine.specs.Stepping.{ended_at, stopped_at};
 
 use crate::machine::{Finished, Parts, Setting};
-use crate::room::{Desk, Room};
+use crate::scratch::{Desk, Room};
 use mz_base::Mode;
 use mz_cmd::{END, K, Steps, cmd_at};
 use mz_layout_tables::{Mmb, Rows};

@@ -9,7 +9,7 @@ use Rattle.mz_layout_tables.specs.Tables.{sort_count, term_count, thm_count, ter
 use Rattle.mz_machine_theory.specs.MachineState.{RowsBefore, signatures_in}
 use Rattle.mz_layout_tables.specs.RowWords.{first_sorts, param_checks, word_checks}
 use Rattle.mz_machine_theory.specs.FileRows.{Taken, rows_taken}
-use Rattle.mz_layout_tables.specs.declared.taken.Rows.{Rows}
+use Rattle.mz_layout_tables.specs.declared.rows_so_far.Rows.{Rows}
 
 -- a file, and how many rows of each of its tables stand before a statement
 pub record Before : Type 0 where

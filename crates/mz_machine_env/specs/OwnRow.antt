@@ -12,7 +12,7 @@ use Rattle.mz_machine_theory.specs.MachineState.{Kind, is_axiom, is_theorem, is_
 use Rattle.mz_machine_env.specs.Before.{AreWithin, HasRightWords, HasRightParams}
 use Rattle.mz_machine_env.specs.declared.own.BodyKind.{BodyKind}
 use Rattle.mz_machine_env.specs.declared.own.BodyKind.TheVariants.{Axiom, Definition, Theorem}
-use Rattle.mz_layout_tables.specs.declared.taken.Rows.{Rows}
+use Rattle.mz_layout_tables.specs.declared.rows_so_far.Rows.{Rows}
 use Rattle.mz_machine_theory.specs.Headings.{kind_at}
 
 -- ---- kinds

@@ -5,18 +5,18 @@
 #![tactic(auto)]
 
 mod command;
-mod earlier;
 mod items;
 mod own;
 mod places;
-mod spare;
+mod rows_before;
+mod scratch;
 
 pub use command::{Converting, Making};
-pub use earlier::Earlier;
 pub use items::{is_obligation, kept_at, put_back, top};
 pub use own::{
     BodyKind, deps_mode, first_ids, first_items, kind_by, own_arity, own_proofs, own_stream,
     read_words,
 };
 pub use places::{dependencies, may_meet};
-pub use spare::Spare;
+pub use rows_before::Earlier;
+pub use scratch::Spare;

@@ -4,7 +4,7 @@ ghost use Rattle.mz_store.specs.declared.item.Item.TheVariants.{Proof};
 ghost use Rattle.mz_machine_env.specs.OwnRow.{IsNextRow, kind_of, mode_for, own_words, own_proofs, first_ids, first_items};
 ghost use Rattle.mz_machine_theory.specs.Headings.{kind_at, heading_by};
 
-use crate::earlier::Earlier;
+use crate::rows_before::Earlier;
 use mz_logic_theory::Word;
 use mz_store::{DepsMode, Id, Item};
 use std::alloc::AllocError;

@@ -9,6 +9,6 @@ pub mod Sound
 pub mod Lists
 pub mod Gapped
 pub mod Examples
-pub mod Cases
+pub mod WorkedRuns
 pub mod FileRows
 pub mod Headings

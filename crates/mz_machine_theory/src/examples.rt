@@ -1,6 +1,6 @@
 // Worked bodies, computed.
-ghost use Rattle.mz_machine_theory.specs.Cases.{CodesChanged, Counts, CountsToFault, LongEnd, Run, StreamsChanged};
 ghost use Rattle.mz_machine_theory.specs.Examples.{AllVariables, CitesItself, ConversionSaved, CutOrLong, Dependency, Dummies, FiftyFive, Folding, Gap, GapsOfDrafts, HypothesesLastFirst, Implications, ObligationLeft, OfAnotherBody, OfAnotherRow};
+ghost use Rattle.mz_machine_theory.specs.WorkedRuns.{CodesChanged, Counts, CountsToFault, LongEnd, Run, StreamsChanged};
 
 /// Bodies whose outcome is known from outside: the verdict, and where a rule fails its place.
 pub fn worked_bodies()

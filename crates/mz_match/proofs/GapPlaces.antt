@@ -13,7 +13,7 @@ use Rattle.mz_binary.specs.Progress.{Progress}
 use Rattle.mz_binary_theory.proofs.Offered.{chain-declares, ungapped-free, bodies-more, bodies-many, gapped-on, gapped-back, gapped-within, good-legal, good-spelled}
 use Rattle.mz_match.specs.declared.draft.Draft.{Draft}
 use Rattle.mz_match.specs.declared.draft.Draft.TheVariants as drafts
-use Rattle.mz_match.specs.declared.matching.Matching.{Matching}
+use Rattle.mz_match.specs.declared.progress.Matching.{Matching}
 use Rattle.mz_match_theory.specs.declared.verdict.Verdict.{Verdict}
 use Rattle.mz_match_theory.specs.declared.verdict.Verdict.TheVariants as verdicts
 use Rattle.mz_match.specs.Drafts.{IsGapOf, IsGapHere, ListsGaps, ListsGapsOf, IsDraft, IsDraftSound, IsDraftSoundIfAccepted, IsJudged, verdict_of, places_past}

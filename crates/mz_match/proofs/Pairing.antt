@@ -23,7 +23,7 @@ use Rattle.mz_binary_theory.specs.FileRun.{find_at, found_steps, list_steps, fil
 use Rattle.mz_binary_theory.proofs.Offered.{chain-declares, chain-sorts, same-taken, steps-here, steps-rest}
 use Rattle.mz_spec_theory.specs.Spec.{SpecMakes}
 use Rattle.mz_spec_theory.specs.State.{Entry, env_of}
-use Rattle.mz_match.specs.declared.matching.Matching.{Matching}
+use Rattle.mz_match.specs.declared.progress.Matching.{Matching}
 use Rattle.mz_spec_proved_theory.specs.declared.rule.M.{M}
 use Rattle.mz_spec_proved_theory.specs.declared.rule.M.TheVariants as rules
 use Rattle.mz_match_theory.specs.declared.verdict.Verdict.{Verdict}

@@ -8,7 +8,7 @@ use Rattle.mz_binary_theory.specs.Chains.{IsGoodStatement, GoodTo}
 use Rattle.mz_binary.specs.Progress.{Progress, HasPassed, Tells}
 use Rattle.mz_binary.specs.Judging.{Passes}
 use Rattle.mz_layout_tables.specs.Layout.{Layout}
-use Rattle.mz_match.specs.declared.matching.Matching.{Matching}
+use Rattle.mz_match.specs.declared.progress.Matching.{Matching}
 use Rattle.mz_spec_proved_theory.specs.Match.{Leaves, publics, term_rows}
 use Rattle.mz_binary_theory.specs.declared.standard.Standard.{Standard}
 

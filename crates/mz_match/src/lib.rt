@@ -7,13 +7,13 @@
 mod draft;
 mod laws;
 mod line;
-mod matching;
-mod pair;
+mod progress;
+mod statement;
 mod verify;
 
 pub use draft::{Draft, Gaps, draft_bytes};
 pub use laws::each_pair_has_one_draft;
 pub use line::verdict_line;
 pub use mz_match_rows::Publics;
-pub use pair::match_statement;
+pub use statement::match_statement;
 pub use verify::{verify_by, verify_bytes};

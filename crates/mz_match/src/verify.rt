@@ -6,7 +6,7 @@ ghost use Rattle.mz_match.specs.Drafts.{IsJudged, places_past};
 ghost use Rattle.mz_spec_proved_theory.specs.Headline.{Proves};
 ghost use Rattle.mz_match_theory.specs.Verdict.{AcceptsWith, AcceptsWithBy, FirstRefusal, FirstRefusalBy, IsSoundIfAccepted, IsVerdict, IsVerdictBy, Ticks, TicksBy};
 
-use crate::matching::Matching;
+use crate::progress::Matching;
 use mz_binary::{Bodies, Checker, Next, StrictBodies};
 use mz_binary_theory::Statement;
 use mz_cmd::{Mem, Steps};

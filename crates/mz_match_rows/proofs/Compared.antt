@@ -14,7 +14,7 @@ use Rattle.mz_match_rows.specs.declared.stream.Step.{Step}
 use Rattle.mz_match_rows.specs.declared.stream.Cursor.{Cursor}
 use Rattle.mz_match_rows.specs.Streams.{step_at, Says, HasArity, IsSaid, AreSaid, IsMade, IsMarkAt, AreMarks}
 use Rattle.mz_match_rows.specs.Comparison.{Answers}
-use Rattle.mz_spec_proved_theory.specs.Comparing.{Beside, is_number, dummy_compared, compared, all_compared, and_then, beside_dummy}
+use Rattle.mz_spec_proved_theory.specs.Comparison.{Beside, is_number, dummy_compared, compared, all_compared, and_then, beside_dummy}
 use Rattle.mz_match_rows.specs.TermCodes.{makes_term}
 use Rattle.mz_match_rows.proofs.Steps.{step-takes, says-is, says-no}
 

@@ -11,8 +11,8 @@ use Rattle.mz_logic_theory.specs.declared.expr.Expr.{Expr}
 use Rattle.mz_unify_theory.specs.Spells.{Marks, dummy_of, trees_of}
 use Rattle.mz_match_rows.specs.declared.stream.Cursor.{Cursor}
 use Rattle.mz_match_rows.specs.Streams.{step_at, Says, Passes, IsSaid, AreSaid, IsMade, AreMarks, HypsAreSaid}
-use Rattle.mz_spec_proved_theory.specs.Trees.{SameOver, AllSameOver, SameTree, SameTrees, Pairs, IsPaired}
-use Rattle.mz_spec_proved_theory.specs.Comparing.{Beside, compared}
+use Rattle.mz_spec_proved_theory.specs.AlphaTrees.{SameOver, AllSameOver, SameTree, SameTrees, Pairs, IsPaired}
+use Rattle.mz_spec_proved_theory.specs.Comparison.{Beside, compared}
 use Rattle.mz_match_rows.specs.Comparison.{Answers}
 use Rattle.mz_spec_proved_theory.proofs.Offered.{SaysNothing, weaker, no-pairs, no-dummy, sound, complete}
 

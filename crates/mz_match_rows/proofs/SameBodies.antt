@@ -3,10 +3,10 @@ use Rattle.std.proofs.Common.{◌≡◌, ◌≤◌, ℕ, Bool, List, length, Opt
 use Rattle.std.specs.Prelude.{IsTrue, ◌↔◌, is_some}
 use Rattle.std.proofs.lemmas.Bool.{true≢false}
 use Rattle.mz_logic_theory.specs.Tree.{Tree}
-use Rattle.mz_spec_proved_theory.specs.Trees.{SameBody}
+use Rattle.mz_spec_proved_theory.specs.AlphaTrees.{SameBody}
 use Rattle.mz_match_rows.specs.declared.stream.Cursor.{Cursor}
 use Rattle.mz_match_rows.specs.Comparison.{Answers}
-use Rattle.mz_spec_proved_theory.specs.Comparing.{Beside, compared}
+use Rattle.mz_spec_proved_theory.specs.Comparison.{Beside, compared}
 use Rattle.mz_spec_proved_theory.proofs.Offered.{SaysNothing, no-pairs, sound, complete}
 
 pub same-body : (b : Beside) (ps qs : List (Option ℕ)) (e f : Tree) (o : Option Cursor) (to : Cursor) (r : Bool)

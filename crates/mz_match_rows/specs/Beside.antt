@@ -6,8 +6,8 @@ use Rattle.mz_match_rows.specs.declared.compare.Sides.{Sides}
 use Rattle.mz_match_rows.specs.declared.stream.Cursor.{Cursor}
 use Rattle.mz_match_rows.specs.Marks.{AreKept}
 use Rattle.mz_match_rows.specs.Streams.{IsSaid, AreSaid, IsMade, AreMarks, HypsAreSaid}
-use Rattle.mz_spec_proved_theory.specs.Comparing.{Beside}
-use Rattle.mz_spec_proved_theory.specs.Trees.{SameTree}
+use Rattle.mz_spec_proved_theory.specs.Comparison.{Beside}
+use Rattle.mz_spec_proved_theory.specs.AlphaTrees.{SameTree}
 
 -- what is compared, where the stream has these marks
 abbrev pub beside : Sides → Marks → Beside

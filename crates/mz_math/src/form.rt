@@ -7,7 +7,7 @@ ghost use Rattle.mz_math_theory.specs.Grammar.{items, level_before, last_level, 
 ghost use Rattle.mz_math_theory.specs.FormulaAnswers.{MayLead};
 ghost use Rattle.mz_math.specs.Steps.{IsNextPart, asked, tree_made, level_made, is_left_made};
 
-use crate::arrange::arranged;
+use crate::permute::arranged;
 use mz_logic_theory::{Expr, Exprs};
 use mz_math_theory::{ElementRef, Elements, MAX, Notation};
 use mz_math_tokens::Bytes;

@@ -13,9 +13,9 @@ ghost use Rattle.mz_math_theory.specs.Kept.{AreVariables};
 ghost use Rattle.mz_math.specs.Claims.{IsOnlyClaim};
 ghost use Rattle.mz_math_tokens.specs.MathTokens.{MathTokens, token_texts};
 
-use crate::meaning::{coerced, sort_of};
+use crate::elaborate::{coerced, sort_of};
 use crate::parser::parse;
-use crate::words::Vocabulary;
+use crate::vocabulary::Vocabulary;
 use mz_lex::S;
 use mz_logic_theory::{Context, Env, Expr};
 use mz_math_coercions::{Coercions, Reached, distance, reached_from, wrap};

@@ -5,14 +5,14 @@
 //! stand in `mz_math_tokens`, what the statements on notations declare in `mz_math_notation`.
 #![tactic(auto)]
 
-mod arrange;
+mod elaborate;
 mod form;
 mod formula;
 mod height;
 mod laws;
-mod meaning;
 mod parser;
-mod words;
+mod permute;
+mod vocabulary;
 
 pub use formula::parse_formula;
 pub use laws::{

@@ -9,7 +9,7 @@ ghost use Rattle.mz_math_theory.specs.Grammar.{Words};
 ghost use Rattle.mz_math.specs.Steps.{IsBegunAs, IsPending, Waits, Says, outer_level, asked, turns};
 
 use crate::form::{Form, Part, can_lead};
-use crate::words::Vocabulary;
+use crate::vocabulary::Vocabulary;
 use mz_logic_theory::{Expr, Exprs};
 use mz_math_theory::{MAX, Syntax};
 use mz_math_tokens::Tokens;

@@ -10,7 +10,7 @@ use Rattle.std.proofs.lemmas.List.{get_or-set_same, get_or-set_other}
 use Rattle.std.specs.BTreeMap as tree
 use Rattle.std.specs.BTreeMap.{is_at}
 use Rattle.std.specs.Map.{lookup}
-use Rattle.mz_math_coercions.specs.declared.steps.FirstSteps.{FirstSteps}
+use Rattle.mz_math_coercions.specs.declared.hops.FirstSteps.{FirstSteps}
 use Rattle.mz_math_coercions.specs.Firsts.{are_near, cell_of, first_of, near_at, pair_cmp, IsChanged, IsPut, IsSame, IsSet}
 
 pub on-err : {T E P : Type 0} (r : Result T E) → P → OnErr r P

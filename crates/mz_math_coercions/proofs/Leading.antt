@@ -9,7 +9,7 @@ use Rattle.mz_base_theory.proofs.Offered.{slice_get-last, same-head, all_so_far_
 use Rattle.mz_logic_theory.specs.Tree.{Tree, app, none, more}
 use Rattle.mz_math_theory.specs.declared.coercion.Coercion.{Coercion}
 use Rattle.mz_math_theory.specs.declared.start.Start.{Start}
-use Rattle.mz_math_coercions.specs.declared.steps.FirstSteps.{FirstSteps}
+use Rattle.mz_math_coercions.specs.declared.hops.FirstSteps.{FirstSteps}
 use Rattle.mz_math_theory.specs.Coercions.{IsPath, OnePath, Reaches, coercion_term, wrapped}
 use Rattle.mz_math_theory.specs.CoercionAnswers.{AreEnds, AreStarts, HasLength, HasPath, IsBefore, IsNext}
 use Rattle.mz_math_coercions.specs.Firsts.{first_of, AreForgotten, AreLed, AreMet, IsChanged, IsForgotten, IsOfStart, IsOfStarts, IsPut, IsSame}

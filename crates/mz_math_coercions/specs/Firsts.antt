@@ -5,7 +5,7 @@ use Rattle.std.specs.declared.cmp.Ordering.{Ordering}
 use Rattle.std.specs.BTreeMap as tree
 use Rattle.mz_math_theory.specs.declared.coercion.Coercion.{Coercion}
 use Rattle.mz_math_theory.specs.declared.start.Start.{Start}
-use Rattle.mz_math_coercions.specs.declared.steps.FirstSteps.{FirstSteps}
+use Rattle.mz_math_coercions.specs.declared.hops.FirstSteps.{FirstSteps}
 use Rattle.mz_math_theory.specs.Coercions.{IsPath}
 
 -- ---- what is kept

@@ -8,14 +8,14 @@ ghost use Rattle.mz_math_theory.specs.CoercionAnswers.{AreEnds, AreStarts, HasLe
 ghost use Rattle.mz_math_coercions.specs.Firsts.{AreLed};
 ghost use Rattle.mz_math_coercions.specs.Reached.{Has};
 
-use crate::firsts::{
+use crate::graph::Graph;
+use crate::hops::FirstSteps;
+use crate::next_hop::{
     are_joined, find_ends, find_starts, forget_all, is_reached, lead_all, next_coercion,
     steps_between,
 };
-use crate::graph::Graph;
 use crate::reached::Reached;
 use crate::sorts::{Sorts, is_marked};
-use crate::steps::FirstSteps;
 use mz_logic_theory::{Expr, Exprs};
 use mz_math_theory::{Coercion, Start};
 use std::alloc::{AllocError, Global};

@@ -4,7 +4,7 @@ ghost use Rattle.mz_math_coercions.specs.Graph.{AreChained};
 ghost use Rattle.mz_math_coercions.specs.Reached.{AreReached, Has, IsStep};
 ghost use Rattle.mz_math_theory.specs.declared.coercion.Coercion.{Coercion};
 
-use crate::firsts::coercion_at;
+use crate::next_hop::coercion_at;
 use crate::reached::Reached;
 use mz_math_theory::Coercion;
 use std::alloc::{AllocError, Global};

@@ -6,11 +6,11 @@
 #![tactic(auto)]
 
 mod coercions;
-mod firsts;
 mod graph;
+mod hops;
+mod next_hop;
 mod reached;
 mod sorts;
-mod steps;
 
 pub use coercions::{Coercions, distance, reached_from, reaches, wrap};
 pub use reached::Reached;

@@ -9,7 +9,7 @@ ghost use Rattle.mz_math_theory.specs.Kept.{AreVariables};
 ghost use Rattle.mz_math_theory.specs.declared.notation.Element.TheVariants.{Fixed as fixed, Slot as slot};
 ghost use Rattle.mz_math_theory.specs.Listed.{slots};
 
-use crate::once::each_once;
+use crate::parameters::each_once;
 use crate::scope::Scope;
 use mz_logic_theory::{Binder, Env, ResultType};
 use mz_math_theory::{

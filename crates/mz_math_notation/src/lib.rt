@@ -4,12 +4,12 @@
 //! What a table is, what the statements add to it and the first rule that they break is said in `mz_math_theory`.
 #![tactic(auto)]
 
-mod clear;
+mod ambiguity;
 mod delimiter;
 mod form;
 mod names;
 mod notations;
-mod once;
+mod parameters;
 mod scope;
 mod table;
 

@@ -11,7 +11,7 @@ ghost use Rattle.mz_math_theory.specs.Kept.{IsTable};
 ghost use Rattle.mz_math_notation.specs.Names.{IsFoundAs};
 ghost use Rattle.mz_math_theory.specs.Notation.{TermName, empty_table, with_coercion, with_infix, with_leading, with_name, with_notation};
 
-use crate::clear::{is_clear_with_infix, is_clear_with_leading};
+use crate::ambiguity::{is_clear_with_infix, is_clear_with_leading};
 use crate::delimiter::declared;
 use crate::form::{Statement, general_of, infix_of, is_coercion, prefix_of};
 use crate::names::TermNames;

@@ -3,13 +3,13 @@
 #![tactic(auto)]
 
 mod bytes;
-mod tokens;
 mod places;
 mod set;
+mod tokens;
 mod variables;
 
 pub use bytes::Bytes;
-pub use tokens::{Delimiters, MathToken, Tokens, is_parenthesis};
 pub use places::Places;
 pub use set::ByteSet;
+pub use tokens::{Delimiters, MathToken, Tokens, is_parenthesis};
 pub use variables::VariableNames;

@@ -75,7 +75,12 @@ impl<'r, 'a> Reader<'r, 'a> {
     }
 
     /// A parameter, with its name.
-    fn param(&self, names: &NameTable<'a>, vars: &Space<'a>, n: u32) -> Result<(&'a [u8], Binder), Stop>
+    fn param(
+        &self,
+        names: &NameTable<'a>,
+        vars: &Space<'a>,
+        n: u32,
+    ) -> Result<(&'a [u8], Binder), Stop>
         requires { n < node_count self.now.nodes.now }
         ensures read { IfOk result (λ p. IsParam (names_view names.now) vars.now (node_at self.now.nodes.now n) p.0.now p.1) }
         ensures stops { IfErr result (λ stop. Stops stop (param_asked (names_view names.now) vars.now (node_at self.now.nodes.now n))) }
@@ -111,7 +116,12 @@ impl<'r, 'a> Reader<'r, 'a> {
     }
 
     /// A dummy, with its name.
-    fn dummy(&self, names: &NameTable<'a>, vars: &Space<'a>, n: u32) -> Result<(&'a [u8], Binder), Stop>
+    fn dummy(
+        &self,
+        names: &NameTable<'a>,
+        vars: &Space<'a>,
+        n: u32,
+    ) -> Result<(&'a [u8], Binder), Stop>
         requires { n < node_count self.now.nodes.now }
         ensures read { IfOk result (λ p. IsDummy (names_view names.now) vars.now (node_at self.now.nodes.now n) p.0.now p.1) }
         ensures stops { IfErr result (λ stop. Stops stop (dummy_asked (names_view names.now) vars.now (node_at self.now.nodes.now n))) }
@@ -138,7 +148,12 @@ impl<'r, 'a> Reader<'r, 'a> {
     ///
     /// The first of the rules on forms and names that the node breaks, at its place; or where there is no
     /// memory.
-    pub fn params(&self, names: &NameTable<'a>, vars: &mut Space<'a>, n: u32) -> Result<Binders, Stop>
+    pub fn params(
+        &self,
+        names: &NameTable<'a>,
+        vars: &mut Space<'a>,
+        n: u32,
+    ) -> Result<Binders, Stop>
         requires within { n < node_count self.now.nodes.now }
         requires none { vars.old ≡ [] }
         requires few { node_size (node_at self.now.nodes.now n) < 2 ^ 32 }
@@ -162,7 +177,12 @@ impl<'r, 'a> Reader<'r, 'a> {
     ///
     /// The first of the rules on forms and names that the node breaks, at its place; or where there is no
     /// memory.
-    pub fn dummies(&self, names: &NameTable<'a>, vars: &mut Space<'a>, n: u32) -> Result<Binders, Stop>
+    pub fn dummies(
+        &self,
+        names: &NameTable<'a>,
+        vars: &mut Space<'a>,
+        n: u32,
+    ) -> Result<Binders, Stop>
         requires within { n < node_count self.now.nodes.now }
         requires few { length vars.old + node_size (node_at self.now.nodes.now n) < 2 ^ 32 }
         ensures read { IfOk result (λ bs. AreDummies (names_view names.now) vars.old (node_at self.now.nodes.now n) bs vars.new) }
@@ -185,7 +205,12 @@ impl<'r, 'a> Reader<'r, 'a> {
     ///
     /// The first of the rules on forms and names that the node breaks, at its place; or where there is no
     /// memory.
-    pub fn result(&self, names: &NameTable<'a>, vars: &Space<'a>, n: u32) -> Result<ResultType, Stop>
+    pub fn result(
+        &self,
+        names: &NameTable<'a>,
+        vars: &Space<'a>,
+        n: u32,
+    ) -> Result<ResultType, Stop>
         requires { n < node_count self.now.nodes.now }
         ensures read { IfOk result (IsResult (names_view names.now) vars.now (node_at self.now.nodes.now n)) }
         ensures stops { IfErr result (λ stop. Stops stop (result_asked (names_view names.now) vars.now (node_at self.now.nodes.now n))) }

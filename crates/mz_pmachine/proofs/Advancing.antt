@@ -3,7 +3,7 @@ use Rattle.std.specs.Prelude.{OnOk}
 use Rattle.std.proofs.Common.{◌≡◌, ◌≤◌, ◌+◌, ◌<◌, ◌^◌, ℕ, length, Result, Ok, Err, refl, sym, ◌∙◌, subst}
 use Rattle.mz_cmd.specs.declared.command.Cmd.{Cmd}
 use Rattle.mz_cmd.specs.declared.rule.K.{K}
-use Rattle.mz_pmachine_theory.specs.Numbered.{Numbered, portable}
+use Rattle.mz_pmachine_theory.specs.NodeIdentity.{Numbered, portable}
 use Rattle.mz_machine_theory.specs.MachineState.{Kind, State}
 use Rattle.mz_machine_theory.specs.Bodies.{body_command}
 use Rattle.mz_machine_env.specs.Before.{signatures_of, tables_of}

@@ -10,10 +10,10 @@ use Rattle.mz_machine_theory.specs.Bodies.{body_start}
 use Rattle.mz_machine_env.specs.OwnRow.{MayRun, mode_for, own_words, first_items}
 use Rattle.mz_machine_theory.specs.Headings.{kind_at, heading_of}
 use Rattle.mz_machine_env.specs.Before.{tables_before}
-use Rattle.mz_layout_tables.specs.declared.taken.Rows.{Rows}
+use Rattle.mz_layout_tables.specs.declared.rows_so_far.Rows.{Rows}
 use Rattle.mz_machine_env.proofs.Offered.{binders_many, own-binders}
 use Rattle.mz_machine.proofs.Offered.{no-dummies, own-are}
-use Rattle.mz_pmachine_theory.specs.Numbered.{Numbered, a_variable, portable}
+use Rattle.mz_pmachine_theory.specs.NodeIdentity.{Numbered, a_variable, portable}
 use Rattle.mz_pmachine_unify.specs.Numbering.{Numbering, expr_of, IsIn, IsOver}
 use Rattle.mz_pmachine_unify.specs.Stored.{AreItemsIn}
 use Rattle.mz_pmachine.specs.OverNodes.{heap_at, state_at, AreFirst, IsUnderway}

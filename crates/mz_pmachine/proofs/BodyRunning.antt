@@ -1,7 +1,7 @@
 -- The loop over a body: what the machine keeps, and how many steps it counts at the most.
 use Rattle.std.proofs.Common.{◌≡◌, ◌≤◌, ◌+◌, ℕ, List, length, Result, Ok, Err, refl, ◌∙◌, subst}
 use Rattle.mz_cmd.specs.declared.rule.K.{K}
-use Rattle.mz_pmachine_theory.specs.Numbered.{Numbered, portable}
+use Rattle.mz_pmachine_theory.specs.NodeIdentity.{Numbered, portable}
 use Rattle.mz_machine_theory.specs.MachineState.{State}
 use Rattle.mz_machine_theory.specs.ProofMachine.{proof_end}
 use Rattle.mz_pmachine.specs.BodyAnswers.{IsBodyRun}

@@ -2,7 +2,7 @@
 use Rattle.std.proofs.Common.{◌≡◌, ℕ, List, length, drop, refl, ◌∙◌}
 use Rattle.std.specs.Prelude.{reverse}
 use Rattle.std.proofs.lemmas.List.{length-map, length-reverse}
-use Rattle.mz_pmachine_theory.specs.Numbered.{Numbered, portable}
+use Rattle.mz_pmachine_theory.specs.NodeIdentity.{Numbered, portable}
 use Rattle.mz_logic_theory.specs.Words.{signatures_of as signatures_by}
 use Rattle.mz_layout_tables.specs.Tables.{thm_row}
 use Rattle.mz_pmachine_unify.specs.Numbering.{Numbering}

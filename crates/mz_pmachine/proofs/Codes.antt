@@ -7,7 +7,7 @@ use Rattle.mz_unify_theory.specs.Profile.{Profile}
 use Rattle.mz_pmachine.specs.declared.command.Keeping.{Keeping}
 use Rattle.mz_pmachine.specs.declared.command.Keeping.TheVariants as keeping
 use Rattle.mz_pmachine.specs.OverNodes.{code_of_keeping}
-use Rattle.mz_pmachine_theory.specs.Numbered.{portable}
+use Rattle.mz_pmachine_theory.specs.NodeIdentity.{portable}
 
 -- a reference to a conversion by a command of its own stands in no body
 pub no_conv_ref : (kind : Kind) → stands_in portable kind code.ConvRef ≡ false

@@ -6,7 +6,7 @@ use Rattle.mz_pmachine_unify.specs.Numbering.{Numbering, expr_of, IsIn, AreIn}
 use Rattle.mz_store.specs.declared.item.Id.{Id}
 use Rattle.mz_store.specs.declared.item.Item.{Item as Kept}
 use Rattle.mz_store.specs.declared.item.Item.TheVariants.{Proof}
-use Rattle.mz_pmachine_theory.specs.Numbered.{Numbered, a_variable, portable}
+use Rattle.mz_pmachine_theory.specs.NodeIdentity.{Numbered, a_variable, portable}
 use Rattle.mz_unify_theory.specs.Profile.{Item, proof}
 use Rattle.mz_pmachine_unify.specs.Stored.{item_at, items_at, exprs_at, matching_at, AreItemsIn}
 use Rattle.mz_unify_theory.proofs.Offered.{map-reverse}

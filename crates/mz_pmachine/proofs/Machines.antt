@@ -7,7 +7,7 @@ use Rattle.mz_store.specs.declared.item.Item.{Item as Kept}
 use Rattle.mz_machine_theory.specs.MachineState.{signatures_in}
 use Rattle.mz_machine_theory.specs.Headings.{heading_of}
 use Rattle.mz_machine_env.specs.Before.{tables_before}
-use Rattle.mz_layout_tables.specs.declared.taken.Rows.{Rows}
+use Rattle.mz_layout_tables.specs.declared.rows_so_far.Rows.{Rows}
 use Rattle.mz_pmachine_unify.specs.Numbering.{Numbering, AreIn}
 use Rattle.mz_pmachine_unify.specs.Stored.{AreItemsIn}
 use Rattle.mz_pmachine_unify.proofs.Offered.{still-in}

@@ -1,7 +1,7 @@
 -- Items over nodes, as expressions.
 use Rattle.std.proofs.Common.{◌≡◌, List, [], ◌∷◌, Ok, refl, subst}
 use Rattle.std.specs.Prelude.{map}
-use Rattle.mz_pmachine_theory.specs.Numbered.{Numbered}
+use Rattle.mz_pmachine_theory.specs.NodeIdentity.{Numbered}
 use Rattle.mz_pmachine_unify.specs.Numbering.{Numbering, AreIn, expr_of}
 use Rattle.mz_store.specs.declared.item.Id.{Id}
 use Rattle.mz_store.specs.declared.item.Item.{Item as Kept}

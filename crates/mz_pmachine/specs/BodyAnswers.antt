@@ -5,7 +5,7 @@ use Rattle.mz_machine_theory.specs.MachineState.{State, Heading}
 use Rattle.mz_machine.specs.declared.body.BodyEnd.{BodyEnd}
 use Rattle.mz_machine.specs.declared.body.BodyChecked.{BodyChecked}
 use Rattle.mz_machine.specs.declared.body.BodyChecked.TheVariants.{Good, Refused, Mem}
-use Rattle.mz_pmachine_theory.specs.Numbered.{Numbered}
+use Rattle.mz_pmachine_theory.specs.NodeIdentity.{Numbered}
 
 -- the hypotheses of a state and its dummies, which are the variables after the parameters; and no gap
 pub record CountsOf (h : Heading) (last : State Numbered) (end : BodyEnd) : Type 0 where

@@ -17,8 +17,8 @@ use Rattle.mz_machine_theory.specs.Headings.{kind_at, heading_of}
 use Rattle.mz_machine_env.specs.Before.{tables_before}
 use Rattle.mz_machine_env.specs.CommandCodes.{code_of_making, code_of_converting}
 use Rattle.mz_machine.specs.OverStore.{IsContextOf}
-use Rattle.mz_layout_tables.specs.declared.taken.Rows.{Rows}
-use Rattle.mz_pmachine_theory.specs.Numbered.{Numbered, a_variable, portable}
+use Rattle.mz_layout_tables.specs.declared.rows_so_far.Rows.{Rows}
+use Rattle.mz_pmachine_theory.specs.NodeIdentity.{Numbered, a_variable, portable}
 use Rattle.mz_pmachine_unify.specs.Numbering.{Numbering, expr_of, IsIn, AreIn, IsOver, KeepsIds}
 use Rattle.mz_pmachine_unify.specs.Stored.{exprs_at, item_at, items_at, AreItemsIn}
 use Rattle.mz_pmachine.specs.declared.command.Keeping.{Keeping}

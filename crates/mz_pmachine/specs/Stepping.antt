@@ -5,8 +5,8 @@ use Rattle.mz_machine_theory.specs.MachineState.{State}
 use Rattle.mz_machine_theory.specs.ProofMachine.{proof_end}
 use Rattle.mz_machine_theory.specs.Bodies.{body_start}
 use Rattle.mz_machine_theory.specs.Headings.{heading_of}
-use Rattle.mz_layout_tables.specs.declared.taken.Rows.{Rows}
-use Rattle.mz_pmachine_theory.specs.Numbered.{Numbered, portable}
+use Rattle.mz_layout_tables.specs.declared.rows_so_far.Rows.{Rows}
+use Rattle.mz_pmachine_theory.specs.NodeIdentity.{Numbered, portable}
 use Rattle.mz_pmachine.specs.Steps.{Underway, tables_for, heading_for, row_of}
 use Rattle.mz_pmachine.specs.BodyAnswers.{CountsOf}
 use Rattle.mz_unify.specs.declared.stop.Stop.{Stop}

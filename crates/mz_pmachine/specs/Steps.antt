@@ -8,8 +8,8 @@ use Rattle.mz_machine_theory.specs.Bodies.{BodyCommand, body_command, match_step
 use Rattle.mz_machine_theory.specs.Headings.{heading_of}
 use Rattle.mz_machine_env.specs.Before.{tables_before}
 use Rattle.mz_machine_env.specs.OneCommand.{row_in, steps_in}
-use Rattle.mz_layout_tables.specs.declared.taken.Rows.{Rows}
-use Rattle.mz_pmachine_theory.specs.Numbered.{Numbered, portable}
+use Rattle.mz_layout_tables.specs.declared.rows_so_far.Rows.{Rows}
+use Rattle.mz_pmachine_theory.specs.NodeIdentity.{Numbered, portable}
 
 -- a machine between two commands: the file, the statement whose body runs with the rows before it, the state, and a
 -- number above those of all commands that have made an expression

@@ -1,6 +1,6 @@
 //! A whole body, read in place.
 ghost use Rattle.std.specs.Prelude.{◌≡◌, ◌≤◌, ◌<◌, ◌^◌, ◌+◌, ◌-◌, ◌*◌, false, length};
-ghost use Rattle.mz_pmachine_theory.specs.Numbered.{portable};
+ghost use Rattle.mz_pmachine_theory.specs.NodeIdentity.{portable};
 ghost use Rattle.mz_machine_theory.specs.Bodies.{body_run, body_steps, body_from, body_steps_from};
 ghost use Rattle.mz_pmachine.specs.Steps.{heading_for, tables_for};
 ghost use Rattle.mz_layout_tables.specs.Heads.{body_bytes};
@@ -12,7 +12,7 @@ ghost use Rattle.mz_pmachine.specs.BodyAnswers.{IsBodyRun};
 ghost use Rattle.mz_pmachine.specs.Running.{IsRunning, machine_of};
 
 use crate::machine::{Parts, Setting};
-use crate::room::{Desk, PortableRoom};
+use crate::scratch::{Desk, PortableRoom};
 use mz_cmd::{END, K, Steps, cmd_at};
 use mz_layout_tables::{Mmb, Rows};
 use mz_machine::BodyChecked;

@@ -4,7 +4,7 @@ ghost use Rattle.mz_cmd.specs.declared.code.ProofCode.TheVariants.{ConvRef};
 ghost use Rattle.mz_machine_theory.specs.Bodies.{stands_in, body_command, proves};
 ghost use Rattle.mz_machine_env.specs.OwnRow.{kind_of};
 ghost use Rattle.mz_pmachine.specs.OverNodes.{code_of};
-ghost use Rattle.mz_pmachine_theory.specs.Numbered.{portable};
+ghost use Rattle.mz_pmachine_theory.specs.NodeIdentity.{portable};
 
 use mz_cmd::ProofCode;
 use mz_machine_env::{BodyKind, Converting, Making};

@@ -13,7 +13,7 @@ ghost use Rattle.mz_machine_env.specs.Before.{tables_of, signatures_of};
 ghost use Rattle.mz_pmachine.specs.OverNodes.{state_at, code_of, code_of_keeping, Grows};
 ghost use Rattle.mz_machine_env.specs.CommandCodes.{code_of_making, code_of_converting};
 ghost use Rattle.mz_machine.specs.OverStore.{Gives, UnlessMem};
-ghost use Rattle.mz_pmachine_theory.specs.Numbered.{portable};
+ghost use Rattle.mz_pmachine_theory.specs.NodeIdentity.{portable};
 
 use crate::command::{Command, Keeping};
 use conversions::{cong, conv, conv_cut, conv_save, refl, symm, unfold};

@@ -17,7 +17,7 @@ ghost use Rattle.mz_machine.specs.OverStore.{IsContextOf, Gives, GivesRule, Unle
 ghost use Rattle.mz_pmachine.specs.OverNodes.{state_at, AreFirst};
 ghost use Rattle.mz_machine.specs.Endings.{mode_at, IsOwnRun};
 ghost use Rattle.mz_pmachine.specs.Endings.{ended};
-ghost use Rattle.mz_pmachine_theory.specs.Numbered.{Numbered, portable};
+ghost use Rattle.mz_pmachine_theory.specs.NodeIdentity.{Numbered, portable};
 
 use crate::commands::heap::is_provable;
 use mz_cmd::{K, Steps};

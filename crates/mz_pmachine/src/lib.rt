@@ -4,15 +4,15 @@
 //! `specs/OverNodes.antt` says how the running machine stands for the one that is defined there.
 #![tactic(auto)]
 
-mod apart;
+mod arguments;
 mod body;
 mod command;
 mod commands;
+mod disjoint;
 mod end;
-mod fitting;
 mod machine;
-mod room;
+mod scratch;
 mod stack;
 
 pub use body::{check_portable, check_portable_in};
-pub use room::PortableRoom;
+pub use scratch::PortableRoom;

@@ -9,7 +9,7 @@ ghost use Rattle.mz_machine_env.specs.Before.{tables_of, signatures_of};
 ghost use Rattle.mz_pmachine.specs.OverNodes.{state_at, Grows};
 ghost use Rattle.mz_machine.specs.OverStore.{Gives, UnlessMem as OrMem};
 ghost use Rattle.mz_pmachine.specs.Steps.{heading_for, tables_for, steps_for, row_by, steps_by, end_steps};
-ghost use Rattle.mz_pmachine_theory.specs.Numbered.{portable};
+ghost use Rattle.mz_pmachine_theory.specs.NodeIdentity.{portable};
 ghost use Rattle.mz_pmachine.specs.Running.{IsRunning, machine_of};
 ghost use Rattle.mz_pmachine.specs.Stepping.{IsBegun, IsStepped, IsFinished};
 ghost use Rattle.mz_machine.specs.Stepping.{UnlessEndMem};

@@ -24,7 +24,7 @@ use Rattle.mz_unify_theory.proofs.Offered.{from_bind, from_then, from_want, take
 use Rattle.mz_machine_theory.specs.MachineState.{RowsBefore, signatures_in, State, Kind, is_axiom, is_theorem, is_definition, Heading}
 use Rattle.mz_machine_theory.specs.Premises.{pop_expr, pop_operands, is_conversion, operands_fit, are_apart}
 use Rattle.mz_machine_theory.specs.ProofMachine.{push, saved, built, citation, matched_by, cited, referred, has_provable_sort, proof_step, last_item, as_proofs, own_variables, own_stream, ending, ends_with, proof_end}
-use Rattle.mz_pmachine_theory.specs.Making.{portable_trees}
+use Rattle.mz_pmachine_theory.specs.SharedBuilding.{portable_trees}
 use Rattle.mz_pmachine_theory.specs.Laws.{AssertionsRunToo, RowsRunToo, EndsRunToo}
 use Rattle.mz_pmachine_theory.proofs.Going.{Goes, Is, TurnIs, goes-to, goes-on, goes-need, goes-want, goes-rule, goes-over, goes-further, goes-follow}
 

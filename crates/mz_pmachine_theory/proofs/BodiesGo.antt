@@ -21,7 +21,7 @@ use Rattle.mz_machine_theory.specs.MachineState.{RowsBefore, signatures_in, Stat
 use Rattle.mz_machine_theory.specs.FreeVars.{free_within}
 use Rattle.mz_machine_theory.specs.ProofMachine.{matched_by, has_provable_sort, proof_step, last_item, as_proofs, own_variables, own_stream, ending, ends_with, proof_end}
 use Rattle.mz_machine_theory.specs.Bodies.{BodyCommand, ends, proves, stands_in, if_allowed, body_command, body_turn, body_turn_by, body_from, body_start, Runs}
-use Rattle.mz_pmachine_theory.specs.Mapping.{items_onto, state_onto, matching_onto}
+use Rattle.mz_pmachine_theory.specs.Simulation.{items_onto, state_onto, matching_onto}
 use Rattle.mz_pmachine_theory.proofs.Going.{Goes, Is, TurnIs, goes-to, goes-bind, goes-on, goes-need, goes-over, goes-further, goes-follow}
 use Rattle.mz_pmachine_theory.proofs.Embeds.{Embeds}
 use Rattle.mz_pmachine_theory.proofs.UnifyGoes.{Shows, unify-goes}

@@ -17,8 +17,8 @@ use Rattle.mz_unify_theory.proofs.Offered.{same_tree-true, same_tree-refl}
 use Rattle.mz_machine_theory.specs.MachineState.{RowsBefore, State, Heading}
 use Rattle.mz_machine_theory.specs.ProofMachine.{built}
 use Rattle.mz_machine_theory.specs.Bodies.{BodyCommand, ends, proves, body_command, body_turn, body_start}
-use Rattle.mz_pmachine_theory.specs.Numbered.{Numbered, Operands, an_application, one_more, operands_from, operand_list, tree_of, operand_trees, equal, parts_of, portable}
-use Rattle.mz_pmachine_theory.specs.Making.{portable_trees, made_of, row_makes, command_makes, first_makes, and_then, makes_from, body_makes, MadeOnce, numbered, all_numbered, AreNumbered}
+use Rattle.mz_pmachine_theory.specs.NodeIdentity.{Numbered, Operands, an_application, one_more, operands_from, operand_list, tree_of, operand_trees, equal, parts_of, portable}
+use Rattle.mz_pmachine_theory.specs.SharedBuilding.{portable_trees, made_of, row_makes, command_makes, first_makes, and_then, makes_from, body_makes, MadeOnce, numbered, all_numbered, AreNumbered}
 use Rattle.mz_pmachine_theory.specs.Laws.{SharedBodiesRun, NumberedRowsRun, NumberedStreamsRun}
 use Rattle.mz_pmachine_theory.proofs.Going.{went-is}
 use Rattle.mz_pmachine_theory.proofs.Embeds.{Embeds}

@@ -13,7 +13,7 @@ use Rattle.mz_unify_theory.specs.Tests.{same_tree}
 use Rattle.mz_unify_theory.proofs.Offered.{same_tree-refl}
 use Rattle.mz_machine_theory.specs.MachineState.{RowsBefore, State, Heading}
 use Rattle.mz_machine_theory.specs.Bodies.{BodyCommand, ends, proves, body_command}
-use Rattle.mz_pmachine_theory.specs.Numbered.{Numbered, Operands, a_variable, an_application, no_more, one_more, operands_from, operand_list, tree_of, operand_trees, equal, parts_of, portable}
+use Rattle.mz_pmachine_theory.specs.NodeIdentity.{Numbered, Operands, a_variable, an_application, no_more, one_more, operands_from, operand_list, tree_of, operand_trees, equal, parts_of, portable}
 use Rattle.mz_pmachine_theory.specs.Laws.{BodiesRunStrict, RowsRunStrict, StreamsRunStrict}
 use Rattle.mz_pmachine_theory.proofs.Embeds.{Embeds}
 use Rattle.mz_pmachine_theory.proofs.RowsGo.{MakesRight}

@@ -16,7 +16,7 @@ use Rattle.mz_unify_theory.specs.UnifyMachine.{in_citation, in_definition, Match
 use Rattle.mz_machine_theory.specs.MachineState.{RowsBefore, signatures_in, State}
 use Rattle.mz_machine_theory.specs.Premises.{pop, pop_expr, pop_proof, pop_obligation, pop_conversion, pop_exprs, pop_operands, pop_sides, is_conversion, is_obligation, may_be_dummy_sort, is_provable_sort, bound_count, operands_fit, are_apart}
 use Rattle.mz_machine_theory.specs.ProofMachine.{push, saved, built, citation, matched_by, cited, referred, sides, same_term, stream_of, unfolding_of, gapped, has_provable_sort, proof_step}
-use Rattle.mz_pmachine_theory.specs.Mapping.{item_onto, items_onto, state_onto, matching_onto}
+use Rattle.mz_pmachine_theory.specs.Simulation.{item_onto, items_onto, state_onto, matching_onto}
 use Rattle.mz_pmachine_theory.proofs.Going.{Goes, Is, goes-to, goes-bind, goes-known, goes-on, goes-need, goes-want, goes-after, goes-rule}
 use Rattle.mz_pmachine_theory.proofs.Embeds.{Embeds, both-are, trees-same}
 use Rattle.mz_pmachine_theory.proofs.UnifyGoes.{Shows, unify-goes}

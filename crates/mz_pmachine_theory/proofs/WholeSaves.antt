@@ -23,8 +23,8 @@ use Rattle.mz_unify_theory.specs.Tests.{same_tree, is_bound_var, in_v}
 use Rattle.mz_unify_theory.specs.Profile.{strict, tree_parts}
 use Rattle.mz_unify_theory.specs.UnifyMachine.{UnifyMode, in_definition, kind_of, UnifyState, top_target, is_empty, next_hypothesis, operands_of, within_any, is_fresh, nothing_left, unify_step, unify_turn_by, unify_turn, unify_from, unify}
 use Rattle.mz_unify_theory.proofs.Offered.{from_bind, from_need, from_want, taken-is, in-v-true, not-in-v, in-some, unfoldings-exact}
-use Rattle.mz_pmachine_theory.specs.Making.{portable_trees}
-use Rattle.mz_pmachine_theory.specs.Saving.{AreWhole}
+use Rattle.mz_pmachine_theory.specs.SharedBuilding.{portable_trees}
+use Rattle.mz_pmachine_theory.specs.SafeSaving.{AreWhole}
 use Rattle.mz_pmachine_theory.specs.Laws.{WholeStreamsRunToo}
 use Rattle.mz_pmachine_theory.proofs.UnifyGoes.{fresh-too}
 

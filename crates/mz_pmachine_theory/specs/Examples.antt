@@ -5,9 +5,9 @@ use Rattle.mz_cmd.specs.declared.rule.K.TheVariants as k
 use Rattle.mz_logic_theory.specs.Tree.{Tree, var, app, none, more}
 use Rattle.mz_machine_theory.specs.Bodies.{body_run}
 use Rattle.mz_machine_theory.specs.Examples.{outcome, dummy_body}
-use Rattle.mz_machine_theory.specs.Cases.{Case, stop, with_code, ax_1, ax_mp, a1i, gen, nn, fold, saved, dummy}
-use Rattle.mz_pmachine_theory.specs.Numbered.{portable}
-use Rattle.mz_pmachine_theory.specs.Making.{portable_trees, body_makes}
+use Rattle.mz_machine_theory.specs.WorkedRuns.{Case, stop, with_code, ax_1, ax_mp, a1i, gen, nn, fold, saved, dummy}
+use Rattle.mz_pmachine_theory.specs.NodeIdentity.{portable}
+use Rattle.mz_pmachine_theory.specs.SharedBuilding.{portable_trees, body_makes}
 
 -- where a body stops by identity, and by which rule; nothing where it runs
 abbrev pub stop_by_identity : Case → Option (ℕ × K)

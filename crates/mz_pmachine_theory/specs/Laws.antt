@@ -15,10 +15,10 @@ use Rattle.mz_unify_theory.specs.Laws.{RunsLeaving, unfolding_by}
 use Rattle.mz_machine_theory.specs.MachineState.{RowsBefore, State, is_definition, Heading}
 use Rattle.mz_machine_theory.specs.ProofMachine.{proof_step, proof_end}
 use Rattle.mz_machine_theory.specs.Bodies.{Runs}
-use Rattle.mz_pmachine_theory.specs.Numbered.{Numbered, tree_of, equal, portable}
-use Rattle.mz_pmachine_theory.specs.Mapping.{items_onto, state_onto, matching_onto}
-use Rattle.mz_pmachine_theory.specs.Saving.{AreWhole}
-use Rattle.mz_pmachine_theory.specs.Making.{portable_trees, row_makes, body_makes, MadeOnce, numbered, AreNumbered}
+use Rattle.mz_pmachine_theory.specs.NodeIdentity.{Numbered, tree_of, equal, portable}
+use Rattle.mz_pmachine_theory.specs.Simulation.{items_onto, state_onto, matching_onto}
+use Rattle.mz_pmachine_theory.specs.SafeSaving.{AreWhole}
+use Rattle.mz_pmachine_theory.specs.SharedBuilding.{portable_trees, row_makes, body_makes, MadeOnce, numbered, AreNumbered}
 
 -- ---- by the standard machine
 

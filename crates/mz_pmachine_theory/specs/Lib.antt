@@ -1,6 +1,6 @@
-pub mod Numbered
-pub mod Mapping
-pub mod Making
-pub mod Saving
+pub mod NodeIdentity
+pub mod Simulation
+pub mod SharedBuilding
+pub mod SafeSaving
 pub mod Laws
 pub mod Examples

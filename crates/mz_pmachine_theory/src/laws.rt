@@ -1,6 +1,6 @@
 // Laws on the definitions: the contract of each function is one, and its body is empty.
 ghost use Rattle.mz_pmachine_theory.specs.Laws.{AssertionsRunToo, BodiesRunStrict, EndsRunToo, EqualIsSame, NumberedRowsRun, NumberedStreamsRun, RowsRunStrict, RowsRunToo, SharedBodiesRun, StreamsRunStrict, WholeStreamsRunToo};
-ghost use Rattle.mz_pmachine_theory.specs.Numbered.{portable};
+ghost use Rattle.mz_pmachine_theory.specs.NodeIdentity.{portable};
 ghost use Rattle.mz_machine_theory.specs.Laws.{BodiesAreChecked, BoundNeverEnds, CountsAreWhole, OneOutcome, StepsBounded};
 
 /// What runs by identity runs by the standard machine: bodies, and of them each row and each stream.

@@ -1,9 +1,9 @@
 //! The proof machine of verifiers that compare by identity, as a definition.
 //!
-//! `specs/Numbered.antt` has expressions in which each application carries the number of the command that
+//! `specs/NodeIdentity.antt` has expressions in which each application carries the number of the command that
 //! made it, and the profile `portable`, over which the machine of `mz_machine_theory` accepts only what refers
 //! back to what it made. What runs so runs by the standard machine; and what runs by the table, meets
-//! the further demands (`specs/Making.antt`) and makes each application once runs so (`specs/Laws.antt`).
+//! the further demands (`specs/SharedBuilding.antt`) and makes each application once runs so (`specs/Laws.antt`).
 #![tactic(auto)]
 
 mod examples;

@@ -10,7 +10,7 @@ use Rattle.mz_store.specs.Bits.{bound_vars}
 use Rattle.mz_store.specs.Nodes.{binder_after, IsVariableWord}
 use Rattle.mz_store.specs.declared.item.DepsMode.{DepsMode}
 use Rattle.mz_store.proofs.Offered.{bound-push, inside-grown, byte-is}
-use Rattle.mz_pmachine_theory.specs.Numbered.{Numbered, Operands, a_variable, an_application}
+use Rattle.mz_pmachine_theory.specs.NodeIdentity.{Numbered, Operands, a_variable, an_application}
 use Rattle.mz_pmachine_unify.specs.Numbering.{Entry, Numbering, expr_of, exprs_of, IsIn, IsMadeBefore, IsOver}
 use Rattle.mz_pmachine_unify.specs.Entering.{entered, context_with, expr_with, next_with, numbering_of, no_expressions, IsNewIn}
 use Rattle.mz_pmachine_unify.specs.Kept.{Forms, Shows, IsKept}

@@ -5,7 +5,7 @@ use Rattle.mz_logic_theory.specs.Words.{word_sort, word_deps, word_bound, binder
 use Rattle.mz_logic_theory.specs.declared.word.Word.{Word}
 use Rattle.mz_store.specs.Bits.{bound_vars}
 use Rattle.mz_store.specs.Nodes.{binder_after}
-use Rattle.mz_pmachine_theory.specs.Numbered.{a_variable}
+use Rattle.mz_pmachine_theory.specs.NodeIdentity.{a_variable}
 use Rattle.mz_pmachine_unify.specs.Numbering.{Entry, Numbering, expr_of}
 use Rattle.mz_pmachine_unify.specs.Entering.{entered, entered_all, variable_node}
 use Rattle.mz_pmachine_unify.specs.declared.node.Node.{Node}

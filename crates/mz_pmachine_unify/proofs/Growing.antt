@@ -10,7 +10,7 @@ use Rattle.mz_store.specs.Bits.{bound_vars}
 use Rattle.mz_store.specs.Nodes.{binder_after}
 use Rattle.mz_store.proofs.Offered.{only-last}
 use Rattle.mz_store.specs.declared.item.Id.{Id}
-use Rattle.mz_pmachine_theory.specs.Numbered.{Numbered, a_variable, an_application, one_more}
+use Rattle.mz_pmachine_theory.specs.NodeIdentity.{Numbered, a_variable, an_application, one_more}
 use Rattle.mz_pmachine_unify.specs.Numbering.{Entry, Numbering, entry_of, expr_of, exprs_of, IsIn, AreIn, IsMadeBefore}
 use Rattle.mz_pmachine_unify.specs.Entering.{entered, entered_all, context_with, expr_with, next_with}
 use Rattle.mz_pmachine_unify.specs.Kept.{Forms, Shows, IsKept}

@@ -6,7 +6,7 @@ use Rattle.mz_logic_theory.specs.Words.{TermWords, term_at, word_sort, signature
 use Rattle.mz_store.specs.Bits.{Tells, bound_vars}
 use Rattle.mz_store.specs.Sharing.{IsTold, CanTake}
 use Rattle.mz_store.specs.declared.item.Id.{Id}
-use Rattle.mz_pmachine_theory.specs.Numbered.{an_application}
+use Rattle.mz_pmachine_theory.specs.NodeIdentity.{an_application}
 use Rattle.mz_store.proofs.Offered.{signature-at}
 use Rattle.mz_pmachine_unify.specs.Numbering.{Numbering, entry_of, exprs_of, trees_of, IsOver, IsRightEntry}
 use Rattle.mz_pmachine_unify.specs.Entering.{entered}

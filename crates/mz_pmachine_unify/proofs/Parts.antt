@@ -1,7 +1,7 @@
 -- What an application's parts are, of expressions that carry numbers, and that the same ones are equal.
 use Rattle.std.proofs.Common.{◌≡◌, ℕ, Some, None, refl}
 use Rattle.mz_unify.proofs.Offered.{Parts}
-use Rattle.mz_pmachine_theory.specs.Numbered.{Numbered, a_variable, an_application, operand_list, parts_of, portable}
+use Rattle.mz_pmachine_theory.specs.NodeIdentity.{Numbered, a_variable, an_application, operand_list, parts_of, portable}
 use Rattle.mz_pmachine_theory.proofs.Offered.{equal-same, equal-refl}
 use Rattle.mz_pmachine_unify.specs.Numbering.{head_of, operands_of}
 

@@ -5,7 +5,7 @@ use Rattle.mz_logic_theory.specs.Sorts.{IsBoundVar}
 use Rattle.mz_logic_theory.specs.Tree.{var}
 use Rattle.mz_logic_theory.specs.declared.binder.Binder.{Binder}
 use Rattle.mz_logic_theory.proofs.Offered.{no-application, one_at}
-use Rattle.mz_pmachine_theory.specs.Numbered.{Operands, an_application, operand_trees, tree_of as without_numbers}
+use Rattle.mz_pmachine_theory.specs.NodeIdentity.{Operands, an_application, operand_trees, tree_of as without_numbers}
 use Rattle.mz_store.specs.declared.item.DepsMode.{DepsMode}
 use Rattle.mz_pmachine_unify.specs.Numbering.{Numbering, IsIn, expr_of, tree_of}
 use Rattle.mz_pmachine_unify.specs.Entering.{numbering_of}

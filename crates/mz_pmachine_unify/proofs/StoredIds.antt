@@ -5,7 +5,7 @@ use Rattle.std.proofs.Math.Dec.{eqb-suc-zero}
 use Rattle.std.specs.Option.{option_map}
 use Rattle.std.specs.Prelude.{reverse, slice_get, ◌==◌, IfSome, option_to_list}
 use Rattle.std.proofs.lemmas.List.{reverse-append, map-append, reverse-reverse, length-map, length-reverse}
-use Rattle.mz_pmachine_theory.specs.Numbered.{Numbered, operand_list, operand_trees, operands_from, tree_of}
+use Rattle.mz_pmachine_theory.specs.NodeIdentity.{Numbered, operand_list, operand_trees, operands_from, tree_of}
 use Rattle.mz_pmachine_unify.specs.Numbering.{Numbering, expr_of, IsIn, AreIn, KeepsIds, exprs_of, operands_of}
 use Rattle.mz_store.specs.declared.item.Id.{Id}
 use Rattle.mz_store.specs.declared.item.Item.{Item as Kept}

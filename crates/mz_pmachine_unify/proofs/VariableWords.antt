@@ -17,7 +17,7 @@ use Rattle.mz_unify_theory.specs.Tests.{is_bound_var, var_within}
 use Rattle.mz_unify_theory.specs.UnifyMachine.{within_any, is_fresh}
 use Rattle.mz_unify.specs.Rows.{TellsAny}
 use Rattle.mz_unify.proofs.Offered.{tells-any-push, fresh-word, not-bound as tree-not-bound, other-sort as tree-other-sort}
-use Rattle.mz_pmachine_theory.specs.Numbered.{Numbered, tree_of, portable}
+use Rattle.mz_pmachine_theory.specs.NodeIdentity.{Numbered, tree_of, portable}
 use Rattle.mz_pmachine_unify.specs.Numbering.{Numbering, expr_of}
 use Rattle.mz_pmachine_unify.specs.Stored.{exprs_at}
 use Rattle.mz_pmachine_unify.proofs.StoredIds.{exprs-append}

@@ -5,7 +5,7 @@ use Rattle.mz_logic_theory.specs.Codes.{binder_code}
 use Rattle.mz_logic_theory.specs.declared.binder.Binder.{Binder}
 use Rattle.mz_store.specs.Codes.{mode_code}
 use Rattle.mz_store.specs.declared.item.DepsMode.{DepsMode}
-use Rattle.mz_pmachine_theory.specs.Numbered.{Numbered}
+use Rattle.mz_pmachine_theory.specs.NodeIdentity.{Numbered}
 use Rattle.mz_pmachine_unify.specs.ExprCode.{expr_code}
 use Rattle.mz_pmachine_unify.specs.Numbering.{Entry, Numbering}
 

@@ -5,7 +5,7 @@ use Rattle.mz_logic_theory.specs.declared.word.Word.{Word}
 use Rattle.mz_logic_theory.specs.declared.binder.Binder.{Binder}
 use Rattle.mz_store.specs.Nodes.{binder_after}
 use Rattle.mz_store.specs.declared.item.DepsMode.{DepsMode}
-use Rattle.mz_pmachine_theory.specs.Numbered.{Numbered, a_variable, an_application}
+use Rattle.mz_pmachine_theory.specs.NodeIdentity.{Numbered, a_variable, an_application}
 use Rattle.mz_pmachine_unify.specs.Numbering.{Numbering, AreIn, exprs_of}
 use Rattle.mz_pmachine_unify.specs.declared.node.Node.{Node}
 use Rattle.mz_pmachine_unify.specs.declared.node.Form.{Form}

@@ -2,7 +2,7 @@
 use Rattle.std.specs.Prelude.{ℕ, zero, suc, ◌≡◌, List, [], ◌∷◌, refl}
 use Rattle.std.specs.Coded.{Coded, code_by, coded×, coded_ℕ, coded_list}
 use Rattle.std.proofs.Common.{ap, ◌∙◌}
-use Rattle.mz_pmachine_theory.specs.Numbered.{Numbered, Operands, a_variable, an_application, no_more, one_more}
+use Rattle.mz_pmachine_theory.specs.NodeIdentity.{Numbered, Operands, a_variable, an_application, no_more, one_more}
 
 abbrev mutual
   pub put_expr : Numbered → List (ℕ × (ℕ × ℕ)) → List (ℕ × (ℕ × ℕ))

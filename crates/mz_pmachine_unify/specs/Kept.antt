@@ -3,7 +3,7 @@ use Rattle.std.specs.Prelude.{ℕ, ◌≡◌, ◌<◌, ◌≤◌, Contains, List
 use Rattle.mz_logic_theory.specs.Legality.{Each}
 use Rattle.mz_logic_theory.specs.declared.binder.Binder.{Binder}
 use Rattle.mz_store.specs.Bits.{bound_vars}
-use Rattle.mz_pmachine_theory.specs.Numbered.{a_variable, an_application}
+use Rattle.mz_pmachine_theory.specs.NodeIdentity.{a_variable, an_application}
 use Rattle.mz_pmachine_unify.specs.Numbering.{Numbering, IsIn, AreIn, expr_of, exprs_of, sort_of, vars_of, deps_of, IsMadeBefore}
 use Rattle.mz_pmachine_unify.specs.declared.node.Node.{Node}
 use Rattle.mz_pmachine_unify.specs.declared.node.Form.{Form}

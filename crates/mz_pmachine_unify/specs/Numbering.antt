@@ -8,7 +8,7 @@ use Rattle.mz_store.specs.Sharing.{Shared, IsRight}
 use Rattle.mz_store.specs.declared.item.DepsMode.{DepsMode}
 use Rattle.mz_store.specs.declared.item.DepsMode.TheVariants.{All}
 use Rattle.mz_store.specs.declared.item.Id.{Id}
-use Rattle.mz_pmachine_theory.specs.Numbered.{Numbered, Operands, a_variable, an_application, no_more, one_more, operand_trees, tree_of as without_numbers}
+use Rattle.mz_pmachine_theory.specs.NodeIdentity.{Numbered, Operands, a_variable, an_application, no_more, one_more, operand_trees, tree_of as without_numbers}
 
 -- an expression, with what is kept beside it: its sort, the word of all its variables, and the word of those that are reported
 pub record Entry : Type 0 where

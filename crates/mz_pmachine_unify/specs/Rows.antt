@@ -1,6 +1,6 @@
 -- One command over nodes: how the code's state stands for the machine's.
 use Rattle.std.specs.Prelude.{List}
-use Rattle.mz_pmachine_theory.specs.Numbered.{Numbered}
+use Rattle.mz_pmachine_theory.specs.NodeIdentity.{Numbered}
 use Rattle.mz_pmachine_unify.specs.Numbering.{Numbering}
 use Rattle.mz_store.specs.declared.item.Id.{Id}
 use Rattle.mz_store.specs.declared.item.Item.{Item as Kept}

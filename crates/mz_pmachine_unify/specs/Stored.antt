@@ -8,7 +8,7 @@ use Rattle.mz_unify_theory.specs.Profile.{Item, expr, proof, obligation, convers
 use Rattle.mz_unify_theory.specs.UnifyMachine.{Matching}
 use Rattle.mz_unify.specs.Stored.{mode_of}
 use Rattle.mz_unify.specs.declared.unified.UnifyMode.{UnifyMode}
-use Rattle.mz_pmachine_theory.specs.Numbered.{Numbered, tree_of}
+use Rattle.mz_pmachine_theory.specs.NodeIdentity.{Numbered, tree_of}
 use Rattle.mz_pmachine_unify.specs.Numbering.{Numbering, expr_of, IsIn}
 
 -- the expressions of ids, in order

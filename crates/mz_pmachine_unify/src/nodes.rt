@@ -7,7 +7,7 @@ ghost use Rattle.mz_logic_theory.specs.Words.{BitsRight, BitsRightAfter, binders
 ghost use Rattle.mz_store.specs.Bits.{Tells, bound_vars};
 ghost use Rattle.mz_store.specs.Nodes.{IsVariableWord};
 ghost use Rattle.mz_store.specs.Sharing.{IsTold, CanTake, dummy_binder};
-ghost use Rattle.mz_pmachine_theory.specs.Numbered.{a_variable, an_application};
+ghost use Rattle.mz_pmachine_theory.specs.NodeIdentity.{a_variable, an_application};
 ghost use Rattle.mz_pmachine_unify.specs.Numbering.{IsIn, AreIn, Holds, expr_of, exprs_of, tree_of, trees_of, sort_of, vars_of, deps_of, head_of, operands_of, IsOver, KeepsIds, IsEmpty};
 ghost use Rattle.mz_pmachine_unify.specs.Entering.{variable_node, entered, entered_all, IsNewIn};
 ghost use Rattle.mz_pmachine_unify.specs.declared.node.Form.TheVariants.{Variable};

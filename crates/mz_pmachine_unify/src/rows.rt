@@ -3,7 +3,7 @@ ghost use Rattle.std.specs.Prelude.{ℕ, ◌≡◌, ◌≤◌, ⊤, ◌+◌, ◌
 ghost use Rattle.mz_cmd.specs.declared.rule.K.{K};
 ghost use Rattle.mz_logic_theory.specs.Signature.{Signature};
 ghost use Rattle.mz_pmachine_unify.specs.Numbering.{IsIn, AreIn, expr_of, IsOver};
-ghost use Rattle.mz_pmachine_theory.specs.Numbered.{Numbered, tree_of, portable};
+ghost use Rattle.mz_pmachine_theory.specs.NodeIdentity.{Numbered, tree_of, portable};
 ghost use Rattle.mz_unify_theory.specs.Streams.{UnifyCommand, u_term, u_term_save, u_ref, u_dummy, u_hyp, u_end};
 ghost use Rattle.mz_unify_theory.specs.UnifyMachine.{UnifyMode as Mode, UnifyState, unify_step, is_fresh, next_hypothesis, nothing_left};
 ghost use Rattle.mz_unify.specs.Stored.{mode_of, AreLeft};

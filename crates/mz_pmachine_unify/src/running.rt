@@ -3,7 +3,7 @@ ghost use Rattle.std.specs.Prelude.{ℕ, ◌≡◌, ◌≤◌, ◌<◌, ◌^◌,
 ghost use Rattle.mz_logic_theory.specs.Words.{signatures_of};
 ghost use Rattle.mz_logic_theory.specs.Signature.{Signature};
 ghost use Rattle.mz_pmachine_unify.specs.Numbering.{IsIn, AreIn, IsOver};
-ghost use Rattle.mz_pmachine_theory.specs.Numbered.{portable};
+ghost use Rattle.mz_pmachine_theory.specs.NodeIdentity.{portable};
 ghost use Rattle.mz_unify_theory.specs.UnifyMachine.{unify, unify_from, unify_steps, unify_steps_from};
 ghost use Rattle.mz_unify.specs.Stored.{mode_of, OnDone, UnlessMem, IsRun, AreLeft};
 ghost use Rattle.mz_pmachine_unify.specs.Stored.{exprs_at, items_at, AreItemsIn, matching_at};

@@ -4,7 +4,7 @@ use Rattle.mz_cmd.specs.declared.rule.K.{K}
 use Rattle.mz_machine_theory.specs.MachineState.{State, Heading}
 use Rattle.mz_machine.specs.declared.body.BodyChecked.{BodyChecked}
 use Rattle.mz_machine.specs.declared.body.BodyChecked.TheVariants.{Good, Refused, Mem}
-use Rattle.mz_pmachine_theory.specs.Numbered.{Numbered}
+use Rattle.mz_pmachine_theory.specs.NodeIdentity.{Numbered}
 use Rattle.mz_pmachine.specs.BodyAnswers.{IsBodyRun as IsRunByIdentity}
 use Rattle.mz_binary_theory.specs.declared.standard.Standard.TheVariants.{Portable}
 use Rattle.mz_binary.specs.BodyRuns.{IsBodyRun}

@@ -2,16 +2,16 @@
 //! there is none.
 #![tactic(auto)]
 
-mod first;
 mod gather;
-mod hidden;
 mod line;
 mod measure;
 mod names;
+mod obstacle;
+mod omitted;
+mod printed;
 mod spec_text;
 mod tokens;
-mod told;
 mod words;
 
+pub use printed::{local_line, long_line, specified_line};
 pub use spec_text::{SpecText, spec_of, specification_is_decided};
-pub use told::{local_line, long_line, specified_line};

@@ -8,8 +8,8 @@ ghost use Rattle.mz_prefix.specs.Names.{AreNamesOf};
 ghost use Rattle.mz_prefix.specs.SpecTexts.{DeclaresItsText, IsDecided, IsWording};
 ghost use Rattle.mz_prefix.specs.Writing.{statement_text};
 
-use crate::first::first_long;
 use crate::names::Names;
+use crate::obstacle::first_long;
 use mz_base::{Hashing, Mode};
 use mz_mmu::{TextRead, read_text};
 use mz_prefix_theory::specifications_of_texts_declare;

@@ -14,7 +14,7 @@ use Rattle.mz_prefix_theory.proofs.Renaming.{AllTerms, AllTermsIn}
 use Rattle.mz_prefix_theory.proofs.Beside.{all-public, all-public-in}
 use Rattle.mz_prefix_theory.proofs.Legal.{pick}
 use Rattle.mz_spec_proved_theory.specs.Match.{term_rows, partner_of, publics_after, publics, match_checks, Agrees}
-use Rattle.mz_spec_proved_theory.specs.Trees.{SameOver, AllSameOver, IsPaired, SameBody, SameTree}
+use Rattle.mz_spec_proved_theory.specs.AlphaTrees.{SameOver, AllSameOver, IsPaired, SameBody, SameTree}
 use Rattle.mz_spec_proved_theory.proofs.Offered.{own_pairs, pairs-own, paired-own}
 use Rattle.mz_prefix_theory.proofs.Cases.{chosen}
 use Rattle.mz_prefix_theory.proofs.Rows.{IsTracked, row-at}

@@ -9,7 +9,7 @@ ghost use Rattle.mz_spec_theory.specs.Stops.{misfit_rule};
 
 use crate::progress::{At, Parts};
 use mz_lex::{LexFault, S, next_token};
-use mz_spec_theory::{Fault, Halt, Lexeme, Modifiers, SyntaxStatement, StatementRead};
+use mz_spec_theory::{Fault, Halt, Lexeme, Modifiers, StatementRead, SyntaxStatement};
 use std::alloc::Global;
 
 /// The fault where no lexeme comes.

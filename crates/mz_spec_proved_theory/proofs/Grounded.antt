@@ -9,7 +9,7 @@ use Rattle.mz_logic_theory.specs.Closed.{IsAxiomIn, CitesAxioms}
 use Rattle.mz_logic_theory.specs.declared.binder.Binder.{Binder}
 use Rattle.mz_spec_proved_theory.specs.declared.kind.Kind.TheVariants as kinds
 use Rattle.mz_spec_proved_theory.specs.Match.{term_rows, kind_of}
-use Rattle.mz_spec_proved_theory.specs.Trees.{SameTrees}
+use Rattle.mz_spec_proved_theory.specs.AlphaTrees.{SameTrees}
 use Rattle.mz_spec_proved_theory.specs.Headline.{Follows}
 
 -- ---- assertions among statements

@@ -7,7 +7,7 @@ use Rattle.std.proofs.lemmas.Option.{slice_get_within, slice_get-get_or}
 use Rattle.mz_logic_theory.specs.Legality.{binder_at}
 use Rattle.mz_logic_theory.specs.declared.binder.Binder.{Binder}
 use Rattle.mz_logic_theory.proofs.Offered.{slice_get-rows}
-use Rattle.mz_spec_proved_theory.specs.Trees.{Pairs, IsPaired}
+use Rattle.mz_spec_proved_theory.specs.AlphaTrees.{Pairs, IsPaired}
 
 module _ (params dummies : List Binder) where
   abbrev pub own_pairs : List (Option ℕ)

@@ -5,8 +5,8 @@ use Rattle.std.specs.List.{list_any}
 use Rattle.std.proofs.lemmas.Bool.{true≢false, false≢true, ltb-true, ltb-false, eqb-true, eqb-false}
 use Rattle.mz_logic_theory.specs.Tree.{Tree, Trees, var, app, none, more}
 use Rattle.mz_logic_theory.specs.declared.binder.Binder.{Binder}
-use Rattle.mz_spec_proved_theory.specs.Trees.{SameOver, AllSameOver, Pairs, IsPaired}
-use Rattle.mz_spec_proved_theory.specs.Comparing.{all_none, Beside, is_number, is_taken, has_sort, paired, paired_by, beside_dummy, variable_compared, compared, all_compared, and_then}
+use Rattle.mz_spec_proved_theory.specs.AlphaTrees.{SameOver, AllSameOver, Pairs, IsPaired}
+use Rattle.mz_spec_proved_theory.specs.Comparison.{all_none, Beside, is_number, is_taken, has_sort, paired, paired_by, beside_dummy, variable_compared, compared, all_compared, and_then}
 
 -- ---- tests
 

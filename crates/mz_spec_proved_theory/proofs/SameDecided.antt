@@ -4,8 +4,8 @@ use Rattle.std.specs.Prelude.{zero, suc}
 use Rattle.std.proofs.lemmas.Bool.{cases_eq}
 use Rattle.mz_logic_theory.specs.Tree.{Tree, Trees, var, app, none, more}
 use Rattle.mz_logic_theory.specs.declared.binder.Binder.{Binder}
-use Rattle.mz_spec_proved_theory.specs.Trees.{SameTree, SameTrees, SameBody}
-use Rattle.mz_spec_proved_theory.specs.Comparing.{Beside, compared}
+use Rattle.mz_spec_proved_theory.specs.AlphaTrees.{SameTree, SameTrees, SameBody}
+use Rattle.mz_spec_proved_theory.specs.Comparison.{Beside, compared}
 use Rattle.mz_spec_proved_theory.proofs.Renaming.{SaysNothing, no-pairs, sound, complete}
 
 row-decided : (o : Option ℕ) (t : ℕ) → (o ≡ Some t) ⊎ (o ≡ Some t → ⊥)

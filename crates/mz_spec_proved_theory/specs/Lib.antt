@@ -1,5 +1,5 @@
-pub mod Trees
-pub mod Comparing
+pub mod AlphaTrees
+pub mod Comparison
 pub mod Match
 pub mod Headline
 pub mod Proved

@@ -10,7 +10,7 @@ use Rattle.mz_spec_proved_theory.specs.declared.kind.Kind.{Kind}
 use Rattle.mz_spec_proved_theory.specs.declared.kind.Kind.TheVariants as kinds
 use Rattle.mz_spec_proved_theory.specs.declared.rule.M.{M}
 use Rattle.mz_spec_proved_theory.specs.declared.rule.M.TheVariants as rules
-use Rattle.mz_spec_proved_theory.specs.Trees.{SameTree, SameTrees, SameBody}
+use Rattle.mz_spec_proved_theory.specs.AlphaTrees.{SameTree, SameTrees, SameBody}
 
 -- ---- public statements
 

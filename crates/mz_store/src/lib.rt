@@ -2,7 +2,7 @@
 //! comparing two numbers.
 #![tactic(auto)]
 
-mod chain;
+mod buckets;
 mod deps;
 mod expressions;
 mod item;

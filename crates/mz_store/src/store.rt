@@ -9,7 +9,7 @@ ghost use Rattle.mz_store.specs.Sharing.{IsIn, AreIn, Holds, tree_of, trees_of, 
 ghost use Rattle.mz_store.specs.Nodes.{IsVariableWord, variable, variable_node, entered, entered_all};
 ghost use Rattle.mz_store.specs.Placed.{IsPlaced};
 
-use crate::chain::{find, hash_of};
+use crate::buckets::{find, hash_of};
 use crate::expressions::Expressions;
 use crate::item::{DepsMode, Id};
 use crate::node::{Form, Node};

@@ -12,7 +12,7 @@ use Rattle.mz_unify_theory.proofs.Offered.{some_is, distinct, in-some, operand-t
 use Rattle.mz_emit_theory.specs.AlphaEquivalence.{own}
 use Rattle.mz_emit_theory.proofs.Offered.{operand-front, operand-behind, operand-variables}
 use Rattle.mz_emit_accepted_theory.proofs.Offered.{fresh-back, own-of}
-use Rattle.mz_spec_proved_theory.specs.Trees.{SameOver, AllSameOver, Pairs, IsPaired, SameBody}
+use Rattle.mz_spec_proved_theory.specs.AlphaTrees.{SameOver, AllSameOver, Pairs, IsPaired, SameBody}
 
 -- ---- fresh variables
 

@@ -6,7 +6,7 @@ use Rattle.mz_logic_theory.specs.LegalLists.{Statement}
 use Rattle.mz_logic_theory.specs.Signature.{Signature}
 use Rattle.mz_logic_theory.specs.declared.binder.Binder.{Binder}
 use Rattle.mz_emit_theory.specs.AlphaEquivalence.{IsSameForm}
-use Rattle.mz_emit_theory.specs.SameLists.{IsSameDeclaration, IsSameList}
+use Rattle.mz_emit_theory.specs.AlphaLists.{IsSameDeclaration, IsSameList}
 use Rattle.mz_spec_proved_theory.specs.Match.{term_rows, partner_of, publics, publics_after, form_checks, match_checks, Agrees}
 use Rattle.mz_emit_accepted_theory.proofs.Offered.{form-kind, same-longer, same-rows}
 use Rattle.mz_tool.proofs.StatedBodies.{same-body-after}

@@ -11,7 +11,7 @@ use crate::draft::DraftCommand;
 use crate::portable::PortableCommand;
 use crate::sample::SampleCommand;
 use crate::size::SampleSize;
-use crate::specify::SpecifyCommand;
+use crate::spec::SpecifyCommand;
 use mz_base::Mode;
 use mz_io::{Failed, Sink};
 use mz_store::Seed;

@@ -18,7 +18,7 @@ mod portable;
 mod program;
 mod sample;
 mod size;
-mod specify;
+mod spec;
 
 pub use assemble::AssembleCommand;
 pub use axioms::AxiomsCommand;
@@ -32,4 +32,4 @@ pub use portable::PortableCommand;
 pub use program::{Mz, run};
 pub use sample::SampleCommand;
 pub use size::SampleSize;
-pub use specify::SpecifyCommand;
+pub use spec::SpecifyCommand;

@@ -14,9 +14,9 @@ use Rattle.mz_layout_tables.specs.Tables.{thm_row}
 use Rattle.mz_machine_env.specs.OwnRow.{MayRun}
 use Rattle.mz_machine_theory.specs.Headings.{heading_of}
 use Rattle.mz_machine_env.specs.Before.{tables_before}
-use Rattle.mz_layout_tables.specs.declared.taken.Rows.{Rows}
+use Rattle.mz_layout_tables.specs.declared.rows_so_far.Rows.{Rows}
 use Rattle.mz_machine_env.proofs.Offered.{binders_many}
-use Rattle.mz_trace_theory.specs.Parts.{Part, expression, proved}
+use Rattle.mz_trace_theory.specs.OneHoleContexts.{Part, expression, proved}
 use Rattle.mz_trace_theory.specs.Traces.{Trace, trace_start, trace_from, trace_body}
 use Rattle.mz_trace.specs.Nodes.{Value, values, proof_at, HaveParts, AreProofs, IsProof}
 use Rattle.mz_trace.specs.Entries.{item_at, part_at, items_at, parts_at, IsStack}

@@ -23,7 +23,7 @@ use Rattle.mz_machine_theory.specs.ProofMachine.{proof_step, citation, matched_b
 use Rattle.mz_machine_theory.specs.FileRows.{thm_of_file}
 use Rattle.mz_machine_env.specs.Before.{Before}
 use Rattle.mz_machine_env.proofs.Offered.{thm-before, binders_many}
-use Rattle.mz_trace_theory.specs.Parts.{Part, proved, proofs_above}
+use Rattle.mz_trace_theory.specs.OneHoleContexts.{Part, proved, proofs_above}
 use Rattle.mz_trace_theory.specs.Traces.{Trace, stacked, named, traced, cited as cited-beside}
 use Rattle.mz_trace.specs.Nodes.{Value, a_proof, expression_at, expressions_at, proof_at, proofs_at, value_of, HasParts, IsExpression, AreExpressions, IsProof, AreProofs, Uses, IsClaim, conclusion_under}
 use Rattle.mz_trace.specs.Entries.{item_at, items_at, parts_at, IsStack, exprs_onto, proofs_onto, HasProofs}

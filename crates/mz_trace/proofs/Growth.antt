@@ -21,7 +21,7 @@ use Rattle.mz_machine_theory.specs.ProofMachine.{proof_step, built}
 use Rattle.mz_machine_theory.specs.FileRows.{term_of_file}
 use Rattle.mz_machine_env.specs.Before.{Before}
 use Rattle.mz_machine_env.proofs.Offered.{term-before, binders_many}
-use Rattle.mz_trace_theory.specs.Parts.{Part, expression}
+use Rattle.mz_trace_theory.specs.OneHoleContexts.{Part, expression}
 use Rattle.mz_trace_theory.specs.Traces.{Trace, stacked, kept, traced}
 use Rattle.mz_trace.specs.Nodes.{Value, an_expression, expression_at, expressions_at, value_of, HasParts, HasArity, IsExpression, AreExpressions, Applies}
 use Rattle.mz_trace.specs.Entries.{item_at, part_at, items_at, parts_at, AreItems, IsItem, IsStack, HasExprs}

@@ -16,7 +16,7 @@ use Rattle.mz_unify_theory.proofs.Offered.{from_bind, from_need, from_want, take
 use Rattle.mz_machine_theory.specs.MachineState.{RowsBefore}
 use Rattle.mz_machine_theory.specs.Premises.{pop, pop_obligation, may_be_dummy_sort, bound_count, is_obligation}
 use Rattle.mz_machine_theory.specs.ProofMachine.{proof_step, has_provable_sort, referred}
-use Rattle.mz_trace_theory.specs.Parts.{expression, proved, paid}
+use Rattle.mz_trace_theory.specs.OneHoleContexts.{expression, proved, paid}
 use Rattle.mz_trace_theory.specs.Traces.{stacked, kept, named, traced, referred as referred-part}
 use Rattle.mz_trace_theory.proofs.Offered.{to_want}
 use Rattle.mz_trace.proofs.StreamsApart.{expressions-both}

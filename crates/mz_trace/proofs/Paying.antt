@@ -7,7 +7,7 @@ use Rattle.mz_logic_theory.specs.declared.binder.Binder.{Binder}
 use Rattle.mz_mmu_theory.specs.Proof.{by_conv}
 use Rattle.mz_unify_theory.specs.Spells.{trees_of}
 use Rattle.mz_machine_theory.specs.MachineState.{RowsBefore}
-use Rattle.mz_trace_theory.specs.Parts.{Part, then_conv, paid, for_operand, owed}
+use Rattle.mz_trace_theory.specs.OneHoleContexts.{Part, then_conv, paid, for_operand, owed}
 use Rattle.mz_trace_theory.specs.Traces.{Trace, stacked}
 use Rattle.mz_trace.specs.Nodes.{Value, a_conversion, expression_at, expressions_at, conversion_at, conversions_at, proof_at, value_of, HasParts, IsConversion, AreConversions}
 use Rattle.mz_trace.specs.Entries.{owed_at, items_at, parts_at, ArePairs, IsStack, IsWaiting}

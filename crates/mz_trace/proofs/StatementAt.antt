@@ -2,7 +2,7 @@
 use Rattle.std.proofs.Common.{◌≡◌, ◌≤◌, ℕ, List, Ok, length, refl, sym, subst, ◌∙◌}
 use Rattle.mz_cmd.specs.declared.statement.StmtAt.TheVariants.{Head}
 use Rattle.mz_cmd.specs.StatementList.{statement_at}
-use Rattle.mz_layout_tables.specs.declared.taken.Rows.{Rows}
+use Rattle.mz_layout_tables.specs.declared.rows_so_far.Rows.{Rows}
 use Rattle.mz_binary_theory.proofs.Offered.{head-at}
 use Rattle.mz_layout_tables.specs.Heads.{body_bytes}
 use Rattle.mz_trace.specs.Runs.{RunsOver, IsTheoremAt}

@@ -11,11 +11,11 @@ use Rattle.mz_machine_theory.specs.MachineState.{RowsBefore, State, Declares}
 use Rattle.mz_machine_theory.specs.Invariant.{IsFront, Fact}
 use Rattle.mz_machine_theory.specs.ProofMachine.{proof_step}
 use Rattle.mz_machine_env.specs.Before.{AreWithin, tables_before}
-use Rattle.mz_layout_tables.specs.declared.taken.Rows.{Rows}
+use Rattle.mz_layout_tables.specs.declared.rows_so_far.Rows.{Rows}
 use Rattle.mz_logic_theory.specs.Signature.{Signature}
 use Rattle.mz_layout_tables.specs.Tables.{term_row, thm_row, term_count, thm_count}
 use Rattle.mz_unify_theory.specs.UnifyMachine.{in_citation, in_definition, Matching, UnifyState, unify}
-use Rattle.mz_trace_theory.specs.Parts.{paid}
+use Rattle.mz_trace_theory.specs.OneHoleContexts.{paid}
 use Rattle.mz_trace_theory.specs.Traces.{Trace, stacked, traced, variables_in}
 use Rattle.mz_trace.specs.Nodes.{Value, values, expressions_at, expression_at, conversion_at, proof_at, HaveParts, IsExpression, AreExpressions, AreProofs, IsConversion, Applies, Uses}
 use Rattle.mz_trace.specs.Entries.{item_at, part_at, items_at, parts_at, AreItems, IsStack, IsWaiting, exprs_onto, proofs_onto, HasExprs, HasProofs}
@@ -26,7 +26,7 @@ use Rattle.mz_trace.specs.declared.entry.Item.{Item}
 use Rattle.mz_trace.specs.declared.entry.Item.TheVariants.{Expr, Proof}
 use Rattle.mz_trace.specs.declared.entry.Entry.TheVariants.{Held, Owed, ForProof, ForTurned, ForOperand, ForUnfolded, ForCut}
 use Rattle.mz_trace.specs.declared.entry.Entry.{Entry}
-use Rattle.mz_trace.specs.declared.making.Making.{Making}
+use Rattle.mz_trace.specs.declared.state.Making.{Making}
 
 -- ---- what is made so far
 

@@ -13,7 +13,7 @@ use Rattle.mz_layout_tables.specs.Heads.{body_bytes}
 use Rattle.mz_machine_env.specs.OwnRow.{MayRun}
 use Rattle.mz_machine_theory.specs.Headings.{heading_of}
 use Rattle.mz_machine_env.specs.Before.{tables_before}
-use Rattle.mz_layout_tables.specs.declared.taken.Rows.{Rows}
+use Rattle.mz_layout_tables.specs.declared.rows_so_far.Rows.{Rows}
 use Rattle.mz_cmd.specs.declared.statement.StmtAt.TheVariants.{Head}
 use Rattle.mz_cmd.specs.StatementList.{statement_at}
 use Rattle.mz_trace_theory.specs.Traces.{Made, trace_from}

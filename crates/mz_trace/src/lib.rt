@@ -6,10 +6,10 @@
 #![tactic(auto)]
 
 mod entry;
-mod making;
 mod node;
 mod run;
 mod stack;
+mod state;
 mod streams;
 
 pub use node::RunNode;

@@ -6,14 +6,14 @@ ghost use Rattle.mz_machine_theory.specs.MachineState.{Declares};
 ghost use Rattle.mz_layout_tables.specs.Heads.{body_bytes};
 ghost use Rattle.mz_machine_theory.specs.Headings.{heading_of};
 ghost use Rattle.mz_machine_env.specs.Before.{tables_before};
-ghost use Rattle.mz_layout_tables.specs.declared.taken.Rows.{Rows};
+ghost use Rattle.mz_layout_tables.specs.declared.rows_so_far.Rows.{Rows};
 ghost use Rattle.mz_trace.specs.Commands.{stage_of, begun};
 ghost use Rattle.mz_trace.specs.Numbered.{Numbered, IsWhole};
 ghost use Rattle.mz_trace.specs.Runs.{IsTraced, ClaimsIn, IsTheoremAt, RunsOver, IsRunOf, RunsFrom, LeadsToEnd, HasRoot, IsFinished};
 
 use crate::entry::{Entry, Item};
-use crate::making::Making;
 use crate::node::RunNode;
+use crate::state::Making;
 use mz_binary_theory::Statement;
 use mz_cmd::{ProofCode, Steps, StmtAt, cmd_at, stmt_at};
 use mz_layout_tables::Mmb;

@@ -10,7 +10,7 @@ use Rattle.mz_unify_theory.proofs.Offered.{from_bind, taken-is}
 use Rattle.mz_machine_theory.specs.MachineState.{RowsBefore, State, Kind, is_theorem, Heading}
 use Rattle.mz_machine_theory.specs.ProofMachine.{last_item, own_variables, ends_with, proof_end}
 use Rattle.mz_machine_theory.specs.Bodies.{body_start}
-use Rattle.mz_trace_theory.specs.Parts.{Part, proved}
+use Rattle.mz_trace_theory.specs.OneHoleContexts.{Part, proved}
 use Rattle.mz_trace_theory.specs.Traces.{Trace, trace_start, trace_body}
 use Rattle.mz_trace_theory.specs.Laws.{BodiesMakeProofs, BodiesMakeOne}
 use Rattle.mz_trace_theory.proofs.Standing.{Asked, EachIs, Stands, proof-is}

@@ -21,7 +21,7 @@ use Rattle.mz_machine_theory.specs.MachineState.{RowsBefore, signatures_in, Stat
 use Rattle.mz_machine_theory.specs.Premises.{pop, pop_expr, pop_proof, pop_obligation, pop_conversion, pop_operands, pop_sides, is_conversion, is_obligation, may_be_dummy_sort, bound_count, operands_fit, are_apart}
 use Rattle.mz_machine_theory.specs.ProofMachine.{built, citation, matched_by, cited, referred, sides, same_term, stream_of, unfolding_of, has_provable_sort, proof_step}
 use Rattle.mz_machine_theory.proofs.Offered.{pair-at, pop-is}
-use Rattle.mz_trace_theory.specs.Parts.{Part, expression, proved, owed, converted, for_proof, for_turned, for_unfolded, for_cut, paid, by_operands, proofs_above}
+use Rattle.mz_trace_theory.specs.OneHoleContexts.{Part, expression, proved, owed, converted, for_proof, for_turned, for_unfolded, for_cut, paid, by_operands, proofs_above}
 use Rattle.mz_trace_theory.specs.Traces.{Trace, stacked, kept, named, conversion_saved, to_convert, below_sides, variables_in, traced}
 use Rattle.mz_trace_theory.specs.Traces as making
 use Rattle.mz_trace_theory.proofs.Following.{to_bind, to_want}

@@ -13,7 +13,7 @@ use Rattle.mz_unify_theory.proofs.Offered.{from_bind, from_need, taken-is}
 use Rattle.mz_machine_theory.specs.MachineState.{Pairwise}
 use Rattle.mz_machine_theory.specs.Premises.{pop_expr, pop_obligation, pop_exprs, pop_operands, pop_sides}
 use Rattle.mz_machine_theory.specs.ProofMachine.{sides}
-use Rattle.mz_trace_theory.specs.Parts.{Part, expression, proved, owed, converted, for_operand, then_conv, paid, by_operands, proofs_above}
+use Rattle.mz_trace_theory.specs.OneHoleContexts.{Part, expression, proved, owed, converted, for_operand, then_conv, paid, by_operands, proofs_above}
 use Rattle.mz_trace_theory.specs.Traces.{below_sides}
 
 -- ---- conversions one after another

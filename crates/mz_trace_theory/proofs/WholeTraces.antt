@@ -18,7 +18,7 @@ use Rattle.mz_machine_theory.specs.MachineState.{RowsBefore, State, Heading, Pai
 use Rattle.mz_machine_theory.specs.ProofMachine.{built, proof_step, own_variables, ends_with, matched_by, proof_end}
 use Rattle.mz_machine_theory.specs.Bodies.{BodyCommand, ends, proves, body_command, body_turn_by, body_turn, body_from}
 use Rattle.mz_machine_theory.proofs.Offered.{from_follow}
-use Rattle.mz_trace_theory.specs.Parts.{expression}
+use Rattle.mz_trace_theory.specs.OneHoleContexts.{expression}
 use Rattle.mz_trace_theory.specs.Traces.{Trace, traced, trace_turn, trace_command, trace_from}
 use Rattle.mz_trace_theory.proofs.Following.{to_bind}
 use Rattle.mz_trace_theory.proofs.Standing.{Asked, EachIs, Is}

@@ -6,8 +6,8 @@ use Rattle.mz_logic_theory.specs.Conversions.{Conversion, refl_conv, sym_conv, c
 use Rattle.mz_mmu_theory.specs.Proof.{Proof, by_hyp, by_name, by_citation, by_conv, no_proofs, more_proofs}
 use Rattle.mz_unify_theory.specs.Steps.{◌>>=◌}
 use Rattle.mz_machine_theory.specs.Examples.{regular, of_sort, definition, theorem_body, for_all, before_ax_1}
-use Rattle.mz_machine_theory.specs.Cases.{Case, stop, with_code, two, a1i, gen, fold, saved}
-use Rattle.mz_trace_theory.specs.Parts.{Part, proved}
+use Rattle.mz_machine_theory.specs.WorkedRuns.{Case, stop, with_code, two, a1i, gen, fold, saved}
+use Rattle.mz_trace_theory.specs.OneHoleContexts.{Part, proved}
 use Rattle.mz_trace_theory.specs.Traces.{trace_body}
 
 -- what is left beside the stack, and the proofs that have got a name

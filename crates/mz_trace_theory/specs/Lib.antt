@@ -1,4 +1,4 @@
-pub mod Parts
+pub mod OneHoleContexts
 pub mod Traces
 pub mod Laws
 pub mod Examples

@@ -19,7 +19,7 @@ use Rattle.mz_machine_theory.specs.MachineState.{RowsBefore, State, Heading}
 use Rattle.mz_machine_theory.specs.Premises.{pop_expr, pop_proof, pop_obligation, pop_sides}
 use Rattle.mz_machine_theory.specs.ProofMachine.{citation, matched_by, unfolding_of, proof_step}
 use Rattle.mz_machine_theory.specs.Bodies.{BodyCommand, ends, proves, body_command, body_start}
-use Rattle.mz_trace_theory.specs.Parts.{Part, expression, proved, owed, converted, for_proof, for_turned, for_unfolded, for_cut, paid, by_operands, proofs_above}
+use Rattle.mz_trace_theory.specs.OneHoleContexts.{Part, expression, proved, owed, converted, for_proof, for_turned, for_unfolded, for_cut, paid, by_operands, proofs_above}
 
 -- what stands beside the machine's heap and stack, and the proofs that have got a name, in order
 pub record Trace : Type 0 where

@@ -1,6 +1,6 @@
 //! The proof that a theorem's body makes, as a text states it.
 //!
-//! `specs/Parts.antt` has trees with a hole, `specs/Traces.antt` what each command makes beside the machine's
+//! `specs/OneHoleContexts.antt` has trees with a hole, `specs/Traces.antt` what each command makes beside the machine's
 //! state; `specs/Examples.antt` has worked bodies with their proofs. The laws (`specs/Laws.antt`) are that a body
 //! that runs makes one proof, and that it proves what the row spells.
 #![tactic(auto)]

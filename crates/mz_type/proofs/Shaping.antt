@@ -13,7 +13,7 @@ use Rattle.mz_logic_theory.proofs.Offered.{terms-append, assertions-append}
 use Rattle.mz_mmu_theory.specs.Sides.{assertion_at, term_at}
 use Rattle.mz_type_rules.proofs.Offered.{trees_cut}
 use Rattle.mz_type.specs.Shapes.{one_more, counted, all_counted, beneath, put_on, IsShapeOf, AreShapes, bodies_of, conclusions_of}
-use Rattle.mz_type.specs.declared.shapes.Shape.{Shape}
+use Rattle.mz_type.specs.declared.instance_sizes.Shape.{Shape}
 
 -- ---- counting
 

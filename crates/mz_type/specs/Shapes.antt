@@ -2,7 +2,7 @@
 use Rattle.std.specs.Prelude.{ℕ, zero, suc, ◌≡◌, ◌+◌, ◌*◌, ⊤, List, [], ◌∷◌, map}
 use Rattle.mz_logic_theory.specs.Tree.{Tree, Trees, var, app, none, more, instance, size, trees_size}
 use Rattle.mz_logic_theory.specs.Declaration.{Declaration, terms, assertions, body_tree}
-use Rattle.mz_type.specs.declared.shapes.Shape.{Shape}
+use Rattle.mz_type.specs.declared.instance_sizes.Shape.{Shape}
 
 -- one more use of the variable at the place; none past the end
 abbrev pub one_more : List ℕ → ℕ → List ℕ

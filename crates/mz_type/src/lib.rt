@@ -2,17 +2,17 @@
 //! by the proofs that the text states; the weight of a text, and the limits of a compiled file.
 #![tactic(auto)]
 
+mod consume;
+mod instance_sizes;
 mod laws;
-mod shapes;
 mod sizes;
-mod taking;
 mod typed;
-mod weigh;
+mod weights;
 
+pub use consume::take_last;
 pub use laws::{
     limits_are_decided, modes_agree, rules_are_the_meaning, statements_can_be_words,
     typed_or_faulty, typed_or_refused,
 };
-pub use taking::take_last;
 pub use typed::{Beside, Typed, TypedRead, check_text};
-pub use weigh::weight;
+pub use weights::weight;

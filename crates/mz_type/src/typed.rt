@@ -16,9 +16,9 @@ ghost use Rattle.mz_mmu.specs.TextStops.{TextStops};
 ghost use Rattle.mz_type.specs.Typing.{IsTyping, IsTypingOf, IsRefusal};
 ghost use Rattle.mz_mmu_theory.specs.Weight.{declaration_weight};
 
-use crate::shapes::Shaped;
-use crate::taking::take_last;
-use crate::weigh::statement_weight;
+use crate::consume::take_last;
+use crate::instance_sizes::Shaped;
+use crate::weights::statement_weight;
 use mz_base::Mode;
 use mz_logic_theory::{Binders, Decl, Env};
 use mz_mmu::{Entry, Text, TextStop, in_statement};

@@ -15,7 +15,7 @@ syntax match mm0Dummy "\.\h\w*"
 " input and output begin statements that mz leaves out.
 syntax keyword mm0LeftOut input output
 
-" The words of .proofs.
+" The keywords of .proofs.
 if expand("%:e") ==# "proofs"
   syntax keyword mm0Statement import local neighbour with of
   syntax keyword mm0Step have where by

@@ -6,7 +6,7 @@ endif
 syntax case match
 syntax match mmuComment "\(^\|[ ()]\)\@<=--.*$" contains=@Spell
 syntax match mmuName "[A-Za-z_][A-Za-z0-9_]*" contained
-" The word that begins a statement, and the name behind it.
+" The keyword that begins a statement, and the name behind it.
 syntax match mmuStatement "(\@<=\(local \+\)\?\(sort\|term\|axiom\|def\|theorem\)\>" nextgroup=mmuName skipwhite
 syntax keyword mmuModifier pure strict provable free
 syntax match mmuStep ":\(conv\|let\|refl\|sym\|unfold\)\>"

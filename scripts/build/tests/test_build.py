@@ -1,4 +1,4 @@
-"""Tries what is told of a build: how far it is, and what is left."""
+"""Tries what is said of a build: how far it is, and what is left."""
 import contextlib
 import io
 import os

@@ -65,10 +65,10 @@ class Specifications(Folder):
 
     def test_the_level_that_clashes(self):
         said = self.said("infixl im: $&$ prec 25;", "S12")
-        self.assertIn("level 25 groups to the right since line 6", said)
+        self.assertIn("precedence 25 groups to the right since line 6", said)
 
     def test_the_constant_that_clashes(self):
-        self.assertIn("`->` has level 25 since line 6, `infixr im: $->$ prec 25;`; here it is to have 30", self.said("infixr im: $->$ prec 30;", "S12"))
+        self.assertIn("`->` has precedence 25 since line 6, `infixr im: $->$ prec 25;`; here it is to have 30", self.said("infixr im: $->$ prec 30;", "S12"))
 
     def test_what_the_grammar_wants(self):
         cases = [
@@ -162,7 +162,7 @@ class Texts(Folder):
 
 
 class Words(Folder):
-    """What is said of words, and of files that are not there."""
+    """What is said of arguments, and of files that are not there."""
 
     def test_files_that_cannot_be_read(self):
         here = self.write("here.mm0", "sort s;")
@@ -181,7 +181,7 @@ class Words(Folder):
     def test_words(self):
         self.assertEqual(explain.usage(["verify", "a", "b"]), "")
         self.assertEqual(explain.usage(["sample", "10000"]), "")
-        self.assertEqual(explain.usage(["show"]), "show takes one word; BIN is missing; the shape is ./mz show BIN")
+        self.assertEqual(explain.usage(["show"]), "show takes one argument; BIN is missing; the shape is ./mz show BIN")
         self.assertIn("the nearest is compile TEXT OUT", explain.usage(["Compile", "a", "b"]))
         self.assertIn("'10001' is no number", explain.usage(["sample", "10001"]))
 

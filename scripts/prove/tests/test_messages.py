@@ -109,7 +109,7 @@ class Messages(unittest.TestCase):
 
 
 class Refusals(unittest.TestCase):
-    """Refusals by the program are told at the place of the source."""
+    """Refusals by the program are reported at the place of the source."""
 
     def told(self, find, kind="text"):
         proofs = "theorem left =\n  mul_eq(h,\n    eq_refl);\ntheorem unique = sorry;"

@@ -14,8 +14,8 @@ ghost use Rattle.mz_machine_theory.specs.Bodies.{row_steps};
 ghost use Rattle.mz_machine_env.specs.Before.{tables_of, signatures_of};
 ghost use Rattle.mz_machine.specs.OverStore.{with_stack, Gives, UnlessMem, Grows};
 
-use crate::apart::are_apart;
-use crate::fitting::{check_cited, check_operands, pop_operands};
+use crate::arguments::{check_cited, check_operands, pop_operands};
+use crate::disjoint::are_apart;
 use crate::stack::pop_expr;
 use mz_cmd::{K, Steps};
 use mz_layout_tables::Row;

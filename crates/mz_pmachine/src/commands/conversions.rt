@@ -11,7 +11,7 @@ ghost use Rattle.mz_machine_env.specs.Before.{tables_of, signatures_of};
 ghost use Rattle.mz_machine.specs.OverStore.{GivesRule, Gives, UnlessMem};
 ghost use Rattle.mz_pmachine.specs.OverNodes.{with_stack, pop_unfolding};
 ghost use Rattle.mz_unify.specs.Rows.{StopsBy};
-ghost use Rattle.mz_pmachine_theory.specs.Numbered.{Numbered, portable};
+ghost use Rattle.mz_pmachine_theory.specs.NodeIdentity.{Numbered, portable};
 
 use crate::stack::{pop_conversion, pop_expr, pop_obligation, pop_proof};
 use mz_cmd::{K, Steps};

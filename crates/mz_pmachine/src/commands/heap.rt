@@ -12,7 +12,7 @@ ghost use Rattle.mz_machine_theory.specs.ProofMachine.{proof_step, referred};
 ghost use Rattle.mz_machine_env.specs.Before.{tables_of, signatures_of};
 ghost use Rattle.mz_machine.specs.OverStore.{GivesRule, Gives};
 ghost use Rattle.mz_pmachine.specs.OverNodes.{heap_at, with_stack, Grows};
-ghost use Rattle.mz_pmachine_theory.specs.Numbered.{Numbered, portable};
+ghost use Rattle.mz_pmachine_theory.specs.NodeIdentity.{Numbered, portable};
 
 use crate::stack::{conversion_of, pop_expr, pop_obligation};
 use mz_cmd::K;

@@ -12,10 +12,10 @@ ghost use Rattle.mz_machine_theory.specs.Bodies.{row_steps};
 ghost use Rattle.mz_machine_env.specs.Before.{tables_of, signatures_of};
 ghost use Rattle.mz_pmachine.specs.OverNodes.{with_stack, Grows};
 ghost use Rattle.mz_machine.specs.OverStore.{Gives, UnlessMem};
-ghost use Rattle.mz_pmachine_theory.specs.Numbered.{Numbered, portable};
+ghost use Rattle.mz_pmachine_theory.specs.NodeIdentity.{Numbered, portable};
 
-use crate::apart::are_apart;
-use crate::fitting::{check_cited, check_operands, pop_operands};
+use crate::arguments::{check_cited, check_operands, pop_operands};
+use crate::disjoint::are_apart;
 use crate::stack::pop_expr;
 use mz_cmd::{K, Steps};
 use mz_layout_tables::Row;

@@ -1,6 +1,6 @@
 use Rattle.std.proofs.Common.{ℕ, ◌++◌, [], List, length, ap, sym, subst, ◌∙◌, append-nil}
 use Rattle.mz_logic_theory.specs.declared.binder.Binder.{Binder}
-use Rattle.mz_emit_theory.specs.Works.{from_to}
+use Rattle.mz_emit_theory.specs.SymbolicState.{from_to}
 use Rattle.mz_store.specs.Sharing.{tree_of, trees_of}
 use Rattle.mz_emit_theory.specs.InReach.{AllInReach, InReach}
 use Rattle.mz_emit_theory.specs.StreamWriting.{assertion_written, stream_of, write, writing_start}

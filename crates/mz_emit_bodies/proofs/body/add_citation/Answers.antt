@@ -1,7 +1,7 @@
 use Rattle.std.proofs.Common.{◌∙◌, ◌∷◌, ◌++◌, ap}
 use Rattle.std.proofs.lemmas.Result.{on_ok_weaker}
 use Rattle.mz_emit_bodies.specs.Pushing.{pushes}
-use Rattle.mz_emit_bodies.specs.Owes.{push}
+use Rattle.mz_emit_bodies.specs.TaskInvariant.{push}
 use Rattle.mz_emit_bodies.proofs.body.add_citation.Goals as goal
 
 pub returns : goal.returns

@@ -2,7 +2,7 @@ use Rattle.std.proofs.Common.{◌∙◌, ◌∷◌, ap}
 use Rattle.std.proofs.lemmas.Result.{on_ok_weaker}
 use Rattle.mz_cmd.specs.declared.code.ProofCode.TheVariants as code
 use Rattle.mz_mmu_theory.specs.ProofView.{proof_view}
-use Rattle.mz_emit_bodies.specs.Owes.{push, prove, give}
+use Rattle.mz_emit_bodies.specs.TaskInvariant.{push, prove, give}
 use Rattle.mz_emit_bodies.proofs.body.add_conversion.Goals as goal
 
 pub returns : goal.returns

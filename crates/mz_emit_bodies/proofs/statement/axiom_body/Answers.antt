@@ -5,7 +5,7 @@ use Rattle.mz_machine_theory.specs.MachineState.{is_axiom}
 use Rattle.mz_store.specs.Sharing.{tree_of, trees_of}
 use Rattle.mz_emit_bodies.proofs.Growing.{many_ids}
 use Rattle.mz_emit_bodies.specs.Going.{IsAfter}
-use Rattle.mz_emit_bodies.specs.Owes.{to_do}
+use Rattle.mz_emit_bodies.specs.TaskInvariant.{to_do}
 use Rattle.mz_emit_bodies.specs.Stages.{job, leaving, writing_too, with_hyps}
 use Rattle.mz_emit_theory.specs.BodyWriting.{◌>>◌, at_first, write_expr, write_hyps}
 use Rattle.mz_emit_theory.specs.Endings.{spelled_body}

@@ -4,7 +4,7 @@ use Rattle.mz_machine_theory.specs.MachineState.{is_definition}
 use Rattle.mz_unify_theory.specs.Profile.{expr}
 use Rattle.mz_store.specs.Sharing.{tree_of}
 use Rattle.mz_emit_bodies.specs.Going.{IsAfter}
-use Rattle.mz_emit_bodies.specs.Owes.{to_do}
+use Rattle.mz_emit_bodies.specs.TaskInvariant.{to_do}
 use Rattle.mz_emit_bodies.specs.Stages.{job, leaving, writing_too}
 use Rattle.mz_emit_theory.specs.BodyWriting.{at_first, write_expr}
 use Rattle.mz_emit_theory.specs.Endings.{spelled_body}

@@ -7,7 +7,7 @@ use Rattle.mz_match_rows.specs.declared.stream.Cursor.{Cursor}
 use Rattle.std.proofs.lemmas.List.{drop_all}
 use Rattle.std.proofs.lemmas.Bool.{false≢true}
 use Rattle.mz_match_rows.specs.Streams.{step_at, AreSaid, IsMade}
-use Rattle.mz_spec_proved_theory.specs.Comparing.{compared, all_compared}
+use Rattle.mz_spec_proved_theory.specs.Comparison.{compared, all_compared}
 use Rattle.mz_match_rows.specs.Beside.{beside}
 use Rattle.mz_match_rows.proofs.Compared.{cursor-is, said-within, made-within, said-no, made-no, said-made, said-mark, mark-made, mark-param, made-term, compared-param, found-place, differs-app, marked, answered, next-of, all-next, all-stopped, all-goes-on, all-done}
 use Rattle.mz_match_rows.proofs.compare.+same_at.Goals as goal

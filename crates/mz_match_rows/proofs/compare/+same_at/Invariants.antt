@@ -3,7 +3,7 @@ use Rattle.mz_logic_theory.specs.Tree.{Trees, listed, size, trees_size}
 use Rattle.mz_logic_theory.specs.View.{tree, trees}
 use Rattle.mz_unify_theory.specs.Spells.{Marks}
 use Rattle.mz_match_rows.specs.declared.stream.Cursor.{Cursor}
-use Rattle.mz_spec_proved_theory.specs.Comparing.{all_compared}
+use Rattle.mz_spec_proved_theory.specs.Comparison.{all_compared}
 use Rattle.mz_match_rows.specs.Beside.{AllSaidAt, IsStream, beside}
 use Rattle.mz_match_rows.proofs.compare.+same_at.Given as goal
 

@@ -1,6 +1,6 @@
 use Rattle.std.proofs.Common.{◌≡◌, drop}
 use Rattle.std.specs.List.{list_any}
-use Rattle.mz_spec_proved_theory.specs.Comparing.{is_number}
+use Rattle.mz_spec_proved_theory.specs.Comparison.{is_number}
 use Rattle.mz_match_rows.proofs.compare.is_taken.Given as goal
 
 abbrev pub invariant-loop-pair : goal.invariant-loop-pair

@@ -1,7 +1,7 @@
 use Rattle.std.proofs.Common.{◌≡◌, ◌∙◌, Some, refl, sym, subst, arith}
 use Rattle.mz_logic_theory.specs.Tree.{Tree}
 use Rattle.mz_logic_theory.specs.View.{tree}
-use Rattle.mz_spec_proved_theory.specs.Trees.{SameTree}
+use Rattle.mz_spec_proved_theory.specs.AlphaTrees.{SameTree}
 use Rattle.mz_match_rows.specs.declared.stream.Cursor.{Cursor}
 use Rattle.mz_match_rows.specs.Beside.{SaidAt}
 use Rattle.mz_match_rows.proofs.compare.same_hyp.Goals as goal

@@ -1,7 +1,7 @@
 use Rattle.std.proofs.Common.{◌+◌, ◌∙◌, length, sym, ap, arith}
 use Rattle.mz_pmachine.specs.Running.{machine_of}
 use Rattle.mz_pmachine.specs.Steps.{tables_for, heading_for}
-use Rattle.mz_pmachine_theory.specs.Numbered.{portable}
+use Rattle.mz_pmachine_theory.specs.NodeIdentity.{portable}
 use Rattle.mz_unify_theory.proofs.Offered.{further}
 use Rattle.mz_machine_env.proofs.Offered.{at-first, cut-whole, long-whole, end-whole, end-refused, end-many, refused-whole, refused-many, goes-on, ends-there, goes-further}
 use Rattle.mz_pmachine.proofs.BodyRunning.{itself, goes, row-over, steps-over, most-over, end-answer, end-counts, stop-answer, stop-counts}

@@ -1,7 +1,7 @@
 use Rattle.std.proofs.Common.{◌≤◌, ◌+◌, ◌*◌, ◌-◌, length}
 use Rattle.mz_pmachine.specs.Steps.{tables_for, heading_for}
 use Rattle.mz_pmachine.specs.Running.{IsRunning, machine_of}
-use Rattle.mz_pmachine_theory.specs.Numbered.{portable}
+use Rattle.mz_pmachine_theory.specs.NodeIdentity.{portable}
 use Rattle.mz_machine_env.proofs.Offered.{IsUnderway}
 use Rattle.mz_pmachine.proofs.BodyRunning.{IsSameBody}
 use Rattle.mz_pmachine.proofs.body.run.Given as goal

@@ -1,6 +1,6 @@
 use Rattle.std.proofs.Common.{◌∙◌, [], ◌∷◌, Ok, refl, sym, ap}
 use Rattle.std.proofs.lemmas.Result.{on_ok_weaker}
-use Rattle.mz_pmachine_theory.specs.Numbered.{portable}
+use Rattle.mz_pmachine_theory.specs.NodeIdentity.{portable}
 use Rattle.mz_machine_env.specs.Before.{tables_of}
 use Rattle.mz_pmachine_unify.proofs.Offered.{items-in-both}
 use Rattle.mz_machine.proofs.Offered.{no-more, pushed-gives, ruled-gives, ruled-ok, sorry-row, unless-mem}

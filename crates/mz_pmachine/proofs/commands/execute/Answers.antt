@@ -1,6 +1,6 @@
 use Rattle.std.proofs.Common.{arith}
 use Rattle.std.proofs.lemmas.Result.{on_ok_weaker}
-use Rattle.mz_pmachine_theory.specs.Numbered.{portable}
+use Rattle.mz_pmachine_theory.specs.NodeIdentity.{portable}
 use Rattle.mz_machine_env.specs.Before.{tables_of}
 use Rattle.mz_pmachine_unify.proofs.Offered.{are-still-in}
 use Rattle.mz_machine.proofs.Offered.{no-more, on-both, on-ok, unless-mem}

@@ -2,7 +2,7 @@ use Rattle.std.proofs.Common.{◌∙◌, true, false, length, sym, ap, subst}
 use Rattle.mz_logic_theory.specs.Sorts.{HasSort}
 use Rattle.mz_logic_theory.specs.Words.{word_sort}
 use Rattle.mz_pmachine_unify.specs.Numbering.{expr_of}
-use Rattle.mz_pmachine_theory.specs.Numbered.{portable, tree_of}
+use Rattle.mz_pmachine_theory.specs.NodeIdentity.{portable, tree_of}
 use Rattle.mz_machine_theory.specs.FreeVars.{free_within}
 use Rattle.mz_machine_theory.specs.MachineState.{is_definition}
 use Rattle.mz_machine_env.specs.Before.{signatures_of, tables_of}

@@ -1,6 +1,6 @@
 use Rattle.std.proofs.Common.{◌∙◌, true, false, sym, ap}
 use Rattle.mz_pmachine_unify.specs.Numbering.{expr_of}
-use Rattle.mz_pmachine_theory.specs.Numbered.{portable}
+use Rattle.mz_pmachine_theory.specs.NodeIdentity.{portable}
 use Rattle.mz_machine_theory.specs.MachineState.{is_axiom}
 use Rattle.mz_machine_theory.specs.ProofMachine.{has_provable_sort}
 use Rattle.mz_machine_env.specs.Before.{tables_of}

@@ -9,7 +9,7 @@ use Rattle.mz_machine_theory.specs.ProofMachine.{last_item, ending}
 use Rattle.mz_machine_theory.specs.MachineState.{Kind}
 use Rattle.mz_pmachine.specs.OverNodes.{state_at}
 use Rattle.mz_machine.specs.Endings.{IsOwnRun}
-use Rattle.mz_pmachine_theory.specs.Numbered.{portable}
+use Rattle.mz_pmachine_theory.specs.NodeIdentity.{portable}
 use Rattle.mz_machine_env.proofs.Offered.{kind-is}
 use Rattle.mz_pmachine.proofs.Ending.{own-matching, first-exprs, first-in, own-items, own-items-in}
 use Rattle.mz_machine.proofs.Offered.{no-last-item, not-ending, is-ending, stopped-end, no-end-steps, end-steps, own-end, no-more, unless-more}

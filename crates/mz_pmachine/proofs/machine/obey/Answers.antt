@@ -1,6 +1,6 @@
 use Rattle.std.proofs.Common.{arith, ap}
 use Rattle.mz_machine_env.specs.Before.{tables_of}
-use Rattle.mz_pmachine_theory.specs.Numbered.{portable}
+use Rattle.mz_pmachine_theory.specs.NodeIdentity.{portable}
 use Rattle.mz_machine_theory.specs.Bodies.{row_steps}
 use Rattle.mz_pmachine.specs.OverNodes.{code_of, state_at}
 use Rattle.mz_pmachine.specs.Steps.{row_by, steps_by}

@@ -1,5 +1,5 @@
 use Rattle.mz_machine_theory.proofs.Offered.{bodies-checked}
-use Rattle.mz_pmachine_theory.specs.Numbered.{portable}
+use Rattle.mz_pmachine_theory.specs.NodeIdentity.{portable}
 use Rattle.mz_pmachine_theory.proofs.laws.bodies_are_checked.Goals as goal
 
 pub returns : goal.returns

@@ -1,6 +1,6 @@
 use Rattle.std.proofs.Common.{length, arith}
 use Rattle.mz_machine_theory.proofs.Offered.{steps-le}
-use Rattle.mz_pmachine_theory.specs.Numbered.{portable}
+use Rattle.mz_pmachine_theory.specs.NodeIdentity.{portable}
 use Rattle.mz_pmachine_theory.proofs.laws.steps_bounded.Goals as goal
 
 pub returns : goal.returns

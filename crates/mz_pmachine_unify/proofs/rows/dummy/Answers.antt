@@ -1,6 +1,6 @@
 use Rattle.std.proofs.Common.{◌∙◌, sym}
 use Rattle.mz_unify.proofs.Offered.{dummy-no-target, dummy-other, dummy-row}
-use Rattle.mz_pmachine_theory.specs.Numbered.{portable}
+use Rattle.mz_pmachine_theory.specs.NodeIdentity.{portable}
 use Rattle.mz_pmachine_unify.proofs.rows.dummy.Goals as goal
 
 pub returns-in_default-clause-row : goal.returns-in_default-clause-row

@@ -3,7 +3,7 @@ use Rattle.mz_pmachine_unify.proofs.StoredIds.{stack-empty}
 use Rattle.mz_unify_theory.specs.UnifyMachine.{is_empty, nothing_left}
 use Rattle.mz_unify.specs.Stored.{mode_of}
 use Rattle.mz_unify.proofs.Offered.{end-target, end-left, end-row}
-use Rattle.mz_pmachine_theory.specs.Numbered.{portable}
+use Rattle.mz_pmachine_theory.specs.NodeIdentity.{portable}
 use Rattle.mz_pmachine_unify.proofs.rows.end.Goals as goal
 
 pub returns-then-not-is_empty : goal.returns-then-not-is_empty

@@ -6,7 +6,7 @@ use Rattle.mz_unify_theory.specs.UnifyMachine.{is_empty, next_hypothesis}
 use Rattle.mz_unify.specs.Stored.{mode_of}
 use Rattle.mz_pmachine_unify.specs.Stored.{stack_at, items_at}
 use Rattle.mz_unify.proofs.Offered.{hyp-target, hyp-stop, hyp-row}
-use Rattle.mz_pmachine_theory.specs.Numbered.{portable}
+use Rattle.mz_pmachine_theory.specs.NodeIdentity.{portable}
 use Rattle.mz_pmachine_unify.proofs.rows.hypothesis.Goals as goal
 
 pub returns-then-not-is_empty-clause-row : goal.returns-then-not-is_empty-clause-row

@@ -4,7 +4,7 @@ use Rattle.mz_pmachine_unify.specs.Numbering.{expr_of, head_of}
 use Rattle.mz_pmachine_unify.specs.Stored.{stack_at}
 use Rattle.mz_pmachine_unify.proofs.StoredIds.{are-in-both, are-in-reverse, put-there}
 use Rattle.mz_unify.proofs.Offered.{term-none, save-none, term-other, save-other, term-row, save-row, heads-differ, heads-same}
-use Rattle.mz_pmachine_theory.specs.Numbered.{portable}
+use Rattle.mz_pmachine_theory.specs.NodeIdentity.{portable}
 use Rattle.mz_pmachine_unify.proofs.Parts.{of-numbered}
 use Rattle.mz_pmachine_unify.proofs.rows.open.Goals as goal
 

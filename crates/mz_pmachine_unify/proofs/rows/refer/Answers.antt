@@ -3,7 +3,7 @@ use Rattle.std.specs.Prelude.{slice_get}
 use Rattle.std.proofs.lemmas.Option.{slice_get_read}
 use Rattle.mz_pmachine_unify.proofs.StoredIds.{expr-at, no-expr-at, is-in-at}
 use Rattle.mz_unify.proofs.Offered.{ref-no-target, ref-no-place, ref-other, ref-row}
-use Rattle.mz_pmachine_theory.specs.Numbered.{portable}
+use Rattle.mz_pmachine_theory.specs.NodeIdentity.{portable}
 use Rattle.mz_pmachine_unify.proofs.Parts.{of-numbered}
 use Rattle.mz_pmachine_unify.proofs.rows.refer.Goals as goal
 

@@ -4,7 +4,7 @@ use Rattle.std.proofs.Math.Seq.{take-length}
 use Rattle.mz_store.specs.Bits.{bound_vars}
 use Rattle.mz_unify.specs.Rows.{InAnyV, TellsAny}
 use Rattle.mz_unify.proofs.Offered.{tells-none}
-use Rattle.mz_pmachine_theory.specs.Numbered.{tree_of}
+use Rattle.mz_pmachine_theory.specs.NodeIdentity.{tree_of}
 use Rattle.mz_pmachine_unify.specs.Stored.{exprs_at}
 use Rattle.mz_pmachine_unify.proofs.StoredIds.{is-in-at}
 use Rattle.mz_pmachine_unify.proofs.VariableWords.{tells-next}

@@ -1,6 +1,6 @@
 use Rattle.std.proofs.Common.{List, map, take}
 use Rattle.mz_logic_theory.specs.Signature.{Signature}
-use Rattle.mz_pmachine_theory.specs.Numbered.{tree_of}
+use Rattle.mz_pmachine_theory.specs.NodeIdentity.{tree_of}
 use Rattle.mz_pmachine_unify.specs.Numbering.{IsOver}
 use Rattle.mz_pmachine_unify.specs.Stored.{exprs_at}
 use Rattle.mz_unify.specs.Rows.{TellsAny}

@@ -1,6 +1,6 @@
 use Rattle.std.proofs.Common.{◌≡◌, ℕ, ◌+◌, ◌-◌, ◌≤◌, List, length, map}
 use Rattle.mz_logic_theory.specs.Signature.{Signature}
-use Rattle.mz_pmachine_theory.specs.Numbered.{Numbered, tree_of, portable}
+use Rattle.mz_pmachine_theory.specs.NodeIdentity.{Numbered, tree_of, portable}
 use Rattle.mz_pmachine_unify.specs.Numbering.{AreIn, IsOver}
 use Rattle.mz_unify.specs.Stored.{mode_of, AreLeft}
 use Rattle.mz_unify.specs.Rows.{TellsAny}

@@ -1,6 +1,6 @@
 use Rattle.std.proofs.Common.{◌∙◌, ◌∷◌, ◌++◌, [], ap}
 use Rattle.mz_logic_theory.specs.Words.{signatures_of}
-use Rattle.mz_pmachine_theory.specs.Numbered.{portable}
+use Rattle.mz_pmachine_theory.specs.NodeIdentity.{portable}
 use Rattle.mz_pmachine_unify.specs.Stored.{exprs_at, items_at, matching_at}
 use Rattle.mz_pmachine_unify.specs.Rows.{state_at}
 use Rattle.mz_unify.proofs.Offered.{whole-run, whole-count}

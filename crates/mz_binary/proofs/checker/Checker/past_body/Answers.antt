@@ -9,7 +9,7 @@ use Rattle.mz_machine_env.specs.OwnRow.{MayRun, byte_of}
 use Rattle.mz_machine_theory.specs.Headings.{heading_of, kind_at}
 use Rattle.mz_machine_env.specs.Before.{taken_before}
 use Rattle.mz_machine_env.proofs.Offered.{byte-kind, kind-byte}
-use Rattle.mz_binary.specs.declared.place.Found.TheVariants as seen
+use Rattle.mz_binary.specs.declared.statement.Found.TheVariants as seen
 use Rattle.mz_binary_theory.specs.FileRun.{after_kind, find_at}
 use Rattle.mz_binary.specs.Judging.{IsLeft, IsMost, IsNext}
 use Rattle.mz_binary.specs.Progress.{HasPassed, Progress, IsReached, found_of, kind_byte, most_left, next_steps}

@@ -1,5 +1,5 @@
 use Rattle.mz_mmu_theory.specs.ProofView.{proof_view}
-use Rattle.mz_emit_bodies.specs.Owes.{to_do}
+use Rattle.mz_emit_bodies.specs.TaskInvariant.{to_do}
 use Rattle.mz_emit_bodies.proofs.Binding.{bind_done, bind_cost}
 use Rattle.mz_emit_bodies.proofs.body.Body.bind.Goals as goal
 

@@ -8,7 +8,7 @@ use Rattle.mz_logic_theory.specs.View.{tree}
 use Rattle.mz_store.specs.Sharing.{trees_of}
 use Rattle.mz_emit_theory.specs.InReach.{AreSorted}
 use Rattle.mz_emit_bodies.specs.Pushing.{pushes}
-use Rattle.mz_emit_bodies.specs.Owes.{push, give, to_do}
+use Rattle.mz_emit_bodies.specs.TaskInvariant.{push, give, to_do}
 use Rattle.mz_emit_bodies.proofs.Making.{fits_sorted, grows_on, are_in_grown, trees_grown}
 use Rattle.mz_emit_bodies.proofs.Growing.{cite_done, cite_cost, cite_reach, concl_is, shared_as, vars_as}
 use Rattle.mz_emit_bodies.proofs.body.Body.cite.Goals as goal

@@ -4,7 +4,7 @@ use Rattle.mz_logic_theory.specs.View.{tree}
 use Rattle.mz_mmu_theory.specs.ConvView.{conversion}
 use Rattle.mz_mmu_theory.specs.ProofView.{proof_view}
 use Rattle.mz_emit_bodies.specs.Variables.{IsShared}
-use Rattle.mz_emit_bodies.specs.Owes.{to_do}
+use Rattle.mz_emit_bodies.specs.TaskInvariant.{to_do}
 use Rattle.mz_emit_bodies.proofs.Growing.{convert_done, convert_cost, shared_as, vars_as}
 use Rattle.mz_emit_bodies.proofs.body.Body.convert.Goals as goal
 

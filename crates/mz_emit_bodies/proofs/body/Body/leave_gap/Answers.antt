@@ -1,6 +1,6 @@
 use Rattle.std.proofs.Common.{ap, ◌∙◌, ◌∷◌}
 use Rattle.mz_logic_theory.specs.View.{tree}
-use Rattle.mz_emit_bodies.specs.Owes.{push, to_do}
+use Rattle.mz_emit_bodies.specs.TaskInvariant.{push, to_do}
 use Rattle.mz_emit_bodies.proofs.Growing.{gap_done, gap_cost, shared_as, vars_as}
 use Rattle.mz_emit_bodies.proofs.body.Body.leave_gap.Goals as goal
 

@@ -1,7 +1,7 @@
 use Rattle.std.proofs.Common.{◌<◌, ◌+◌, ◌∷◌, [], sym, ap, ◌∙◌, subst, arith, length, ℕ, Option}
 use Rattle.mz_mmu_theory.specs.Proof.{by_name}
 use Rattle.mz_mmu_theory.specs.ProofView.{proof_view}
-use Rattle.mz_emit_bodies.specs.Owes.{prove, to_do, left, let_costs}
+use Rattle.mz_emit_bodies.specs.TaskInvariant.{prove, to_do, left, let_costs}
 use Rattle.mz_emit_bodies.specs.Scopes.{in_sight}
 use Rattle.mz_emit_theory.specs.Costs.{cost}
 use Rattle.mz_emit_bodies.specs.Sight.{parts, IsThere}

@@ -4,7 +4,7 @@ use Rattle.mz_logic_theory.specs.Conversions.{unfold_conv}
 use Rattle.mz_mmu_theory.specs.ConvView.{conversion}
 use Rattle.mz_emit_theory.specs.Costs.{pay_cost, pay_costs}
 use Rattle.mz_emit_bodies.specs.Sight.{parts}
-use Rattle.mz_emit_bodies.specs.Owes.{pay, pay_all, to_do, left}
+use Rattle.mz_emit_bodies.specs.TaskInvariant.{pay, pay_all, to_do, left}
 use Rattle.mz_emit_bodies.specs.Going.{Job, Does, steps_left}
 use Rattle.mz_emit_bodies.proofs.Paying.{refl_paid, sym_paid, cong_paid, gap_paid}
 use Rattle.mz_emit_bodies.proofs.body.Body.pay.Goals as goal

@@ -3,7 +3,7 @@ use Rattle.std.proofs.lemmas.Result.{on_ok_weaker}
 use Rattle.mz_mmu_theory.specs.ConvView.{conversion}
 use Rattle.mz_emit_theory.specs.Costs.{pay_costs}
 use Rattle.mz_emit_bodies.specs.Sight.{parts}
-use Rattle.mz_emit_bodies.specs.Owes.{pay, pay_all, to_do, left}
+use Rattle.mz_emit_bodies.specs.TaskInvariant.{pay, pay_all, to_do, left}
 use Rattle.mz_emit_bodies.specs.Going.{Does}
 use Rattle.mz_emit_bodies.proofs.Paying.{no_convs_left, first_conv, none_paid, more_paid}
 use Rattle.mz_emit_bodies.proofs.body.Body.pay_all.Goals as goal

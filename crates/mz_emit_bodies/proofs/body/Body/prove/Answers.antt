@@ -7,7 +7,7 @@ use Rattle.mz_mmu_theory.specs.ProofView.{proof_view}
 use Rattle.mz_emit_bodies.specs.Scopes.{in_sight}
 use Rattle.mz_emit_theory.specs.Costs.{cost}
 use Rattle.mz_emit_bodies.specs.Sight.{parts}
-use Rattle.mz_emit_bodies.specs.Owes.{prove, prove_all, to_do, left, let_costs}
+use Rattle.mz_emit_bodies.specs.TaskInvariant.{prove, prove_all, to_do, left, let_costs}
 use Rattle.mz_emit_bodies.specs.Going.{Job, Does, steps_left}
 use Rattle.mz_emit_bodies.proofs.Moves.{cite_parts, hyp_there, hyp_within}
 use Rattle.mz_emit_bodies.proofs.Lists.{index_slice}

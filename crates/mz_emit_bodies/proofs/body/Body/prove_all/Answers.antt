@@ -4,7 +4,7 @@ use Rattle.mz_mmu_theory.specs.ProofView.{proof_view}
 use Rattle.mz_emit_bodies.specs.Scopes.{in_sight}
 use Rattle.mz_emit_theory.specs.Costs.{costs}
 use Rattle.mz_emit_bodies.specs.Sight.{parts}
-use Rattle.mz_emit_bodies.specs.Owes.{prove, prove_all, to_do, left, let_costs}
+use Rattle.mz_emit_bodies.specs.TaskInvariant.{prove, prove_all, to_do, left, let_costs}
 use Rattle.mz_emit_bodies.specs.Going.{Does}
 use Rattle.mz_emit_bodies.proofs.Moves.{no_proofs_left, first_proof, none_proved, more_proved}
 use Rattle.mz_emit_bodies.proofs.body.Body.prove_all.Goals as goal

@@ -3,7 +3,7 @@ use Rattle.std.proofs.lemmas.Result.{on_ok_weaker}
 use Rattle.mz_logic_theory.specs.Tree.{size}
 use Rattle.mz_store.specs.Sharing.{tree_of}
 use Rattle.mz_unify_theory.specs.Profile.{expr}
-use Rattle.mz_emit_bodies.specs.Owes.{to_do}
+use Rattle.mz_emit_bodies.specs.TaskInvariant.{to_do}
 use Rattle.mz_emit_bodies.specs.Stages.{leaving, writing_too}
 use Rattle.mz_emit_theory.specs.BodyWriting.{write_expr}
 use Rattle.mz_emit_bodies.proofs.Ends.{expr_owed}

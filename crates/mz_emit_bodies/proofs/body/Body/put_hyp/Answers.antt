@@ -1,6 +1,6 @@
 use Rattle.std.proofs.Common.{◌∷◌, [], ap, ◌∙◌, ◌++◌}
 use Rattle.mz_store.specs.Sharing.{tree_of}
-use Rattle.mz_emit_bodies.specs.Owes.{to_do}
+use Rattle.mz_emit_bodies.specs.TaskInvariant.{to_do}
 use Rattle.mz_emit_bodies.proofs.Ends.{hyp_assumed, provable_as}
 use Rattle.mz_emit_bodies.proofs.body.Body.put_hyp.Goals as goal
 

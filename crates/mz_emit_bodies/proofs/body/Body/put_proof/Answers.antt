@@ -4,7 +4,7 @@ use Rattle.mz_emit_theory.specs.Weights.{proof_weight}
 use Rattle.mz_mmu_theory.specs.ProofView.{proof_view}
 use Rattle.mz_unify_theory.specs.Profile.{proof}
 use Rattle.mz_emit_theory.specs.Claims.{proved}
-use Rattle.mz_emit_bodies.specs.Owes.{to_do}
+use Rattle.mz_emit_bodies.specs.TaskInvariant.{to_do}
 use Rattle.mz_emit_bodies.specs.Stages.{leaving, spending, writing_too}
 use Rattle.mz_emit_theory.specs.BodyWriting.{write_proof}
 use Rattle.mz_emit_bodies.proofs.Ends.{proof_owed}

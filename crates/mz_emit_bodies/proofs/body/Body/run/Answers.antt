@@ -1,5 +1,5 @@
 use Rattle.std.proofs.Common.{◌<◌, [], refl, sym, ap, ◌∙◌, subst}
-use Rattle.mz_emit_bodies.specs.Owes.{left}
+use Rattle.mz_emit_bodies.specs.TaskInvariant.{left}
 use Rattle.mz_emit_bodies.specs.Sight.{parts}
 use Rattle.mz_emit_bodies.specs.Going.{IsAfter, steps_left}
 use Rattle.mz_emit_bodies.proofs.Moves.{at_last, popped}

@@ -1,5 +1,5 @@
 use Rattle.std.proofs.Common.{ap, ◌∙◌, arith, Some}
-use Rattle.mz_emit_bodies.specs.Owes.{to_do, left}
+use Rattle.mz_emit_bodies.specs.TaskInvariant.{to_do, left}
 use Rattle.mz_emit_bodies.proofs.Scoping.{parts_long}
 use Rattle.mz_emit_bodies.proofs.Saving.{saved}
 use Rattle.mz_emit_bodies.proofs.body.Body.save.Goals as goal

@@ -1,6 +1,6 @@
 use Rattle.std.proofs.Common.{◌<◌, ◌∷◌, [], sym, subst}
 use Rattle.std.specs.Prelude.{OnOk}
-use Rattle.mz_emit_bodies.specs.Owes.{task_view}
+use Rattle.mz_emit_bodies.specs.TaskInvariant.{task_view}
 use Rattle.mz_emit_bodies.specs.Going.{Job, Does, steps_left}
 use Rattle.mz_emit_bodies.proofs.body.Body.step.Goals as goal
 

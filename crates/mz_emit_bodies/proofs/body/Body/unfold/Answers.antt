@@ -8,7 +8,7 @@ use Rattle.mz_mmu_theory.specs.ConvView.{conversion}
 use Rattle.mz_store.specs.Sharing.{AreIn, trees_of}
 use Rattle.mz_emit_bodies.specs.Variables.{IsShared}
 use Rattle.mz_emit_theory.specs.InReach.{InReach, AreSorted}
-use Rattle.mz_emit_bodies.specs.Owes.{to_do}
+use Rattle.mz_emit_bodies.specs.TaskInvariant.{to_do}
 use Rattle.mz_emit_bodies.proofs.Making.{fits_sorted, grows_on, in_grown, tree_grown, are_in_grown, trees_grown}
 use Rattle.mz_emit_bodies.proofs.Growing.{many_ids, shared_as, vars_as}
 use Rattle.mz_emit_bodies.proofs.Paying.{body_found, fresh_below, unfold_reach, left_sorted, unfolded_sorted, sorted_as, unfold_done, unfold_cost}

@@ -1,7 +1,7 @@
 use Rattle.std.proofs.Common.{◌∙◌, ap, sym}
 use Rattle.mz_pmachine_unify.specs.Stored.{items_at}
 use Rattle.mz_unify.proofs.Offered.{heads-differ, heads-same}
-use Rattle.mz_pmachine_theory.specs.Numbered.{portable}
+use Rattle.mz_pmachine_theory.specs.NodeIdentity.{portable}
 use Rattle.mz_machine_theory.specs.Premises.{pop_obligation}
 use Rattle.mz_pmachine_unify.proofs.Offered.{of-numbered}
 use Rattle.mz_machine.proofs.Offered.{cong-unowed, cong-variable, cong-other, cong-row, gives-stack}

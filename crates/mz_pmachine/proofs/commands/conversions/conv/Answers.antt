@@ -1,6 +1,6 @@
 use Rattle.std.proofs.Common.{◌∙◌, ◌∷◌, Ok, sym, ap}
 use Rattle.std.proofs.lemmas.Result.{err_from_is_err_and}
-use Rattle.mz_pmachine_theory.specs.Numbered.{portable}
+use Rattle.mz_pmachine_theory.specs.NodeIdentity.{portable}
 use Rattle.mz_pmachine_unify.specs.Stored.{item_at, items_at}
 use Rattle.mz_pmachine_unify.proofs.Offered.{items-push}
 use Rattle.mz_store.specs.declared.item.Item.TheVariants.{Obligation, Proof}

@@ -1,6 +1,6 @@
 use Rattle.std.proofs.Common.{◌∙◌, ap, sym, refl}
 use Rattle.std.proofs.lemmas.Result.{err_from_is_err_and}
-use Rattle.mz_pmachine_theory.specs.Numbered.{portable}
+use Rattle.mz_pmachine_theory.specs.NodeIdentity.{portable}
 use Rattle.mz_machine_theory.specs.Premises.{pop_obligation}
 use Rattle.mz_pmachine_unify.proofs.Offered.{of-numbered}
 use Rattle.mz_machine.proofs.Offered.{refl-row, refl-unowed, refl-other, true-false}

@@ -8,7 +8,7 @@ use Rattle.mz_pmachine_unify.specs.Numbering.{IsOver, expr_of}
 use Rattle.mz_pmachine_unify.specs.Stored.{exprs_at}
 use Rattle.mz_pmachine.specs.OverNodes.{pop_unfolding}
 use Rattle.mz_machine_env.proofs.Offered.{signatures-before}
-use Rattle.mz_pmachine_theory.specs.Numbered.{portable}
+use Rattle.mz_pmachine_theory.specs.NodeIdentity.{portable}
 use Rattle.mz_unify.proofs.Offered.{stopped-through, went-through}
 use Rattle.mz_pmachine_unify.proofs.Offered.{of-numbered}
 use Rattle.mz_machine.proofs.Offered.{not-taken, of-variable, not-defined, is-unfolding, unfold-stopped, stopped-steps, unfold-refused, unfold-row, unfold-steps, gives-stack, no-more, no-stream, row-there, so-many, stream-there, unless-mem}

@@ -1,5 +1,5 @@
 use Rattle.std.proofs.Common.{◌≡◌, ◌∙◌, ◌∷◌, [], ◌++◌, ◌<◌, ◌≤◌, length, sym, ap, arith, lt-ltb, le-ltb}
-use Rattle.mz_pmachine_theory.specs.Numbered.{a_variable, portable}
+use Rattle.mz_pmachine_theory.specs.NodeIdentity.{a_variable, portable}
 use Rattle.mz_store.specs.Sharing.{dummy_binder}
 use Rattle.mz_pmachine_unify.specs.Numbering.{expr_of}
 use Rattle.mz_unify_theory.specs.Spells.{dummy_of}

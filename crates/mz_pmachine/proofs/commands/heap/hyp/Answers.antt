@@ -1,7 +1,7 @@
 use Rattle.std.proofs.Common.{◌≡◌, ◌∙◌, true, false, sym, ap, subst}
 use Rattle.std.proofs.lemmas.Result.{err_from_is_err_and}
 use Rattle.mz_pmachine_unify.specs.Numbering.{expr_of}
-use Rattle.mz_pmachine_theory.specs.Numbered.{portable}
+use Rattle.mz_pmachine_theory.specs.NodeIdentity.{portable}
 use Rattle.mz_machine_theory.specs.Premises.{pop_expr}
 use Rattle.mz_machine_theory.specs.ProofMachine.{has_provable_sort}
 use Rattle.mz_machine_env.specs.Before.{tables_of}

@@ -3,7 +3,7 @@ use Rattle.std.specs.Prelude.{slice_get}
 use Rattle.mz_pmachine_unify.specs.Stored.{item_at}
 use Rattle.mz_pmachine.proofs.Popping.{item-in-at, item-at-heap, no-item-at-heap}
 use Rattle.mz_machine.proofs.Offered.{ref-none, ref-row}
-use Rattle.mz_pmachine_theory.specs.Numbered.{portable}
+use Rattle.mz_pmachine_theory.specs.NodeIdentity.{portable}
 use Rattle.mz_pmachine.proofs.commands.heap.refer.Goals as goal
 
 pub returns-in_default-clause-row : goal.returns-in_default-clause-row

@@ -1,5 +1,5 @@
 use Rattle.std.proofs.Common.{◌∙◌, ◌∷◌, Ok, ap}
-use Rattle.mz_pmachine_theory.specs.Numbered.{portable}
+use Rattle.mz_pmachine_theory.specs.NodeIdentity.{portable}
 use Rattle.mz_pmachine_unify.specs.Stored.{item_at}
 use Rattle.mz_machine.proofs.Offered.{gives-stack, push-row, ruled-gives, ruled-ok}
 use Rattle.mz_pmachine.proofs.Unfoldings.{ids-pushed, items-pushed}

@@ -2,7 +2,7 @@ use Rattle.std.proofs.Common.{◌∙◌, ◌-◌, length, sym}
 use Rattle.mz_pmachine_unify.specs.Stored.{item_at}
 use Rattle.mz_pmachine.proofs.Popping.{owed, top-is, no-top, item-in-at}
 use Rattle.mz_machine.proofs.Offered.{save-none, save-other, save-row}
-use Rattle.mz_pmachine_theory.specs.Numbered.{portable}
+use Rattle.mz_pmachine_theory.specs.NodeIdentity.{portable}
 use Rattle.mz_pmachine.proofs.commands.heap.save.Goals as goal
 
 pub returns-in_default-clause-row : goal.returns-in_default-clause-row

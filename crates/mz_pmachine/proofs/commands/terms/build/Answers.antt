@@ -6,7 +6,7 @@ use Rattle.mz_store.specs.Sharing.{CanTake}
 use Rattle.mz_pmachine_unify.specs.Numbering.{expr_of, exprs_of, trees_of as trees_in}
 use Rattle.mz_pmachine_unify.proofs.Offered.{from-exprs}
 use Rattle.mz_pmachine_unify.specs.Stored.{exprs_at, trees_at}
-use Rattle.mz_pmachine_theory.specs.Numbered.{an_application, operands_from, tree_of, portable}
+use Rattle.mz_pmachine_theory.specs.NodeIdentity.{an_application, operands_from, tree_of, portable}
 use Rattle.mz_machine_theory.specs.ProofMachine.{built}
 use Rattle.mz_machine_theory.specs.Premises.{operands_fit}
 use Rattle.mz_machine_env.specs.Before.{tables_of, signatures_of, words_before}

@@ -4,7 +4,7 @@ use Rattle.mz_logic_theory.specs.Words.{binders_of}
 use Rattle.mz_layout_tables.specs.Tables.{thm_row}
 use Rattle.mz_store.specs.declared.item.Id.{Id}
 use Rattle.mz_pmachine_unify.specs.Stored.{items_at, trees_at}
-use Rattle.mz_pmachine_theory.specs.Numbered.{tree_of, portable}
+use Rattle.mz_pmachine_theory.specs.NodeIdentity.{tree_of, portable}
 use Rattle.mz_machine_theory.specs.ProofMachine.{citation}
 use Rattle.mz_machine_theory.specs.Premises.{operands_fit, are_apart}
 use Rattle.mz_machine_env.specs.Before.{tables_of, signatures_of}

@@ -3,7 +3,7 @@ use Rattle.std.proofs.lemmas.Result.{err_from_is_err_and}
 use Rattle.mz_cmd.specs.declared.code.ProofCode.TheVariants as code
 use Rattle.mz_pmachine_unify.specs.Numbering.{IsOver, expr_of}
 use Rattle.mz_store.specs.declared.item.Item.TheVariants.{Proof}
-use Rattle.mz_pmachine_theory.specs.Numbered.{portable}
+use Rattle.mz_pmachine_theory.specs.NodeIdentity.{portable}
 use Rattle.mz_unify_theory.specs.Profile.{proof}
 use Rattle.mz_unify.proofs.Offered.{stopped-through, went-through}
 use Rattle.mz_pmachine_unify.proofs.Offered.{items-push, items-in-both}

@@ -4,7 +4,7 @@ use Rattle.mz_cmd.specs.declared.rule.K.{K}
 use Rattle.mz_pmachine_unify.specs.Numbering.{expr_of}
 use Rattle.mz_store.specs.declared.item.Id.{Id}
 use Rattle.mz_store.specs.declared.item.Item.{Item as Kept}
-use Rattle.mz_pmachine_theory.specs.Numbered.{portable}
+use Rattle.mz_pmachine_theory.specs.NodeIdentity.{portable}
 use Rattle.mz_machine_theory.specs.MachineState.{Kind}
 use Rattle.mz_machine_theory.specs.ProofMachine.{proof_end, ends_with}
 use Rattle.mz_machine_theory.specs.Bodies.{match_steps}

@@ -1,5 +1,5 @@
 use Rattle.std.proofs.Common.{◌∙◌, ◌+◌, ◌≡◌, ap, arith, length, map, ◌++◌}
-use Rattle.mz_pmachine_theory.specs.Numbered.{a_variable}
+use Rattle.mz_pmachine_theory.specs.NodeIdentity.{a_variable}
 use Rattle.mz_logic_theory.specs.Words.{binders_from}
 use Rattle.mz_store.specs.Bits.{bound_vars}
 use Rattle.mz_pmachine_unify.specs.Numbering.{expr_of}

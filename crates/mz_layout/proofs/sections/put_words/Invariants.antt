@@ -1,0 +1,6 @@
+use Rattle.std.proofs.Common.{◌≡◌, ◌++◌, drop}
+use Rattle.mz_layout_tables.specs.Normal.{words_bytes}
+use Rattle.mz_layout.proofs.sections.put_words.Given as goal
+
+abbrev pub invariant-loop-word : goal.invariant-loop-word
+invariant-loop-word l = l.out.items ++ words_bytes (drop l.word-index l.words) ≡ l.fn.out.items ++ words_bytes l.words

@@ -1,5 +1,0 @@
-use Rattle.std.proofs.Common.{◌∙◌, append_assoc}
-use Rattle.mz_prefix.proofs.told.long_line.Goals as goal
-
-pub returns : goal.returns
-returns c = rw c.into_bytes.ensures.value (c.in_ok-text.ensures.ok ∙ simp append_assoc)

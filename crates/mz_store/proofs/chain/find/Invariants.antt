@@ -1,8 +1,0 @@
-use Rattle.mz_store.proofs.Finding.{IsSought, rank}
-use Rattle.mz_store.proofs.chain.find.Given as goal
-
-abbrev pub invariant-chain : goal.invariant-chain
-invariant-chain l = IsSought l.operands l.nodes l.head l.args l.next
-
-abbrev pub decreases-chain : goal.decreases-chain
-decreases-chain l = rank l.next
