@@ -7,7 +7,9 @@ use Rattle.mz_machine_theory.specs.MachineState.{State}
 use Rattle.mz_machine_theory.specs.ProofMachine.{proof_end}
 use Rattle.mz_unify_theory.specs.Profile.{plain}
 use Rattle.mz_machine_theory.specs.Sound.{HasGap}
-use Rattle.mz_machine.specs.BodyAnswers.{IsBodyRun, UnlessMem as UnlessBodyMem}
+use Rattle.mz_machine.specs.BodyAnswers.{IfRan, IsBodyRun, UnlessMem as UnlessBodyMem}
+use Rattle.mz_machine.specs.declared.body.BodyChecked.{BodyChecked}
+use Rattle.mz_machine.specs.declared.body.BodyChecked.TheVariants as checked
 use Rattle.mz_machine.specs.Steps.{Underway, tables_for, heading_for, row_of, steps_for, end_steps}
 use Rattle.mz_cmd.specs.declared.command.Cmd.{Cmd}
 use Rattle.mz_unify.specs.Rows.{StopsBy}
@@ -81,3 +83,25 @@ pub stop-counts : (u v : Underway) (place later steps all : ℕ) (c : Cmd) (afte
     → UnlessBodyMem (stopped_at place stop) (later ≡ all)
 stop-counts u v place later steps all c after (Rule d) same is many then = then d (row-over u v place v.state c (Err d) same is) (steps-over u v v.state c later steps same many)
 stop-counts u v place later steps all c after Mem same is many then = tt
+
+-- ---- the store
+
+-- a command of at least a byte makes at most one expression
+pub more-nodes : (first nodes later at len : ℕ) → nodes ≤ first + at → later ≤ nodes + 1 → 1 ≤ len → later ≤ first + (at + len)
+more-nodes first nodes later at len most more one = omega (arith, most, more, one)
+
+-- what follows where a body ran
+pub then-ran : (r : BodyChecked) (P Q : Type 0) → (P → Q) → IfRan r P → IfRan r Q
+then-ran (checked.Good end) P Q then p = then p
+then-ran (checked.Refused at d) P Q then p = tt
+then-ran checked.Mem P Q then p = tt
+
+-- what holds of the store at the END, and nothing where a command is stopped
+pub end-nodes : (place : ℕ) (f : Finished) (P : Type 0) → P → IfRan (ended_at place f) P
+end-nodes place (finished.Body end) P p = p
+end-nodes place (finished.Refused d) P p = tt
+end-nodes place finished.Mem P p = tt
+
+pub stop-nodes : (place : ℕ) (stop : Stop) (P : Type 0) → IfRan (stopped_at place stop) P
+stop-nodes place (Rule d) P = tt
+stop-nodes place Mem P = tt

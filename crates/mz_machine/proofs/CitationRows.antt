@@ -1,5 +1,5 @@
 -- The rows on citations in any machine: what is asked, one after another, and what is made of it.
-use Rattle.std.proofs.Common.{◌≡◌, ◌<◌, ◌≤◌, ℕ, suc, true, false, List, [], ◌∷◌, ◌++◌, length, map, drop, Some, None, Ok, Err, slice_get, refl, sym, ap, ◌∙◌, arith, le-leb}
+use Rattle.std.proofs.Common.{◌≡◌, ◌<◌, ◌≤◌, ℕ, suc, true, false, List, [], ◌∷◌, ◌++◌, length, map, drop, Some, None, Result, Ok, Err, slice_get, refl, sym, ap, ◌∙◌, arith, le-leb}
 use Rattle.std.specs.Prelude.{nat_le}
 use Rattle.mz_cmd.specs.declared.rule.K.{K}
 use Rattle.mz_cmd.specs.declared.rule.K.TheVariants as k
@@ -10,10 +10,11 @@ use Rattle.mz_logic_theory.specs.Words.{binders_of}
 use Rattle.mz_layout_tables.specs.Tables.{thm_row}
 use Rattle.mz_unify_theory.specs.Spells.{SpelledThm}
 use Rattle.mz_unify_theory.specs.Profile.{Profile, Item, proof}
+use Rattle.mz_unify_theory.specs.Steps.{◌>>=◌}
 use Rattle.mz_unify_theory.specs.UnifyMachine.{in_citation, Matching, UnifyState, unify, unify_steps}
 use Rattle.mz_machine_theory.specs.MachineState.{RowsBefore, State, signatures_in}
 use Rattle.mz_machine_theory.specs.Premises.{pop_expr, pop_operands, operands_fit, are_apart}
-use Rattle.mz_machine_theory.specs.ProofMachine.{proof_step, citation, cited}
+use Rattle.mz_machine_theory.specs.ProofMachine.{proof_step, citation, cited, push, saved}
 use Rattle.mz_machine_theory.specs.Bodies.{row_steps}
 use Rattle.mz_machine_env.specs.Before.{Before, tables_of, signatures_of}
 use Rattle.mz_machine_theory.specs.FileRows.{thm_of_file}
@@ -136,6 +137,30 @@ module _ (P : Profile) (tables : RowsBefore) (at t : ℕ) (st : State P.T) where
       pub thm-save-row : proof_step P tables at code.ThmSave t st ≡ Ok (record (record st { stack = proof m.target ∷ u.items }) { heap = st.heap ++ proof m.target ∷ [] })
       unfolding proof_step cited
       thm-save-row = rw (asked, done) refl
+
+-- what is cited decides
+module _ (P : Profile) (tables : RowsBefore) (t : ℕ) (st : State P.T) where
+  pub cited-stopped : (rule : K) → citation P tables t st ≡ Err rule → cited P tables t st ≡ Err rule
+  unfolding cited
+  cited-stopped rule stopped = rw stopped refl
+
+  module _ (m : Matching P.T) (asked : citation P tables t st ≡ Ok m) where
+    pub cited-refused : (place : ℕ) (rule : K) → unify P (signatures_in tables) st.ctx m ≡ Err (place, rule) → cited P tables t st ≡ Err rule
+    unfolding cited
+    cited-refused place rule refused = rw (asked, refused) refl
+
+    pub cited-row : (u : UnifyState P.T) → unify P (signatures_in tables) st.ctx m ≡ Ok u → cited P tables t st ≡ Ok (m.target, u.items)
+    unfolding cited
+    cited-row u done = rw (asked, done) refl
+
+  module _ (at : ℕ) (r : Result (P.T × List (Item P.T)) K) (is : cited P tables t st ≡ r) where
+    pub thm-of : proof_step P tables at code.Thm t st ≡ (r >>= λ e. Ok (push (proof e.0) e.1 st))
+    unfolding proof_step
+    thm-of = ap (λ (x : Result (P.T × List (Item P.T)) K). x >>= λ e. Ok (push (proof e.0) e.1 st)) is
+
+    pub thm-save-of : proof_step P tables at code.ThmSave t st ≡ (r >>= λ e. Ok (saved (proof e.0) (push (proof e.0) e.1 st)))
+    unfolding proof_step
+    thm-save-of = ap (λ (x : Result (P.T × List (Item P.T)) K). x >>= λ e. Ok (saved (proof e.0) (push (proof e.0) e.1 st))) is
 
 pub thm-stopped-steps : (P : Profile) (tables : RowsBefore) (t : ℕ) (st : State P.T) (rule : K) → citation P tables t st ≡ Err rule → row_steps P tables code.Thm t st ≡ 0
 thm-stopped-steps P tables t st rule stopped = rw stopped refl

@@ -30,6 +30,10 @@ pub on-both : {A F P Q R : Type 0} (result : Result A F) → (P → Q → R) →
 on-both (Ok x) both p q = both p q
 on-both (Err f) both p q = tt
 
+pub on-three : {A F P Q R S : Type 0} (result : Result A F) → (P → Q → R → S) → OnOk result P → OnOk result Q → OnOk result R → OnOk result S
+on-three (Ok x) all p q r = all p q r
+on-three (Err f) all p q r = tt
+
 -- ---- what only a rule can stop
 
 abbrev pub IsByRule : {A : Type 0} → Result A K → Result A Stop → Type 0

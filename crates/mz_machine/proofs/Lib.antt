@@ -30,6 +30,7 @@ mod OpenStacks
 mod WholeRows
 mod LackRows
 mod WholeEnds
-mod Opening
+mod Executed
+mod Obeying
 mod Proceeding
 pub mod Offered

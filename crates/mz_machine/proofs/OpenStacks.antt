@@ -216,6 +216,32 @@ popped-back old new r e is some = is ∙ ap (λ (o : Option Equation). new ++ op
 pub popped-none : (old new : List Equation) (r : Option Equation) → old ≡ new ++ option_to_list r → r ≡ None → (new ≡ []) → reverse old ≡ []
 popped-none old new r is none empty = ap (λ (es : List Equation). reverse es) (is ∙ ap (λ (o : Option Equation). new ++ option_to_list o) none ∙ ap (λ (es : List Equation). es ++ []) empty)
 
+pub first-open : (s : Sharing) (old new : List Equation) (r : Option Equation) (e : Equation) (xs : List (Item Tree)) → old ≡ new ++ option_to_list r → r ≡ Some e → AreOpen s (reverse old) xs → IsOpen s e
+first-open s old new r e xs is some stand = (subst (λ (fs : List Equation). AreOpen s fs xs) (popped-first old new r e is some) stand).0
+
+module _ (s : Sharing) (old new : List Equation) (xs : List (Item Tree)) where
+  -- where there is none
+  pub none-settled : (popped : Option Equation) → old ≡ new ++ option_to_list popped → popped ≡ None → length new ≡ 0 → AreSettled s (reverse new) xs × (whole_stack s (reverse new) xs ≡ whole_stack s (reverse old) xs)
+  none-settled popped is none empty =
+      let all : new ≡ [] = nothing new empty in
+      (subst (λ (fs : List Equation). AreSettled s (reverse fs) xs) (sym all) (tt, tt), ap (λ (fs : List Equation). whole_stack s fs xs) (ap (λ (fs : List Equation). reverse fs) all ∙ sym (popped-none old new popped is none all)))
+    where
+      nothing : (es : List Equation) → length es ≡ 0 → es ≡ []
+      nothing [] is = refl
+      nothing (e ∷ es) is = absurd (omega (arith, is))
+
+  -- where the obligation in hand isn't paid
+  pub same-settled : (rest : List Equation) (popped : Option Equation) (e : Equation) → old ≡ rest ++ option_to_list popped → popped ≡ Some e → new ≡ rest ++ e ∷ [] → AreOpen s (reverse old) xs → e.height < length xs
+      → AreSettled s (reverse new) xs × (whole_stack s (reverse new) xs ≡ whole_stack s (reverse old) xs)
+  same-settled rest popped e is some put stand high =
+      let same : new ≡ old = put ∙ sym (popped-back old rest popped e is some) in (
+        (
+          subst (λ (fs : List Equation). AreOpen s (reverse fs) xs) (sym same) stand,
+          subst (λ (fs : List Equation). IsInHand fs (length xs)) (sym (ap (λ (fs : List Equation). reverse fs) put ∙ last-first rest e)) high,
+        ),
+        ap (λ (fs : List Equation). whole_stack s (reverse fs) xs) same,
+      )
+
 -- what stands behind the next obligation
 abbrev pub FollowsBy : Sharing → Equation → List Equation → List Equation → Type 0
 FollowsBy s e es fs = ((fs ≡ after e ∷ es) × (e.next + 1 < many_at s e.left e.right)) ⊎ ((fs ≡ es) × (many_at s e.left e.right ≤ e.next + 1))

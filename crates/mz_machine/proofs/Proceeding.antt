@@ -1,20 +1,23 @@
 -- A command on the items that are written out, said of the whole stack.
-use Rattle.std.proofs.Common.{◌≡◌, ◌≤◌, ◌+◌, ℕ, Bool, List, [], ◌∷◌, length, Option, Some, None, Result, Ok, Err, refl, sym, subst, ◌∙◌, arith}
-use Rattle.std.specs.Prelude.{reverse, IfSome}
+use Rattle.std.proofs.Common.{◌≡◌, ◌≤◌, ◌+◌, ℕ, Bool, List, [], ◌∷◌, length, Option, Some, None, Result, Ok, Err, refl, sym, ap, subst, ◌∙◌, arith}
+use Rattle.std.specs.Prelude.{reverse, IfSome, MatchResult}
 use Rattle.mz_cmd.specs.declared.rule.K.{K}
 use Rattle.mz_logic_theory.specs.Tree.{Tree}
+use Rattle.mz_logic_theory.specs.Signature.{Signature}
 use Rattle.mz_store.specs.Sharing.{Sharing, IsIn, KeepsIds}
 use Rattle.mz_store.specs.declared.item.Id.{Id}
 use Rattle.mz_store.specs.declared.item.Item.{Item as Kept}
 use Rattle.mz_store.specs.declared.item.Item.TheVariants.{Obligation}
 use Rattle.mz_unify.specs.Stored.{item_at, items_at, AreItemsIn}
 use Rattle.mz_unify.specs.declared.stop.Stop.{Stop}
+use Rattle.mz_unify.specs.declared.stop.Stop.TheVariants.{Rule, Mem}
 use Rattle.mz_machine_theory.specs.MachineState.{RowsBefore, State}
 use Rattle.mz_machine_theory.specs.Bodies.{BodyCommand, proves}
 use Rattle.std.proofs.lemmas.List.{append-nil}
 use Rattle.mz_cmd.specs.declared.code.ProofCode.{ProofCode}
 use Rattle.mz_machine.specs.Steps.{row_by, steps_by, TakesNone}
 use Rattle.mz_machine.specs.OverStore.{state_at, UnlessMem}
+use Rattle.mz_machine.specs.Executing.{GoesThrough, Proceeds, StopsAs, WantsUnless}
 use Rattle.mz_machine.specs.OpenEquations.{asked_by, whole_stack, whole_state, IsInHand, AreOpen, AreSettled, opened_on, opened_state, IsOpenedBy}
 use Rattle.mz_machine.specs.declared.equations.Equation.{Equation}
 use Rattle.mz_machine.proofs.BarredRows.{stacked}
@@ -27,7 +30,7 @@ stays : (s : Sharing) → KeepsIds s s
 stays s = ([], sym (append-nil s.entries), omega arith)
 
 -- so many items are above
-pub in-hand-more : (es : List Equation) (n m : ℕ) → IsInHand es n → n ≤ m → IsInHand es m
+in-hand-more : (es : List Equation) (n m : ℕ) → IsInHand es n → n ≤ m → IsInHand es m
 in-hand-more [] n m is le = tt
 in-hand-more (e ∷ es) n m is le = omega (arith, is, le)
 
@@ -44,7 +47,7 @@ module _ (gaps : Bool) (tables : RowsBefore) (s : Sharing) (heap stack : List Ke
 
   module _ (settled : AreSettled s (reverse es) (items_at s stack)) (asks : AsksWithin) where
     -- what is refused is refused
-    pub still-refused : (at : ℕ) (d : K) → row_by gaps tables at st u ≡ Err d → row_by gaps tables at (whole_state s heap es stack hyps) u ≡ Err d
+    still-refused : (at : ℕ) (d : K) → row_by gaps tables at st u ≡ Err d → row_by gaps tables at (whole_state s heap es stack hyps) u ≡ Err d
     still-refused at d is =
         subst (λ (r : Result (State Tree) K). WholeAfter gaps tables st s s (stays s) (reverse es) (items_at s stack) r (row_by gaps tables at (whole_state s heap es stack hyps) u)) is
         (whole-by gaps tables st s s (stays s) (reverse es) (items_at s stack) settled at u asks)
@@ -58,7 +61,7 @@ module _ (gaps : Bool) (tables : RowsBefore) (s : Sharing) (heap stack : List Ke
       stood None is = tt
       stood (Some e) is = (item_at s' (Obligation e.0 e.1), sym (items-kept s s' keeps stack inside) ∙ items-popped s' stack stack' (Obligation e.0 e.1) is.2)
 
-      pub goes-through : (at : ℕ) → row_by gaps tables at st u ≡ Ok (opened_state s' heap' o stack' hyps')
+      goes-through : (at : ℕ) → row_by gaps tables at st u ≡ Ok (opened_state s' heap' o stack' hyps')
           → AreOpen s' (reverse es) (items_at s' stack')
           × (row_by gaps tables at (whole_state s heap es stack hyps) u ≡ Ok (stacked (state_at s' heap' stack' hyps') (opened_on s' o (whole_stack s' (reverse es) (items_at s' stack')))))
       goes-through at is =
@@ -66,5 +69,41 @@ module _ (gaps : Bool) (tables : RowsBefore) (s : Sharing) (heap stack : List Ke
           (whole-by gaps tables st s s' keeps (reverse es) (items_at s stack) settled at u asks) o (items_at s' stack') refl (stood o opened)
 
   -- what takes no memory on the whole stack takes none on what is written out
-  pub takes-written : TakesNone (whole_state s heap es stack hyps) u → TakesNone st u
+  takes-written : TakesNone (whole_state s heap es stack hyps) u → TakesNone st u
   takes-written = takes-same st (whole_stack s (reverse es) (items_at s stack)) (items_at s stack) u
+
+  abbrev row : ℕ → Result (State Tree) K
+  row = λ at. row_by gaps tables at st u
+
+  abbrev whole-row : ℕ → Result (State Tree) K
+  whole-row = λ at. row_by gaps tables at (whole_state s heap es stack hyps) u
+
+  abbrev whole-takes : Type 0
+  whole-takes = TakesNone (whole_state s heap es stack hyps) u
+
+  module _ (settled : AreSettled s (reverse es) (items_at s stack)) (asks : AsksWithin) where
+    -- what stops it stops it
+    pub still-stopped : (stop : Stop) → StopsAs row (TakesNone st u) stop → StopsAs whole-row whole-takes stop
+    still-stopped (Rule k) h = λ at. still-refused settled asks at k (h at)
+    still-stopped Mem h = λ none. h (takes-written none)
+
+    -- and behind it the next obligation is written out
+    module _ (sigs : List Signature) (s' : Sharing) (heap' stack' : List Kept) (hyps' : List Id) (room room' : ℕ) (o : Option (Id × Id)) (h : GoesThrough sigs row (TakesNone st u) s s' heap' stack stack' hyps' room room' o) (inside : AreItemsIn s stack) where
+      pub now-stand : AreOpen s' (reverse es) (items_at s' stack')
+      now-stand = (goes-through settled asks s' h.grows.keeps inside heap' stack' hyps' o h.opens 0 (h.row_is 0)).0
+
+      pub resumed : {A : Type 0} (result : Result A Stop) (es' : List Equation) (ended : List Kept) → length (items_at s stack) ≤ room
+          → MatchResult result (λ _. AreItemsIn s' ended × AreSettled s' (reverse es') (items_at s' ended) × (whole_stack s' (reverse es') (items_at s' ended) ≡ opened_on s' o (whole_stack s' (reverse es) (items_at s' stack')))) (WantsUnless ((o ≡ None) × IsInHand (reverse es) room'))
+          → MatchResult result (λ _. Proceeds sigs whole-row s s' heap' es' ended hyps') (StopsAs whole-row whole-takes)
+      resumed (Ok x) es' ended few is = record {
+        grows = h.grows;
+        heap_in = h.heap_in;
+        stack_in = is.0;
+        hyps_in = h.hyps_in;
+        settled = is.1;
+        row_is = λ at. (goes-through settled asks s' h.grows.keeps inside heap' stack' hyps' o h.opens at (h.row_is at)).1 ∙ ap (λ ws. Ok (stacked (state_at s' heap' stack' hyps') ws)) (sym is.2);
+      }
+      resumed (Err (Rule k)) es' ended few is = absurd is
+      resumed (Err Mem) es' ended few is = λ none.
+          let n = h.no_more (takes-written none) in
+          is (n.0, in-hand-more (reverse es) (length (items_at s stack)) room' settled.1 (omega (arith, few, n.1)))

@@ -9,11 +9,13 @@ use Rattle.mz_store.specs.declared.item.Item.{Item as Kept}
 use Rattle.mz_store.specs.declared.item.Item.TheVariants.{Expr, Proof, Obligation, Conversion}
 use Rattle.mz_unify_theory.specs.Spells.{trees_of}
 use Rattle.mz_unify_theory.specs.Sorted.{AllSorted}
+use Rattle.mz_logic_theory.specs.Tree.{Tree}
 use Rattle.mz_unify_theory.specs.Profile.{expr, proof}
 use Rattle.mz_unify.specs.Stored.{trees_at, item_at, items_at, IsItemIn, AreItemsIn}
 use Rattle.std.specs.Prelude.{reverse}
 use Rattle.std.proofs.lemmas.List.{length-map, reverse-append}
-use Rattle.mz_unify.proofs.Offered.{items-in-both, still-in}
+use Rattle.mz_unify.proofs.Offered.{items-in-both, items-push, still-in}
+use Rattle.mz_machine_theory.specs.MachineState.{State}
 use Rattle.mz_machine_theory.specs.Premises.{operands_fit}
 use Rattle.mz_machine_env.specs.Before.{Before, signatures_of, words_before}
 use Rattle.mz_machine.specs.OverStore.{heap_at, state_at}
@@ -90,7 +92,18 @@ module _ (s s' : Sharing) (keeps : KeepsIds s s') where
   hyps-kept [] h = refl
   hyps-kept (i ∷ is) h = rw (tree-kept s s' keeps i.0 h.0, hyps-kept is h.1) refl
 
-  -- the state behind a command that has made one expression more, and kept it in the heap
-  pub saved-state : (heap new stack : List Kept) (hyps : List Id) (x : Kept) → s'.context ≡ s.context → new ≡ heap ++ x ∷ [] → AreItemsIn s heap → AreIn s hyps
-      → record { ctx = s.context; heap = heap_at s heap ++ item_at s' x ∷ []; stack = items_at s' stack; hyps = trees_at s hyps } ≡ state_at s' new stack hyps
-  saved-state heap new stack hyps x context is inside among = rw (is, heap-push s' heap x, context, heap-kept heap inside, hyps-kept hyps among) refl
+  -- the state behind a command that has put an item on the stack
+  pub put-state : (heap below stack : List Kept) (hyps : List Id) (x : Kept) → s'.context ≡ s.context → stack ≡ below ++ x ∷ [] → AreItemsIn s heap → AreIn s hyps
+      → ◌≡◌ {A = State Tree} (record { ctx = s.context; heap = heap_at s heap; stack = item_at s' x ∷ items_at s' below; hyps = trees_at s hyps }) (state_at s' heap stack hyps)
+  put-state heap below stack hyps x context put inside among = rw (put, items-push s' below x, context, heap-kept heap inside, hyps-kept hyps among) refl
+
+  -- and in the heap too
+  pub saved-state : (heap more below stack : List Kept) (hyps : List Id) (x : Kept) → s'.context ≡ s.context → more ≡ heap ++ x ∷ [] → stack ≡ below ++ x ∷ [] → AreItemsIn s heap → AreIn s hyps
+      → ◌≡◌ {A = State Tree} (record { ctx = s.context; heap = heap_at s heap ++ item_at s' x ∷ []; stack = item_at s' x ∷ items_at s' below; hyps = trees_at s hyps }) (state_at s' more stack hyps)
+  saved-state heap more below stack hyps x context is put inside among = rw (is, put, items-push s' below x, heap-push s' heap x, context, heap-kept heap inside, hyps-kept hyps among) refl
+
+  -- behind a Dummy the context has one variable more
+  pub dummy-state : (heap heap' stack stack' : List Kept) (hyps : List Id) (i : Id) → heap' ≡ heap ++ Expr i ∷ [] → stack' ≡ stack ++ Expr i ∷ [] → AreItemsIn s heap → AreItemsIn s stack → AreIn s hyps
+      → record { ctx = s'.context; heap = heap_at s heap ++ expr (tree_of s' i.0) ∷ []; stack = expr (tree_of s' i.0) ∷ items_at s stack; hyps = trees_at s hyps } ≡ state_at s' heap' stack' hyps
+  dummy-state heap heap' stack stack' hyps i more put inside below among =
+      rw (more, put, heap-push s' heap (Expr i), items-push s' stack (Expr i), heap-kept heap inside, items-kept stack below, hyps-kept hyps among) refl

@@ -3,13 +3,13 @@ use Rattle.std.proofs.Common.{◌≡◌, ◌<◌, ◌+◌, ℕ, List, [], ◌∷
 use Rattle.std.specs.Prelude.{OnOk}
 use Rattle.std.proofs.lemmas.Option.{slice_get_within}
 use Rattle.std.proofs.lemmas.List.{length-map}
-use Rattle.mz_logic_theory.specs.Tree.{Tree, var, app, listed}
+use Rattle.mz_logic_theory.specs.Tree.{Tree, var, app}
 use Rattle.mz_logic_theory.specs.Signature.{Signature}
 use Rattle.mz_logic_theory.specs.Sorts.{HasSort}
 use Rattle.mz_logic_theory.specs.Words.{TermWords, signature_of, signatures_of as signatures_by}
 use Rattle.mz_logic_theory.specs.declared.binder.Binder.{Binder}
 use Rattle.mz_layout_tables.specs.Tables.{term_row}
-use Rattle.mz_store.specs.Sharing.{Sharing, IsIn, IsOver, tree_of, head_of, operands_of}
+use Rattle.mz_store.specs.Sharing.{Sharing, IsIn, IsOver, tree_of, head_of}
 use Rattle.mz_store.specs.declared.item.Id.{Id}
 use Rattle.mz_store.specs.declared.item.Item.{Item as Kept}
 use Rattle.mz_unify_theory.specs.Profile.{strict}
@@ -52,16 +52,16 @@ no-stream b t below has = ap stream_of (term-before b t below) ∙ rw has refl
 
 -- ---- the run
 
-module _ (b : Before) (s : Sharing) (ctx : List Binder) (same : ctx ≡ s.context) (t : ℕ) (l : Tree) (target : Id) where
+module _ (b : Before) (s : Sharing) (ctx : List Binder) (same : ctx ≡ s.context) (t : ℕ) (target : Id) (ops : List Id) where
   abbrev pub unfolded : Matching Tree
-  unfolded = record { mode = in_definition; stream = drop (term_row b.file t).stream_at b.file; operands = listed (operands_of l); target = tree_of s target.0; items = [] }
+  unfolded = record { mode = in_definition; stream = drop (term_row b.file t).stream_at b.file; operands = trees_at s ops; target = tree_of s target.0; items = [] }
 
-  module _ (stream : List ℕ) (ops : List Id) (none : List Kept) (is : stream ≡ drop (term_row b.file t).stream_at b.file) (are : trees_at s ops ≡ listed (operands_of l)) (empty : none ≡ []) where
+  module _ (stream : List ℕ) (none : List Kept) (is : stream ≡ drop (term_row b.file t).stream_at b.file) (empty : none ≡ []) where
     pub same-run : unify strict (signatures_of b) ctx unfolded ≡ unify strict (signatures_by (words_before b)) s.context (matching_at s Body stream ops target none)
-    same-run = rw (same, is, are, empty, signatures-before b) refl
+    same-run = rw (same, is, empty, signatures-before b) refl
 
     pub same-count : unify_steps strict (signatures_by (words_before b)) s.context (matching_at s Body stream ops target none) ≡ unify_steps strict (signatures_of b) ctx unfolded
-    same-count = rw (same, is, are, empty, signatures-before b) refl
+    same-count = rw (same, is, empty, signatures-before b) refl
 
 -- ---- counting
 

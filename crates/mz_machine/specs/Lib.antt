@@ -1,8 +1,10 @@
 pub mod OverStore
 pub mod OpenEquations
+pub mod Executing
 pub mod Steps
 pub mod BodyAnswers
 pub mod Endings
 pub mod Stepping
 pub mod UnderwayCode
 pub mod Running
+pub mod Rooms

@@ -4,34 +4,35 @@ pub(crate) mod gaps;
 pub(crate) mod heap;
 pub(crate) mod terms;
 
-ghost use Rattle.std.specs.Prelude.{ℕ, ◌≡◌, ◌<◌, ◌≤◌, ◌+◌, ◌++◌, ◌∷◌, ◌^◌, ◌↔◌, [], ⊤, List, None, Some, Ok, Err, OnOk, IfOk, IsTrue, MatchResult, length, vec_capacity};
-ghost use Rattle.mz_store.specs.Sharing.{AreIn, IsOver};
+ghost use Rattle.std.specs.Prelude.{ℕ, ◌≡◌, ◌<◌, ◌+◌, ◌++◌, ◌∷◌, ◌^◌, ◌↔◌, ◌&&◌, [], ⊤, List, None, Some, Ok, Err, OnOk, IsTrue, MatchResult, length, vec_capacity};
+ghost use Rattle.mz_base.specs.Gaps.{gaps_of};
 ghost use Rattle.mz_store.specs.declared.item.Id.{Id};
 ghost use Rattle.mz_store.specs.declared.item.Item.TheVariants.{Proof};
 ghost use Rattle.mz_store.specs.declared.item.DepsMode.TheVariants.{All};
-ghost use Rattle.mz_unify_theory.specs.Profile.{strict};
-ghost use Rattle.mz_unify.specs.Stored.{AreItemsIn};
+ghost use Rattle.mz_unify_theory.specs.Profile.{plain, strict};
 ghost use Rattle.mz_machine_theory.specs.ProofMachine.{proof_step};
-ghost use Rattle.mz_machine_theory.specs.Bodies.{row_steps};
+ghost use Rattle.mz_machine_theory.specs.Bodies.{body_command, row_steps};
 ghost use Rattle.mz_machine_env.specs.Before.{tables_of, signatures_of};
 ghost use Rattle.mz_machine_env.specs.CommandCodes.{code_of_making, code_of_converting};
+ghost use Rattle.mz_machine_env.specs.OwnRow.{kind_of, mode_for};
 ghost use Rattle.mz_machine_env.specs.declared.command.Converting.TheVariants.{Cong};
-ghost use Rattle.mz_machine.specs.Steps.{takes_none};
-ghost use Rattle.mz_machine.specs.OverStore.{state_at, code_of, code_of_keeping, cites, for_theorems, Gives, NeverWants, UnlessMem, Grows};
-ghost use Rattle.mz_machine.specs.OpenEquations.{IsOpenedBy, opened_state};
+ghost use Rattle.mz_machine.specs.Steps.{is_sorry, row_by, steps_by, takes_none, TakesNone};
+ghost use Rattle.mz_machine.specs.OverStore.{state_at, code_of, code_of_keeping, cites};
+ghost use Rattle.mz_machine.specs.Executing.{AreHyps, Counts, Executes, IsReady};
 ghost use Rattle.mz_unify.specs.Rows.{StopsBy};
 ghost use Rattle.mz_unify.specs.declared.stop.Stop.TheVariants.{Rule};
 
-use crate::command::{Command, Keeping};
+use crate::command::{Command, Keeping, decoded};
 use conversions::{cong, conv, conv_cut, conv_save, refl, symm, unfold};
-pub(crate) use gaps::gap;
+use gaps::gap;
 use heap::{conv_refer, dummy, hyp, refer, save};
-use mz_cmd::{K, Steps};
-use mz_machine_env::{Converting, Earlier, Making, Spare};
+use mz_base::Mode;
+use mz_cmd::{Cmd, K, Steps};
+use mz_machine_env::{BodyKind, Converting, Earlier, Making, Spare};
 use mz_store::{Id, Item, Store};
 use mz_unify::{Stop, push};
 use std::sync::ledger::Ledger;
-use terms::{term, thm};
+use terms::{build, cite};
 
 /// Executes a command that makes an expression or a proof.
 #[inline(always)]
@@ -45,33 +46,39 @@ fn make<L: Ledger>(
     spare: &mut Spare,
     steps: &mut Steps<L>,
 ) -> Result<(), Stop>
-    requires over { IsOver (signatures_of earlier.now) store.old }
+    requires ready { IsReady (signatures_of earlier.now) store.old heap.old.items stack.old.items }
     requires mode { IsTrue (cites command) → store.old.mode ≡ All }
-    requires heap { AreItemsIn store.old heap.old.items }
-    requires stack { AreItemsIn store.old stack.old.items }
-    ensures grows { OnOk result (Grows (signatures_of earlier.now) store.old store.new) }
-    ensures ids { OnOk result (AreItemsIn store.new heap.new.items × AreItemsIn store.new stack.new.items) }
-    ensures row { (at : ℕ) (hyps : List Id) → AreIn store.old hyps → Gives (proof_step strict (tables_of earlier.now) at (code_of_making command) value (state_at store.old heap.old.items stack.old.items hyps)) result (λ _. state_at store.new heap.new.items stack.new.items hyps) }
-    ensures steps { (hyps : List Id) → UnlessMem result (steps.new ≡ steps.old + row_steps strict (tables_of earlier.now) (code_of_making command) value (state_at store.old heap.old.items stack.old.items hyps)) }
-    ensures most { steps.new ≤ steps.old + length earlier.now.file }
+    ensures done { (hyps : List Id) → AreHyps store.old hyps → Executes (signatures_of earlier.now) (λ at. proof_step strict (tables_of earlier.now) at (code_of_making command) value (state_at store.old heap.old.items stack.old.items hyps)) ⊥ store.old store.new heap.new.items stack.old.items stack.new.items hyps (vec_capacity stack.old) (vec_capacity stack.new) (λ _. None) result }
+    ensures steps { (hyps : List Id) → Counts result steps.old steps.new (row_steps strict (tables_of earlier.now) (code_of_making command) value (state_at store.old heap.old.items stack.old.items hyps)) (length earlier.now.file) }
 {
     match command {
-        Making::Term => {
-            term(earlier, value, store, stack, &mut spare.operands)?;
-            Ok(())
-        }
-        Making::TermSave => {
-            let made = term(earlier, value, store, stack, &mut spare.operands)?;
-            push(heap, Item::Expr(made))
-        }
-        Making::Thm => {
-            thm(earlier, value, store, stack, spare, steps)?;
-            Ok(())
-        }
-        Making::ThmSave => {
-            let proved = thm(earlier, value, store, stack, spare, steps)?;
-            push(heap, Item::Proof(proved))
-        }
+        Making::Term => match build(earlier, value, store, stack, &mut spare.operands) {
+            Ok(made) => push(stack, Item::Expr(made)),
+            Err(stop) => Err(stop),
+        },
+        Making::TermSave => match build(earlier, value, store, stack, &mut spare.operands) {
+            Ok(made) => push_both(heap, stack, Item::Expr(made)),
+            Err(stop) => Err(stop),
+        },
+        Making::Thm => match cite(earlier, value, store, stack, spare, steps) {
+            Ok(proved) => push(stack, Item::Proof(proved)),
+            Err(stop) => Err(stop),
+        },
+        Making::ThmSave => match cite(earlier, value, store, stack, spare, steps) {
+            Ok(proved) => push_both(heap, stack, Item::Proof(proved)),
+            Err(stop) => Err(stop),
+        },
+    }
+}
+
+/// Puts an item on both lists.
+#[inline(always)]
+fn push_both(heap: &mut Vec<Item>, stack: &mut Vec<Item>, item: Item) -> Result<(), Stop>
+    ensures { MatchResult result (λ _. (heap.new.items ≡ heap.old.items ++ item ∷ []) × (stack.new.items ≡ stack.old.items ++ item ∷ [])) (λ stop. StopsBy stop (λ _. ⊥)) }
+{
+    match push(heap, item) {
+        Ok(()) => push(stack, item),
+        Err(stop) => Err(stop),
     }
 }
 
@@ -86,27 +93,17 @@ fn keep(
     stack: &mut Vec<Item>,
     hyps: &mut Vec<Id>,
 ) -> Result<(), Stop>
-    requires over { IsOver (signatures_of earlier.now) store.old }
-    requires heap { AreItemsIn store.old heap.old.items }
-    requires stack { AreItemsIn store.old stack.old.items }
-    requires hyps { AreIn store.old hyps.old.items }
-    requires few { length hyps.old.items < 2 ^ 32 }
-    ensures grows { OnOk result (Grows (signatures_of earlier.now) store.old store.new) }
-    ensures ids { OnOk result (AreItemsIn store.new heap.new.items × AreItemsIn store.new stack.new.items × AreIn store.new hyps.new.items) }
-    ensures few { OnOk result (length hyps.new.items < 2 ^ 32) }
-    ensures row { (at : ℕ) → Gives (proof_step strict (tables_of earlier.now) at (code_of_keeping command) value (state_at store.old heap.old.items stack.old.items hyps.old.items)) result (λ _. state_at store.new heap.new.items stack.new.items hyps.new.items) }
-    ensures never { IsTrue (takes_none (code_of_keeping command) value (state_at store.old heap.old.items stack.old.items hyps.old.items)) → NeverWants result }
-    ensures capacity { IsTrue (takes_none (code_of_keeping command) value (state_at store.old heap.old.items stack.old.items hyps.old.items)) → vec_capacity stack.old ≤ vec_capacity stack.new }
+    requires ready { IsReady (signatures_of earlier.now) store.old heap.old.items stack.old.items }
+    requires hyps { AreHyps store.old hyps.old.items }
+    ensures { Executes (signatures_of earlier.now) (λ at. proof_step strict (tables_of earlier.now) at (code_of_keeping command) value (state_at store.old heap.old.items stack.old.items hyps.old.items)) (IsTrue (takes_none (code_of_keeping command) value (state_at store.old heap.old.items stack.old.items hyps.old.items))) store.old store.new heap.new.items stack.old.items stack.new.items hyps.new.items (vec_capacity stack.old) (vec_capacity stack.new) (λ _. None) result }
 {
     match command {
         Keeping::Ref => refer(store, value, heap, stack),
         Keeping::ConvRef => by_rule(conv_refer(store, value, heap, stack)),
-        Keeping::Dummy => {
-            let made = dummy(earlier, value, store)?;
-            push(heap, Item::Expr(made))?;
-            push(stack, Item::Expr(made))?;
-            Ok(())
-        }
+        Keeping::Dummy => match dummy(earlier, value, store) {
+            Ok(made) => push_both(heap, stack, Item::Expr(made)),
+            Err(stop) => Err(stop),
+        },
         Keeping::Hyp => match hyp(earlier, store, stack) {
             Ok(claim) => assume(claim, heap, hyps),
             Err(rule) => Err(Stop::Rule(rule)),
@@ -158,17 +155,11 @@ fn convert<L: Ledger>(
     spare: &mut Spare,
     steps: &mut Steps<L>,
 ) -> Result<(), Stop>
-    requires over { IsOver (signatures_of earlier.now) store.now }
+    requires ready { IsReady (signatures_of earlier.now) store.now heap.old.items stack.old.items }
     requires mode { store.now.mode ≡ All }
-    requires heap { AreItemsIn store.now heap.old.items }
-    requires stack { AreItemsIn store.now stack.old.items }
     requires other { command ≡ Cong → ⊥ }
-    ensures ids { OnOk result (AreItemsIn store.now heap.new.items × AreItemsIn store.now stack.new.items) }
-    ensures row { (at value : ℕ) (hyps : List Id) → Gives (proof_step strict (tables_of earlier.now) at (code_of_converting command) value (state_at store.now heap.old.items stack.old.items hyps)) result (λ _. state_at store.now heap.new.items stack.new.items hyps) }
-    ensures never { (value : ℕ) (hyps : List Id) → IsTrue (takes_none (code_of_converting command) value (state_at store.now heap.old.items stack.old.items hyps)) → NeverWants result }
-    ensures capacity { (value : ℕ) (hyps : List Id) → IsTrue (takes_none (code_of_converting command) value (state_at store.now heap.old.items stack.old.items hyps)) → vec_capacity stack.old ≤ vec_capacity stack.new }
-    ensures steps { (value : ℕ) (hyps : List Id) → UnlessMem result (steps.new ≡ steps.old + row_steps strict (tables_of earlier.now) (code_of_converting command) value (state_at store.now heap.old.items stack.old.items hyps)) }
-    ensures most { steps.new ≤ steps.old + length earlier.now.file }
+    ensures done { (value : ℕ) (hyps : List Id) → AreHyps store.now hyps → Executes (signatures_of earlier.now) (λ at. proof_step strict (tables_of earlier.now) at (code_of_converting command) value (state_at store.now heap.old.items stack.old.items hyps)) (IsTrue (takes_none (code_of_converting command) value (state_at store.now heap.old.items stack.old.items hyps))) store.now store.now heap.new.items stack.old.items stack.new.items hyps (vec_capacity stack.old) (vec_capacity stack.new) (λ _. None) result }
+    ensures steps { (value : ℕ) (hyps : List Id) → Counts result steps.old steps.new (row_steps strict (tables_of earlier.now) (code_of_converting command) value (state_at store.now heap.old.items stack.old.items hyps)) (length earlier.now.file) }
 {
     match command {
         Converting::Conv => by_rule(conv(store, stack)),
@@ -215,13 +206,15 @@ fn opens(answer: Result<(Id, Id), K>) -> Result<Option<(Id, Id)>, Stop>
     }
 }
 
-/// Executes a command by the standard machine: a gap is refused. What it answers is the equation that it
-/// opens, if it does: the obligations between the operands are still to be put on the stack.
+/// Executes a command other than END, if it stands in bodies of the kind, and counts its steps. A
+/// draft's gap is let through. What it answers is the equation that the command opens, if it does: the
+/// obligations between the operands are still to be put on the stack.
 #[inline(always)]
-pub(crate) fn execute<L: Ledger>(
+pub(crate) fn obey<L: Ledger>(
     earlier: &Earlier,
-    command: Command,
-    value: u32,
+    mode: Mode,
+    kind: BodyKind,
+    cmd: Cmd,
     store: &mut Store,
     heap: &mut Vec<Item>,
     stack: &mut Vec<Item>,
@@ -229,22 +222,21 @@ pub(crate) fn execute<L: Ledger>(
     spare: &mut Spare,
     steps: &mut Steps<L>,
 ) -> Result<Option<(Id, Id)>, Stop>
-    requires over { IsOver (signatures_of earlier.now) store.old }
-    requires mode { IsTrue (for_theorems command) → store.old.mode ≡ All }
-    requires heap { AreItemsIn store.old heap.old.items }
-    requires stack { AreItemsIn store.old stack.old.items }
-    requires hyps { AreIn store.old hyps.old.items }
-    requires few { length hyps.old.items < 2 ^ 32 }
-    ensures grows { OnOk result (Grows (signatures_of earlier.now) store.old store.new) }
-    ensures ids { OnOk result (AreItemsIn store.new heap.new.items × AreItemsIn store.new stack.new.items × AreIn store.new hyps.new.items) }
-    ensures few { OnOk result (length hyps.new.items < 2 ^ 32) }
-    ensures opened { IfOk result (λ opened. IsOpenedBy store.new opened stack.old.items stack.new.items) }
-    ensures row { (at : ℕ) → Gives (proof_step strict (tables_of earlier.now) at (code_of command) value (state_at store.old heap.old.items stack.old.items hyps.old.items)) result (λ opened. opened_state store.new heap.new.items opened stack.new.items hyps.new.items) }
-    ensures never { IsTrue (takes_none (code_of command) value (state_at store.old heap.old.items stack.old.items hyps.old.items)) → NeverWants result }
-    ensures none { IsTrue (takes_none (code_of command) value (state_at store.old heap.old.items stack.old.items hyps.old.items)) → IfOk result (λ opened. opened ≡ None) × (vec_capacity stack.old ≤ vec_capacity stack.new) }
-    ensures steps { UnlessMem result (steps.new ≡ steps.old + row_steps strict (tables_of earlier.now) (code_of command) value (state_at store.old heap.old.items stack.old.items hyps.old.items)) }
-    ensures most { steps.new ≤ steps.old + length earlier.now.file }
+    requires code { cmd.code ≡ 0 → ⊥ }
+    requires ready { IsReady (signatures_of earlier.now) store.old heap.old.items stack.old.items }
+    requires told { store.old.mode ≡ mode_for (kind_of kind) }
+    requires hyps { AreHyps store.old hyps.old.items }
+    ensures done { Executes (signatures_of earlier.now) (λ at. row_by (gaps_of mode) (tables_of earlier.now) at (state_at store.old heap.old.items stack.old.items hyps.old.items) (body_command (plain (gaps_of mode)) (kind_of kind) cmd.code cmd.value)) (TakesNone (state_at store.old heap.old.items stack.old.items hyps.old.items) (body_command (plain (gaps_of mode)) (kind_of kind) cmd.code cmd.value)) store.old store.new heap.new.items stack.old.items stack.new.items hyps.new.items (vec_capacity stack.old) (vec_capacity stack.new) (λ opened. opened) result }
+    ensures steps { Counts result steps.old steps.new (steps_by (gaps_of mode) (tables_of earlier.now) (state_at store.old heap.old.items stack.old.items hyps.old.items) (body_command (plain (gaps_of mode)) (kind_of kind) cmd.code cmd.value)) (1 + length earlier.now.file) }
 {
+    steps.tick();
+    let Some(command) = decoded(kind, cmd.code) else {
+        return Err(Stop::Rule(K::Command));
+    };
+    if leaves_gap(mode, command) {
+        return opens_none(by_rule(gap(earlier, store, stack)));
+    }
+    let value = cmd.value;
     match command {
         Command::Makes(making) => opens_none(make(
             earlier, making, value, store, heap, stack, spare, steps,
@@ -258,5 +250,23 @@ pub(crate) fn execute<L: Ledger>(
             }
             opens_none(convert(earlier, converting, store, heap, stack, spare, steps))
         }
+    }
+}
+
+/// Whether the command is a gap that is let through.
+#[inline(always)]
+fn leaves_gap(mode: Mode, command: Command) -> bool
+    ensures { result ≡ (gaps_of mode && is_sorry (Some (code_of command))) }
+{
+    mode.allows_gaps() && is_gap(command)
+}
+
+#[inline(always)]
+fn is_gap(command: Command) -> bool
+    ensures { result ≡ is_sorry (Some (code_of command)) }
+{
+    match command {
+        Command::Converts(converting) => matches!(converting, Converting::Sorry),
+        Command::Makes(_) | Command::Keeps(_) => false,
     }
 }

@@ -1,11 +1,10 @@
 //! Equations that Cong has opened, whose obligations are written out one by one.
-ghost use Rattle.std.specs.Prelude.{ℕ, ◌≡◌, ◌<◌, ◌≤◌, ◌+◌, ◌++◌, ◌∷◌, ◌↔◌, [], ⊤, None, List, OnOk, IfSome, IfNone, IsTrue, MatchResult, Some, length, slice_get, reverse, vec_len, vec_capacity};
+ghost use Rattle.std.specs.Prelude.{◌≡◌, ◌<◌, ◌≤◌, ◌+◌, ◌++◌, ◌∷◌, ◌↔◌, [], None, List, IfSome, IsTrue, MatchResult, Some, length, slice_get, reverse, vec_len, vec_capacity};
 ghost use Rattle.mz_store.specs.Sharing.{IsIn};
 ghost use Rattle.mz_logic_theory.specs.Tree.{Tree};
 ghost use Rattle.mz_unify_theory.specs.Profile.{Item as Told};
 ghost use Rattle.mz_unify.specs.Stored.{items_at, item_at, AreItemsIn, IsItemIn};
-ghost use Rattle.mz_unify.specs.Rows.{StopsBy};
-ghost use Rattle.mz_machine.specs.OverStore.{NeverWants};
+ghost use Rattle.mz_machine.specs.Executing.{WantsUnless};
 ghost use Rattle.mz_machine.specs.OpenEquations.{IsBarrier, IsOpen, AllOpen, AreOpen, AreSettled, IsInHand, whole_stack, opened_on, to_come, after, many_at, many_to_come};
 
 use mz_store::{Id, Item, Store};
@@ -32,14 +31,12 @@ pub(crate) fn resume(
     requires sides { IfSome opened (λ e. IsIn store.now e.0.0 × IsIn store.now e.1.0) }
     requires stack { AreItemsIn store.now stack.old.items }
     requires standing { AreOpen store.now (reverse equations.old.items) (items_at store.now stack.old.items) }
-    ensures ids { OnOk result (AreItemsIn store.now stack.new.items) }
-    ensures settled { OnOk result (AreSettled store.now (reverse equations.new.items) (items_at store.now stack.new.items)) }
-    ensures stack { OnOk result (whole_stack store.now (reverse equations.new.items) (items_at store.now stack.new.items) ≡ opened_on store.now opened (whole_stack store.now (reverse equations.old.items) (items_at store.now stack.old.items))) }
-    ensures never { opened ≡ None → IsInHand (reverse equations.old.items) (vec_capacity stack.old) → NeverWants result }
-    ensures err { MatchResult result (λ _. ⊤) (λ stop. StopsBy stop (λ _. ⊥)) }
+    ensures { MatchResult result (λ _. AreItemsIn store.now stack.new.items × AreSettled store.now (reverse equations.new.items) (items_at store.now stack.new.items) × (whole_stack store.now (reverse equations.new.items) (items_at store.now stack.new.items) ≡ opened_on store.now opened (whole_stack store.now (reverse equations.old.items) (items_at store.now stack.old.items)))) (WantsUnless ((opened ≡ None) × IsInHand (reverse equations.old.items) (vec_capacity stack.old))) }
 {
-    begin(store, stack, equations, opened)?;
-    settle(store, stack, equations)
+    match begin(store, stack, equations, opened) {
+        Ok(()) => settle(store, stack, equations),
+        Err(stop) => Err(stop),
+    }
 }
 
 /// Begins an equation, if there is one, on all that stands on the stack.
@@ -52,10 +49,7 @@ fn begin(
 ) -> Result<(), Stop>
     requires sides { IfSome opened (λ e. IsIn store.now e.0.0 × IsIn store.now e.1.0) }
     requires standing { AreOpen store.now (reverse equations.old.items) (items_at store.now stack.now) }
-    ensures standing { OnOk result (AreOpen store.now (reverse equations.new.items) (items_at store.now stack.now)) }
-    ensures stack { OnOk result (whole_stack store.now (reverse equations.new.items) (items_at store.now stack.now) ≡ opened_on store.now opened (whole_stack store.now (reverse equations.old.items) (items_at store.now stack.now))) }
-    ensures none { IfNone opened (OnOk result (equations.new.items ≡ equations.old.items) × NeverWants result) }
-    ensures err { MatchResult result (λ _. ⊤) (λ stop. StopsBy stop (λ _. ⊥)) }
+    ensures { MatchResult result (λ _. AreOpen store.now (reverse equations.new.items) (items_at store.now stack.now) × (whole_stack store.now (reverse equations.new.items) (items_at store.now stack.now) ≡ opened_on store.now opened (whole_stack store.now (reverse equations.old.items) (items_at store.now stack.now))) × (opened ≡ None → equations.new.items ≡ equations.old.items)) (WantsUnless (opened ≡ None)) }
 {
     let Some((left, right)) = opened else {
         return Ok(());
@@ -79,11 +73,7 @@ fn begin(
 fn settle(store: &Store, stack: &mut Vec<Item>, equations: &mut Vec<Equation>) -> Result<(), Stop>
     requires stack { AreItemsIn store.now stack.old.items }
     requires standing { AreOpen store.now (reverse equations.old.items) (items_at store.now stack.old.items) }
-    ensures ids { OnOk result (AreItemsIn store.now stack.new.items) }
-    ensures settled { OnOk result (AreSettled store.now (reverse equations.new.items) (items_at store.now stack.new.items)) }
-    ensures stack { OnOk result (whole_stack store.now (reverse equations.new.items) (items_at store.now stack.new.items) ≡ whole_stack store.now (reverse equations.old.items) (items_at store.now stack.old.items)) }
-    ensures never { IsInHand (reverse equations.old.items) (vec_capacity stack.old) → NeverWants result }
-    ensures err { MatchResult result (λ _. ⊤) (λ stop. StopsBy stop (λ _. ⊥)) }
+    ensures { MatchResult result (λ _. AreItemsIn store.now stack.new.items × AreSettled store.now (reverse equations.new.items) (items_at store.now stack.new.items) × (whole_stack store.now (reverse equations.new.items) (items_at store.now stack.new.items) ≡ whole_stack store.now (reverse equations.old.items) (items_at store.now stack.old.items))) (WantsUnless (IsInHand (reverse equations.old.items) (vec_capacity stack.old))) }
 {
     let Some(equation) = equations.pop() else {
         return Ok(());

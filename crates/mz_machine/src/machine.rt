@@ -1,23 +1,22 @@
 //! A machine that takes the commands of one body.
-ghost use Rattle.std.specs.Prelude.{◌≡◌, ◌≤◌, ◌<◌, ◌+◌, ◌^◌, ◌&&◌, ◌||◌, ℕ, IfOk, OnOk, Some, None, length, reverse, vec_capacity};
+ghost use Rattle.std.specs.Prelude.{◌≡◌, ◌≤◌, ◌<◌, ◌+◌, ◌^◌, ◌||◌, ℕ, Ok, Err, IfOk, MatchResult, OnOk, length, reverse};
 ghost use Rattle.mz_base.specs.Gaps.{gaps_of};
 ghost use Rattle.mz_cmd.specs.Codes.{proof_code};
 ghost use Rattle.mz_store.specs.Bits.{bound_vars};
-ghost use Rattle.mz_store.specs.Sharing.{AreIn, IsOver};
 ghost use Rattle.mz_unify_theory.specs.Profile.{plain};
-ghost use Rattle.mz_unify.specs.Stored.{AreItemsIn, items_at};
+ghost use Rattle.mz_unify.specs.Stored.{items_at};
 ghost use Rattle.mz_machine_theory.specs.Bodies.{body_command};
 ghost use Rattle.mz_machine_env.specs.OwnRow.{MayRun, byte_of, kind_of, mode_for};
 ghost use Rattle.mz_machine_env.specs.Before.{tables_of, signatures_of};
-ghost use Rattle.mz_machine.specs.OverStore.{state_at, code_of, Gives, NeverWants, Grows, UnlessMem as OrMem};
+ghost use Rattle.mz_machine.specs.OverStore.{UnlessMem as OrMem};
+ghost use Rattle.mz_machine.specs.Executing.{AreHyps, Counts, IsReady, Proceeds, StopsAs};
 ghost use Rattle.mz_machine.specs.Steps.{heading_for, tables_for, steps_for, row_by, steps_by, end_steps, is_sorry, TakesNone};
 ghost use Rattle.mz_machine.specs.Stepping.{IsBegun, IsStepped, IsFinished, stepped_to, UnlessMem, UnlessEndMem};
-ghost use Rattle.mz_machine.specs.OpenEquations.{AreSettled, IsOpenedBy, opened_state, whole_state};
+ghost use Rattle.mz_machine.specs.OpenEquations.{AreSettled, whole_state};
 ghost use Rattle.mz_machine.specs.Running.{IsRunning, machine_of};
 
 use crate::body::BodyEnd;
-use crate::command::{Command, decoded};
-use crate::commands::{execute, gap};
+use crate::commands::obey;
 use crate::end::end;
 use crate::equations::{Equation, resume};
 use crate::lack::lack;
@@ -25,16 +24,14 @@ use mz_base::Mode;
 use mz_cmd::{Cmd, K, ProofCode, Steps};
 use mz_layout_tables::{Mmb, Rows};
 use mz_logic_theory::Word;
-use mz_machine_env::{
-    BodyKind, Converting, Earlier, Spare, deps_mode, first_items, kind_by, read_words,
-};
+use mz_machine_env::{BodyKind, Earlier, Spare, deps_mode, first_items, kind_by, read_words};
 use mz_store::{Id, Item, Seed, Store};
 use mz_unify::Stop;
 use std::alloc::{AllocError, Global};
 use std::marker::Model;
 use std::sync::ledger::Ledger;
 
-/// So many expressions a body may have whose parts are kept for the next one.
+/// So many expressions a body may have whose parts the next one uses again.
 const MOST_KEPT: usize = 1_000;
 
 /// The statement whose body runs, and the rows before it.
@@ -126,8 +123,8 @@ impl<'a> Machine<'a> {
         let mut words = Vec::new(alloc);
         let mut parts = Parts::new(alloc, Seed::FIXED);
         let kind = kind_by(kind);
-        let setting = Setting::begin(mmb, mode, kind, row, before, &mut words, &mut parts)?;
-        Ok(Machine { setting, parts })
+        let setting = Setting::begin(mmb, mode, kind, row, before, &mut words, &mut parts);
+        begun(setting, parts)
     }
 
     /// Executes a command other than END. A step is counted for it, and one for each command of the
@@ -140,11 +137,8 @@ impl<'a> Machine<'a> {
         ensures most { steps.new ≤ steps.old + (1 + length self.entry.file) }
     {
         let Machine { setting, mut parts } = self;
-        match setting.advance(&mut parts, cmd, steps) {
-            Ok(()) => Stepped::Machine(Machine { setting, parts }),
-            Err(Stop::Rule(rule)) => Stepped::Refused(rule),
-            Err(Stop::Mem) => Stepped::Mem,
-        }
+        let answer = setting.advance(&mut parts, cmd, steps);
+        answered(setting, parts, answer)
     }
 
     /// Ends the body, whose END ends its statement too. A step is counted for it, and one for each
@@ -156,6 +150,32 @@ impl<'a> Machine<'a> {
     {
         let Machine { setting, mut parts } = self;
         setting.finish(&mut parts, steps)
+    }
+}
+
+/// The machine of a setting that has begun on the parts.
+fn begun<'a>(
+    setting: Result<Setting<'a>, AllocError>,
+    parts: Parts,
+) -> Result<Machine<'a>, AllocError>
+    requires { IfOk setting (λ setting. IsRunning setting parts) }
+    ensures { MatchResult setting.entry (λ setting. result ≡ Ok (machine_of setting parts)) (λ stop. result ≡ Err stop) }
+{
+    match setting {
+        Ok(setting) => Ok(Machine { setting, parts }),
+        Err(stop) => Err(stop),
+    }
+}
+
+/// What became of a command on the parts.
+fn answered<'a>(setting: Setting<'a>, parts: Parts, answer: Result<(), Stop>) -> Stepped<'a>
+    requires { OnOk answer (IsRunning setting parts) }
+    ensures { result ≡ stepped_to (machine_of setting.entry parts) answer }
+{
+    match answer {
+        Ok(()) => Stepped::Machine(Machine { setting, parts }),
+        Err(Stop::Rule(rule)) => Stepped::Refused(rule),
+        Err(Stop::Mem) => Stepped::Mem,
     }
 }
 
@@ -173,8 +193,8 @@ impl Parts {
         }
     }
 
-    /// Whether they are few enough to be kept for the next body: it costs as much to take them out as
-    /// there are.
+    /// Whether they are few enough to be used again for the next body: it costs as much to take them
+    /// out as there are.
     pub(crate) fn are_few(&self) -> bool {
         self.store.len() <= MOST_KEPT
     }
@@ -255,6 +275,7 @@ impl<'a> Setting<'a> {
         ensures run { IsFinished (machine_of self.now parts.old) result }
         ensures steps { UnlessEndMem result (steps.new ≡ steps.old + end_steps (gaps_of self.now.mode) (tables_of self.now.earlier) (heading_for (machine_of self.now parts.old)) (machine_of self.now parts.old).state) }
         ensures most { steps.new ≤ steps.old + (1 + length self.now.earlier.file) }
+        ensures store { parts.new.store ≡ parts.old.store }
     {
         steps.tick();
         match end(
@@ -296,92 +317,22 @@ fn proceed<L: Ledger>(
     steps: &mut Steps<L>,
 ) -> Result<(), Stop>
     requires code { cmd.code ≡ 0 → ⊥ }
-    requires over { IsOver (signatures_of earlier.now) store.old }
+    requires ready { IsReady (signatures_of earlier.now) store.old heap.old.items stack.old.items }
     requires told { store.old.mode ≡ mode_for (kind_of kind) }
-    requires heap { AreItemsIn store.old heap.old.items }
-    requires stack { AreItemsIn store.old stack.old.items }
     requires settled { AreSettled store.old (reverse equations.old.items) (items_at store.old stack.old.items) }
-    requires hyps { AreIn store.old hyps.old.items }
-    requires few { length hyps.old.items < 2 ^ 32 }
-    ensures grows { OnOk result (Grows (signatures_of earlier.now) store.old store.new) }
-    ensures ids { OnOk result (AreItemsIn store.new heap.new.items × AreItemsIn store.new stack.new.items × AreIn store.new hyps.new.items) }
-    ensures settled { OnOk result (AreSettled store.new (reverse equations.new.items) (items_at store.new stack.new.items)) }
-    ensures few { OnOk result (length hyps.new.items < 2 ^ 32) }
-    ensures row { (at : ℕ) → Gives (row_by (gaps_of mode) (tables_of earlier.now) at (whole_state store.old heap.old.items equations.old.items stack.old.items hyps.old.items) (body_command (plain (gaps_of mode)) (kind_of kind) cmd.code cmd.value)) result (λ _. whole_state store.new heap.new.items equations.new.items stack.new.items hyps.new.items) }
-    ensures never { TakesNone (whole_state store.old heap.old.items equations.old.items stack.old.items hyps.old.items) (body_command (plain (gaps_of mode)) (kind_of kind) cmd.code cmd.value) → NeverWants result }
-    ensures steps { OrMem result (steps.new ≡ steps.old + steps_by (gaps_of mode) (tables_of earlier.now) (whole_state store.old heap.old.items equations.old.items stack.old.items hyps.old.items) (body_command (plain (gaps_of mode)) (kind_of kind) cmd.code cmd.value)) }
-    ensures most { steps.new ≤ steps.old + (1 + length earlier.now.file) }
+    requires hyps { AreHyps store.old hyps.old.items }
+    ensures done { MatchResult result (λ _. Proceeds (signatures_of earlier.now) (λ at. row_by (gaps_of mode) (tables_of earlier.now) at (whole_state store.old heap.old.items equations.old.items stack.old.items hyps.old.items) (body_command (plain (gaps_of mode)) (kind_of kind) cmd.code cmd.value)) store.old store.new heap.new.items equations.new.items stack.new.items hyps.new.items) (StopsAs (λ at. row_by (gaps_of mode) (tables_of earlier.now) at (whole_state store.old heap.old.items equations.old.items stack.old.items hyps.old.items) (body_command (plain (gaps_of mode)) (kind_of kind) cmd.code cmd.value)) (TakesNone (whole_state store.old heap.old.items equations.old.items stack.old.items hyps.old.items) (body_command (plain (gaps_of mode)) (kind_of kind) cmd.code cmd.value))) }
+    ensures steps { Counts result steps.old steps.new (steps_by (gaps_of mode) (tables_of earlier.now) (whole_state store.old heap.old.items equations.old.items stack.old.items hyps.old.items) (body_command (plain (gaps_of mode)) (kind_of kind) cmd.code cmd.value)) (1 + length earlier.now.file) }
 {
     if let Some(rule) = lack(earlier, kind, cmd, store, stack.len(), equations) {
         steps.tick();
         return Err(Stop::Rule(rule));
     }
-    let opened = obey(
+    match obey(
         earlier, mode, kind, cmd, store, heap, stack, hyps, spare, steps,
-    )?;
-    resume(store, stack, equations, opened)
-}
-
-/// Executes a command other than END, if it stands in bodies of the kind, and counts its steps. A
-/// draft's gap is let through. What it answers is the equation that the command opens, if it does.
-#[inline(always)]
-fn obey<L: Ledger>(
-    earlier: &Earlier,
-    mode: Mode,
-    kind: BodyKind,
-    cmd: Cmd,
-    store: &mut Store,
-    heap: &mut Vec<Item>,
-    stack: &mut Vec<Item>,
-    hyps: &mut Vec<Id>,
-    spare: &mut Spare,
-    steps: &mut Steps<L>,
-) -> Result<Option<(Id, Id)>, Stop>
-    requires code { cmd.code ≡ 0 → ⊥ }
-    requires over { IsOver (signatures_of earlier.now) store.old }
-    requires told { store.old.mode ≡ mode_for (kind_of kind) }
-    requires heap { AreItemsIn store.old heap.old.items }
-    requires stack { AreItemsIn store.old stack.old.items }
-    requires hyps { AreIn store.old hyps.old.items }
-    requires few { length hyps.old.items < 2 ^ 32 }
-    ensures grows { OnOk result (Grows (signatures_of earlier.now) store.old store.new) }
-    ensures ids { OnOk result (AreItemsIn store.new heap.new.items × AreItemsIn store.new stack.new.items × AreIn store.new hyps.new.items) }
-    ensures few { OnOk result (length hyps.new.items < 2 ^ 32) }
-    ensures opened { IfOk result (λ opened. IsOpenedBy store.new opened stack.old.items stack.new.items) }
-    ensures row { (at : ℕ) → Gives (row_by (gaps_of mode) (tables_of earlier.now) at (state_at store.old heap.old.items stack.old.items hyps.old.items) (body_command (plain (gaps_of mode)) (kind_of kind) cmd.code cmd.value)) result (λ opened. opened_state store.new heap.new.items opened stack.new.items hyps.new.items) }
-    ensures never { TakesNone (state_at store.old heap.old.items stack.old.items hyps.old.items) (body_command (plain (gaps_of mode)) (kind_of kind) cmd.code cmd.value) → NeverWants result }
-    ensures none { TakesNone (state_at store.old heap.old.items stack.old.items hyps.old.items) (body_command (plain (gaps_of mode)) (kind_of kind) cmd.code cmd.value) → IfOk result (λ opened. opened ≡ None) × (vec_capacity stack.old ≤ vec_capacity stack.new) }
-    ensures steps { OrMem result (steps.new ≡ steps.old + steps_by (gaps_of mode) (tables_of earlier.now) (state_at store.old heap.old.items stack.old.items hyps.old.items) (body_command (plain (gaps_of mode)) (kind_of kind) cmd.code cmd.value)) }
-    ensures most { steps.new ≤ steps.old + (1 + length earlier.now.file) }
-{
-    steps.tick();
-    let Some(command) = decoded(kind, cmd.code) else {
-        return Err(Stop::Rule(K::Command));
-    };
-    if leaves_gap(mode, command) {
-        gap(earlier, store, stack)?;
-        return Ok(None);
-    }
-    execute(
-        earlier, command, cmd.value, store, heap, stack, hyps, spare, steps,
-    )
-}
-
-/// Whether the command is a gap that is let through.
-#[inline(always)]
-fn leaves_gap(mode: Mode, command: Command) -> bool
-    ensures { result ≡ (gaps_of mode && is_sorry (Some (code_of command))) }
-{
-    mode.allows_gaps() && is_gap(command)
-}
-
-#[inline(always)]
-fn is_gap(command: Command) -> bool
-    ensures { result ≡ is_sorry (Some (code_of command)) }
-{
-    match command {
-        Command::Converts(converting) => matches!(converting, Converting::Sorry),
-        Command::Makes(_) | Command::Keeps(_) => false,
+    ) {
+        Ok(opened) => resume(store, stack, equations, opened),
+        Err(stop) => Err(stop),
     }
 }
 

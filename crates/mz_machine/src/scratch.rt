@@ -1,11 +1,12 @@
 //! Room that one body leaves to the next.
+ghost use Rattle.std.specs.Prelude.{◌≡◌, Some};
 
 use crate::machine::Parts;
 use mz_logic_theory::Word;
 use mz_store::Seed;
 use std::alloc::{AllocError, Global};
 
-/// What bodies have taken of memory, kept for the next one. It says nothing of them.
+/// What bodies have taken of memory, kept for the next one. What lies there changes no answer.
 #[derive(Drop)]
 pub struct Room {
     seed: Seed,
@@ -25,19 +26,21 @@ impl Room {
         Room { seed, desk: None }
     }
 
-    /// The desk of the last body, or a new one.
+    /// The desk of the last body, or a new one where that one is large.
     pub(crate) fn take(&mut self, alloc: Global) -> Result<Box<Desk>, AllocError> {
-        match self.desk.take() {
-            Some(desk) => Ok(desk),
-            None => Ok(Box::new(alloc, Desk::new(alloc, self.seed))?),
+        if let Some(desk) = self.desk.take() {
+            if desk.parts.are_few() {
+                return Ok(desk);
+            }
         }
+        Ok(Box::new(alloc, Desk::new(alloc, self.seed))?)
     }
 
-    /// Keeps a desk for the next body, unless it is large.
-    pub(crate) fn keep(&mut self, desk: Box<Desk>) {
-        if desk.parts.are_few() {
-            self.desk = Some(desk);
-        }
+    /// Keeps a desk for the next body.
+    pub(crate) fn keep(&mut self, desk: Box<Desk>)
+        ensures { self.new.desk ≡ Some desk }
+    {
+        self.desk = Some(desk);
     }
 }
 

@@ -1,18 +1,21 @@
 //! Conversions: obligations that two expressions are convertible, and how they are paid.
-ghost use Rattle.std.specs.Prelude.{ℕ, ◌≡◌, ◌≤◌, ◌++◌, ◌∷◌, ◌+◌, [], Some, IfOk, OnOk, length, vec_capacity};
+ghost use Rattle.std.specs.Prelude.{ℕ, ◌≡◌, ◌≤◌, ◌<◌, ◌++◌, ◌∷◌, [], Some, IfOk, OnOk, drop, length, vec_capacity};
 ghost use Rattle.mz_cmd.specs.declared.code.ProofCode.TheVariants as code;
 ghost use Rattle.mz_logic_theory.specs.Tree.{Tree};
-ghost use Rattle.mz_store.specs.Sharing.{IsIn, IsOver, tree_of};
+ghost use Rattle.mz_layout_tables.specs.Tables.{term_row};
+ghost use Rattle.mz_store.specs.Sharing.{AreIn, IsIn, IsOver, tree_of};
 ghost use Rattle.mz_store.specs.declared.item.Item.TheVariants.{Obligation};
 ghost use Rattle.mz_store.specs.declared.item.DepsMode.TheVariants.{All};
 ghost use Rattle.mz_unify_theory.specs.Profile.{strict};
-ghost use Rattle.mz_unify.specs.Stored.{items_at, item_at, AreItemsIn, IsItemIn};
+ghost use Rattle.mz_unify_theory.specs.UnifyMachine.{in_definition};
+ghost use Rattle.mz_unify.specs.Stored.{items_at, item_at, trees_at, AreItemsIn, IsItemIn};
 ghost use Rattle.mz_machine_theory.specs.Premises.{pop_sides};
 ghost use Rattle.mz_machine_theory.specs.MachineState.{RowsBefore, State};
-ghost use Rattle.mz_machine_theory.specs.ProofMachine.{proof_step};
+ghost use Rattle.mz_machine_theory.specs.ProofMachine.{proof_step, unfolding_of};
 ghost use Rattle.mz_machine_theory.specs.Bodies.{row_steps};
 ghost use Rattle.mz_machine_env.specs.Before.{tables_of, signatures_of};
-ghost use Rattle.mz_machine.specs.OverStore.{with_stack, pop_unfolding, Gives, GivesRule, UnlessMem};
+ghost use Rattle.mz_machine.specs.OverStore.{with_stack, pop_unfolding, Gives, GivesRule};
+ghost use Rattle.mz_machine.specs.Executing.{Counts};
 ghost use Rattle.mz_machine.specs.OpenEquations.{opened_on};
 
 use crate::stack::{pop, pop_conversion, pop_expr, pop_obligation, pop_proof};
@@ -89,7 +92,6 @@ pub(crate) fn cong(store: &Store, stack: &mut Vec<Item>) -> Result<(Id, Id), K>
 
 /// From an obligation whose left side is a definition's application, and what it unfolds to, to the
 /// obligation between that and the right side. The definition's stream runs on what it unfolds to.
-#[tactic(auto, unfolding(mz_machine_theory::specs::ProofMachine::proof_step))]
 pub(crate) fn unfold<L: Ledger>(
     earlier: &Earlier,
     store: &Store,
@@ -102,8 +104,43 @@ pub(crate) fn unfold<L: Ledger>(
     requires stack { AreItemsIn store.now stack.old.items }
     ensures ids { OnOk result (AreItemsIn store.now stack.new.items) }
     ensures row { (at n : ℕ) (st : State Tree) → st.ctx ≡ store.now.context → st.stack ≡ items_at store.now stack.old.items → Gives (proof_step strict (tables_of earlier.now) at code.Unfold n st) result (λ _. with_stack st (items_at store.now stack.new.items)) }
-    ensures steps { (n : ℕ) (st : State Tree) → st.ctx ≡ store.now.context → st.stack ≡ items_at store.now stack.old.items → UnlessMem result (steps.new ≡ steps.old + row_steps strict (tables_of earlier.now) code.Unfold n st) }
-    ensures most { steps.new ≤ steps.old + length earlier.now.file }
+    ensures steps { (n : ℕ) (st : State Tree) → st.ctx ≡ store.now.context → st.stack ≡ items_at store.now stack.old.items → Counts result steps.old steps.new (row_steps strict (tables_of earlier.now) code.Unfold n st) (length earlier.now.file) }
+{
+    let (unfolded, right, term) = match take_unfolding(earlier, store, stack, spare) {
+        Ok(taken) => taken,
+        Err(stop) => return Err(stop),
+    };
+    let stream = earlier.stream_of_term(term);
+    match unify_in(
+        earlier,
+        stream,
+        UnifyMode::Body,
+        &mut spare.operands,
+        unfolded,
+        &mut spare.targets,
+        &mut spare.hyps,
+        store,
+        steps,
+    )
+    .through()
+    {
+        Ok(()) => push(stack, Item::Obligation(unfolded, right)),
+        Err(stop) => Err(stop),
+    }
+}
+
+/// What an unfolding matches: what is unfolded to, the right side of the obligation, and the definition
+/// whose application the left side is; the list of operands becomes those of the left side.
+fn take_unfolding(
+    earlier: &Earlier,
+    store: &Store,
+    stack: &mut Vec<Item>,
+    spare: &mut Spare,
+) -> Result<(Id, Id, u32), Stop>
+    requires over { IsOver (signatures_of earlier.now) store.now }
+    requires stack { AreItemsIn store.now stack.old.items }
+    ensures ids { IfOk result (λ r. IsIn store.now r.0.0 × IsIn store.now r.1.0 × (r.2 < earlier.now.rows.terms) × AreIn store.now spare.new.operands.items × AreItemsIn store.now stack.new.items × (spare.new.hyps.items ≡ [])) }
+    ensures taken { (st : State Tree) → st.stack ≡ items_at store.now stack.old.items → Gives (unfolding_of strict (tables_of earlier.now) st) result (λ r. (record { mode = in_definition; stream = drop (term_row earlier.now.file r.2).stream_at earlier.now.file; operands = trees_at store.now spare.new.operands.items; target = tree_of store.now r.0.0; items = [] }, tree_of store.now r.1.0, items_at store.now stack.new.items)) }
 {
     let (unfolded, left, right) = match pop_unfolding(store, stack) {
         Ok(items) => items,
@@ -115,25 +152,12 @@ pub(crate) fn unfold<L: Ledger>(
     if !earlier.has_body(term) {
         return Err(Stop::Rule(K::Unfold));
     }
-    spare.operands.clear();
-    let Ok(()) = spare.operands.extend_from_slice(store.args(left)) else {
-        return Err(Stop::Mem);
-    };
     spare.hyps.clear();
-    let stream = earlier.stream_of_term(term);
-    unify_in(
-        earlier,
-        stream,
-        UnifyMode::Body,
-        &mut spare.operands,
-        unfolded,
-        &mut spare.targets,
-        &mut spare.hyps,
-        store,
-        steps,
-    )
-    .through()?;
-    push(stack, Item::Obligation(unfolded, right))
+    spare.operands.clear();
+    match spare.operands.extend_from_slice(store.args(left)) {
+        Ok(()) => Ok((unfolded, right, term)),
+        Err(_) => Err(Stop::Mem),
+    }
 }
 
 /// What an unfolding takes: what is unfolded to, and below it the two sides of the obligation, perhaps

@@ -1,18 +1,19 @@
 //! Applications of terms, and citations of axioms and theorems.
-ghost use Rattle.std.specs.Prelude.{ℕ, ◌≡◌, ◌≤◌, ◌<◌, ◌+◌, ◌++◌, ◌∷◌, [], IfOk, OnOk, length, drop};
+ghost use Rattle.std.specs.Prelude.{ℕ, ◌≡◌, ◌<◌, IfOk, OnOk, length, drop};
 ghost use Rattle.mz_cmd.specs.declared.code.ProofCode.TheVariants as code;
 ghost use Rattle.mz_logic_theory.specs.Tree.{Tree};
 ghost use Rattle.mz_layout_tables.specs.Tables.{thm_row};
 ghost use Rattle.mz_store.specs.Sharing.{AreIn, IsIn, IsOver, tree_of};
 ghost use Rattle.mz_store.specs.declared.item.DepsMode.TheVariants.{All};
-ghost use Rattle.mz_unify_theory.specs.Profile.{strict, expr, proof};
+ghost use Rattle.mz_unify_theory.specs.Profile.{strict};
 ghost use Rattle.mz_unify.specs.Stored.{items_at, matching_at, AreItemsIn};
 ghost use Rattle.mz_unify.specs.declared.unified.UnifyMode.TheVariants.{Use};
 ghost use Rattle.mz_machine_theory.specs.MachineState.{State};
-ghost use Rattle.mz_machine_theory.specs.ProofMachine.{proof_step, built, citation};
+ghost use Rattle.mz_machine_theory.specs.ProofMachine.{built, citation, cited};
 ghost use Rattle.mz_machine_theory.specs.Bodies.{row_steps};
 ghost use Rattle.mz_machine_env.specs.Before.{tables_of, signatures_of};
-ghost use Rattle.mz_machine.specs.OverStore.{with_stack, Gives, UnlessMem, Grows};
+ghost use Rattle.mz_machine.specs.OverStore.{Gives, Grows};
+ghost use Rattle.mz_machine.specs.Executing.{Counts};
 
 use crate::arguments::{check_cited, check_operands, pop_operands};
 use crate::disjoint::are_apart;
@@ -22,12 +23,11 @@ use mz_layout_tables::Row;
 use mz_logic_theory::Terms;
 use mz_machine_env::{Earlier, Spare};
 use mz_store::{Id, Item, Store};
-use mz_unify::{Stop, UnifyMode, push, unify_in};
+use mz_unify::{Stop, UnifyMode, unify_in};
 use std::sync::ledger::Ledger;
 
 /// Makes the application of a term to the operands on top, which it takes.
-#[inline(always)]
-fn build(
+pub(crate) fn build(
     earlier: &Earlier,
     t: u32,
     store: &mut Store,
@@ -54,30 +54,9 @@ fn build(
     Ok(made)
 }
 
-/// Makes the application of a term to the operands on top, and puts it in their place.
-pub(crate) fn term(
-    earlier: &Earlier,
-    t: u32,
-    store: &mut Store,
-    stack: &mut Vec<Item>,
-    operands: &mut Vec<Id>,
-) -> Result<Id, Stop>
-    requires over { IsOver (signatures_of earlier.now) store.old }
-    requires stack { AreItemsIn store.old stack.old.items }
-    ensures grows { OnOk result (Grows (signatures_of earlier.now) store.old store.new) }
-    ensures context { store.new.context ≡ store.old.context }
-    ensures ids { IfOk result (λ id. IsIn store.new id.0 × AreItemsIn store.new stack.new.items) }
-    ensures plain { (at : ℕ) (st : State Tree) → st.ctx ≡ store.old.context → st.stack ≡ items_at store.old stack.old.items → Gives (proof_step strict (tables_of earlier.now) at code.Term t st) result (λ _. with_stack st (items_at store.new stack.new.items)) }
-    ensures saved { (at : ℕ) (st : State Tree) → st.ctx ≡ store.old.context → st.stack ≡ items_at store.old stack.old.items → Gives (proof_step strict (tables_of earlier.now) at code.TermSave t st) result (λ id. record (with_stack st (items_at store.new stack.new.items)) { heap = st.heap ++ expr (tree_of store.new id.0) ∷ [] }) }
-{
-    let made = build(earlier, t, store, stack, operands)?;
-    push(stack, Item::Expr(made))?;
-    Ok(made)
-}
-
 /// Cites an axiom or theorem for the expression on top, with the operands below: its stream runs on
-/// the expression, of which a proof stands then in their place, and takes the hypotheses.
-pub(crate) fn thm<L: Ledger>(
+/// the expression, and takes the hypotheses.
+pub(crate) fn cite<L: Ledger>(
     earlier: &Earlier,
     t: u32,
     store: &Store,
@@ -89,14 +68,15 @@ pub(crate) fn thm<L: Ledger>(
     requires mode { store.now.mode ≡ All }
     requires stack { AreItemsIn store.now stack.old.items }
     ensures ids { IfOk result (λ id. IsIn store.now id.0 × AreItemsIn store.now stack.new.items) }
-    ensures plain { (at : ℕ) (st : State Tree) → st.ctx ≡ store.now.context → st.stack ≡ items_at store.now stack.old.items → Gives (proof_step strict (tables_of earlier.now) at code.Thm t st) result (λ _. with_stack st (items_at store.now stack.new.items)) }
-    ensures saved { (at : ℕ) (st : State Tree) → st.ctx ≡ store.now.context → st.stack ≡ items_at store.now stack.old.items → Gives (proof_step strict (tables_of earlier.now) at code.ThmSave t st) result (λ id. record (with_stack st (items_at store.now stack.new.items)) { heap = st.heap ++ proof (tree_of store.now id.0) ∷ [] }) }
-    ensures steps { (st : State Tree) → st.ctx ≡ store.now.context → st.stack ≡ items_at store.now stack.old.items → UnlessMem result (steps.new ≡ steps.old + row_steps strict (tables_of earlier.now) code.Thm t st) }
-    ensures most { steps.new ≤ steps.old + length earlier.now.file }
+    ensures cited { (st : State Tree) → st.ctx ≡ store.now.context → st.stack ≡ items_at store.now stack.old.items → Gives (cited strict (tables_of earlier.now) t st) result (λ id. (tree_of store.now id.0, items_at store.now stack.new.items)) }
+    ensures steps { (st : State Tree) → st.ctx ≡ store.now.context → st.stack ≡ items_at store.now stack.old.items → Counts result steps.old steps.new (row_steps strict (tables_of earlier.now) code.Thm t st) (length earlier.now.file) }
 {
-    let target = take_citation(earlier, t, store, stack, spare)?;
+    let target = match take_citation(earlier, t, store, stack, spare) {
+        Ok(target) => target,
+        Err(stop) => return Err(stop),
+    };
     let stream = earlier.stream_of_thm(t);
-    unify_in(
+    match unify_in(
         earlier,
         stream,
         UnifyMode::Use,
@@ -107,9 +87,11 @@ pub(crate) fn thm<L: Ledger>(
         store,
         steps,
     )
-    .through()?;
-    push(stack, Item::Proof(target))?;
-    Ok(target)
+    .through()
+    {
+        Ok(()) => Ok(target),
+        Err(stop) => Err(stop),
+    }
 }
 
 /// What a citation takes: the expression on top, and for the list of operands those below it, which fit

@@ -17,6 +17,7 @@ invariant-commands g l = record {
   underway : IsUnderway (plain (gaps_of l.setting.mode)) (tables_for (machine_of l.setting l.fn.parts)) (heading_for (machine_of l.setting l.fn.parts)) l.from l.bytes (machine_of l.setting l.fn.parts).state l.fn.steps l.at (machine_of l.setting l.parts).state l.steps;
   gap : HasGap l.bytes ↔ ((l.parts.sorry ≡ true) ⊎ HasGap (drop l.at l.bytes));
   most : l.steps ≤ l.fn.steps + l.at * (length l.setting.earlier.file + 1);
+  nodes : length l.parts.store.entries ≤ length l.fn.parts.store.entries + l.at;
 }
 
 abbrev pub decreases-commands : goal.decreases-commands

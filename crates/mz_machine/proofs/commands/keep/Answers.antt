@@ -1,276 +1,176 @@
 use Rattle.std.proofs.Common.{◌∙◌, [], ◌∷◌, Ok, refl, sym, ap, arith}
-use Rattle.std.specs.Prelude.{slice_get}
-use Rattle.std.proofs.lemmas.Result.{err_from_is_err_and, on_ok_weaker}
+use Rattle.std.specs.Prelude.{slice_get, IsTrue}
+use Rattle.std.proofs.lemmas.Result.{on_ok_weaker}
+use Rattle.mz_cmd.specs.declared.code.ProofCode.TheVariants as code
 use Rattle.mz_store.specs.declared.item.Item.TheVariants.{Expr, Proof}
-use Rattle.mz_unify.proofs.Offered.{items-in-both, are-in-both, items-push, are-still-in}
+use Rattle.mz_unify_theory.specs.Profile.{strict}
+use Rattle.mz_unify.proofs.Offered.{items-in-both, are-in-both, are-still-in}
 use Rattle.mz_unify.specs.Stored.{items_at}
-use Rattle.mz_machine_env.specs.Before.{tables_of}
+use Rattle.mz_machine_theory.specs.ProofMachine.{proof_step}
+use Rattle.mz_machine_env.specs.Before.{signatures_of, tables_of}
 use Rattle.mz_machine.specs.Steps.{takes_none}
-use Rattle.mz_machine.specs.OverStore.{state_at, code_of_keeping, heap_at}
+use Rattle.mz_machine.specs.OverStore.{state_at, heap_at}
 use Rattle.mz_machine.proofs.Converting.{true-false}
-use Rattle.mz_machine.proofs.GapRows.{rule-not-mem}
-use Rattle.mz_machine.proofs.HandedOn.{grows-not, memory-stops, on-both, on-ok, pushed-gives, ruled-gives, ruled-never, ruled-ok}
-use Rattle.mz_machine.proofs.Popping.{assumed-state, heap-push, heap-pushed, conversion-there}
-use Rattle.mz_machine.proofs.TermResults.{items-still, items-kept, heap-kept, hyps-kept}
+use Rattle.mz_machine.proofs.Executed.{given-executes, ruled-executes, kept-executes, pushed-executes, stopped-executes}
+use Rattle.mz_machine.proofs.HandedOn.{grows-not, on-three}
+use Rattle.mz_machine.proofs.Popping.{assumed-state, heap-pushed, conversion-there}
+use Rattle.mz_machine.proofs.TermResults.{dummy-state, items-still}
 use Rattle.mz_machine.proofs.commands.keep.Goals as goal
 
-pub returns-in-Ref-clause-grows : goal.returns-in-Ref-clause-grows
-returns-in-Ref-clause-grows c = on-ok c.refer.result (grows-not _ c.args.store.now c.requires.over)
-
-pub returns-in-Ref-clause-ids : goal.returns-in-Ref-clause-ids
-returns-in-Ref-clause-ids c = on_ok_weaker c.refer.result (λ stack. (c.requires.heap, stack, c.requires.hyps)) c.refer.ensures.ids
-
-pub returns-in-Ref-clause-few : goal.returns-in-Ref-clause-few
-returns-in-Ref-clause-few c = on-ok c.refer.result c.requires.few
-
-pub returns-in-Ref-clause-row : goal.returns-in-Ref-clause-row
-returns-in-Ref-clause-row c at =
-    rw c.in-Ref.is (c.refer.ensures.row (tables_of c.args.earlier.now) at (state_at c.args.store.now c.args.heap.now.items c.args.stack.now.items c.args.hyps.now.items)
-    (ap (heap_at c.args.store.now) (sym c.deref.ensures.value)) refl)
-
-pub returns-in-Ref-clause-never : goal.returns-in-Ref-clause-never
-returns-in-Ref-clause-never c none =
-    let there = conversion-there c.args.store.now c.args.heap.now.items c.args.value
-    (sym (ap (λ k. takes_none (code_of_keeping k) c.args.value (state_at c.args.store.now c.args.heap.now.items c.args.stack.now.items c.args.hyps.now.items)) c.in-Ref.is) ∙ none) in
-    c.refer.ensures.never there.0 there.1 (ap (λ xs. slice_get xs c.args.value) c.deref.ensures.value ∙ there.2)
-
-pub returns-in-ConvRef-clause-grows : goal.returns-in-ConvRef-clause-grows
-returns-in-ConvRef-clause-grows c = on-ok c.by_rule.result (grows-not _ c.args.store.now c.requires.over)
-
-pub returns-in-ConvRef-clause-ids : goal.returns-in-ConvRef-clause-ids
-returns-in-ConvRef-clause-ids c =
-    on_ok_weaker c.by_rule.result (λ stack. (c.requires.heap, stack, c.requires.hyps)) (ruled-ok c.conv_refer.result c.by_rule.result _ c.by_rule.ensures c.conv_refer.ensures.ids)
-
-pub returns-in-ConvRef-clause-few : goal.returns-in-ConvRef-clause-few
-returns-in-ConvRef-clause-few c = on-ok c.by_rule.result c.requires.few
-
-pub returns-in-ConvRef-clause-row : goal.returns-in-ConvRef-clause-row
-returns-in-ConvRef-clause-row c at =
-    rw c.in-ConvRef.is (ruled-gives c.conv_refer.result c.by_rule.result _ _ c.by_rule.ensures
-    (c.conv_refer.ensures.row (tables_of c.args.earlier.now) at (state_at c.args.store.now c.args.heap.now.items c.args.stack.now.items c.args.hyps.now.items)
-    (ap (heap_at c.args.store.now) (sym c.deref-in-ConvRef.ensures.value)) refl))
-
-pub returns-in-ConvRef-clause-never : goal.returns-in-ConvRef-clause-never
-returns-in-ConvRef-clause-never c none = ruled-never c.conv_refer.result c.by_rule.result c.by_rule.ensures
-
-pub returns-in_ok-push-in-Dummy-2-clause-ids : goal.returns-in_ok-push-in-Dummy-2-clause-ids
-returns-in_ok-push-in-Dummy-2-clause-ids c =
-    let keeps = c.in_ok-made-in-Dummy.ensures.grows.keeps in
-    let heap = items-still c.args.store.now c.dummy.new.store keeps c.args.heap.now.items c.requires.heap in
-    let stack = items-still c.args.store.now c.dummy.new.store keeps c.args.stack.now.items c.requires.stack in (
-      rw c.in_ok-push-in-Dummy.ensures.ok (items-in-both c.dummy.new.store c.args.heap.now.items (Expr c.in_ok-made-in-Dummy.made ∷ []) heap (c.in_ok-made-in-Dummy.ensures.ids, tt)),
-      rw c.in_ok-push-in-Dummy-2.ensures.ok (items-in-both c.dummy.new.store c.args.stack.now.items (Expr c.in_ok-made-in-Dummy.made ∷ []) stack (c.in_ok-made-in-Dummy.ensures.ids, tt)),
-      are-still-in c.args.store.now c.dummy.new.store keeps c.args.hyps.now.items c.requires.hyps,
-    )
-
-pub returns-in_ok-push-in-Dummy-2-clause-row : goal.returns-in_ok-push-in-Dummy-2-clause-row
-returns-in_ok-push-in-Dummy-2-clause-row c at =
-    let keeps = c.in_ok-made-in-Dummy.ensures.grows.keeps in
-    rw (
-      c.in-Dummy.is,
-      c.in_ok-push-in-Dummy.ensures.ok,
-      c.in_ok-push-in-Dummy-2.ensures.ok,
-      heap-push c.dummy.new.store c.args.heap.now.items (Expr c.in_ok-made-in-Dummy.made),
-      items-push c.dummy.new.store c.args.stack.now.items (Expr c.in_ok-made-in-Dummy.made),
-      heap-kept c.args.store.now c.dummy.new.store keeps c.args.heap.now.items c.requires.heap,
-      items-kept c.args.store.now c.dummy.new.store keeps c.args.stack.now.items c.requires.stack,
-      hyps-kept c.args.store.now c.dummy.new.store keeps c.args.hyps.now.items c.requires.hyps,
-    )
-    (c.in_ok-made-in-Dummy.ensures.row at (state_at c.args.store.now c.args.heap.now.items c.args.stack.now.items c.args.hyps.now.items) refl)
-
-pub returns-in-Ok-clause-grows : goal.returns-in-Ok-clause-grows
-returns-in-Ok-clause-grows c = on-ok c.assume.result (grows-not _ c.args.store.now c.requires.over)
-
-pub returns-in-Ok-clause-ids : goal.returns-in-Ok-clause-ids
-returns-in-Ok-clause-ids c =
-    on-both c.assume.result
-    (λ heap hyps. (
-      rw heap (items-in-both c.args.store.now c.args.heap.now.items (Proof c.in-Ok.claim ∷ []) c.requires.heap (c.in-Ok.ensures.ids.0, tt)),
-      c.in-Ok.ensures.ids.1,
-      rw hyps (are-in-both c.args.store.now c.args.hyps.now.items (c.in-Ok.claim ∷ []) c.requires.hyps (c.in-Ok.ensures.ids.0, tt)),
-    ))
-    c.assume.ensures.heap c.assume.ensures.hyps
-
-pub returns-in-Ok-clause-few : goal.returns-in-Ok-clause-few
-returns-in-Ok-clause-few c = c.assume.ensures.few
-
-pub returns-in-Ok-clause-row : goal.returns-in-Ok-clause-row
-returns-in-Ok-clause-row c at =
+pub returns-in-Ref : goal.returns-in-Ref
+returns-in-Ref c =
+    let E = c.args.earlier.now in
     let s = c.args.store.now in
-    let row = c.in-Ok.ensures.row at c.args.value (state_at c.args.store.now c.args.heap.now.items c.args.stack.now.items c.args.hyps.now.items) refl refl in
-    rw c.in-Hyp.is (pushed-gives c.assume.result _ _
-    (on-both c.assume.result (λ heap hyps. row ∙ ap (λ st. Ok st)
-    (assumed-state s c.args.heap.now.items c.assume.new.heap.items c.hyp.new.stack.items c.args.hyps.now.items c.assume.new.hyps.items c.in-Ok.claim heap hyps))
-    c.assume.ensures.heap c.assume.ensures.hyps) c.assume.ensures.err)
+    let heap = c.args.heap.now.items in
+    let stack = c.args.stack.now.items in
+    let hyps = c.args.hyps.now.items in
+    let n = c.args.value in
+    let st = state_at s heap stack hyps in
+    rw c.in-Ref.is (given-executes (signatures_of E) (λ at. proof_step strict (tables_of E) at code.Ref n st) (IsTrue (takes_none code.Ref n st)) s c.requires.ready.over
+    heap stack c.refer.new.stack.items c.requires.ready.heap_in hyps c.requires.hyps c.args.stack.now.cap c.refer.new.stack.cap c.refer.result c.refer.ensures.ids
+    (λ at. c.refer.ensures.row (tables_of E) at st (ap (heap_at s) (sym c.deref.ensures.value)) refl)
+    (λ none. let there = conversion-there s heap n none in c.refer.ensures.never there.0 there.1 (ap (λ xs. slice_get xs n) c.deref.ensures.value ∙ there.2))
+    (λ none. let there = conversion-there s heap n none in c.refer.ensures.capacity there.0 there.1 (ap (λ xs. slice_get xs n) c.deref.ensures.value ∙ there.2)))
 
-pub returns-in-Ok-clause-never : goal.returns-in-Ok-clause-never
-returns-in-Ok-clause-never c none =
-    absurd (true-false (sym none ∙ ap (λ k. takes_none (code_of_keeping k) c.args.value (state_at c.args.store.now c.args.heap.now.items c.args.stack.now.items c.args.hyps.now.items)) c.in-Hyp.is))
-
-pub returns-in-Err-clause-row : goal.returns-in-Err-clause-row
-returns-in-Err-clause-row c at =
-    rw c.in-Hyp.is (c.in-Err.ensures.row at c.args.value (state_at c.args.store.now c.args.heap.now.items c.args.stack.now.items c.args.hyps.now.items) refl refl)
-
-pub returns-in-Err-clause-never : goal.returns-in-Err-clause-never
-returns-in-Err-clause-never c none = rule-not-mem _
-
-pub returns-in-Ok-save-clause-grows : goal.returns-in-Ok-save-clause-grows
-returns-in-Ok-save-clause-grows c = on-ok c.push-in-Ok-save.result (grows-not _ c.args.store.now c.requires.over)
-
-pub returns-in-Ok-save-clause-ids : goal.returns-in-Ok-save-clause-ids
-returns-in-Ok-save-clause-ids c =
-    on_ok_weaker c.push-in-Ok-save.result
-    (λ is. (
-      rw is (items-in-both c.args.store.now c.args.heap.now.items (c.in-Ok-save.item ∷ []) c.requires.heap
-          (c.in-Ok-save.ensures.ids, tt)),
-      c.requires.stack,
-      c.requires.hyps,
-    )) c.push-in-Ok-save.ensures.ok
-
-pub returns-in-Ok-save-clause-few : goal.returns-in-Ok-save-clause-few
-returns-in-Ok-save-clause-few c = on-ok c.push-in-Ok-save.result c.requires.few
-
-pub returns-in-Ok-save-clause-row : goal.returns-in-Ok-save-clause-row
-returns-in-Ok-save-clause-row c at =
+pub returns-in-ConvRef : goal.returns-in-ConvRef
+returns-in-ConvRef c =
+    let E = c.args.earlier.now in
     let s = c.args.store.now in
-    let st = (state_at c.args.store.now c.args.heap.now.items c.args.stack.now.items c.args.hyps.now.items) in
-    let row = c.in-Ok-save.ensures.row (tables_of c.args.earlier.now) at c.args.value st (ap (items_at s) (sym c.deref-in-Save.ensures.value)) in
-    rw c.in-Save.is (pushed-gives c.push-in-Ok-save.result _ _
-    (on_ok_weaker c.push-in-Ok-save.result (λ is. row ∙ ap (λ heap. Ok (record st { heap = heap }))
-    (sym (heap-pushed s c.args.heap.now.items c.push-in-Ok-save.new.items.items c.in-Ok-save.item is))) c.push-in-Ok-save.ensures.ok) c.push-in-Ok-save.ensures.err)
+    let heap = c.args.heap.now.items in
+    let stack = c.args.stack.now.items in
+    let hyps = c.args.hyps.now.items in
+    let n = c.args.value in
+    let st = state_at s heap stack hyps in
+    rw c.in-ConvRef.is (ruled-executes (signatures_of E) (λ at. proof_step strict (tables_of E) at code.ConvRef n st) (IsTrue (takes_none code.ConvRef n st)) s c.requires.ready.over
+    heap stack c.conv_refer.new.stack.items c.requires.ready.heap_in hyps c.requires.hyps c.args.stack.now.cap c.conv_refer.new.stack.cap c.conv_refer.result c.by_rule.result c.by_rule.ensures c.conv_refer.ensures.ids
+    (λ at. c.conv_refer.ensures.row (tables_of E) at st (ap (heap_at s) (sym c.deref-in-ConvRef.ensures.value)) refl)
+    (λ none. omega (arith, c.conv_refer.ensures.capacity)))
 
-pub returns-in-Ok-save-clause-never : goal.returns-in-Ok-save-clause-never
-returns-in-Ok-save-clause-never c none =
-    absurd (true-false (sym none ∙ ap (λ k. takes_none (code_of_keeping k) c.args.value (state_at c.args.store.now c.args.heap.now.items c.args.stack.now.items c.args.hyps.now.items)) c.in-Save.is))
+-- ---- Dummy
 
-pub returns-in-Err-save-clause-row : goal.returns-in-Err-save-clause-row
-returns-in-Err-save-clause-row c at =
+pub returns-in-Ok : goal.returns-in-Ok
+returns-in-Ok c =
+    let E = c.args.earlier.now in
+    let s = c.args.store.now in
+    let heap = c.args.heap.now.items in
+    let stack = c.args.stack.now.items in
+    let hyps = c.args.hyps.now.items in
+    let n = c.args.value in
+    let st = state_at s heap stack hyps in
+    let s' = c.dummy.new.store in
+    let made = c.in-Ok.made in
+    let keeps = c.in-Ok.ensures.grows.keeps in
+    let ready = c.requires.ready in
+    rw c.in-Dummy.is (kept-executes (signatures_of E) (λ at. proof_step strict (tables_of E) at code.Dummy n st) (IsTrue (takes_none code.Dummy n st)) s s'
+    c.push_both.new.heap.items stack c.push_both.new.stack.items hyps c.args.stack.now.cap c.push_both.new.stack.cap (λ none. true-false (sym none)) c.push_both.result
+    (λ put. record {
+      grows = c.in-Ok.ensures.grows;
+      heap_in = rw put.0 (items-in-both s' heap (Expr made ∷ []) (items-still s s' keeps heap ready.heap_in) (c.in-Ok.ensures.ids, tt));
+      stack_in = rw put.1 (items-in-both s' stack (Expr made ∷ []) (items-still s s' keeps stack ready.stack_in) (c.in-Ok.ensures.ids, tt));
+      hyps_in = (are-still-in s s' keeps hyps c.requires.hyps.0, c.requires.hyps.1);
+      opens = tt;
+      row_is = λ at. c.in-Ok.ensures.row at st refl ∙ ap (λ st. Ok st) (dummy-state s s' keeps heap c.push_both.new.heap.items stack c.push_both.new.stack.items hyps made put.0 put.1 ready.heap_in ready.stack_in c.requires.hyps.0);
+      no_more = λ none. absurd (true-false (sym none));
+    })
+    c.push_both.ensures)
+
+pub returns-in-Err : goal.returns-in-Err
+returns-in-Err c =
+    let E = c.args.earlier.now in
+    let s = c.args.store.now in
+    let heap = c.args.heap.now.items in
+    let stack = c.args.stack.now.items in
+    let hyps = c.args.hyps.now.items in
+    let n = c.args.value in
+    let st = state_at s heap stack hyps in
+    rw c.in-Dummy.is (stopped-executes (signatures_of E) (λ at. proof_step strict (tables_of E) at code.Dummy n st) (IsTrue (takes_none code.Dummy n st)) s s heap stack stack hyps 0 0 (λ none. true-false (sym none)) c.in-Err.stop
+    (λ at. c.in-Err.ensures.row at st refl))
+
+-- ---- Hyp
+
+pub returns-in-Ok-hyp : goal.returns-in-Ok-hyp
+returns-in-Ok-hyp c =
+    let E = c.args.earlier.now in
+    let s = c.args.store.now in
+    let heap = c.args.heap.now.items in
+    let stack = c.args.stack.now.items in
+    let hyps = c.args.hyps.now.items in
+    let n = c.args.value in
+    let st = state_at s heap stack hyps in
+    let claim = c.in-Ok-hyp.claim in
+    let ids = c.in-Ok-hyp.ensures.ids in
+    rw c.in-Hyp.is (pushed-executes (signatures_of E) (λ at. proof_step strict (tables_of E) at code.Hyp n st) (IsTrue (takes_none code.Hyp n st)) s s
+    c.assume.new.heap.items stack c.hyp.new.stack.items c.assume.new.hyps.items c.args.stack.now.cap c.hyp.new.stack.cap (λ none. true-false (sym none)) c.assume.result
+    (on-three c.assume.result (λ more also few. record {
+      grows = grows-not (signatures_of E) s c.requires.ready.over;
+      heap_in = rw more (items-in-both s heap (Proof claim ∷ []) c.requires.ready.heap_in (ids.0, tt));
+      stack_in = ids.1;
+      hyps_in = (rw also (are-in-both s hyps (claim ∷ []) c.requires.hyps.0 (ids.0, tt)), few);
+      opens = tt;
+      row_is = λ at. c.in-Ok-hyp.ensures.row at n st refl refl ∙ ap (λ st. Ok st) (assumed-state s heap c.assume.new.heap.items c.hyp.new.stack.items hyps c.assume.new.hyps.items claim more also);
+      no_more = λ none. absurd (true-false (sym none));
+    }) c.assume.ensures.heap c.assume.ensures.hyps c.assume.ensures.few)
+    c.assume.ensures.err)
+
+pub returns-in-Err-hyp : goal.returns-in-Err-hyp
+returns-in-Err-hyp c at =
+    rw c.in-Hyp.is (c.in-Err-hyp.ensures.row at c.args.value (state_at c.args.store.now c.args.heap.now.items c.args.stack.now.items c.args.hyps.now.items) refl refl)
+
+-- ---- Save
+
+pub returns-in-Ok-save : goal.returns-in-Ok-save
+returns-in-Ok-save c =
+    let E = c.args.earlier.now in
+    let s = c.args.store.now in
+    let heap = c.args.heap.now.items in
+    let stack = c.args.stack.now.items in
+    let hyps = c.args.hyps.now.items in
+    let n = c.args.value in
+    let st = state_at s heap stack hyps in
+    let item = c.in-Ok-save.item in
+    rw c.in-Save.is (pushed-executes (signatures_of E) (λ at. proof_step strict (tables_of E) at code.Save n st) (IsTrue (takes_none code.Save n st)) s s
+    c.push.new.items.items stack stack hyps c.args.stack.now.cap c.args.stack.now.cap (λ none. true-false (sym none)) c.push.result
+    (on_ok_weaker c.push.result (λ is. record {
+      grows = grows-not (signatures_of E) s c.requires.ready.over;
+      heap_in = rw is (items-in-both s heap (item ∷ []) c.requires.ready.heap_in (c.in-Ok-save.ensures.ids, tt));
+      stack_in = c.requires.ready.stack_in;
+      hyps_in = c.requires.hyps;
+      opens = tt;
+      row_is = λ at. c.in-Ok-save.ensures.row (tables_of E) at n st (ap (items_at s) (sym c.deref-in-Save.ensures.value)) ∙ ap (λ more. Ok (record st { heap = more })) (sym (heap-pushed s heap c.push.new.items.items item is));
+      no_more = λ none. absurd (true-false (sym none));
+    }) c.push.ensures.ok)
+    c.push.ensures.err)
+
+pub returns-in-Err-save : goal.returns-in-Err-save
+returns-in-Err-save c at =
     rw c.in-Save.is (c.in-Err-save.ensures.row (tables_of c.args.earlier.now) at c.args.value (state_at c.args.store.now c.args.heap.now.items c.args.stack.now.items c.args.hyps.now.items)
     (ap (items_at c.args.store.now) (sym c.deref-in-Save.ensures.value)))
 
-pub returns-in-Err-save-clause-never : goal.returns-in-Err-save-clause-never
-returns-in-Err-save-clause-never c none = rule-not-mem _
-
--- ---- what stops a Dummy
-
-pub returns-in_err-made-in-Dummy-clause-grows : goal.returns-in_err-made-in-Dummy-clause-grows
-returns-in_err-made-in-Dummy-clause-grows c = rw (err_from_is_err_and c.from_residual.result c.from_residual.ensures.1).1 tt
-
-pub returns-in_err-made-in-Dummy-clause-ids : goal.returns-in_err-made-in-Dummy-clause-ids
-returns-in_err-made-in-Dummy-clause-ids c = rw (err_from_is_err_and c.from_residual.result c.from_residual.ensures.1).1 tt
-
-pub returns-in_err-made-in-Dummy-clause-few : goal.returns-in_err-made-in-Dummy-clause-few
-returns-in_err-made-in-Dummy-clause-few c = rw (err_from_is_err_and c.from_residual.result c.from_residual.ensures.1).1 tt
-
-pub returns-in_err-made-in-Dummy-clause-row : goal.returns-in_err-made-in-Dummy-clause-row
-returns-in_err-made-in-Dummy-clause-row c at =
-    let p = err_from_is_err_and c.from_residual.result c.from_residual.ensures.1 in
-    rw (p.1, p.2, c.in-Dummy.is) (c.in_err-made-in-Dummy.ensures.row at (state_at c.args.store.now c.args.heap.now.items c.args.stack.now.items c.args.hyps.now.items) refl)
-
-pub returns-in_err-made-in-Dummy-clause-never : goal.returns-in_err-made-in-Dummy-clause-never
-returns-in_err-made-in-Dummy-clause-never c none =
-    absurd (true-false (sym none ∙ ap (λ k. takes_none (code_of_keeping k) c.args.value (state_at c.args.store.now c.args.heap.now.items c.args.stack.now.items c.args.hyps.now.items)) c.in-Dummy.is))
-
-pub returns-in_err-push-in-Dummy-clause-grows : goal.returns-in_err-push-in-Dummy-clause-grows
-returns-in_err-push-in-Dummy-clause-grows c = rw (err_from_is_err_and c.from_residual-in_err-push-in-Dummy.result c.from_residual-in_err-push-in-Dummy.ensures.1).1 tt
-
-pub returns-in_err-push-in-Dummy-clause-ids : goal.returns-in_err-push-in-Dummy-clause-ids
-returns-in_err-push-in-Dummy-clause-ids c = rw (err_from_is_err_and c.from_residual-in_err-push-in-Dummy.result c.from_residual-in_err-push-in-Dummy.ensures.1).1 tt
-
-pub returns-in_err-push-in-Dummy-clause-few : goal.returns-in_err-push-in-Dummy-clause-few
-returns-in_err-push-in-Dummy-clause-few c = rw (err_from_is_err_and c.from_residual-in_err-push-in-Dummy.result c.from_residual-in_err-push-in-Dummy.ensures.1).1 tt
-
-pub returns-in_err-push-in-Dummy-clause-row : goal.returns-in_err-push-in-Dummy-clause-row
-returns-in_err-push-in-Dummy-clause-row c at =
-    let p = err_from_is_err_and c.from_residual-in_err-push-in-Dummy.result c.from_residual-in_err-push-in-Dummy.ensures.1 in
-    rw (p.1, p.2) (memory-stops _ _ c.in_err-push-in-Dummy.ensures.err)
-
-pub returns-in_err-push-in-Dummy-clause-never : goal.returns-in_err-push-in-Dummy-clause-never
-returns-in_err-push-in-Dummy-clause-never c none =
-    absurd (true-false (sym none ∙ ap (λ k. takes_none (code_of_keeping k) c.args.value (state_at c.args.store.now c.args.heap.now.items c.args.stack.now.items c.args.hyps.now.items)) c.in-Dummy.is))
-
-pub returns-in_err-push-in-Dummy-2-clause-grows : goal.returns-in_err-push-in-Dummy-2-clause-grows
-returns-in_err-push-in-Dummy-2-clause-grows c = rw (err_from_is_err_and c.from_residual-in_err-push-in-Dummy-2.result c.from_residual-in_err-push-in-Dummy-2.ensures.1).1 tt
-
-pub returns-in_err-push-in-Dummy-2-clause-ids : goal.returns-in_err-push-in-Dummy-2-clause-ids
-returns-in_err-push-in-Dummy-2-clause-ids c = rw (err_from_is_err_and c.from_residual-in_err-push-in-Dummy-2.result c.from_residual-in_err-push-in-Dummy-2.ensures.1).1 tt
-
-pub returns-in_err-push-in-Dummy-2-clause-few : goal.returns-in_err-push-in-Dummy-2-clause-few
-returns-in_err-push-in-Dummy-2-clause-few c = rw (err_from_is_err_and c.from_residual-in_err-push-in-Dummy-2.result c.from_residual-in_err-push-in-Dummy-2.ensures.1).1 tt
-
-pub returns-in_err-push-in-Dummy-2-clause-row : goal.returns-in_err-push-in-Dummy-2-clause-row
-returns-in_err-push-in-Dummy-2-clause-row c at =
-    let p = err_from_is_err_and c.from_residual-in_err-push-in-Dummy-2.result c.from_residual-in_err-push-in-Dummy-2.ensures.1 in
-    rw (p.1, p.2) (memory-stops _ _ c.in_err-push-in-Dummy-2.ensures.err)
-
-pub returns-in_err-push-in-Dummy-2-clause-never : goal.returns-in_err-push-in-Dummy-2-clause-never
-returns-in_err-push-in-Dummy-2-clause-never c none =
-    absurd (true-false (sym none ∙ ap (λ k. takes_none (code_of_keeping k) c.args.value (state_at c.args.store.now c.args.heap.now.items c.args.stack.now.items c.args.hyps.now.items)) c.in-Dummy.is))
-
-pub returns-in_ok-push-in-Dummy-2-clause-never : goal.returns-in_ok-push-in-Dummy-2-clause-never
-returns-in_ok-push-in-Dummy-2-clause-never c none =
-    absurd (true-false (sym none ∙ ap (λ k. takes_none (code_of_keeping k) c.args.value (state_at c.args.store.now c.args.heap.now.items c.args.stack.now.items c.args.hyps.now.items)) c.in-Dummy.is))
-
 -- ---- what the calls ask
 
+pub refer-requires-clause-heap : goal.refer-requires-clause-heap
+refer-requires-clause-heap c = rw c.deref.ensures.value c.requires.ready.heap_in
+
 pub refer-requires-clause-stack : goal.refer-requires-clause-stack
-refer-requires-clause-stack c = c.requires.stack
+refer-requires-clause-stack c = c.requires.ready.stack_in
 
-pub dummy-requires : goal.dummy-requires
-dummy-requires c = record { over = c.requires.over }
-
-pub hyp-requires-clause-over : goal.hyp-requires-clause-over
-hyp-requires-clause-over c = c.requires.over
-
-pub hyp-requires-clause-stack : goal.hyp-requires-clause-stack
-hyp-requires-clause-stack c = c.requires.stack
-
-pub assume-requires : goal.assume-requires
-assume-requires c = record { few = c.requires.few }
+pub conv_refer-requires-clause-heap : goal.conv_refer-requires-clause-heap
+conv_refer-requires-clause-heap c = rw c.deref-in-ConvRef.ensures.value c.requires.ready.heap_in
 
 pub conv_refer-requires-clause-stack : goal.conv_refer-requires-clause-stack
-conv_refer-requires-clause-stack c = c.requires.stack
+conv_refer-requires-clause-stack c = c.requires.ready.stack_in
 
--- ---- room
+pub dummy-requires : goal.dummy-requires
+dummy-requires c = record { over = c.requires.ready.over }
 
-pub returns-in-Ref-clause-capacity : goal.returns-in-Ref-clause-capacity
-returns-in-Ref-clause-capacity c none =
-    let there = conversion-there c.args.store.now c.args.heap.now.items c.args.value
-    (sym (ap (λ k. takes_none (code_of_keeping k) c.args.value (state_at c.args.store.now c.args.heap.now.items c.args.stack.now.items c.args.hyps.now.items)) c.in-Ref.is) ∙ none) in
-    c.refer.ensures.capacity there.0 there.1 (ap (λ xs. slice_get xs c.args.value) c.deref.ensures.value ∙ there.2)
+pub hyp-requires-clause-over : goal.hyp-requires-clause-over
+hyp-requires-clause-over c = c.requires.ready.over
 
-pub returns-in-ConvRef-clause-capacity : goal.returns-in-ConvRef-clause-capacity
-returns-in-ConvRef-clause-capacity c none =
-    omega (arith, c.conv_refer.ensures.capacity)
+pub hyp-requires-clause-stack : goal.hyp-requires-clause-stack
+hyp-requires-clause-stack c = c.requires.ready.stack_in
 
-pub returns-in-Ok-clause-capacity : goal.returns-in-Ok-clause-capacity
-returns-in-Ok-clause-capacity c none =
-    absurd (true-false (sym none ∙ ap (λ k. takes_none (code_of_keeping k) c.args.value (state_at c.args.store.now c.args.heap.now.items c.args.stack.now.items c.args.hyps.now.items)) c.in-Hyp.is))
+pub assume-requires : goal.assume-requires
+assume-requires c = record { few = c.requires.hyps.1 }
 
-pub returns-in-Err-clause-capacity : goal.returns-in-Err-clause-capacity
-returns-in-Err-clause-capacity c none =
-    absurd (true-false (sym none ∙ ap (λ k. takes_none (code_of_keeping k) c.args.value (state_at c.args.store.now c.args.heap.now.items c.args.stack.now.items c.args.hyps.now.items)) c.in-Hyp.is))
-
-pub returns-in-Ok-save-clause-capacity : goal.returns-in-Ok-save-clause-capacity
-returns-in-Ok-save-clause-capacity c none =
-    absurd (true-false (sym none ∙ ap (λ k. takes_none (code_of_keeping k) c.args.value (state_at c.args.store.now c.args.heap.now.items c.args.stack.now.items c.args.hyps.now.items)) c.in-Save.is))
-
-pub returns-in-Err-save-clause-capacity : goal.returns-in-Err-save-clause-capacity
-returns-in-Err-save-clause-capacity c none =
-    absurd (true-false (sym none ∙ ap (λ k. takes_none (code_of_keeping k) c.args.value (state_at c.args.store.now c.args.heap.now.items c.args.stack.now.items c.args.hyps.now.items)) c.in-Save.is))
-
-pub returns-in_err-made-in-Dummy-clause-capacity : goal.returns-in_err-made-in-Dummy-clause-capacity
-returns-in_err-made-in-Dummy-clause-capacity c none =
-    absurd (true-false (sym none ∙ ap (λ k. takes_none (code_of_keeping k) c.args.value (state_at c.args.store.now c.args.heap.now.items c.args.stack.now.items c.args.hyps.now.items)) c.in-Dummy.is))
-
-pub returns-in_err-push-in-Dummy-clause-capacity : goal.returns-in_err-push-in-Dummy-clause-capacity
-returns-in_err-push-in-Dummy-clause-capacity c none =
-    absurd (true-false (sym none ∙ ap (λ k. takes_none (code_of_keeping k) c.args.value (state_at c.args.store.now c.args.heap.now.items c.args.stack.now.items c.args.hyps.now.items)) c.in-Dummy.is))
-
-pub returns-in_err-push-in-Dummy-2-clause-capacity : goal.returns-in_err-push-in-Dummy-2-clause-capacity
-returns-in_err-push-in-Dummy-2-clause-capacity c none =
-    absurd (true-false (sym none ∙ ap (λ k. takes_none (code_of_keeping k) c.args.value (state_at c.args.store.now c.args.heap.now.items c.args.stack.now.items c.args.hyps.now.items)) c.in-Dummy.is))
-
-pub returns-in_ok-push-in-Dummy-2-clause-capacity : goal.returns-in_ok-push-in-Dummy-2-clause-capacity
-returns-in_ok-push-in-Dummy-2-clause-capacity c none =
-    absurd (true-false (sym none ∙ ap (λ k. takes_none (code_of_keeping k) c.args.value (state_at c.args.store.now c.args.heap.now.items c.args.stack.now.items c.args.hyps.now.items)) c.in-Dummy.is))
+pub save-requires : goal.save-requires
+save-requires c = rw c.deref-in-Save.ensures.value c.requires.ready.stack_in

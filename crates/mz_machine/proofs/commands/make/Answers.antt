@@ -1,169 +1,181 @@
-use Rattle.std.proofs.Common.{◌∙◌, [], ◌∷◌, Ok, refl, sym, ap}
-use Rattle.std.proofs.lemmas.Result.{err_from_is_err_and, on_ok_weaker}
+use Rattle.std.proofs.Common.{◌≡◌, Err, length, refl}
+use Rattle.std.proofs.lemmas.Result.{on_ok_weaker}
+use Rattle.mz_cmd.specs.declared.code.ProofCode.TheVariants as code
 use Rattle.mz_store.specs.declared.item.Item.TheVariants.{Expr, Proof}
-use Rattle.mz_unify.proofs.Offered.{items-in-both}
+use Rattle.mz_unify_theory.specs.Profile.{strict}
+use Rattle.mz_machine_theory.specs.ProofMachine.{proof_step}
+use Rattle.mz_machine_env.specs.Before.{signatures_of, tables_of}
 use Rattle.mz_machine.specs.OverStore.{state_at}
-use Rattle.mz_machine.proofs.HandedOn.{grows-not, on-ok, pushed-gives}
-use Rattle.mz_machine.proofs.Popping.{heap-pushed}
-use Rattle.mz_machine.proofs.TermResults.{items-still, heap-kept, hyps-kept, saved-state}
-use Rattle.mz_machine.proofs.Unfoldings.{no-more, unless-mem}
+use Rattle.mz_machine.proofs.CitationRows.{thm-of, thm-save-of}
+use Rattle.mz_machine.proofs.Executed.{kept-executes, made, made-saved, pushed-executes, quiet, stopped-executes}
+use Rattle.mz_machine.proofs.HandedOn.{grows-not}
+use Rattle.mz_machine.proofs.Stopping.{stops-as}
+use Rattle.mz_machine.proofs.TermRows.{term-of, term-save-of}
+use Rattle.mz_machine.proofs.Unfoldings.{unless-mem}
 use Rattle.mz_machine.proofs.commands.make.Goals as goal
 
-pub returns-in_ok-term-in-Term-clause-ids : goal.returns-in_ok-term-in-Term-clause-ids
-returns-in_ok-term-in-Term-clause-ids g c =
-    (items-still c.args.store.now c.term.new.store c.in_ok-term-in-Term.ensures.grows.keeps c.args.heap.now.items c.requires.heap, c.in_ok-term-in-Term.ensures.ids.1)
+-- ---- Term
 
-pub returns-in_ok-term-in-Term-clause-row : goal.returns-in_ok-term-in-Term-clause-row
-returns-in_ok-term-in-Term-clause-row g c at hyps inside =
-    let keeps = c.in_ok-term-in-Term.ensures.grows.keeps in
-    rw (c.in-Term.is, c.term.ensures.context, heap-kept c.args.store.now c.term.new.store keeps c.args.heap.now.items c.requires.heap, hyps-kept c.args.store.now c.term.new.store keeps hyps inside)
-    (c.in_ok-term-in-Term.ensures.plain at (state_at c.args.store.now c.args.heap.now.items c.args.stack.now.items hyps) refl refl)
-
-pub returns-in_ok-made-in-TermSave-clause-grows : goal.returns-in_ok-made-in-TermSave-clause-grows
-returns-in_ok-made-in-TermSave-clause-grows g c = on-ok c.push.result c.in_ok-made-in-TermSave.ensures.grows
-
-pub returns-in_ok-made-in-TermSave-clause-ids : goal.returns-in_ok-made-in-TermSave-clause-ids
-returns-in_ok-made-in-TermSave-clause-ids g c =
-    let s' = c.term-in-TermSave.new.store in
-    let heap = items-still c.args.store.now s' c.in_ok-made-in-TermSave.ensures.grows.keeps c.args.heap.now.items c.requires.heap in
-    let made = c.in_ok-made-in-TermSave.ensures.ids in
-    on_ok_weaker c.push.result (λ is. (rw is (items-in-both s' c.args.heap.now.items (Expr c.in_ok-made-in-TermSave.made ∷ []) heap (made.0, tt)), made.1)) c.push.ensures.ok
-
-pub returns-in_ok-made-in-TermSave-clause-row : goal.returns-in_ok-made-in-TermSave-clause-row
-returns-in_ok-made-in-TermSave-clause-row g c at hyps inside =
+pub returns-in-Ok-clause-done : goal.returns-in-Ok-clause-done
+returns-in-Ok-clause-done g c hyps hyps_in =
+    let E = c.args.earlier.now in
     let s = c.args.store.now in
-    let s' = c.term-in-TermSave.new.store in
-    let keeps = c.in_ok-made-in-TermSave.ensures.grows.keeps in
-    let row = c.in_ok-made-in-TermSave.ensures.saved at (state_at s c.args.heap.now.items c.args.stack.now.items hyps) refl refl in
-    rw c.in-TermSave.is (pushed-gives c.push.result _ _
-    (on_ok_weaker c.push.result (λ is. row ∙ ap (λ st. Ok st) (saved-state s s' keeps c.args.heap.now.items c.push.new.items.items c.term-in-TermSave.new.stack.items hyps
-    (Expr c.in_ok-made-in-TermSave.made) c.term-in-TermSave.ensures.context is c.requires.heap inside)) c.push.ensures.ok) c.push.ensures.err)
+    let heap = c.args.heap.now.items in
+    let stack = c.args.stack.now.items in
+    let n = c.args.value in
+    let st = state_at s heap stack hyps in
+    rw c.in-Term.is (pushed-executes (signatures_of E) (λ at. proof_step strict (tables_of E) at code.Term n st) ⊥ s c.build.new.store heap stack c.push.new.items.items hyps c.args.stack.now.cap c.push.new.items.cap (λ none. none) c.push.result
+    (on_ok_weaker c.push.result (λ put. made (signatures_of E) (λ at. proof_step strict (tables_of E) at code.Term n st) s c.build.new.store c.in-Ok.ensures.grows c.build.ensures.context heap stack c.build.new.stack.items hyps c.requires.ready.heap_in hyps_in (Expr c.in-Ok.made) c.in-Ok.ensures.ids.0 c.in-Ok.ensures.ids.1 c.args.stack.now.cap c.push.new.items.cap c.push.new.items.items put (λ at. term-of strict (tables_of E) at n st _ (c.in-Ok.ensures.built at st refl refl))) c.push.ensures.ok)
+    c.push.ensures.err)
 
-pub returns-in_ok-made-in-TermSave-clause-steps : goal.returns-in_ok-made-in-TermSave-clause-steps
-returns-in_ok-made-in-TermSave-clause-steps g c hyps = rw c.in-TermSave.is (unless-mem c.push.result (no-more _ _ refl))
-
-pub returns-in_ok-proved-in-ThmSave-clause-grows : goal.returns-in_ok-proved-in-ThmSave-clause-grows
-returns-in_ok-proved-in-ThmSave-clause-grows g c = on-ok c.push-in-ThmSave.result (grows-not _ c.args.store.now c.requires.over)
-
-pub returns-in_ok-proved-in-ThmSave-clause-ids : goal.returns-in_ok-proved-in-ThmSave-clause-ids
-returns-in_ok-proved-in-ThmSave-clause-ids g c =
-    let made = c.in_ok-proved-in-ThmSave.ensures.ids in
-    on_ok_weaker c.push-in-ThmSave.result (λ is. (
-      rw is (items-in-both c.args.store.now c.args.heap.now.items (Proof c.in_ok-proved-in-ThmSave.proved ∷ []) c.requires.heap
-          (made.0, tt)),
-      made.1,
-    )) c.push-in-ThmSave.ensures.ok
-
-pub returns-in_ok-proved-in-ThmSave-clause-row : goal.returns-in_ok-proved-in-ThmSave-clause-row
-returns-in_ok-proved-in-ThmSave-clause-row g c at hyps inside =
+pub returns-in-Err-clause-done : goal.returns-in-Err-clause-done
+returns-in-Err-clause-done g c hyps hyps_in =
+    let E = c.args.earlier.now in
     let s = c.args.store.now in
-    let after = state_at s [] c.thm-in-ThmSave.new.stack.items hyps in
-    let row = c.in_ok-proved-in-ThmSave.ensures.saved at (state_at s c.args.heap.now.items c.args.stack.now.items hyps) refl refl in
-    rw c.in-ThmSave.is (pushed-gives c.push-in-ThmSave.result _ _
-    (on_ok_weaker c.push-in-ThmSave.result (λ is. row ∙ ap (λ heap. Ok (record after { heap = heap }))
-    (sym (heap-pushed s c.args.heap.now.items c.push-in-ThmSave.new.items.items (Proof c.in_ok-proved-in-ThmSave.proved) is))) c.push-in-ThmSave.ensures.ok)
-    c.push-in-ThmSave.ensures.err)
+    let heap = c.args.heap.now.items in
+    let stack = c.args.stack.now.items in
+    let n = c.args.value in
+    let st = state_at s heap stack hyps in
+    rw c.in-Term.is (stopped-executes (signatures_of E) (λ at. proof_step strict (tables_of E) at code.Term n st) ⊥ s s heap stack stack hyps 0 0 (λ none. none) c.in-Err.stop
+    (λ at. stops-as c.in-Err.stop _ (λ k. proof_step strict (tables_of E) at code.Term n st ≡ Err k) (λ k h. term-of strict (tables_of E) at n st (Err k) h) (c.in-Err.ensures.built at st refl refl)))
 
-pub returns-in_ok-proved-in-ThmSave-clause-steps : goal.returns-in_ok-proved-in-ThmSave-clause-steps
-returns-in_ok-proved-in-ThmSave-clause-steps g c hyps =
-    rw c.in-ThmSave.is (unless-mem c.push-in-ThmSave.result (c.in_ok-proved-in-ThmSave.ensures.steps (state_at c.args.store.now c.args.heap.now.items c.args.stack.now.items hyps) refl refl))
+pub returns-in-Ok-clause-steps : goal.returns-in-Ok-clause-steps
+returns-in-Ok-clause-steps g c hyps = rw c.in-Term.is (quiet c.push.result c.args.steps.now (length c.args.earlier.now.file))
 
-pub returns-in_ok-proved-in-ThmSave-clause-most : goal.returns-in_ok-proved-in-ThmSave-clause-most
-returns-in_ok-proved-in-ThmSave-clause-most g c = c.thm-in-ThmSave.ensures.most
+pub returns-in-Err-clause-steps : goal.returns-in-Err-clause-steps
+returns-in-Err-clause-steps g c hyps = rw c.in-Term.is (quiet {A = Unit {0}} (Err c.in-Err.stop) c.args.steps.now (length c.args.earlier.now.file))
 
--- ---- what stops it
+-- ---- TermSave
 
-pub returns-in_err-term-in-Term-clause-grows : goal.returns-in_err-term-in-Term-clause-grows
-returns-in_err-term-in-Term-clause-grows g c = rw (err_from_is_err_and c.from_residual.result c.from_residual.ensures.1).1 tt
+pub returns-in-Ok-build-clause-done : goal.returns-in-Ok-build-clause-done
+returns-in-Ok-build-clause-done g c hyps hyps_in =
+    let E = c.args.earlier.now in
+    let s = c.args.store.now in
+    let heap = c.args.heap.now.items in
+    let stack = c.args.stack.now.items in
+    let n = c.args.value in
+    let st = state_at s heap stack hyps in
+    rw c.in-TermSave.is (kept-executes (signatures_of E) (λ at. proof_step strict (tables_of E) at code.TermSave n st) ⊥ s c.build-in-TermSave.new.store c.push_both.new.heap.items stack c.push_both.new.stack.items hyps c.args.stack.now.cap c.push_both.new.stack.cap (λ none. none) c.push_both.result
+    (λ put. made-saved (signatures_of E) (λ at. proof_step strict (tables_of E) at code.TermSave n st) s c.build-in-TermSave.new.store c.in-Ok-build.ensures.grows c.build-in-TermSave.ensures.context heap stack c.build-in-TermSave.new.stack.items hyps c.requires.ready.heap_in hyps_in (Expr c.in-Ok-build.made) c.in-Ok-build.ensures.ids.0 c.in-Ok-build.ensures.ids.1 c.args.stack.now.cap c.push_both.new.stack.cap c.push_both.new.heap.items c.push_both.new.stack.items put.0 put.1 (λ at. term-save-of strict (tables_of E) at n st _ (c.in-Ok-build.ensures.built at st refl refl)))
+    c.push_both.ensures)
 
-pub returns-in_err-term-in-Term-clause-ids : goal.returns-in_err-term-in-Term-clause-ids
-returns-in_err-term-in-Term-clause-ids g c = rw (err_from_is_err_and c.from_residual.result c.from_residual.ensures.1).1 tt
+pub returns-in-Err-build-clause-done : goal.returns-in-Err-build-clause-done
+returns-in-Err-build-clause-done g c hyps hyps_in =
+    let E = c.args.earlier.now in
+    let s = c.args.store.now in
+    let heap = c.args.heap.now.items in
+    let stack = c.args.stack.now.items in
+    let n = c.args.value in
+    let st = state_at s heap stack hyps in
+    rw c.in-TermSave.is (stopped-executes (signatures_of E) (λ at. proof_step strict (tables_of E) at code.TermSave n st) ⊥ s s heap stack stack hyps 0 0 (λ none. none) c.in-Err-build.stop
+    (λ at. stops-as c.in-Err-build.stop _ (λ k. proof_step strict (tables_of E) at code.TermSave n st ≡ Err k) (λ k h. term-save-of strict (tables_of E) at n st (Err k) h) (c.in-Err-build.ensures.built at st refl refl)))
 
-pub returns-in_err-term-in-Term-clause-row : goal.returns-in_err-term-in-Term-clause-row
-returns-in_err-term-in-Term-clause-row g c at hyps inside =
-    let p = err_from_is_err_and c.from_residual.result c.from_residual.ensures.1 in
-    rw (p.1, p.2, c.in-Term.is) (c.in_err-term-in-Term.ensures.plain at (state_at c.args.store.now c.args.heap.now.items c.args.stack.now.items hyps) refl refl)
+pub returns-in-Ok-build-clause-steps : goal.returns-in-Ok-build-clause-steps
+returns-in-Ok-build-clause-steps g c hyps = rw c.in-TermSave.is (quiet c.push_both.result c.args.steps.now (length c.args.earlier.now.file))
 
-pub returns-in_err-term-in-Term-clause-steps : goal.returns-in_err-term-in-Term-clause-steps
-returns-in_err-term-in-Term-clause-steps g c hyps = rw c.in-Term.is (unless-mem c.from_residual.result (no-more _ _ refl))
+pub returns-in-Err-build-clause-steps : goal.returns-in-Err-build-clause-steps
+returns-in-Err-build-clause-steps g c hyps = rw c.in-TermSave.is (quiet {A = Unit {0}} (Err c.in-Err-build.stop) c.args.steps.now (length c.args.earlier.now.file))
 
-pub returns-in_err-made-in-TermSave-clause-grows : goal.returns-in_err-made-in-TermSave-clause-grows
-returns-in_err-made-in-TermSave-clause-grows g c =
-    rw (err_from_is_err_and c.from_residual-in_err-made-in-TermSave.result c.from_residual-in_err-made-in-TermSave.ensures.1).1 tt
+-- ---- Thm
 
-pub returns-in_err-made-in-TermSave-clause-ids : goal.returns-in_err-made-in-TermSave-clause-ids
-returns-in_err-made-in-TermSave-clause-ids g c = rw (err_from_is_err_and c.from_residual-in_err-made-in-TermSave.result c.from_residual-in_err-made-in-TermSave.ensures.1).1 tt
+pub returns-in-Ok-cite-clause-done : goal.returns-in-Ok-cite-clause-done
+returns-in-Ok-cite-clause-done g c hyps hyps_in =
+    let E = c.args.earlier.now in
+    let s = c.args.store.now in
+    let heap = c.args.heap.now.items in
+    let stack = c.args.stack.now.items in
+    let n = c.args.value in
+    let st = state_at s heap stack hyps in
+    rw c.in-Thm.is (pushed-executes (signatures_of E) (λ at. proof_step strict (tables_of E) at code.Thm n st) ⊥ s s heap stack c.push-in-Ok-cite.new.items.items hyps c.args.stack.now.cap c.push-in-Ok-cite.new.items.cap (λ none. none) c.push-in-Ok-cite.result
+    (on_ok_weaker c.push-in-Ok-cite.result (λ put. made (signatures_of E) (λ at. proof_step strict (tables_of E) at code.Thm n st) s s (grows-not (signatures_of E) s c.requires.ready.over) refl heap stack c.cite.new.stack.items hyps c.requires.ready.heap_in hyps_in (Proof c.in-Ok-cite.proved) c.in-Ok-cite.ensures.ids.0 c.in-Ok-cite.ensures.ids.1 c.args.stack.now.cap c.push-in-Ok-cite.new.items.cap c.push-in-Ok-cite.new.items.items put (λ at. thm-of strict (tables_of E) n st at _ (c.in-Ok-cite.ensures.cited st refl refl))) c.push-in-Ok-cite.ensures.ok)
+    c.push-in-Ok-cite.ensures.err)
 
-pub returns-in_err-made-in-TermSave-clause-row : goal.returns-in_err-made-in-TermSave-clause-row
-returns-in_err-made-in-TermSave-clause-row g c at hyps inside =
-    let p = err_from_is_err_and c.from_residual-in_err-made-in-TermSave.result c.from_residual-in_err-made-in-TermSave.ensures.1 in
-    rw (p.1, p.2, c.in-TermSave.is) (c.in_err-made-in-TermSave.ensures.saved at (state_at c.args.store.now c.args.heap.now.items c.args.stack.now.items hyps) refl refl)
+pub returns-in-Err-cite-clause-done : goal.returns-in-Err-cite-clause-done
+returns-in-Err-cite-clause-done g c hyps hyps_in =
+    let E = c.args.earlier.now in
+    let s = c.args.store.now in
+    let heap = c.args.heap.now.items in
+    let stack = c.args.stack.now.items in
+    let n = c.args.value in
+    let st = state_at s heap stack hyps in
+    rw c.in-Thm.is (stopped-executes (signatures_of E) (λ at. proof_step strict (tables_of E) at code.Thm n st) ⊥ s s heap stack stack hyps 0 0 (λ none. none) c.in-Err-cite.stop
+    (λ at. stops-as c.in-Err-cite.stop _ (λ k. proof_step strict (tables_of E) at code.Thm n st ≡ Err k) (λ k h. thm-of strict (tables_of E) n st at (Err k) h) (c.in-Err-cite.ensures.cited st refl refl)))
 
-pub returns-in_err-made-in-TermSave-clause-steps : goal.returns-in_err-made-in-TermSave-clause-steps
-returns-in_err-made-in-TermSave-clause-steps g c hyps = rw c.in-TermSave.is (unless-mem c.from_residual-in_err-made-in-TermSave.result (no-more _ _ refl))
+pub returns-in-Ok-cite-clause-steps : goal.returns-in-Ok-cite-clause-steps
+returns-in-Ok-cite-clause-steps g c hyps =
+    let E = c.args.earlier.now in
+    let s = c.args.store.now in
+    let heap = c.args.heap.now.items in
+    let stack = c.args.stack.now.items in
+    let n = c.args.value in
+    let st = state_at s heap stack hyps in
+    rw c.in-Thm.is (unless-mem c.push-in-Ok-cite.result (c.in-Ok-cite.ensures.steps st refl refl).0, (c.in-Ok-cite.ensures.steps st refl refl).1)
 
-pub returns-in_err-thm-in-Thm-clause-grows : goal.returns-in_err-thm-in-Thm-clause-grows
-returns-in_err-thm-in-Thm-clause-grows g c = rw (err_from_is_err_and c.from_residual-in_err-thm-in-Thm.result c.from_residual-in_err-thm-in-Thm.ensures.1).1 tt
+pub returns-in-Err-cite-clause-steps : goal.returns-in-Err-cite-clause-steps
+returns-in-Err-cite-clause-steps g c hyps =
+    let E = c.args.earlier.now in
+    let s = c.args.store.now in
+    let heap = c.args.heap.now.items in
+    let stack = c.args.stack.now.items in
+    let n = c.args.value in
+    let st = state_at s heap stack hyps in
+    rw c.in-Thm.is (c.in-Err-cite.ensures.steps st refl refl)
 
-pub returns-in_err-thm-in-Thm-clause-ids : goal.returns-in_err-thm-in-Thm-clause-ids
-returns-in_err-thm-in-Thm-clause-ids g c = rw (err_from_is_err_and c.from_residual-in_err-thm-in-Thm.result c.from_residual-in_err-thm-in-Thm.ensures.1).1 tt
+-- ---- ThmSave
 
-pub returns-in_err-thm-in-Thm-clause-row : goal.returns-in_err-thm-in-Thm-clause-row
-returns-in_err-thm-in-Thm-clause-row g c at hyps inside =
-    let p = err_from_is_err_and c.from_residual-in_err-thm-in-Thm.result c.from_residual-in_err-thm-in-Thm.ensures.1 in
-    rw (p.1, p.2, c.in-Thm.is) (c.in_err-thm-in-Thm.ensures.plain at (state_at c.args.store.now c.args.heap.now.items c.args.stack.now.items hyps) refl refl)
+pub returns-in-Ok-cite-2-clause-done : goal.returns-in-Ok-cite-2-clause-done
+returns-in-Ok-cite-2-clause-done g c hyps hyps_in =
+    let E = c.args.earlier.now in
+    let s = c.args.store.now in
+    let heap = c.args.heap.now.items in
+    let stack = c.args.stack.now.items in
+    let n = c.args.value in
+    let st = state_at s heap stack hyps in
+    rw c.in-ThmSave.is (kept-executes (signatures_of E) (λ at. proof_step strict (tables_of E) at code.ThmSave n st) ⊥ s s c.push_both-in-Ok-cite-2.new.heap.items stack c.push_both-in-Ok-cite-2.new.stack.items hyps c.args.stack.now.cap c.push_both-in-Ok-cite-2.new.stack.cap (λ none. none) c.push_both-in-Ok-cite-2.result
+    (λ put. made-saved (signatures_of E) (λ at. proof_step strict (tables_of E) at code.ThmSave n st) s s (grows-not (signatures_of E) s c.requires.ready.over) refl heap stack c.cite-in-ThmSave.new.stack.items hyps c.requires.ready.heap_in hyps_in (Proof c.in-Ok-cite-2.proved) c.in-Ok-cite-2.ensures.ids.0 c.in-Ok-cite-2.ensures.ids.1 c.args.stack.now.cap c.push_both-in-Ok-cite-2.new.stack.cap c.push_both-in-Ok-cite-2.new.heap.items c.push_both-in-Ok-cite-2.new.stack.items put.0 put.1 (λ at. thm-save-of strict (tables_of E) n st at _ (c.in-Ok-cite-2.ensures.cited st refl refl)))
+    c.push_both-in-Ok-cite-2.ensures)
 
-pub returns-in_err-thm-in-Thm-clause-steps : goal.returns-in_err-thm-in-Thm-clause-steps
-returns-in_err-thm-in-Thm-clause-steps g c hyps =
-    let p = err_from_is_err_and c.from_residual-in_err-thm-in-Thm.result c.from_residual-in_err-thm-in-Thm.ensures.1 in
-    rw (p.1, p.2, c.in-Thm.is) (c.in_err-thm-in-Thm.ensures.steps (state_at c.args.store.now c.args.heap.now.items c.args.stack.now.items hyps) refl refl)
+pub returns-in-Err-cite-2-clause-done : goal.returns-in-Err-cite-2-clause-done
+returns-in-Err-cite-2-clause-done g c hyps hyps_in =
+    let E = c.args.earlier.now in
+    let s = c.args.store.now in
+    let heap = c.args.heap.now.items in
+    let stack = c.args.stack.now.items in
+    let n = c.args.value in
+    let st = state_at s heap stack hyps in
+    rw c.in-ThmSave.is (stopped-executes (signatures_of E) (λ at. proof_step strict (tables_of E) at code.ThmSave n st) ⊥ s s heap stack stack hyps 0 0 (λ none. none) c.in-Err-cite-2.stop
+    (λ at. stops-as c.in-Err-cite-2.stop _ (λ k. proof_step strict (tables_of E) at code.ThmSave n st ≡ Err k) (λ k h. thm-save-of strict (tables_of E) n st at (Err k) h) (c.in-Err-cite-2.ensures.cited st refl refl)))
 
-pub returns-in_err-thm-in-Thm-clause-most : goal.returns-in_err-thm-in-Thm-clause-most
-returns-in_err-thm-in-Thm-clause-most g c = c.thm.ensures.most
+pub returns-in-Ok-cite-2-clause-steps : goal.returns-in-Ok-cite-2-clause-steps
+returns-in-Ok-cite-2-clause-steps g c hyps =
+    let E = c.args.earlier.now in
+    let s = c.args.store.now in
+    let heap = c.args.heap.now.items in
+    let stack = c.args.stack.now.items in
+    let n = c.args.value in
+    let st = state_at s heap stack hyps in
+    rw c.in-ThmSave.is (unless-mem c.push_both-in-Ok-cite-2.result (c.in-Ok-cite-2.ensures.steps st refl refl).0, (c.in-Ok-cite-2.ensures.steps st refl refl).1)
 
-pub returns-in_err-proved-in-ThmSave-clause-grows : goal.returns-in_err-proved-in-ThmSave-clause-grows
-returns-in_err-proved-in-ThmSave-clause-grows g c =
-    rw (err_from_is_err_and c.from_residual-in_err-proved-in-ThmSave.result c.from_residual-in_err-proved-in-ThmSave.ensures.1).1 tt
-
-pub returns-in_err-proved-in-ThmSave-clause-ids : goal.returns-in_err-proved-in-ThmSave-clause-ids
-returns-in_err-proved-in-ThmSave-clause-ids g c =
-    rw (err_from_is_err_and c.from_residual-in_err-proved-in-ThmSave.result c.from_residual-in_err-proved-in-ThmSave.ensures.1).1 tt
-
-pub returns-in_err-proved-in-ThmSave-clause-row : goal.returns-in_err-proved-in-ThmSave-clause-row
-returns-in_err-proved-in-ThmSave-clause-row g c at hyps inside =
-    let p = err_from_is_err_and c.from_residual-in_err-proved-in-ThmSave.result c.from_residual-in_err-proved-in-ThmSave.ensures.1 in
-    rw (p.1, p.2, c.in-ThmSave.is) (c.in_err-proved-in-ThmSave.ensures.saved at (state_at c.args.store.now c.args.heap.now.items c.args.stack.now.items hyps) refl refl)
-
-pub returns-in_err-proved-in-ThmSave-clause-steps : goal.returns-in_err-proved-in-ThmSave-clause-steps
-returns-in_err-proved-in-ThmSave-clause-steps g c hyps =
-    let p = err_from_is_err_and c.from_residual-in_err-proved-in-ThmSave.result c.from_residual-in_err-proved-in-ThmSave.ensures.1 in
-    rw (p.1, p.2, c.in-ThmSave.is) (c.in_err-proved-in-ThmSave.ensures.steps (state_at c.args.store.now c.args.heap.now.items c.args.stack.now.items hyps) refl refl)
-
-pub returns-in_err-proved-in-ThmSave-clause-most : goal.returns-in_err-proved-in-ThmSave-clause-most
-returns-in_err-proved-in-ThmSave-clause-most g c = c.thm-in-ThmSave.ensures.most
+pub returns-in-Err-cite-2-clause-steps : goal.returns-in-Err-cite-2-clause-steps
+returns-in-Err-cite-2-clause-steps g c hyps =
+    let E = c.args.earlier.now in
+    let s = c.args.store.now in
+    let heap = c.args.heap.now.items in
+    let stack = c.args.stack.now.items in
+    let n = c.args.value in
+    let st = state_at s heap stack hyps in
+    rw c.in-ThmSave.is (c.in-Err-cite-2.ensures.steps st refl refl)
 
 -- ---- what the calls ask
 
-pub term-requires-clause-over : goal.term-requires-clause-over
-term-requires-clause-over g c = c.requires.over
+pub build-requires-clause-over : goal.build-requires-clause-over
+build-requires-clause-over g c = c.requires.ready.over
 
-pub term-requires-clause-stack : goal.term-requires-clause-stack
-term-requires-clause-stack g c = c.requires.stack
+pub build-requires-clause-stack : goal.build-requires-clause-stack
+build-requires-clause-stack g c = c.requires.ready.stack_in
 
-pub term-requires-in-TermSave-clause-over : goal.term-requires-in-TermSave-clause-over
-term-requires-in-TermSave-clause-over g c = c.requires.over
+pub cite-requires-clause-over : goal.cite-requires-clause-over
+cite-requires-clause-over g c = c.requires.ready.over
 
-pub term-requires-in-TermSave-clause-stack : goal.term-requires-in-TermSave-clause-stack
-term-requires-in-TermSave-clause-stack g c = c.requires.stack
-
-pub thm-requires-clause-over : goal.thm-requires-clause-over
-thm-requires-clause-over g c = c.requires.over
-
-pub thm-requires-clause-stack : goal.thm-requires-clause-stack
-thm-requires-clause-stack g c = c.requires.stack
-
-pub thm-requires-in-ThmSave-clause-over : goal.thm-requires-in-ThmSave-clause-over
-thm-requires-in-ThmSave-clause-over g c = c.requires.over
-
-pub thm-requires-in-ThmSave-clause-stack : goal.thm-requires-in-ThmSave-clause-stack
-thm-requires-in-ThmSave-clause-stack g c = c.requires.stack
+pub cite-requires-clause-stack : goal.cite-requires-clause-stack
+cite-requires-clause-stack g c = c.requires.ready.stack_in

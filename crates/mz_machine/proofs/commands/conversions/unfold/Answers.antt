@@ -1,153 +1,114 @@
-use Rattle.std.proofs.Common.{◌≡◌, ◌∙◌, ◌+◌, ◌++◌, Err, ap, sym, subst, arith}
-use Rattle.std.proofs.lemmas.Result.{err_from_is_err_and}
-use Rattle.mz_cmd.specs.declared.code.ProofCode.TheVariants as code
+use Rattle.std.proofs.Common.{◌≡◌, ◌∙◌, ◌+◌, Err, sym, subst, arith}
 use Rattle.mz_machine_theory.specs.ProofMachine.{proof_step}
+use Rattle.mz_cmd.specs.declared.code.ProofCode.TheVariants as code
 use Rattle.mz_machine_theory.specs.Bodies.{row_steps}
 use Rattle.mz_machine_env.specs.Before.{tables_of}
 use Rattle.mz_store.specs.Sharing.{IsOver, tree_of}
-use Rattle.mz_unify.specs.Stored.{trees_at}
-use Rattle.mz_machine.specs.OverStore.{pop_unfolding}
+use Rattle.mz_unify.specs.Stored.{items_at}
 use Rattle.mz_machine_env.proofs.Offered.{signatures-before}
 use Rattle.mz_unify_theory.specs.Profile.{strict}
-use Rattle.mz_unify.proofs.Offered.{of-trees, stopped-through, went-through}
-use Rattle.mz_machine.proofs.ConversionRows.{not-taken, of-variable, not-defined, is-unfolding, unfold-stopped, stopped-steps, unfold-refused, unfold-row, unfold-steps, gives-stack}
-use Rattle.mz_machine.proofs.Converting.{operand-trees}
-use Rattle.mz_machine.proofs.Unfoldings.{term-there, row-there, stream-there, no-stream, same-run, same-count, no-more, so-many, ids-pushed, items-pushed, unless-mem}
+use Rattle.mz_unify.proofs.Offered.{stopped-through, went-through}
+use Rattle.mz_machine.proofs.ConversionRows.{unfold-stopped, stopped-steps, unfold-refused, unfold-row, unfold-steps, gives-stack}
+use Rattle.mz_machine.proofs.Stopping.{stops-as}
+use Rattle.mz_machine.proofs.Unfoldings.{unfolded, same-run, same-count, no-more, so-many, ids-pushed, items-pushed, unless-mem}
 use Rattle.mz_machine.proofs.commands.conversions.unfold.Goals as goal
 
+pub returns-in-Err-clause-ids : goal.returns-in-Err-clause-ids
+returns-in-Err-clause-ids g c = tt
+
 pub returns-in-Err-clause-row : goal.returns-in-Err-clause-row
-returns-in-Err-clause-row g c at n st ctx is = unfold-stopped strict _ st at n _ (not-taken strict _ st _ (ap pop_unfolding is ∙ c.in-Err.ensures.taken))
+returns-in-Err-clause-row g c at n st ctx is =
+    let tables = tables_of c.args.earlier.now in
+    stops-as c.in-Err.stop _ (λ k. proof_step strict tables at code.Unfold n st ≡ Err k) (λ k h. unfold-stopped strict tables st at n k h) (c.in-Err.ensures.taken st is)
 
 pub returns-in-Err-clause-steps : goal.returns-in-Err-clause-steps
-returns-in-Err-clause-steps g c n st ctx is = no-more _ _ (stopped-steps strict _ st n _ (not-taken strict _ st _ (ap pop_unfolding is ∙ c.in-Err.ensures.taken)))
+returns-in-Err-clause-steps g c n st ctx is =
+    let tables = tables_of c.args.earlier.now in
+    let old = c.args.steps.now in
+    (stops-as c.in-Err.stop _ (λ k. old ≡ old + row_steps strict tables code.Unfold n st) (λ k h. no-more _ _ (stopped-steps strict tables st n k h)) (c.in-Err.ensures.taken st is), omega arith)
 
-pub returns-in_default-clause-row : goal.returns-in_default-clause-row
-returns-in_default-clause-row g c at n st ctx is =
-    unfold-stopped strict _ st at n _ (of-variable strict _ st of-trees _ _ _ _ (ap pop_unfolding is ∙ c.in-Ok.ensures.taken) (sym c.head.ensures ∙ c.in_default.is))
+pub returns-in-Ok-through-clause-ids : goal.returns-in-Ok-through-clause-ids
+returns-in-Ok-through-clause-ids g c =
+    let ids = c.in-Ok.ensures.ids in
+    ids-pushed c.args.store.now _ _ _ c.push.result c.push.ensures.ok (ids.0, ids.1) ids.4
 
-pub returns-in_default-clause-steps : goal.returns-in_default-clause-steps
-returns-in_default-clause-steps g c n st ctx is =
-    no-more _ _ (stopped-steps strict _ st n _ (of-variable strict _ st of-trees _ _ _ _ (ap pop_unfolding is ∙ c.in-Ok.ensures.taken) (sym c.head.ensures ∙ c.in_default.is)))
+pub returns-in-Ok-through-clause-row : goal.returns-in-Ok-through-clause-row
+returns-in-Ok-through-clause-row g c at n st ctx is =
+    let E = c.args.earlier.now in
+    let s = c.args.store.now in
+    let ids = c.in-Ok.ensures.ids in
+    let taken = c.in-Ok.ensures.taken st is in
+    let m = unfolded E s st.ctx ctx c.in-Ok.taken.2 c.in-Ok.taken.0 c.take_unfolding.new.spare.operands.items in
+    let right = tree_of s c.in-Ok.taken.1.0 in
+    let below = items_at s c.take_unfolding.new.stack.items in
+    let stream = c.stream_of_term-stream.result.now in
+    let run = (went-through c.unify_in.result _ _ _ c.in-Ok-through.ensures c.unify_in.ensures.run).1 in
+    gives-stack st _ _ _ c.push.result (unfold-row strict (tables_of E) st m right below taken at n _ (same-run E s st.ctx ctx c.in-Ok.taken.2 c.in-Ok.taken.0 c.take_unfolding.new.spare.operands.items stream c.take_unfolding.new.spare.hyps.items c.stream_of_term-stream.ensures.stream ids.5 ∙ run.1))
+    (items-pushed s _ _ _ c.push.result c.push.ensures.ok) c.push.ensures.err
 
-pub has_body-requires : goal.has_body-requires
-has_body-requires g c = term-there c.args.earlier.now c.args.store.now c.requires.over c.in-Ok.items.1.0 c.in-Some.term c.in-Ok.ensures.ids.1 (sym c.head.ensures ∙ c.in-Some.is)
+pub returns-in-Err-through-clause-row : goal.returns-in-Err-through-clause-row
+returns-in-Err-through-clause-row g c at n st ctx is =
+    let E = c.args.earlier.now in
+    let s = c.args.store.now in
+    let ids = c.in-Ok.ensures.ids in
+    let taken = c.in-Ok.ensures.taken st is in
+    let m = unfolded E s st.ctx ctx c.in-Ok.taken.2 c.in-Ok.taken.0 c.take_unfolding.new.spare.operands.items in
+    let right = tree_of s c.in-Ok.taken.1.0 in
+    let below = items_at s c.take_unfolding.new.stack.items in
+    let stream = c.stream_of_term-stream.result.now in
+    stopped-through c.unify_in.result _ _ (λ d. proof_step strict (tables_of E) at code.Unfold n st ≡ Err d) c.in-Err-through.stop c.in-Err-through.ensures c.unify_in.ensures.run
+    (λ place d stopped. unfold-refused strict (tables_of E) st m right below taken at n place d (same-run E s st.ctx ctx c.in-Ok.taken.2 c.in-Ok.taken.0 c.take_unfolding.new.spare.operands.items stream c.take_unfolding.new.spare.hyps.items c.stream_of_term-stream.ensures.stream ids.5 ∙ stopped))
 
-pub returns-then-not-has_body-clause-row : goal.returns-then-not-has_body-clause-row
-returns-then-not-has_body-clause-row g c at n st ctx is =
-    let h = sym c.head.ensures ∙ c.in-Some.is in
-    let there = row-there c.args.earlier.now c.in-Some.term (term-there c.args.earlier.now c.args.store.now c.requires.over c.in-Ok.items.1.0 c.in-Some.term c.in-Ok.ensures.ids.1 h) in
-    unfold-stopped strict _ st at n _ (not-defined strict _ st of-trees _ _ _ _ (ap pop_unfolding is ∙ c.in-Ok.ensures.taken) c.in-Some.term h
-    (no-stream c.args.earlier.now c.in-Some.term there (sym c.has_body.ensures.row ∙ c.if-not-has_body.true)))
+pub returns-in-Ok-through-clause-steps : goal.returns-in-Ok-through-clause-steps
+returns-in-Ok-through-clause-steps g c n st ctx is =
+    let E = c.args.earlier.now in
+    let s = c.args.store.now in
+    let ids = c.in-Ok.ensures.ids in
+    let taken = c.in-Ok.ensures.taken st is in
+    let m = unfolded E s st.ctx ctx c.in-Ok.taken.2 c.in-Ok.taken.0 c.take_unfolding.new.spare.operands.items in
+    let right = tree_of s c.in-Ok.taken.1.0 in
+    let below = items_at s c.take_unfolding.new.stack.items in
+    let stream = c.stream_of_term-stream.result.now in
+    let count = unfold-steps strict (tables_of E) st m right below taken n ∙ sym (same-count E s st.ctx ctx c.in-Ok.taken.2 c.in-Ok.taken.0 c.take_unfolding.new.spare.operands.items stream c.take_unfolding.new.spare.hyps.items c.stream_of_term-stream.ensures.stream ids.5) in (
+      unless-mem c.push.result (so-many _ _ _ _ (went-through c.unify_in.result _ _ _ c.in-Ok-through.ensures c.unify_in.ensures.steps).1 count),
+      omega (arith, c.unify_in.ensures.most, c.stream_of_term-stream.ensures.within),
+    )
 
-pub returns-then-not-has_body-clause-steps : goal.returns-then-not-has_body-clause-steps
-returns-then-not-has_body-clause-steps g c n st ctx is =
-    let h = sym c.head.ensures ∙ c.in-Some.is in
-    let there = row-there c.args.earlier.now c.in-Some.term (term-there c.args.earlier.now c.args.store.now c.requires.over c.in-Ok.items.1.0 c.in-Some.term c.in-Ok.ensures.ids.1 h) in
-    no-more _ _ (stopped-steps strict _ st n _ (not-defined strict _ st of-trees _ _ _ _ (ap pop_unfolding is ∙ c.in-Ok.ensures.taken) c.in-Some.term h
-    (no-stream c.args.earlier.now c.in-Some.term there (sym c.has_body.ensures.row ∙ c.if-not-has_body.true))))
+pub returns-in-Err-through-clause-steps : goal.returns-in-Err-through-clause-steps
+returns-in-Err-through-clause-steps g c n st ctx is =
+    let E = c.args.earlier.now in
+    let s = c.args.store.now in
+    let ids = c.in-Ok.ensures.ids in
+    let taken = c.in-Ok.ensures.taken st is in
+    let m = unfolded E s st.ctx ctx c.in-Ok.taken.2 c.in-Ok.taken.0 c.take_unfolding.new.spare.operands.items in
+    let right = tree_of s c.in-Ok.taken.1.0 in
+    let below = items_at s c.take_unfolding.new.stack.items in
+    let stream = c.stream_of_term-stream.result.now in
+    let count = unfold-steps strict (tables_of E) st m right below taken n ∙ sym (same-count E s st.ctx ctx c.in-Ok.taken.2 c.in-Ok.taken.0 c.take_unfolding.new.spare.operands.items stream c.take_unfolding.new.spare.hyps.items c.stream_of_term-stream.ensures.stream ids.5) in (
+      stopped-through c.unify_in.result _ _ (λ d. c.unify_in.new.steps ≡ c.args.steps.now + row_steps strict (tables_of E) code.Unfold n st) c.in-Err-through.stop c.in-Err-through.ensures c.unify_in.ensures.steps
+          (λ place d many. so-many _ _ _ _ many count),
+      omega (arith, c.unify_in.ensures.most, c.stream_of_term-stream.ensures.within),
+    )
+
+-- ---- what the calls ask
+
+pub take_unfolding-requires-clause-over : goal.take_unfolding-requires-clause-over
+take_unfolding-requires-clause-over g c = c.requires.over
+
+pub take_unfolding-requires-clause-stack : goal.take_unfolding-requires-clause-stack
+take_unfolding-requires-clause-stack g c = c.requires.stack
 
 pub stream_of_term-stream-requires : goal.stream_of_term-stream-requires
-stream_of_term-stream-requires g c = row-there c.args.earlier.now c.in-Some.term (term-there c.args.earlier.now c.args.store.now c.requires.over c.in-Ok.items.1.0 c.in-Some.term c.in-Ok.ensures.ids.1 (sym c.head.ensures ∙ c.in-Some.is))
+stream_of_term-stream-requires g c = c.in-Ok.ensures.ids.2
 
 pub unify_in-requires-clause-over : goal.unify_in-requires-clause-over
 unify_in-requires-clause-over g c = subst (λ sigs. IsOver sigs c.args.store.now) (sym (signatures-before c.args.earlier.now)) c.requires.over
 
-pub returns-clause-ids : goal.returns-clause-ids
-returns-clause-ids g c = ids-pushed c.args.store.now _ _ _ c.push.result c.push.ensures.ok (c.in-Ok.ensures.ids.0, c.in-Ok.ensures.ids.2) c.in-Ok.ensures.ids.3
-
-pub returns-clause-row : goal.returns-clause-row
-returns-clause-row g c at n st ctx is =
-    let E = c.args.earlier.now in
-    let s = c.args.store.now in
-    let t = c.in-Some.term in
-    let l = tree_of s c.in-Ok.items.1.0 in
-    let h = sym c.head.ensures ∙ c.in-Some.is in
-    let there = row-there E t (term-there E s c.requires.over c.in-Ok.items.1.0 t c.in-Ok.ensures.ids.1 h) in
-    let m = is-unfolding strict _ st of-trees _ _ _ _ (ap pop_unfolding is ∙ c.in-Ok.ensures.taken) t _ h (stream-there E t there (sym c.has_body.ensures.row ∙ c.if-not-has_body.false)) in
-    let ops = c.in-Ok-extend_from_slice.ensures.items ∙ ap (λ is. is ++ c.args-2.result.now) c.clear.ensures.items in
-    let are = ap (trees_at s) ops ∙ operand-trees s c.args-2.result.now l c.args-2.ensures.trees in
-    let run = (went-through c.unify_in.result _ _ _ c.in_ok-through.ensures c.unify_in.ensures.run).1 in
-    gives-stack st _ _ _ c.push.result
-    (unfold-row strict _ st _ _ _ m at n _ (same-run E s st.ctx ctx t l c.in-Ok.items.0 _ _ _ c.stream_of_term-stream.ensures.stream are c.clear-2.ensures.items ∙ run.1))
-    (items-pushed s _ _ _ c.push.result c.push.ensures.ok) c.push.ensures.err
-
-pub returns-clause-steps : goal.returns-clause-steps
-returns-clause-steps g c n st ctx is =
-    let E = c.args.earlier.now in
-    let s = c.args.store.now in
-    let t = c.in-Some.term in
-    let l = tree_of s c.in-Ok.items.1.0 in
-    let h = sym c.head.ensures ∙ c.in-Some.is in
-    let there = row-there E t (term-there E s c.requires.over c.in-Ok.items.1.0 t c.in-Ok.ensures.ids.1 h) in
-    let m = is-unfolding strict _ st of-trees _ _ _ _ (ap pop_unfolding is ∙ c.in-Ok.ensures.taken) t _ h (stream-there E t there (sym c.has_body.ensures.row ∙ c.if-not-has_body.false)) in
-    let ops = c.in-Ok-extend_from_slice.ensures.items ∙ ap (λ is. is ++ c.args-2.result.now) c.clear.ensures.items in
-    let are = ap (trees_at s) ops ∙ operand-trees s c.args-2.result.now l c.args-2.ensures.trees in
-    unless-mem c.push.result (so-many _ _ _ _ (went-through c.unify_in.result _ _ _ c.in_ok-through.ensures c.unify_in.ensures.steps).1 (unfold-steps strict _ st _ _ _ m n ∙ sym (same-count E s st.ctx ctx t l c.in-Ok.items.0 _ _ _ c.stream_of_term-stream.ensures.stream are c.clear-2.ensures.items)))
-
-pub returns-in_err-through-clause-row : goal.returns-in_err-through-clause-row
-returns-in_err-through-clause-row g c at n st ctx is =
-    let E = c.args.earlier.now in
-    let s = c.args.store.now in
-    let t = c.in-Some.term in
-    let l = tree_of s c.in-Ok.items.1.0 in
-    let h = sym c.head.ensures ∙ c.in-Some.is in
-    let there = row-there E t (term-there E s c.requires.over c.in-Ok.items.1.0 t c.in-Ok.ensures.ids.1 h) in
-    let m = is-unfolding strict _ st of-trees _ _ _ _ (ap pop_unfolding is ∙ c.in-Ok.ensures.taken) t _ h (stream-there E t there (sym c.has_body.ensures.row ∙ c.if-not-has_body.false)) in
-    let ops = c.in-Ok-extend_from_slice.ensures.items ∙ ap (λ is. is ++ c.args-2.result.now) c.clear.ensures.items in
-    let are = ap (trees_at s) ops ∙ operand-trees s c.args-2.result.now l c.args-2.ensures.trees in
-    let p = err_from_is_err_and c.from_residual.result c.from_residual.ensures.1 in
-    rw (p.1, p.2) (stopped-through c.unify_in.result _ _ (λ d. proof_step strict (tables_of E) at code.Unfold n st ≡ Err d) c.in_err-through.field-0.0 c.in_err-through.ensures c.unify_in.ensures.run
-    (λ place d stopped. unfold-refused strict _ st _ _ _ m at n place d (same-run E s st.ctx ctx t l c.in-Ok.items.0 _ _ _ c.stream_of_term-stream.ensures.stream are c.clear-2.ensures.items ∙ stopped)))
-
-pub returns-in_err-through-clause-steps : goal.returns-in_err-through-clause-steps
-returns-in_err-through-clause-steps g c n st ctx is =
-    let E = c.args.earlier.now in
-    let s = c.args.store.now in
-    let t = c.in-Some.term in
-    let l = tree_of s c.in-Ok.items.1.0 in
-    let h = sym c.head.ensures ∙ c.in-Some.is in
-    let there = row-there E t (term-there E s c.requires.over c.in-Ok.items.1.0 t c.in-Ok.ensures.ids.1 h) in
-    let m = is-unfolding strict _ st of-trees _ _ _ _ (ap pop_unfolding is ∙ c.in-Ok.ensures.taken) t _ h (stream-there E t there (sym c.has_body.ensures.row ∙ c.if-not-has_body.false)) in
-    let ops = c.in-Ok-extend_from_slice.ensures.items ∙ ap (λ is. is ++ c.args-2.result.now) c.clear.ensures.items in
-    let are = ap (trees_at s) ops ∙ operand-trees s c.args-2.result.now l c.args-2.ensures.trees in
-    let p = err_from_is_err_and c.from_residual.result c.from_residual.ensures.1 in
-    rw (p.1, p.2) (stopped-through c.unify_in.result _ _ (λ d. c.unify_in.new.steps ≡ c.args.steps.now + row_steps strict (tables_of E) code.Unfold n st) c.in_err-through.field-0.0 c.in_err-through.ensures c.unify_in.ensures.steps
-    (λ place d many. so-many _ _ _ _ many (unfold-steps strict _ st _ _ _ m n ∙ sym (same-count E s st.ctx ctx t l c.in-Ok.items.0 _ _ _ c.stream_of_term-stream.ensures.stream are c.clear-2.ensures.items))))
-
-pub returns-in_err-through-clause-ids : goal.returns-in_err-through-clause-ids
-returns-in_err-through-clause-ids g c = rw (err_from_is_err_and c.from_residual.result c.from_residual.ensures.1).1 tt
-
-pub returns-in_err-through-clause-most : goal.returns-in_err-through-clause-most
-returns-in_err-through-clause-most g c = omega (arith, c.unify_in.ensures.most, c.stream_of_term-stream.ensures.within)
-
-pub returns-clause-most : goal.returns-clause-most
-returns-clause-most g c = omega (arith, c.unify_in.ensures.most, c.stream_of_term-stream.ensures.within)
-
--- ---- what the calls ask
-
-pub pop_unfolding-requires : goal.pop_unfolding-requires
-pop_unfolding-requires g c = c.requires.stack
-
-pub head-requires : goal.head-requires
-head-requires g c = c.in-Ok.ensures.ids.1
-
-pub args-requires : goal.args-requires
-args-requires g c = c.in-Ok.ensures.ids.1
+pub unify_in-requires-clause-heap : goal.unify_in-requires-clause-heap
+unify_in-requires-clause-heap g c = c.in-Ok.ensures.ids.3
 
 pub unify_in-requires-clause-target : goal.unify_in-requires-clause-target
 unify_in-requires-clause-target g c = c.in-Ok.ensures.ids.0
 
 pub unify_in-requires-clause-stream : goal.unify_in-requires-clause-stream
 unify_in-requires-clause-stream g c = c.stream_of_term-stream.ensures.fits
-
-pub returns-in-Err-clause-ids : goal.returns-in-Err-clause-ids
-returns-in-Err-clause-ids g c = tt
-
-pub returns-in_default-clause-ids : goal.returns-in_default-clause-ids
-returns-in_default-clause-ids g c = tt
-
-pub returns-then-not-has_body-clause-ids : goal.returns-then-not-has_body-clause-ids
-returns-then-not-has_body-clause-ids g c = tt
-
-pub returns-in_default-extend_from_slice-clause-ids : goal.returns-in_default-extend_from_slice-clause-ids
-returns-in_default-extend_from_slice-clause-ids g c = tt
