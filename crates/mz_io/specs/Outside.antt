@@ -29,10 +29,6 @@ abbrev pub Appends : {E : Type 0} → List ℕ → List ℕ → Result ℕ E →
 Appends old new (Ok n) piece = new ≡ old ++ take n piece
 Appends old new (Err e) piece = new ≡ old
 
--- a prefix of the text is appended
-abbrev pub AppendsPrefix : List ℕ → List ℕ → List ℕ → Type 0
-AppendsPrefix old new text = (n : ℕ) × (new ≡ old ++ take n text)
-
 -- a place made for one later file: its name, and how many bytes it holds at most
 abbrev pub Rooms : Type 0
 Rooms = List (List ℕ × ℕ)

@@ -11,13 +11,6 @@ IfBytes TooLong P = Unit {0}
 IfBytes Fault P = Unit {0}
 IfBytes Mem P = Unit {0}
 
--- a fact, where the file was too long
-abbrev pub OnTooLong : Read → Type 0 → Type 0
-OnTooLong (Bytes bytes) P = Unit {0}
-OnTooLong TooLong P = P
-OnTooLong Fault P = Unit {0}
-OnTooLong Mem P = Unit {0}
-
 -- a fact, where a call on the folder failed
 abbrev pub OnFault : Read → Type 0 → Type 0
 OnFault (Bytes bytes) P = Unit {0}

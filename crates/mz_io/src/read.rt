@@ -2,7 +2,7 @@
 ghost use Rattle.std.specs.Prelude.{◌≡◌, ◌≤◌, ◌∷◌, List, ℕ, true, Some, IsSome, length};
 ghost use Rattle.mz_io.specs.Calls.{Grows, AreAnswered, starts};
 ghost use Rattle.mz_io.specs.Outside.{Rose, SameFiles};
-ghost use Rattle.mz_io.specs.Read.{IfBytes, OnTooLong, OnFault, IsLonger, IsReading};
+ghost use Rattle.mz_io.specs.Read.{IfBytes, OnFault, IsReading};
 
 use crate::Folder;
 use std::alloc::Global;
@@ -29,10 +29,9 @@ pub fn read_bounded<F: Folder>(alloc: Global, folder: &mut F, name: &str, limit:
     // Where contents are told, they are those of the folder's files.
     ensures answered { F.told → Grows (F.calls folder.old) (F.calls folder.new) (λ calls. AreAnswered (F.file folder.old) (F.left folder.old) calls (F.left folder.new)) }
 
-    // A file within the limit is read whole, and a longer one never is.
+    // What is read is the whole file, within the limit.
     ensures bytes { F.told → IfBytes result (λ bytes. F.file folder.old name.now ≡ Some bytes) }
     ensures within { IfBytes result (λ bytes. length bytes ≤ limit) }
-    ensures too_long { F.told → OnTooLong result (IsLonger limit (F.file folder.old name.now)) }
 
     // A fault was counted. None is where the file is there and no coming call is listed to fail.
     ensures fault { OnFault result (Rose (F.faults folder.old) (F.faults folder.new)) }
@@ -57,7 +56,6 @@ fn read_started<F: Folder>(alloc: Global, folder: &mut F, limit: u64) -> Read
     ensures answered { F.told → Grows (F.calls folder.old) (F.calls folder.new) (λ calls. AreAnswered (F.file folder.old) (F.left folder.old) calls (F.left folder.new)) }
     ensures bytes { F.told → IfBytes result (λ bytes. F.left folder.old ≡ bytes) }
     ensures within { IfBytes result (λ bytes. length bytes ≤ limit) }
-    ensures too_long { F.told → OnTooLong result (IsLonger limit (Some (F.left folder.old))) }
     ensures fault { OnFault result (Rose (F.faults folder.old) (F.faults folder.new)) }
     ensures later { F.faults folder.old ≤ F.faults folder.new }
     ensures never { F.is_clear folder.old → F.faults folder.new ≡ F.faults folder.old }

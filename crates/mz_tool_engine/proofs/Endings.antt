@@ -2,9 +2,10 @@
 use Rattle.std.proofs.Common.{◌≡◌, ◌≤◌, ◌++◌, ◌∙◌, ◌⊎◌, [], ◌∷◌, ℕ, suc, List, Option, Some, None, Ok, true, false, length, refl, sym, ap, subst, inl, inr}
 use Rattle.std.proofs.lemmas.List.{append-nil}
 use Rattle.std.proofs.lemmas.Option.{none-some}
-use Rattle.mz_io.specs.Calls.{Call, puts, Grows, IsWritten, IsCut, Hold}
+use Rattle.mz_io.specs.Calls.{Call, puts, Grows, AreAnswered, IsWritten, IsCut, Hold}
 use Rattle.mz_io.proofs.Offered.{grows-both, written-both, written-none, cut-after}
 use Rattle.mz_tool_engine.specs.Said.{Said, Files}
+use Rattle.mz_tool_engine.proofs.Telling.{read-told}
 use Rattle.mz_tool_engine.specs.Run.{AreRead, AreReadAndPut, AreReadNotPut, IsPutting, Affirms, Refuses, IsAnswer, IsRunOf}
 use Rattle.mz_tool_engine.specs.Answering.{IsWritingAnswer, IsAnswering, Answers, IfLeft, IsShort}
 use Rattle.mz_tool_engine.specs.Inputs.{bytes_of}
@@ -74,10 +75,12 @@ module _ (limit : ℕ) (said : Said) (contents : List (List ℕ)) (front text sl
       (contents, None, front ++ text, inr (refl, refuses), read-and_nothing_put said.reads contents said.puts calls read, cut-text front text slice first second same w cut)
 
 -- what is answered over the bytes that were read fits, where all that may be answered over the files does
-pub fits-read : (file : Files) (said : Said) (names contents : List (List ℕ)) (room : ℕ) → names ≡ said.reads → Hold file names contents →
+pub fits-read : (file : Files) (left now : List ℕ) (old later : List Call) (said : Said) (names contents : List (List ℕ)) (room : ℕ) → names ≡ said.reads →
+    Grows old later (AreRead names contents) → Grows old later (λ calls. AreAnswered file left calls now) →
     ((contents : List (List ℕ)) (put : Option (List ℕ)) (text : List ℕ) → Hold file said.reads contents → IsAnswer said contents put text → length text ≤ room) →
     (put : Option (List ℕ)) (text : List ℕ) → IsAnswer said contents put text → length text ≤ room
-fits-read file said names contents room e held fits put text answer = fits contents put text (subst (λ ns. Hold file ns contents) e held) answer
+fits-read file left now old later said names contents room e log answered fits put text answer =
+    fits contents put text (subst (λ ns. Hold file ns contents) e (read-told file left now old later names contents log answered)) answer
 
 -- ---- what a command answers
 

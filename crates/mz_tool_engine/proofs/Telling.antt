@@ -2,13 +2,14 @@
 use Rattle.std.proofs.Common.{◌≡◌, ◌<◌, ◌++◌, ◌∙◌, ◌⊎◌, [], ◌∷◌, ℕ, Bool, true, false, List, Option, Some, None, Result, Ok, Err, OnOk, is_ok, refl, sym, ap, subst, inl, inr, append_assoc}
 use Rattle.std.specs.Prelude.{⊤}
 use Rattle.std.proofs.lemmas.List.{append-nil, append_cancel_left}
-use Rattle.mz_io.specs.Calls.{Call, starts, pulls, pull_fails, puts, writes, write_fails, pulls_of, bytes_of, taken, Grows, Since, AreAnswered, IsBegun, IsRead}
+use Rattle.mz_io.specs.Calls.{Call, starts, pulls, pull_fails, puts, writes, write_fails, pulls_of, bytes_of, taken, Grows, Since, AreAnswered, IsBegun, IsRead, Hold}
 use Rattle.mz_io.specs.Outside.{SameFiles, SameOthers}
 use Rattle.mz_io.proofs.Offered.{taken-append}
 use Rattle.mz_tool_engine.specs.Said.{Files}
 use Rattle.mz_tool_engine.specs.Given.{Gives, Leaves, Tells, puts_among}
-use Rattle.mz_tool_engine.specs.Run.{IsPutting}
+use Rattle.mz_tool_engine.specs.Run.{AreRead, IsPutting}
 use Rattle.mz_tool_engine.proofs.Among.{puts-append}
+use Rattle.mz_tool_engine.proofs.Given.{read-holds}
 
 -- ---- calls that are answered from files, and puts behind them
 
@@ -147,12 +148,23 @@ same-leaves f g h (write_fails piece ∷ calls) same left = same-leaves f g h ca
 
 -- ---- what is said of the calls since then
 
+-- the files that answer reading calls gave what came
+reads-give : (f : Files) (left now : List ℕ) (reads : List Call) → AreAnswered f left reads now → Gives f reads
+reads-give f left now reads a =
+    answers-give f left reads (subst (λ (cs : List Call). Answers f left cs) (append-nil reads) (then-puts f left reads [] now a tt))
+
+-- what was read whole is what the files hold
+pub read-told : (f : Files) (left now : List ℕ) (old later : List Call) (names contents : List (List ℕ)) → Grows old later (AreRead names contents) →
+    Grows old later (λ calls. AreAnswered f left calls now) → Hold f names contents
+read-told f left now old later names contents (reads, is, read) (calls, on, a) =
+    let same : calls ≡ reads = append_cancel_left old calls reads (sym on ∙ is) in
+    read-holds f names contents reads (reads-give f left now reads (subst (λ (cs : List Call). AreAnswered f left cs now) same a)) read
+
 -- where files were read
 pub reads-tell : (f g : Files) (left now : List ℕ) (old later : List Call) → Grows old later (λ calls. AreAnswered f left calls now) → SameFiles f g → Since old later (Tells f g)
 reads-tell f g left now old later (reads, is, a) same calls e =
-    let all : reads ++ [] ≡ reads = append-nil reads in
     subst (λ (cs : List Call). Tells f g cs) (append_cancel_left old reads calls (sym is ∙ e)) (record {
-      gives = answers-give f left reads (subst (λ (cs : List Call). Answers f left cs) all (then-puts f left reads [] now a tt));
+      gives = reads-give f left now reads a;
       leaves = subst (λ (ps : List Call). Leaves ps f g) (sym (answered-put f left reads now a)) same;
     })
 

@@ -1,6 +1,6 @@
 // The files that a command reads.
 ghost use Rattle.std.specs.Prelude.{◌≡◌, ◌<◌, ◌∷◌, ◌^◌, [], length};
-ghost use Rattle.mz_io.specs.Calls.{Grows, AreAnswered, Hold};
+ghost use Rattle.mz_io.specs.Calls.{Grows, AreAnswered};
 ghost use Rattle.mz_io.specs.Outside.{Rose, SameFiles};
 ghost use Rattle.mz_tool_engine.specs.Answering.{IsReadingAll};
 ghost use Rattle.mz_tool_engine.specs.Files.{AreThere, BeginsLonger};
@@ -43,7 +43,6 @@ pub enum ReadAll {
 fn read_one<F: Folder>(alloc: Global, limit: u64, name: &str, folder: &mut F) -> ReadAll
     ensures log { Grows (F.calls folder.old) (F.calls folder.new) (IsReadingAll limit (name.now ∷ []) result) }
     ensures answered { F.told → Grows (F.calls folder.old) (F.calls folder.new) (λ calls. AreAnswered (F.file folder.old) (F.left folder.old) calls (F.left folder.new)) }
-    ensures contents { F.told → IfRead result (λ contents. Hold (F.file folder.old) (name.now ∷ []) contents) }
     ensures files { F.told → SameFiles (F.file folder.old) (F.file folder.new) }
     ensures fault { OnReadFault result (Rose (F.faults folder.old) (F.faults folder.new)) }
     ensures within { IfRead result (λ contents. AreWithin limit contents) }
@@ -71,7 +70,6 @@ fn read_two<F: Folder>(
 ) -> ReadAll
     ensures log { Grows (F.calls folder.old) (F.calls folder.new) (IsReadingAll limit (first.now ∷ second.now ∷ []) result) }
     ensures answered { F.told → Grows (F.calls folder.old) (F.calls folder.new) (λ calls. AreAnswered (F.file folder.old) (F.left folder.old) calls (F.left folder.new)) }
-    ensures contents { F.told → IfRead result (λ contents. Hold (F.file folder.old) (first.now ∷ second.now ∷ []) contents) }
     ensures files { F.told → SameFiles (F.file folder.old) (F.file folder.new) }
     ensures fault { OnReadFault result (Rose (F.faults folder.old) (F.faults folder.new)) }
     ensures within { IfRead result (λ contents. AreWithin limit contents) }
@@ -101,7 +99,6 @@ impl<'a> Inputs<'a> {
     pub fn read<F: Folder>(self, alloc: Global, limit: u64, folder: &mut F) -> ReadAll
         ensures log { Grows (F.calls folder.old) (F.calls folder.new) (IsReadingAll limit (names_of self.entry) result) }
         ensures answered { F.told → Grows (F.calls folder.old) (F.calls folder.new) (λ calls. AreAnswered (F.file folder.old) (F.left folder.old) calls (F.left folder.new)) }
-        ensures contents { F.told → IfRead result (λ contents. Hold (F.file folder.old) (names_of self.entry) contents) }
         ensures files { F.told → SameFiles (F.file folder.old) (F.file folder.new) }
         ensures fault { OnReadFault result (Rose (F.faults folder.old) (F.faults folder.new)) }
         ensures none { names_of self.entry ≡ [] → folder.new ≡ folder.old }

@@ -1,5 +1,5 @@
 use Rattle.std.proofs.Common.{◌∙◌, arith}
-use Rattle.mz_io.proofs.Written.{written_more, length-rest, written_grows}
+use Rattle.mz_io.proofs.Written.{length-rest, written_grows}
 use Rattle.mz_io.proofs.write.write_whole.Goals as goal
 
 pub loop-done-preserved : goal.loop-done-preserved
@@ -8,7 +8,6 @@ loop-done-preserved g c =
     record {
       log = written_grows _ _ _ c.args.text.now c.loop-done.done c.in_ok-done.field-0 c.loop-done.invariant.log wrote.logged;
       within = omega (arith, wrote.bound);
-      front = λ told. written_more _ _ _ c.args.text.now c.loop-done.done c.in_ok-done.field-0 (c.loop-done.invariant.front told) (wrote.bytes told);
       later = omega (arith, wrote.cause.later);
       clear = λ clear. wrote.stays_clear (c.loop-done.invariant.clear clear);
       room = λ clear. let before = c.loop-done.invariant.room clear in let now = wrote.lessens (c.loop-done.invariant.clear clear) in omega arith;

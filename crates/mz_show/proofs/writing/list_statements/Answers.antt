@@ -1,28 +1,11 @@
-use Rattle.std.proofs.Common.{rules, [], add-zero, append-nil, ◌≡◌, ◌≤◌, ◌++◌, ◌∙◌, ℕ, List, length, codes, refl, sym, ap, subst, inr, arith, append_assoc}
+use Rattle.std.proofs.Common.{rules, [], add-zero, ◌≡◌, ◌≤◌, ◌++◌, ◌∙◌, ℕ, List, length, codes, refl, sym, ap, subst, inr, arith}
 use Rattle.mz_cmd.specs.declared.rule.Refusal.{Refusal}
 use Rattle.mz_io.specs.Calls.{Grows, IsWritten, IsCut}
 use Rattle.mz_io.proofs.Offered.{grows-none, grows-both, written-none, written-both}
-use Rattle.mz_io.specs.Outside.{AppendsPrefix}
 use Rattle.mz_show.specs.Statements.{first_place, statement_text}
 use Rattle.mz_show.specs.Listing.{chain_text, StopsAt}
-use Rattle.mz_show.proofs.Progress.{front-written, more-written, has-room, front-so_far, front-one_more, front-end, cut-short, steps-on, progress-more}
+use Rattle.mz_show.proofs.Progress.{has-room, front-so_far, front-one_more, front-end, cut-short, steps-on, progress-more}
 use Rattle.mz_show.proofs.writing.list_statements.Goals as goal
-
-pub returns-in_default-clause-prefix : goal.returns-in_default-clause-prefix
-returns-in_default-clause-prefix g c =
-    let n = c.in-Statement.ensures in
-    let piece : c.deref.result.now ≡ statement_text c.args.mmb.now c.statements.place n.0 =
-    c.deref.ensures.value ∙ n.3 ∙ ap (λ front. front ++ statement_text c.args.mmb.now c.statements.place n.0) c.new-text.ensures.items in
-    let f = front-one_more c.args.mmb.now c.proof_at.ensures.binary.layout c.statements.invariant.statements c.statements.place n.0 c.statements.invariant.chain n.1 n.2 in
-    λ which. (
-      f.text,
-      f.listed,
-      λ told.
-          more-written c.args.mmb.now c.proof_at.ensures.binary.layout (g.O.Sink.written c.args.out.now) (g.O.Sink.written c.statements.out) (g.O.Sink.written c.write_whole.new.out)
-          (chain_text c.args.mmb.now (first_place c.args.mmb.now) c.statements.invariant.statements) (statement_text c.args.mmb.now c.statements.place n.0) f
-          (c.statements.invariant.bytes told)
-          (subst (λ (text : List ℕ). AppendsPrefix (g.O.Sink.written c.statements.out) (g.O.Sink.written c.write_whole.new.out) text) piece (c.in_default.ensures.prefix told)),
-    )
 
 pub returns-in_default-clause-only_full : goal.returns-in_default-clause-only_full
 returns-in_default-clause-only_full g c =
@@ -36,18 +19,6 @@ returns-in_default-clause-only_full g c =
     let same : length c.deref.result.now ≡ length (statement_text c.args.mmb.now c.statements.place n.0) = ap length piece in
     c.in_default.ensures.only_full (c.statements.invariant.stays_clear clear) (subst (λ (k : ℕ). k ≤ g.O.Sink.room c.statements.out) (sym same) room) ∙ c.statements.invariant.only_full clear fits
 
-pub returns-in_default-write_whole-clause-prefix : goal.returns-in_default-write_whole-clause-prefix
-returns-in_default-write_whole-clause-prefix g c =
-    let f = front-end c.args.mmb.now c.proof_at.ensures.binary.layout c.statements.invariant.statements c.statements.place c.statements.invariant.chain c.in-End.ensures in
-    λ which. (
-      f.text,
-      f.listed,
-      λ told.
-          more-written c.args.mmb.now c.proof_at.ensures.binary.layout (g.O.Sink.written c.args.out.now) (g.O.Sink.written c.statements.out) (g.O.Sink.written c.write_whole-in-End.new.out)
-          (chain_text c.args.mmb.now (first_place c.args.mmb.now) c.statements.invariant.statements) (codes "end\n") f
-          (c.statements.invariant.bytes told) (c.in_default-write_whole.ensures.prefix told),
-    )
-
 pub returns-in_default-write_whole-clause-only_full : goal.returns-in_default-write_whole-clause-only_full
 returns-in_default-write_whole-clause-only_full g c =
     let f = front-end c.args.mmb.now c.proof_at.ensures.binary.layout c.statements.invariant.statements c.statements.place c.statements.invariant.chain c.in-End.ensures in
@@ -55,14 +26,6 @@ returns-in_default-write_whole-clause-only_full g c =
     let room = has-room c.args.mmb.now c.proof_at.ensures.binary.layout (chain_text c.args.mmb.now (first_place c.args.mmb.now) c.statements.invariant.statements)
     (codes "end\n") (g.O.Sink.room c.statements.out) (g.O.Sink.room c.args.out.now) f (c.statements.invariant.room_left clear) fits in
     c.in_default-write_whole.ensures.only_full (c.statements.invariant.stays_clear clear) room ∙ c.statements.invariant.only_full clear fits
-
-pub returns-in-End-clause-listing : goal.returns-in-End-clause-listing
-returns-in-End-clause-listing g c = λ done. (
-  chain_text c.args.mmb.now (first_place c.args.mmb.now) c.statements.invariant.statements ++ codes "end\n",
-  record { layout = c.proof_at.ensures.binary.layout; statements = c.statements.invariant.statements; last = c.statements.place; chain = c.statements.invariant.chain; ends = c.in-End.ensures; text_is = refl },
-  λ told. c.in-Ok-write_whole.ensures.whole told ∙ ap (λ front. front ++ codes "end\n") (c.statements.invariant.bytes told)
-      ∙ append_assoc (g.O.Sink.written c.args.out.now) (chain_text c.args.mmb.now (first_place c.args.mmb.now) c.statements.invariant.statements) (codes "end\n"),
-)
 
 pub returns-in-Refused-clause-refused : goal.returns-in-Refused-clause-refused
 returns-in-Refused-clause-refused g c = λ refusal is.
@@ -76,19 +39,7 @@ returns-in-Refused-clause-refused g c = λ refusal is.
         stops = subst (λ (r : Refusal). StopsAt c.args.mmb.now c.statements.place r) same c.in-Refused.ensures;
         text_is = refl;
       }),
-      c.statements.invariant.bytes,
       c.statements.invariant.room_left,
-    )
-
-pub returns-in-Mem-clause-prefix : goal.returns-in-Mem-clause-prefix
-returns-in-Mem-clause-prefix g c =
-    let f = front-so_far c.args.mmb.now c.proof_at.ensures.binary.layout c.statements.invariant.statements c.statements.place c.statements.invariant.chain in
-    λ which. (
-      f.text,
-      f.listed,
-      λ told.
-          front-written c.args.mmb.now c.proof_at.ensures.binary.layout (g.O.Sink.written c.args.out.now) (g.O.Sink.written c.statements.out)
-          (chain_text c.args.mmb.now (first_place c.args.mmb.now) c.statements.invariant.statements) f (c.statements.invariant.bytes told),
     )
 
 pub statements-smaller : goal.statements-smaller
@@ -102,11 +53,11 @@ statements-preserved g c =
     let n = c.in-Statement.ensures in
     let piece : c.deref.result.now ≡ statement_text c.args.mmb.now c.statements.place n.0 =
     c.deref.ensures.value ∙ n.3 ∙ ap (λ front. front ++ statement_text c.args.mmb.now c.statements.place n.0) c.new-text.ensures.items in
-    progress-more c.args.mmb.now c.proof_at.ensures.binary.layout g.O.Sink.told _ (g.O.Sink.is_clear c.statements.out) _ (g.O.Sink.written c.args.out.now) (g.O.Sink.written c.statements.out) (g.O.Sink.written c.write_whole.new.out)
+    progress-more c.args.mmb.now c.proof_at.ensures.binary.layout _ (g.O.Sink.is_clear c.statements.out) _
     (g.O.Sink.room c.args.out.now) (g.O.Sink.room c.statements.out) (g.O.Sink.room c.write_whole.new.out) (g.O.Sink.faults c.args.out.now) (g.O.Sink.faults c.statements.out) (g.O.Sink.faults c.write_whole.new.out)
     (g.O.Sink.calls c.args.out.now) (g.O.Sink.calls c.statements.out) (g.O.Sink.calls c.write_whole.new.out)
     c.statements.place n.0 c.in-Statement.after c.deref.result.now c.statements.invariant n.1 n.2 piece n.4
-    c.in-Ok.ensures.log c.in-Ok.ensures.whole c.in-Ok.ensures.lessens c.in-Ok.ensures.cause.later c.in-Ok.ensures.stays_clear c.in-Ok.ensures.only_full
+    c.in-Ok.ensures.log c.in-Ok.ensures.lessens c.in-Ok.ensures.cause.later c.in-Ok.ensures.stays_clear c.in-Ok.ensures.only_full
 
 pub statements-init : goal.statements-init
 statements-init g c = record {
@@ -114,7 +65,6 @@ statements-init g c = record {
   statements = [];
   chain = search rules;
   log = grows-none (g.O.Sink.calls c.args.out.now) (IsWritten []) written-none;
-  bytes = λ told. sym (append-nil (g.O.Sink.written c.args.out.now));
   room_left = λ clear. add-zero (g.O.Sink.room c.args.out.now);
   later = search rules;
   stays_clear = λ clear. clear;

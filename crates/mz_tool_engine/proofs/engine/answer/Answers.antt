@@ -19,8 +19,8 @@ returns-in_default-clause-log g c =
 
 pub returns-in_default-clause-only_full : goal.returns-in_default-clause-only_full
 returns-in_default-clause-only_full g c = λ told clear fits.
-    c.answer.ensures.only_full clear (fits-read (g.F.Folder.file c.args.folder.now) (g.C.Command.says c.args.command.now) (names_of c.inputs.result) (contents_of c.in-Contents.contents) (g.O.Sink.room c.args.out.now)
-    c.inputs.ensures (c.in-Contents.ensures.contents told) fits)
+    c.answer.ensures.only_full clear (fits-read (g.F.Folder.file c.args.folder.now) (g.F.Folder.left c.args.folder.now) (g.F.Folder.left c.read.new.folder) _ _ (g.C.Command.says c.args.command.now)
+    (names_of c.inputs.result) (contents_of c.in-Contents.contents) (g.O.Sink.room c.args.out.now) c.inputs.ensures c.in-Contents.ensures.log (c.read.ensures.answered told) fits)
 
 pub returns-in_default-put_file-clause-log : goal.returns-in_default-put_file-clause-log
 returns-in_default-put_file-clause-log g c =
@@ -71,18 +71,31 @@ returns-in-No-clause-log g c =
           answer.2 (subst (λ names. AreRead names contents reads.0) c.inputs.ensures reads.2) second.2,
     )
 
+pub returns-in_default-put_file-clause-only_full : goal.returns-in_default-put_file-clause-only_full
+returns-in_default-put_file-clause-only_full g c = λ told clear fits.
+    c.in-Ok.ensures.only_full clear (fits-read (g.F.Folder.file c.args.folder.now) (g.F.Folder.left c.args.folder.now) (g.F.Folder.left c.read.new.folder) _ _ (g.C.Command.says c.args.command.now)
+    (names_of c.inputs.result) (contents_of c.in-Contents.contents) (g.O.Sink.room c.args.out.now) c.inputs.ensures c.in-Contents.ensures.log (c.read.ensures.answered told) fits)
+
+pub returns-in-Yes-clause-only_full : goal.returns-in-Yes-clause-only_full
+returns-in-Yes-clause-only_full g c = λ told clear fits.
+    let here = fits-read (g.F.Folder.file c.args.folder.now) (g.F.Folder.left c.args.folder.now) (g.F.Folder.left c.read.new.folder) _ _ (g.C.Command.says c.args.command.now)
+    (names_of c.inputs.result) (contents_of c.in-Contents.contents) (g.O.Sink.room c.args.out.now) c.inputs.ensures c.in-Contents.ensures.log (c.read.ensures.answered told) fits in
+    let left = c.in-Ok.ensures.left clear here in
+    let rest = left-same (λ text. length text ≤ g.O.Sink.room c.answer.new.out) c.in-Ok.outcome (outcomes.Yes c.in-Yes.put c.in-Yes.text) c.in-Yes.is left.1 in
+    c.write_answer.ensures.only_full left.0 (subst (λ text. length text ≤ g.O.Sink.room c.answer.new.out) (sym c.deref.ensures.value) rest) ∙ c.in-Ok.ensures.only_full clear here
+
 pub returns-in-No-clause-only_full : goal.returns-in-No-clause-only_full
 returns-in-No-clause-only_full g c = λ told clear fits.
-    let here = fits-read (g.F.Folder.file c.args.folder.now) (g.C.Command.says c.args.command.now) (names_of c.inputs.result) (contents_of c.in-Contents.contents) (g.O.Sink.room c.args.out.now)
-    c.inputs.ensures (c.in-Contents.ensures.contents told) fits in
+    let here = fits-read (g.F.Folder.file c.args.folder.now) (g.F.Folder.left c.args.folder.now) (g.F.Folder.left c.read.new.folder) _ _ (g.C.Command.says c.args.command.now)
+    (names_of c.inputs.result) (contents_of c.in-Contents.contents) (g.O.Sink.room c.args.out.now) c.inputs.ensures c.in-Contents.ensures.log (c.read.ensures.answered told) fits in
     let left = c.in-Ok.ensures.left clear here in
     let rest = left-same (λ text. length text ≤ g.O.Sink.room c.answer.new.out) c.in-Ok.outcome (outcomes.No c.in-No.text) c.in-No.is left.1 in
     c.write_answer-in-No.ensures.only_full left.0 (subst (λ text. length text ≤ g.O.Sink.room c.answer.new.out) (sym c.deref-in-No.ensures.value) rest) ∙ c.in-Ok.ensures.only_full clear here
 
 pub returns-clause-only_full : goal.returns-clause-only_full
 returns-clause-only_full g c = λ told clear fits.
-    c.answer.ensures.only_full clear (fits-read (g.F.Folder.file c.args.folder.now) (g.C.Command.says c.args.command.now) (names_of c.inputs.result) (contents_of c.in-Contents.contents) (g.O.Sink.room c.args.out.now)
-    c.inputs.ensures (c.in-Contents.ensures.contents told) fits)
+    c.answer.ensures.only_full clear (fits-read (g.F.Folder.file c.args.folder.now) (g.F.Folder.left c.args.folder.now) (g.F.Folder.left c.read.new.folder) _ _ (g.C.Command.says c.args.command.now)
+    (names_of c.inputs.result) (contents_of c.in-Contents.contents) (g.O.Sink.room c.args.out.now) c.inputs.ensures c.in-Contents.ensures.log (c.read.ensures.answered told) fits)
 
 pub returns-in-TooLong-clause-files : goal.returns-in-TooLong-clause-files
 returns-in-TooLong-clause-files g c = λ told.

@@ -26,7 +26,7 @@ returns-in-Ok-clause-only_full g c = λ clear fits. c.in-Refused.ensures.only_fu
 pub returns-in-Ok-clause-left : goal.returns-in-Ok-clause-left
 returns-in-Ok-clause-left g c = λ clear fits.
     let listed = c.in-Refused.ensures.refused c.in-Refused.refusal refl in
-    (c.in-Refused.ensures.stays_clear clear, room-of_line c.args.self.now.bin.now c.one.result.now (contents_of c.args.contents.now) c.one.ensures.is c.each_file_has_one_listing.ensures.not_both (g.O.Sink.room c.args.out.now) fits listed.0 c.in-Ok.text.items c.in-Refused.refusal (g.O.Sink.room c.listing.new.out) c.in-Ok.ensures listed.1 (listed.3 clear))
+    (c.in-Refused.ensures.stays_clear clear, room-of_line c.args.self.now.bin.now c.one.result.now (contents_of c.args.contents.now) c.one.ensures.is c.each_file_has_one_listing.ensures.not_both (g.O.Sink.room c.args.out.now) fits listed.0 c.in-Ok.text.items c.in-Refused.refusal (g.O.Sink.room c.listing.new.out) c.in-Ok.ensures listed.1 (listed.2 clear))
 
 pub returns-in-Err-clause-log : goal.returns-in-Err-clause-log
 returns-in-Err-clause-log g c =
