@@ -1,8 +1,8 @@
 -- One command more of a unify stream.
-use Rattle.std.proofs.Common.{ℕ, zero, suc, ◌≡◌, ◌<◌, ◌≤◌, ◌+◌, ◌⊎◌, ◌↔◌, Bool, true, false, List, [], ◌∷◌, ◌++◌, length, map, reverse, slice_get, Contains, Option, Some, None, bit_or, refl, ap, sym, ◌∙◌, subst, inl, inr, arith, append_assoc, append-nil}
+use Rattle.std.proofs.Common.{ℕ, zero, suc, ◌≡◌, ◌<◌, ◌≤◌, ◌+◌, ◌^◌, ◌⊎◌, ◌↔◌, Bool, true, false, List, [], ◌∷◌, ◌++◌, length, map, reverse, slice_get, Contains, Option, Some, None, bit_or, refl, ap, sym, ◌∙◌, subst, inl, inr, arith, append_assoc, append-nil}
 use Rattle.std.specs.Prelude.{IsTrue}
 use Rattle.std.specs.Int.{bit_at}
-use Rattle.std.proofs.lemmas.List.{map-append, reverse-append}
+use Rattle.std.proofs.lemmas.List.{length-append, map-append, reverse-append}
 use Rattle.std.proofs.lemmas.List.Elements.{Contains-append_left, Contains-append_cases, Contains-push}
 use Rattle.std.proofs.lemmas.Option.{slice_get-get_or, none-some}
 use Rattle.mz_cmd.specs.Spelling.{shortest}
@@ -23,7 +23,7 @@ use Rattle.mz_emit_theory.specs.InReach.{InReach, AllInReach}
 use Rattle.mz_emit_bodies.specs.Places.{place_of}
 use Rattle.mz_emit_bodies.proofs.Offered.{in_push, is_var}
 use Rattle.mz_emit.specs.declared.stream.Stream.{Stream}
-use Rattle.mz_emit.specs.Going.{Going, HasWritten, IsGoing, IsMarked, IsReady, IsStatement, Job, behind, hyps_written, met_so_far, own, scope, spelled, to_do}
+use Rattle.mz_emit.specs.Going.{CanSpell, CanSpellAll, Going, HasWritten, IsGoing, IsMarked, IsReady, IsStatement, Job, behind, hyps_written, met_so_far, own, scope, spelled, to_do}
 use Rattle.mz_emit.proofs.Marking.{mark_put, same_place}
 use Rattle.mz_emit.proofs.Telling.{bits_tell, bound_later, one_bit, own_is, reach_occurs, tells_as, tells_or}
 
@@ -144,6 +144,10 @@ module _ (o : Job) (s : Sharing) (places : List (Option ℕ)) (len met : ℕ) (o
   binder_there g x lt = ap (λ (c : List Binder). slice_get c x) g.context
       ∙ extends_append (scope o) g.others x (binder_at (scope o) x) (slice_get-get_or (scope o) x (record { sort = 0; bound = false; deps = [] }) lt)
 
+  -- a mark more fits
+  pub mark_room : (e : Tree) (rest : Trees) → IsGoing o s places len met out (more e rest) → len + 1 < 2 ^ 32
+  mark_room e rest g = (let r = g.room in let n = size_some e in let l = g.marked.long in omega (arith, r, n, l))
+
   -- ---- what has a place is a reference
 
   pub refer_done : (e : Tree) (rest : Trees) (p : ℕ) (out' : List ℕ) (g : IsGoing o s places len met out (more e rest)) → place_in e g.work.trees ≡ Some p → out' ≡ out ++ shortest 0x32 p
@@ -155,6 +159,7 @@ module _ (o : Job) (s : Sharing) (places : List (Option ℕ)) (len met : ℕ) (o
         work = g.work;
         marked = g.marked;
         inside = g.inside.1;
+        room = (let r = g.room in omega (arith, r));
         whole = ap (λ (bs : List ℕ). bs ++ spelled (write_all (own o) (scope o) g.work rest).commands) is
             ∙ append_assoc out (shortest 0x32 p) (spelled (write_all (own o) (scope o) g.work rest).commands)
             ∙ ap (λ (r : Written). out ++ spelled (r.commands ++ (write_all (own o) (scope o) r.after rest).commands)) (sym a)
@@ -195,6 +200,7 @@ module _ (o : Job) (s : Sharing) (places : List (Option ℕ)) (len met : ℕ) (o
             (λ k y y-at h. more_met (own o) g.work.dummies x y h) (λ k y y-at h. less_met (own o) g.work.dummies x y h)
             (tells_or (bound_vars s.context) met word (Contains (own o ++ g.work.dummies)) (λ y. y ≡ x) g.marked.told (one_bit s.context (bound_vars s.context) x word bd in-v))));
         inside = g.inside.1;
+        room = (let r = g.room in let l = length-append g.work.trees (var x ∷ []) in let n = size_some (tree_of s i) in omega (arith, r, l, n));
         whole = ap (λ (bs : List ℕ). bs ++ spelled (write_all (own o) (scope o) w' rest).commands) (is ∙ ap (λ (n : ℕ). out ++ shortest 0x33 n) (sym sort-is))
             ∙ append_assoc out (shortest 0x33 (binder_at (scope o) x).sort) (spelled (write_all (own o) (scope o) w' rest).commands)
             ∙ ap (λ (r : Written). out ++ spelled (r.commands ++ (write_all (own o) (scope o) r.after rest).commands)) (sym a)
@@ -267,6 +273,7 @@ module _ (o : Job) (s : Sharing) (places : List (Option ℕ)) (len met : ℕ) (o
         work = g.work;
         marked = g.marked;
         inside = subst (AllInReach (length (scope o))) (sym todo-is) (reach_join (length (scope o)) es rest (subst (InReach (length (scope o))) e-is g.inside.0) g.inside.1);
+        room = (let r = g.room in let n = size_head (tree_of s i) t head in let m = ap trees_size todo-is ∙ trees_size-followed es rest in omega (arith, r, n, m));
         whole = ap (λ (fs : Trees). out' ++ spelled (write_all (own o) (scope o) g.work fs).commands) todo-is ∙ term_whole g.work t es rest false fresh' unmet' out' is
             ∙ ap (λ (e : Tree). out ++ spelled (write_all (own o) (scope o) g.work (more e rest)).commands) (sym e-is) ∙ g.whole;
         last = ap (λ (fs : Trees). (write_all (own o) (scope o) g.work fs).after) todo-is ∙ term_last g.work t es rest false fresh' unmet'
@@ -289,6 +296,7 @@ module _ (o : Job) (s : Sharing) (places : List (Option ℕ)) (len met : ℕ) (o
         marked = subst (λ (e : Tree). IsMarked o.params s places' len' met (record { trees = g.work.trees ++ e ∷ []; dummies = g.work.dummies })) e-is
             (mark_put o.params o.dummies s g.statement places len met g.work g.marked i inside fresh places' len' at others more-len g.work.dummies met g.marked.told);
         inside = subst (AllInReach (length (scope o))) (sym todo-is) (reach_join (length (scope o)) es rest (subst (InReach (length (scope o))) e-is g.inside.0) g.inside.1);
+        room = (let r = g.room in let l = length-append g.work.trees (app t es ∷ []) in let n = size_head (tree_of s i) t head in let m = ap trees_size todo-is ∙ trees_size-followed es rest in omega (arith, r, l, n, m));
         whole = ap (λ (fs : Trees). out' ++ spelled (write_all (own o) (scope o) w' fs).commands) todo-is ∙ term_whole g.work t es rest true fresh' met' out' is
             ∙ ap (λ (e : Tree). out ++ spelled (write_all (own o) (scope o) g.work (more e rest)).commands) (sym e-is) ∙ g.whole;
         last = ap (λ (fs : Trees). (write_all (own o) (scope o) w' fs).after) todo-is ∙ term_last g.work t es rest true fresh' met'
@@ -306,12 +314,12 @@ job_of ps ds w out e = record {
 }
 
 module _ (ps ds : List Binder) (s : Sharing) (t : Stream) (w : Writing) (i : Id) where
-  pub start_going : IsReady ps ds s t w → IsIn s i.0 → InReach (length (ps ++ ds)) (tree_of s i.0) → Going (job_of ps ds w t.out.items (tree_of s i.0)) s t (i ∷ [])
-  start_going ready inside reach = (
+  pub start_going : IsReady ps ds s t w → IsIn s i.0 → CanSpell ps ds w (tree_of s i.0) → Going (job_of ps ds w t.out.items (tree_of s i.0)) s t (i ∷ [])
+  start_going ready inside can = (
     (inside, tt),
     subst (AreIn s) (sym ready.idle) tt,
     subst (λ (is : List Id). IsGoing (job_of ps ds w t.out.items (tree_of s i.0)) s t.heap.places.items t.heap.len t.met t.out.items (more (tree_of s i.0) (to_do s is))) (sym ready.idle)
-        (record { statement = ready.statement; work = w; marked = ready.marked; inside = (reach, tt); whole = refl; last = refl }),
+        (record { statement = ready.statement; work = w; marked = ready.marked; inside = (can.0, tt); room = (let r = can.1 in omega (arith, r)); whole = refl; last = refl }),
   )
 
   pub end_going : (t' : Stream) → Going (job_of ps ds w t.out.items (tree_of s i.0)) s t' [] → t'.todo.items ≡ [] → HasWritten ps ds s t t' (write (from_to 0 ps) (ps ++ ds) w (tree_of s i.0))
@@ -320,6 +328,31 @@ module _ (ps ds : List Binder) (s : Sharing) (t : Stream) (w : Writing) (i : Id)
         record { statement = g.statement; marked = subst (IsMarked ps s t'.heap.places.items t'.heap.len t'.met) g.last g.marked; idle = idle },
         sym (append-nil t'.out.items) ∙ g.whole ∙ ap (λ (us : List UnifyCommand). t.out.items ++ spelled us) (append-nil (write (from_to 0 ps) (ps ++ ds) w (tree_of s i.0)).commands),
       )
+
+-- ---- how many marks there are after it: at most one more for each node
+
+module _ (own' : List ℕ) (ctx : List Binder) where
+  marks_referred : (o : Option ℕ) (w : Writing) (out : Written) (n : ℕ) → length w.trees ≤ n → length out.after.trees ≤ n → length (referred o w out).after.trees ≤ n
+  marks_referred (Some p) w out n here new = here
+  marks_referred None w out n here new = new
+
+  marks_if : (b : Bool) (w : Writing) (e : Tree) → length (marked_if b w e).trees ≤ length w.trees + 1
+  marks_if true w e = (let l = length-append w.trees (e ∷ []) in omega (arith, l))
+  marks_if false w e = omega arith
+
+  mutual
+    pub marks_after : (w : Writing) (e : Tree) → length (write own' ctx w e).after.trees ≤ length w.trees + size e
+    marks_after w (var x) = marks_referred (place_in (var x) w.trees) w (record { commands = u_dummy (binder_at ctx x).sort ∷ []; after = meeting w x }) (length w.trees + 1) (omega arith)
+        (let l = length-append w.trees (var x ∷ []) in omega (arith, l))
+    marks_after w (app t es) =
+        let b : Bool = are_met (own' ++ w.dummies) (app t es) in
+        let l = marks_if b w (app t es) in
+        let r = marks_all (marked_if b w (app t es)) es in
+        marks_referred (place_in (app t es) w.trees) w (headed (head_of b t) (write_all own' ctx (marked_if b w (app t es)) es)) (length w.trees + size (app t es)) (omega arith) (omega (arith, l, r))
+
+    marks_all : (w : Writing) (es : Trees) → length (write_all own' ctx w es).after.trees ≤ length w.trees + trees_size es
+    marks_all w none = omega arith
+    marks_all w (more e es) = (let a = marks_after w e in let r = marks_all (write own' ctx w e).after es in omega (arith, a, r))
 
 -- ---- hypotheses
 
@@ -333,6 +366,28 @@ module _ (ps ds : List Binder) (s : Sharing) where
       ap (λ (r : Written). headed u_hyp (and_then a (λ v. r))) (hyps_join a.after hs h)
       ∙ ap (λ (us : List UnifyCommand). headed u_hyp (record { commands = us; after = last.after })) (sym (append_assoc a.commands rest.commands last.commands))
 
+  hyps_last : (w : Writing) (is : List Id) (i : Id) → hyps_written ps ds s w (is ++ i ∷ []) ≡ and_then (hyps_written ps ds s w is) (λ v. headed u_hyp (write (from_to 0 ps) (ps ++ ds) v (tree_of s i.0)))
+  hyps_last w is i = ap (write_hyps (from_to 0 ps) (ps ++ ds) w) (map-append (λ (j : Id). tree_of s j.0) is (i ∷ [])) ∙ hyps_join w (map (λ (j : Id). tree_of s j.0) is) (tree_of s i.0)
+
+  hyps_marks : (w : Writing) (done : List Id) → length (hyps_written ps ds s w (reverse done)).after.trees ≤ length w.trees + trees_size (trees_of s done)
+  hyps_marks w [] = omega arith
+  hyps_marks w (i ∷ done) =
+      let same = ap (λ (r : Written). length r.after.trees) (ap (hyps_written ps ds s w) (reverse_more done i) ∙ hyps_last w (reverse done) i) in
+      let before = hyps_marks w done in
+      let after = marks_after (from_to 0 ps) (ps ++ ds) (hyps_written ps ds s w (reverse done)).after (tree_of s i.0) in
+      omega (arith, same, before, after)
+
+  size_middle : (is js : List Id) (i : Id) → size (tree_of s i.0) + trees_size (trees_of s js) ≤ trees_size (trees_of s ((is ++ i ∷ []) ++ js))
+  size_middle [] js i = omega arith
+  size_middle (k ∷ is) js i = (let r = size_middle is js i in omega (arith, r))
+
+  -- the next of them, before those that are done
+  pub next_can : (w : Writing) (left done : List Id) (i : Id) → CanSpellAll ps ds w (trees_of s ((left ++ i ∷ []) ++ done)) → CanSpell ps ds (hyps_written ps ds s w (reverse done)).after (tree_of s i.0)
+  next_can w left done i can = (
+    reach_middle s (length (ps ++ ds)) left done i can.0,
+    (let r = can.1 in let m = hyps_marks w done in let n = size_middle left done i in omega (arith, r, m, n)),
+  )
+
   pub still_ready : (mid u : Stream) (v : Writing) → u.heap ≡ mid.heap → u.met ≡ mid.met → u.todo ≡ mid.todo → IsReady ps ds s mid v → IsReady ps ds s u v
   still_ready mid u v heap met todo r = record {
     statement = r.statement;
@@ -342,15 +397,14 @@ module _ (ps ds : List Binder) (s : Sharing) where
 
   pub hyp_done : (t mid t' : Stream) (w : Writing) (is : List Id) (i : Id) → HasWritten ps ds s t mid (hyps_written ps ds s w is)
       → (u : Stream) → u.heap ≡ mid.heap → u.met ≡ mid.met → u.todo ≡ mid.todo → u.out.items ≡ mid.out.items ++ shortest 0x36 0
-      → ((v : Writing) → IsReady ps ds s u v → HasWritten ps ds s u t' (write (from_to 0 ps) (ps ++ ds) v (tree_of s i.0)))
+      → (IsReady ps ds s u (hyps_written ps ds s w is).after → HasWritten ps ds s u t' (write (from_to 0 ps) (ps ++ ds) (hyps_written ps ds s w is).after (tree_of s i.0)))
       → HasWritten ps ds s t t' (hyps_written ps ds s w (is ++ i ∷ []))
   hyp_done t mid t' w is i before u heap met todo out does =
       let a = hyps_written ps ds s w is in
       let ready = still_ready mid u a.after heap met todo before.0 in
-      let after = does a.after ready in
+      let after = does ready in
       let e = write (from_to 0 ps) (ps ++ ds) a.after (tree_of s i.0) in
-      let same = ap (write_hyps (from_to 0 ps) (ps ++ ds) w) (map-append (λ (j : Id). tree_of s j.0) is (i ∷ [])) ∙ hyps_join w (map (λ (j : Id). tree_of s j.0) is) (tree_of s i.0) in
-      subst (HasWritten ps ds s t t') (sym same) (
+      subst (HasWritten ps ds s t t') (sym (hyps_last w is i)) (
         after.0,
         after.1 ∙ ap (λ (bs : List ℕ). bs ++ spelled e.commands) (out ∙ ap (λ (bs : List ℕ). bs ++ shortest 0x36 0) before.1)
             ∙ ap (λ (bs : List ℕ). bs ++ spelled e.commands) (append_assoc t.out.items (spelled a.commands) (shortest 0x36 0))

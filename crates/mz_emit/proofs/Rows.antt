@@ -1,5 +1,5 @@
 -- The rows of one statement more.
-use Rattle.std.proofs.Common.{ℕ, ◌≡◌, Bool, List, [], ◌∷◌, ◌++◌, ◌∙◌, ◌⊎◌, map, refl, sym, subst, ap, append-nil}
+use Rattle.std.proofs.Common.{ℕ, suc, ◌≡◌, ◌≤◌, ◌<◌, ◌+◌, ◌^◌, Bool, List, [], ◌∷◌, ◌++◌, ◌∙◌, ◌⊎◌, length, map, refl, sym, subst, ap, append-nil, arith}
 use Rattle.std.specs.Prelude.{Option, Some, None}
 use Rattle.mz_logic_theory.specs.Tree.{Tree, none, more}
 use Rattle.mz_logic_theory.specs.Signature.{Signature}
@@ -15,12 +15,13 @@ use Rattle.mz_binary_theory.specs.Spelling.{HasKind, is_local_code}
 use Rattle.mz_emit_theory.proofs.Offered.{words-say-params}
 use Rattle.mz_logic_theory.specs.Words.{signatures_of}
 use Rattle.mz_emit_bodies.specs.Rows.{words_of_row}
+use Rattle.mz_emit_bodies.specs.declared.table.TermEntry.{TermEntry}
 use Rattle.mz_emit_bodies.specs.declared.table.TermTable.{TermTable}
 use Rattle.mz_emit_accepted_theory.specs.ClaimsLaws.{StatedProofsAreSound}
-use Rattle.mz_emit.specs.Emitting.{IsConcrete, MayFollow, SaysDefinition, SaysAssertion, IsProvedBy, HasWritten, table_of, HasRows, IsNext}
+use Rattle.mz_emit.specs.Emitting.{IsConcrete, MayFollow, CountsFit, SaysDefinition, SaysAssertion, IsProvedBy, HasWritten, table_of, HasRows, IsNext}
 use Rattle.mz_emit_accepted_theory.specs.CompiledFile.{with_sort, with_term, with_thm, term_row, thm_row, definition_code, assertion_code}
 use Rattle.mz_emit.specs.declared.emitter.Emitter.{Emitter}
-use Rattle.mz_emit.proofs.Saying.{definition_kind, term_words, same_form, thm_words, sort_unmarked, plain_unmarked, thm_kind, definition_can, assertion_can, proof_can, axiom_is}
+use Rattle.mz_emit.proofs.Saying.{env_short, definition_kind, term_words, same_form, thm_words, sort_unmarked, plain_unmarked, thm_kind, definition_can, assertion_can, assertion_room, proof_can, axiom_is}
 use Rattle.mz_emit.proofs.OneMore.{sort_next, plain_next, definition_next, assertion_next}
 
 pub declared_more : (ss : List Statement) (s : Statement) → declared (ss ++ s ∷ []) ≡ declared ss ++ s.decl ∷ []
@@ -106,3 +107,26 @@ proved_here gaps b s e next sound a is ds dummies q proof =
     subst (λ (env : List Declaration). IsProvedBy gaps env (a.params ++ ds) a q) (sym next.before.env)
     (subst (λ (xs : List Binder). IsProvedBy gaps (declared b) (a.params ++ xs) a q) dummies
     (proved_by gaps b s next.follows sound a is q proof))
+
+-- ---- the room in the table
+
+rows_few : (ds : List Declaration) → length (sorts ds) + length (signatures ds) ≤ length ds
+rows_few [] = omega arith
+rows_few (sort_decl m ∷ ds) = omega (arith, rows_few ds)
+rows_few (term_decl d ∷ ds) = omega (arith, rows_few ds)
+rows_few (assertion_decl a ∷ ds) = omega (arith, rows_few ds)
+
+rows_many : (rs : List TermEntry) → length (signatures_of (map words_of_row rs)) ≡ length rs
+rows_many [] = refl
+rows_many (r ∷ rs) = ap suc (rows_many rs)
+
+module _ (gaps : Bool) (b : List Statement) (s : Statement) (e : Emitter) (next : IsNext gaps b s e) where
+  pub sorts_room : length e.table.sorts.items + 1 < 2 ^ 32
+  sorts_room = omega (arith, ap length next.before.rows.sorts_are, rows_few (declared b), env_short gaps b s next.follows)
+
+  pub terms_room : length e.table.terms.items + 1 < 2 ^ 32
+  terms_room = omega (arith, ap length next.before.rows.terms_are, rows_many e.table.terms.items, rows_few (declared b), env_short gaps b s next.follows)
+
+  pub room_here : (a : Assertion) → s.decl ≡ assertion_decl a → (q : Option Proof) → s.proof ≡ q → CountsFit e.env a q
+  room_here a is q proof =
+      subst (λ (env : List Declaration). CountsFit env a q) (sym next.before.env) (subst (CountsFit (declared b) a) proof (assertion_room gaps b s next.follows a is))

@@ -31,8 +31,9 @@ use Rattle.mz_emit_theory.specs.SpelledLists.{form_spelled}
 use Rattle.mz_emit_theory.proofs.Offered.{bodies-same, words-say-signatures}
 use Rattle.mz_binary_theory.specs.Spelling.{HasKind, is_local_code}
 use Rattle.mz_spec.proofs.Offered.{terms-few}
-use Rattle.mz_emit.specs.Emitting.{MayFollow, HasWords, AreReady, CanBeDefined, CanBeAsserted}
+use Rattle.mz_emit.specs.Emitting.{MayFollow, HasWords, AreReady, CanBeDefined, CountsFit, CanBeAsserted}
 use Rattle.mz_emit_accepted_theory.specs.CompiledFile.{definition_code, assertion_code}
+use Rattle.mz_emit.proofs.Weights.{stated_same}
 
 -- ---- counts
 
@@ -114,7 +115,7 @@ module _ (gaps : Bool) (before : List Statement) (s : Statement) (h : MayFollow 
         ready = ready sg.params dummies (sym few) right.0 right.1 there.1.0 there.1.1 (λ i b at. (each_from_all (λ (c : Binder). IsDummy c × MayBeDummySort (sorts env) c.sort) dummies right.2 i b at).1)
             (omega (arith, h.few_bound, ap (λ d. count_by (λ (b : Binder). b.bound) (params_of d)) is, ap dummy_count is));
         sorted = (sg.result.sort, right.5.0.0);
-        short = omega (arith, h.light, ap declaration_weight is);
+        room = omega (arith, h.light, ap declaration_weight is, h.few_params, ap (λ (d : Declaration). length (params_of d)) is);
       }
 
   pub term_words : (sg : Signature) (f : Form) → s.decl ≡ term_decl (record { signature = sg; form = f }) → HasWords (sorts (declared before)) sg
@@ -191,6 +192,9 @@ module _ (gaps : Bool) (before : List Statement) (s : Statement) (h : MayFollow 
           conclusion = right.3;
           short = omega (arith, h.light, ap declaration_weight is, few_nodes a.hyps);
         }
+
+    pub assertion_room : CountsFit (declared before) a s.proof
+    assertion_room = omega (arith, h.light, ap declaration_weight is, stated_same (declared before) s.proof, h.few_params, ap (λ (d : Declaration). length (params_of d)) is)
 
     pub proof_can : (p : Proof) → s.proof ≡ Some p → (a.is_axiom ≡ false) × IsProofOf gaps (declared before) (a.params ++ s.dummies) a p
         × LeavesOnly (gaps ≡ true) p

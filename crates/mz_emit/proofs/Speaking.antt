@@ -106,7 +106,7 @@ pub definition_says : (env : List Declaration) (ps ds : List Binder) (e t : Tree
     → SaysDefinition env ps ds e stream bytes
 definition_says env ps ds e t stream bytes can is spelled makes short body = record {
   text =
-      let short_ones = definitions-short (signatures env) ps ds e can.ready.small can.sorted can.short in
+      let short_ones = definitions-short (signatures env) ps ds e can.ready.small can.sorted (let r = can.room in omega (arith, r)) in
       let same : stream_of (definition_written ps ds e).commands ≡ stream = ap (λ x. stream_of (definition_written ps ds x).commands) (sym is) ∙ sym spelled in
       subst (λ bs. IsSharedText of_definition (signatures env) ps bs none (body_spelled ps ds e) (dummies_spelled ps ds e)) same (record {
         commands = (definition_written ps ds e).commands;

@@ -90,7 +90,16 @@ pub record AreReady (env : List Declaration) (params dummies : List Binder) : Ty
 pub record CanBeDefined (env : List Declaration) (params dummies : List Binder) (e : Tree) : Type 0 where
   pub ready : AreReady env params dummies
   pub sorted : Sorted (signatures env) (params ++ dummies) e
-  pub short : length params + size e ≤ 2 ^ 32
+  pub room : length params + 6 * size e < 2 ^ 32
+
+-- the weight of the proof, if there is one
+abbrev pub body_weight : List Declaration → Option Proof → ℕ
+body_weight env None = 0
+body_weight env (Some p) = proof_weight env p
+
+-- 32 bits are enough for what is counted in the body of an axiom, or of a theorem with this proof
+abbrev pub CountsFit : List Declaration → Assertion → Option Proof → Type 0
+CountsFit env a q = length a.params + 6 * (trees_size a.hyps + size a.conclusion + body_weight env q) < 2 ^ 32
 
 -- hypotheses and a conclusion over the parameters alone
 pub record CanBeAsserted (env : List Declaration) (a : Assertion) (dummies : List Binder) : Type 0 where
@@ -119,11 +128,6 @@ IsProvedBy gaps env ctx a (Some p) = (a.is_axiom ≡ false) × IsSound gaps env 
 abbrev pub IsSoundIfStated : Bool → List Declaration → List Binder → List Tree → Option Proof → Type 0
 IsSoundIfStated gaps env ctx hyps None = ⊤
 IsSoundIfStated gaps env ctx hyps (Some p) = IsSound gaps env ctx hyps [] p
-
--- the weight of the proof, if there is one
-abbrev pub body_weight : List Declaration → Option Proof → ℕ
-body_weight env None = 0
-body_weight env (Some p) = proof_weight env p
 
 -- the body makes what the proof proves, and uses what it uses, or else makes an axiom's conclusion; it builds no
 -- application twice

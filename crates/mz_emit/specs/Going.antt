@@ -1,7 +1,7 @@
 -- What holds while a unify stream is written: the commands so far, followed by those of what is to do, are the
 -- commands of the whole.
-use Rattle.std.specs.Prelude.{ℕ, ◌≡◌, ◌<◌, ◌++◌, ◌∷◌, [], false, Contains, List, Option, Some, length, map, slice_get}
-use Rattle.mz_logic_theory.specs.Tree.{Tree, Trees, var, none, more, followed_by}
+use Rattle.std.specs.Prelude.{ℕ, ◌≡◌, ◌<◌, ◌+◌, ◌^◌, ◌++◌, ◌∷◌, [], false, Contains, List, Option, Some, length, map, slice_get}
+use Rattle.mz_logic_theory.specs.Tree.{Tree, Trees, var, none, more, followed_by, size, trees_size}
 use Rattle.mz_logic_theory.specs.Signature.{Signature}
 use Rattle.mz_logic_theory.specs.declared.binder.Binder.{Binder}
 use Rattle.mz_emit_theory.specs.SymbolicState.{from_to}
@@ -11,7 +11,7 @@ use Rattle.mz_store.specs.declared.item.DepsMode.TheVariants as of
 use Rattle.mz_store.specs.declared.item.Id.{Id}
 use Rattle.mz_unify_theory.specs.Streams.{UnifyCommand}
 use Rattle.mz_emit_theory.specs.StreamWriting.{Writing, Written, unify_bytes, write_all, write_hyps}
-use Rattle.mz_emit_theory.specs.InReach.{AllInReach}
+use Rattle.mz_emit_theory.specs.InReach.{InReach, AllInReach}
 use Rattle.mz_emit_bodies.specs.Places.{place_of}
 use Rattle.mz_emit.specs.declared.stream.Stream.{Stream}
 
@@ -69,6 +69,7 @@ pub record IsGoing (o : Job) (s : Sharing) (places : List (Option ℕ)) (len met
   pub work : Writing
   pub marked : IsMarked o.params s places len met work
   pub inside : AllInReach (length (scope o)) todo
+  pub room : length work.trees + trees_size todo < 2 ^ 32
   pub whole : out ++ spelled (write_all (own o) (scope o) work todo).commands ≡ o.whole
   pub last : (write_all (own o) (scope o) work todo).after ≡ o.last
 
@@ -82,6 +83,14 @@ pub record IsReady (ps ds : List Binder) (s : Sharing) (t : Stream) (w : Writing
   pub statement : IsStatement ps ds s
   pub marked : IsMarked ps s t.heap.places.items t.heap.len t.met w
   pub idle : t.todo.items ≡ []
+
+-- the expression can be spelled: its variables are in reach, and 32 bits are enough for the number of marks
+abbrev pub CanSpell : List Binder → List Binder → Writing → Tree → Type 0
+CanSpell ps ds w e = InReach (length (ps ++ ds)) e × (length w.trees + size e < 2 ^ 32)
+
+-- all of these can
+abbrev pub CanSpellAll : List Binder → List Binder → Writing → Trees → Type 0
+CanSpellAll ps ds w es = AllInReach (length (ps ++ ds)) es × (length w.trees + trees_size es < 2 ^ 32)
 
 -- this was written, and nothing is to do
 abbrev pub HasWritten : List Binder → List Binder → Sharing → Stream → Stream → Written → Type 0

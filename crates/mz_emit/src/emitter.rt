@@ -1,5 +1,5 @@
 // The statements of a text, one after another, as rows, streams and bodies of a binary.
-ghost use Rattle.std.specs.Prelude.{ℕ, Bool, List, ◌≡◌, ◌<◌, ◌≤◌, ◌+◌, ◌*◌, ◌++◌, ◌∷◌, [], ◌⊎◌, OnOk, IfOk, None, Some, Option, length, map, take, IsTrue};
+ghost use Rattle.std.specs.Prelude.{ℕ, Bool, List, ◌≡◌, ◌<◌, ◌≤◌, ◌+◌, ◌*◌, ◌^◌, ◌++◌, ◌∷◌, [], ◌⊎◌, OnOk, IfOk, None, Some, Option, length, map, take, IsTrue};
 ghost use Rattle.mz_cmd.specs.Codes.{begins_statement};
 ghost use Rattle.mz_logic_theory.specs.DeclView.{declaration, term_of, assertion_of, assertion_view, signature, form, is_axiom as is_axiom_form};
 ghost use Rattle.mz_logic_theory.specs.Declaration.{Assertion, sort_decl, term_decl, assertion_decl, plain_form, defined, dummies_of, sorts, signatures};
@@ -25,7 +25,7 @@ ghost use Rattle.mz_machine_theory.specs.Premises.{bound_count as bound_in};
 ghost use Rattle.mz_emit_bodies.specs.Rows.{words_of_row};
 ghost use Rattle.mz_emit_bodies.specs.Stages.{HasDummiesBehind};
 ghost use Rattle.mz_emit.specs.Emitting;
-ghost use Rattle.mz_emit.specs.Emitting.{CanBeNext, WritesNext, EmitsNext, MayFollow, CanBeDefined, CanBeAsserted, HasWords, table_of, SaysDefinition, SaysAssertion, IsProvedBy, IsSoundIfStated, MakesBody, body_weight, HasEmitted};
+ghost use Rattle.mz_emit.specs.Emitting.{CanBeNext, WritesNext, EmitsNext, MayFollow, CanBeDefined, CanBeAsserted, CountsFit, HasWords, table_of, SaysDefinition, SaysAssertion, IsProvedBy, IsSoundIfStated, MakesBody, body_weight, HasEmitted};
 ghost use Rattle.mz_emit_accepted_theory.specs.CompiledFile;
 ghost use Rattle.mz_emit_accepted_theory.specs.CompiledFile.{term_row, thm_row, assertion_body_of, with_sort, with_term, with_thm};
 
@@ -103,7 +103,8 @@ impl Emitter {
 
     /// Writes a sort.
     fn sort(&mut self, mods: SortMods) -> Result<(), Mem>
-        requires { mods.0 < 16 }
+        requires mods { mods.0 < 16 }
+        requires room { length self.old.table.sorts.items + 1 < 2 ^ 32 }
         ensures writer { OnOk result (self.new.writer ≡ with_sort self.old.writer mods.0) }
         ensures sorts { OnOk result (self.new.table.sorts.items ≡ self.old.table.sorts.items ++ mods ∷ []) }
         ensures terms { OnOk result (self.new.table.terms.items ≡ self.old.table.terms.items) }
@@ -117,7 +118,8 @@ impl Emitter {
 
     /// Writes a plain term.
     fn plain(&mut self, term: &TermDecl) -> Result<(), Mem>
-        requires { (ss : List Modifiers) × HasWords ss (signature term.now) }
+        requires words { (ss : List Modifiers) × HasWords ss (signature term.now) }
+        requires room { length self.old.table.terms.items + 1 < 2 ^ 32 }
         ensures writer { OnOk result (self.new.writer ≡ with_term self.old.writer (term_row (signature term.now) None) (record { code = 0x05; body = [] })) }
         ensures sorts { OnOk result (self.new.table.sorts.items ≡ self.old.table.sorts.items) }
         ensures terms { OnOk result (table_of self.new ≡ table_of self.old ++ signature term.now ∷ []) }
@@ -134,6 +136,7 @@ impl Emitter {
     /// Writes a definition.
     fn definition(&mut self, term: &TermDecl, body: &Expr, code: u8) -> Result<(), Mem>
         requires words { (ss : List Modifiers) × HasWords ss (signature term.now) }
+        requires room { length self.old.table.terms.items + 1 < 2 ^ 32 }
         requires legal { IsLegalEnv self.old.env }
         requires table { table_of self.old ≡ signatures self.old.env }
         requires can { CanBeDefined self.old.env (signature term.now).params (dummies_of (form term.now.form)) (tree body.now) }
@@ -167,6 +170,7 @@ impl Emitter {
         requires legal { IsLegalEnv self.old.env }
         requires table { table_of self.old ≡ signatures self.old.env }
         requires can { CanBeAsserted self.old.env (assertion_view thm.now) dummies.now }
+        requires room { CountsFit self.old.env (assertion_view thm.now) (stated proof) }
         requires proved { (gaps : Bool) × IsProvedBy gaps self.old.env ((assertion_view thm.now).params ++ dummies.now) (assertion_view thm.now) (stated proof) }
         requires code { IsTrue (begins_statement code) }
         ensures written { OnOk result ((stream : List ℕ) × (bytes : List ℕ)
@@ -317,6 +321,7 @@ impl Emitter {
         requires inside { IsIn shared.store conclusion.0 }
         requires hyps { AreIn shared.store hyps.now }
         requires provable { AreProvable self.now.env shared.store.context (trees_of shared.store hyps.now) }
+        requires room { params + 6 * (trees_size (trees_of shared.store hyps.now) + size (tree_of shared.store conclusion.0) + body_weight self.now.env (stated proof)) < 2 ^ 32 }
         requires sound { (gaps : Bool) × IsSoundIfStated gaps self.now.env shared.store.context (listed (trees_of shared.store hyps.now)) (stated proof) }
         ensures body { IfOk result (λ b. (gaps : Bool) → IsSoundIfStated gaps self.now.env shared.store.context (listed (trees_of shared.store hyps.now)) (stated proof.entry)
             → (ps ds : List BinderOf) → shared.store.context ≡ ps ++ ds → length ps ≡ params
@@ -349,6 +354,7 @@ impl Emitter {
         requires right { BitsRight words.now.params.items }
         requires params { binders_of words.now.params.items ≡ (assertion_view thm.now).params }
         requires can { CanBeAsserted self.now.env (assertion_view thm.now) dummies.now }
+        requires room { CountsFit self.now.env (assertion_view thm.now) (stated proof) }
         requires proved { (gaps : Bool) × IsProvedBy gaps self.now.env ((assertion_view thm.now).params ++ dummies.now) (assertion_view thm.now) (stated proof) }
         ensures { IfOk result (λ e. (gaps : Bool) → IsProvedBy gaps self.now.env ((assertion_view thm.now).params ++ dummies.now) (assertion_view thm.now) (stated proof.entry)
             → SaysAssertion gaps self.now.env (assertion_view thm.now) dummies.now (stated proof.entry) e.stream.items e.body.items) }

@@ -1,6 +1,7 @@
 //! The unify streams of statements.
-ghost use Rattle.std.specs.Prelude.{ℕ, ◌≡◌, ◌<◌, ◌++◌, IfOk, List, length};
+ghost use Rattle.std.specs.Prelude.{ℕ, ◌≡◌, ◌<◌, ◌+◌, ◌^◌, ◌++◌, IfOk, List, length};
 ghost use Rattle.mz_logic_theory.specs.Signature.{Signature};
+ghost use Rattle.mz_logic_theory.specs.Tree.{size, trees_size};
 ghost use Rattle.mz_logic_theory.specs.declared.binder.Binder.{Binder};
 ghost use Rattle.mz_store.specs.Sharing.{AreIn, IsIn, tree_of, trees_of};
 ghost use Rattle.mz_emit_theory.specs.StreamWriting.{assertion_written, definition_written, stream_of};
@@ -36,6 +37,7 @@ pub fn assertion_stream(
     requires hyps { AreIn shared.now.store hyps.now }
     requires conclusion_reach { InReach params (tree_of shared.now.store conclusion.0) }
     requires hyps_reach { AllInReach params (trees_of shared.now.store hyps.now) }
+    requires room { params + (size (tree_of shared.now.store conclusion.0) + trees_size (trees_of shared.now.store hyps.now)) < 2 ^ 32 }
     ensures { IfOk result (λ bytes. (ps ds : List Binder) → shared.now.store.context ≡ ps ++ ds → length ps ≡ params
         → bytes.items ≡ stream_of (assertion_written ps (trees_of shared.now.store hyps.now) (tree_of shared.now.store conclusion.0)).commands) }
 {
@@ -64,6 +66,7 @@ pub fn definition_stream(
     requires shared { (sigs : List Signature) × IsShared sigs shared.now.store shared.now.variables.items }
     requires params { HasParams params shared.now.store.context }
     requires body { IsIn shared.now.store body.0 }
+    requires room { params + size (tree_of shared.now.store body.0) < 2 ^ 32 }
     ensures { IfOk result (λ bytes. (ps ds : List Binder) → shared.now.store.context ≡ ps ++ ds → length ps ≡ params
         → bytes.items ≡ stream_of (definition_written ps ds (tree_of shared.now.store body.0)).commands) }
 {

@@ -9,9 +9,8 @@ ghost use Rattle.mz_emit_theory.specs.SymbolicState.{from_to};
 ghost use Rattle.mz_store.specs.Bits.{Tells, bound_vars};
 ghost use Rattle.mz_store.specs.Sharing.{AreIn, IsIn, head_of, tree_of, trees_of};
 ghost use Rattle.mz_emit_theory.specs.StreamWriting.{Writing, are_met, write, writing_start};
-ghost use Rattle.mz_emit_theory.specs.InReach.{AllInReach, InReach};
 ghost use Rattle.mz_emit_bodies.specs.Places.{place_of};
-ghost use Rattle.mz_emit.specs.Going.{Going, HasWritten, IsReady, IsStatement, Job, hyps_written, met_so_far, to_do};
+ghost use Rattle.mz_emit.specs.Going.{CanSpell, CanSpellAll, Going, HasWritten, IsReady, IsStatement, Job, hyps_written, met_so_far, to_do};
 
 use mz_cmd::{END, Mem, UnifyCode, put_cmd};
 use mz_emit_bodies::Heap;
@@ -84,8 +83,8 @@ impl Stream {
     /// Spells an expression.
     pub fn spell(&mut self, store: &Store, root: Id) -> Result<(), Mem>
         requires inside { IsIn store.now root.0 }
-        requires can { (ps : List Binder) × (ds : List Binder) × (w : Writing) × IsReady ps ds store.now self.old w × InReach (length (ps ++ ds)) (tree_of store.now root.0) }
-        ensures does { OnOk result ((ps ds : List Binder) (w : Writing) → IsReady ps ds store.now self.old w → InReach (length (ps ++ ds)) (tree_of store.now root.0)
+        requires can { (ps : List Binder) × (ds : List Binder) × (w : Writing) × IsReady ps ds store.now self.old w × CanSpell ps ds w (tree_of store.now root.0) }
+        ensures does { OnOk result ((ps ds : List Binder) (w : Writing) → IsReady ps ds store.now self.old w → CanSpell ps ds w (tree_of store.now root.0)
             → HasWritten ps ds store.now self.old self.new (write (from_to 0 ps) (ps ++ ds) w (tree_of store.now root.0))) }
     {
         self.spell_next(store, root)?;
@@ -180,8 +179,8 @@ impl Stream {
     /// Spells the hypotheses, the last one first.
     pub fn spell_hyps(&mut self, store: &Store, hyps: &[Id]) -> Result<(), Mem>
         requires inside { AreIn store.now hyps.now }
-        requires can { (ps : List Binder) × (ds : List Binder) × (w : Writing) × IsReady ps ds store.now self.old w × AllInReach (length (ps ++ ds)) (trees_of store.now hyps.now) }
-        ensures does { OnOk result ((ps ds : List Binder) (w : Writing) → IsReady ps ds store.now self.old w → AllInReach (length (ps ++ ds)) (trees_of store.now hyps.now)
+        requires can { (ps : List Binder) × (ds : List Binder) × (w : Writing) × IsReady ps ds store.now self.old w × CanSpellAll ps ds w (trees_of store.now hyps.now) }
+        ensures does { OnOk result ((ps ds : List Binder) (w : Writing) → IsReady ps ds store.now self.old w → CanSpellAll ps ds w (trees_of store.now hyps.now)
             → HasWritten ps ds store.now self.old self.new (hyps_written ps ds store.now w (reverse hyps.now))) }
     {
         for hyp in hyps.iter().rev() {

@@ -1,19 +1,17 @@
 mod Ways
+mod Commands
 mod Scoping
 mod Heaps
 mod Writers
 pub mod Lists
-mod Standing
-mod Building
 mod Moves
 mod Keeping
 mod Growing
-mod Saving
 mod Naming
 mod Opening
 mod Binding
-mod Dummies
 mod Beginning
+mod Counting
 mod Ends
 mod Running
 mod QuietWriters
@@ -25,8 +23,6 @@ mod GapsCounted
 mod Operands
 mod WorkedExamples
 pub mod Paying
-mod Shortening
-pub mod Using
 pub mod NoMore
 pub mod Making
 pub mod Owned

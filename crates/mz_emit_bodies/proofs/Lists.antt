@@ -60,6 +60,13 @@ pub get_end : (A : Type 0) (xs : List A) (y z : A) → get_or (xs ++ y ∷ []) (
 get_end A [] y z = refl
 get_end A (x ∷ xs) y z = get_end A xs y z
 
+-- what holds of each and of one more
+pub each_last : (A : Type 0) (d : A) (P : A → Type 0) (xs : List A) (y : A) (i : ℕ) → ((j : ℕ) → P (get_or xs j d)) → P y → P d → P (get_or (xs ++ y ∷ []) i d)
+each_last A d P [] y zero each last past = last
+each_last A d P [] y (suc i) each last past = past
+each_last A d P (x ∷ xs) y zero each last past = each zero
+each_last A d P (x ∷ xs) y (suc i) each last past = each_last A d P xs y i (λ j. each (suc j)) last past
+
 -- what stands behind the first
 pub rest_whole : (A : Type 0) (y : A) (ys : List A) → take (length (y ∷ ys) - 1) (drop 1 (y ∷ ys)) ≡ ys
 rest_whole A y ys = (let e : length (y ∷ ys) - 1 ≡ length ys = omega arith in ap (λ (n : ℕ). take n ys) e ∙ take-length ys)

@@ -19,8 +19,7 @@ use Rattle.mz_emit_theory.specs.Weights.{conv_weight, convs_weight}
 use Rattle.mz_emit_theory.specs.BodyWriting.{Kept, expression, hypothesis, first_part, is_same, Writing, place_in, Written, Writer, nothing, ◌>>◌, command, keeping, unless_kept, write_expr, write_exprs, write_payment, write_payments, write_hyp, write_hyps}
 use Rattle.mz_emit_bodies.proofs.Heaps.{none_or_some, place_old, kept_there, not_kept}
 use Rattle.mz_emit_bodies.proofs.Moves.{size_some}
-use Rattle.mz_emit_bodies.proofs.Shortening.{command_short, command_one}
-use Rattle.mz_emit_bodies.proofs.Using.{or_assoc}
+use Rattle.mz_emit_bodies.proofs.Commands.{command_short, command_one, or_assoc}
 
 -- ---- lists that go on
 

@@ -32,8 +32,7 @@ use Rattle.mz_emit_theory.specs.BodyWriting.{Kept, expression, hypothesis, first
 use Rattle.mz_emit_bodies.proofs.Heaps.{none_or_some, place_new, place_old, some_get, kept_there, not_kept}
 use Rattle.mz_emit_bodies.proofs.Lists.{slice_last, get_end}
 use Rattle.mz_emit_bodies.proofs.Opening.{strict}
-use Rattle.mz_emit_bodies.proofs.Building.{no_tree}
-use Rattle.mz_emit_bodies.proofs.Growing.{thm_step}
+use Rattle.mz_emit_bodies.proofs.Commands.{no_tree, thm_step}
 use Rattle.mz_emit_bodies.proofs.Paying.{body_is, between_sorted, left_sorted, unfolded_sorted, unfold_step}
 
 -- ---- items

@@ -1,7 +1,7 @@
 -- A body is in proportion to what it is written of: at most six bytes for each node and each unit of weight. A let's part
 -- is paid when the let is met, and emitted at most once: what waits is what was paid for and isn't in the heap.
 use Rattle.std.specs.Prelude.{ℕ, ◌≡◌, ◌≤◌, ◌+◌, ◌*◌, Bool, true, false, List, [], ◌∷◌, ◌++◌, length, get_or, None}
-use Rattle.std.proofs.Common.{zero, suc, refl, sym, ap, ◌∙◌, subst, arith, append_assoc, inl, inr}
+use Rattle.std.proofs.Common.{suc, refl, sym, ap, ◌∙◌, subst, arith, append_assoc, inl, inr}
 use Rattle.std.proofs.lemmas.List.{length-append}
 use Rattle.mz_cmd.specs.declared.code.ProofCode.TheVariants as code
 use Rattle.mz_logic_theory.specs.Tree.{Tree, Trees, listed, instance, size, trees_size}
@@ -13,19 +13,21 @@ use Rattle.mz_emit_theory.specs.Uses.{a_gap, conv_uses}
 use Rattle.mz_emit_theory.specs.Weights.{conv_weight, proof_weight, proofs_weight}
 use Rattle.mz_emit_theory.specs.BodyWriting.{Kept, hypothesis, first_part, Writing, place_in, Written, Writer, nothing, ◌>>◌, command, keeping, unless_kept, write_expr, write_exprs, write_payment, at_name, write_proof, write_proofs, write_hyps, at_first, definition_written, axiom_written, theorem_written}
 use Rattle.mz_emit_bodies.specs.WrittenLaws.{DefinitionsAreShort, AxiomsAreShort, TheoremsAreShort}
+use Rattle.mz_emit_bodies.proofs.Lists.{each_last}
 use Rattle.mz_emit_bodies.proofs.Heaps.{none_or_some, kept_there, not_kept}
-use Rattle.mz_emit_bodies.proofs.Shortening.{command_short, command_one}
+use Rattle.mz_emit_bodies.proofs.Commands.{command_short, command_one}
 use Rattle.mz_emit_bodies.proofs.Waiting.{waiting, waiting_same, waiting_last, waiting_one, waiting_none}
 use Rattle.mz_emit_bodies.proofs.QuietWriters.{Extends, extends_self, extends_then, bytes_in, bytes_join, body_long, IsQuiet, quiet_nothing, quiet_within, quiet_five, quiet_one, quiet_then, quiet_kept, expr_quiet, exprs_quiet, hyps_quiet, payment_quiet}
 
 -- ---- what is spent
 
--- the lets that were met cost so much: what is written, with what waits after it, is paid by what waited before, and n
+-- the lets that were met cost so much: what is written, a byte for each let that is met, and what waits after it, is paid
+-- by what waited before, and n
 pub record Spent (now : List ℕ) (w : Writing) (r : Written) (n : ℕ) : Type 0 where
   pub next : List ℕ
   pub further : Extends ℕ now next
   pub lets : r.after.lets ≡ length next
-  pub fits : bytes_in r.commands + waiting r.after.heap 0 next ≤ waiting w.heap 0 now + n
+  pub fits : bytes_in r.commands + length next + waiting r.after.heap 0 next ≤ length now + waiting w.heap 0 now + n
 
 -- wherever these lets were met, and maybe more, the writer spends no more than n
 abbrev Spends : List ℕ → Writer → ℕ → Type 0
@@ -83,7 +85,9 @@ spends_saved base m n f m-is spends w now (since, now-is) lets absent =
           let next-there = ap (waiting (first_part m ∷ heap) 0) (ap (λ (z : List ℕ). z ++ newer) now-is ∙ append_assoc (base ++ n ∷ []) since newer) in
           let free-there = ap (waiting heap 0) (a.further.1 ∙ append_assoc (base ++ 0 ∷ []) since newer) in
           let fits = a.fits in
-          omega (arith, joined, one, before, now-there, after, next-there, free-there, fits);
+          let free-long = ap length a.further.1 ∙ length-append free newer in
+          let now-long = length-append now newer in
+          omega (arith, joined, one, before, now-there, after, next-there, free-there, fits, free-long, now-long, same);
     }
 
 spends_name : (base : List ℕ) (m n : ℕ) (f : Writer) → m ≡ length base → Spends (base ++ 0 ∷ []) f n → Spends (base ++ n ∷ []) (at_name m f) 6
@@ -101,12 +105,6 @@ Names world lets = (i : ℕ) → Spends world (get_or lets i nothing) 6
 
 names_later : (world later : List ℕ) (lets : List Writer) → Extends ℕ world later → Names world lets → Names later lets
 names_later world later lets further names i = spends_later world later (get_or lets i nothing) 6 further (names i)
-
-each_or_last : (P : Writer → Type 0) (lets : List Writer) (f : Writer) (i : ℕ) → ((j : ℕ) → P (get_or lets j nothing)) → P f → P nothing → P (get_or (lets ++ f ∷ []) i nothing)
-each_or_last P [] f zero each last past = last
-each_or_last P [] f (suc i) each last past = past
-each_or_last P (g ∷ lets) f zero each last past = each zero
-each_or_last P (g ∷ lets) f (suc i) each last past = each_or_last P lets f i (λ j. each (suc j)) last past
 
 nothing_spent : (world : List ℕ) (n : ℕ) → Spends world nothing n
 nothing_spent world n = spends_within world nothing 0 n (omega arith) (spends_quiet world nothing false 0 (quiet_nothing a_gap))
@@ -145,14 +143,14 @@ module _ (env : List Declaration) (ctx : List Binder) where
         let first : Spends free f n = proof_spends free lets (names_later world free lets (extends_then ℕ world now free on (0 ∷ [], refl)) names) p in
         let name : Spends later (at_name w.lets f) 6 = spends_name now w.lets n f is first in
         let names' : Names later (lets ++ at_name w.lets f ∷ []) =
-        λ i. each_or_last (λ (g : Writer). Spends later g 6) lets (at_name w.lets f) i (names_later world later lets (extends_then ℕ world now later on (n ∷ [], refl)) names) name (nothing_spent later 6) in
+        λ i. each_last Writer nothing (λ (g : Writer). Spends later g 6) lets (at_name w.lets f) i (names_later world later lets (extends_then ℕ world now later on (n ∷ [], refl)) names) name (nothing_spent later 6) in
         let v : Writing = record w { lets = suc w.lets } in
         let t = proof_spends later (lets ++ at_name w.lets f ∷ []) names' q v later (extends_self ℕ later) (let l = length-append now (n ∷ []) in omega (arith, l, is)) in
         record {
           next = t.next;
           further = extends_then ℕ now later t.next (n ∷ [], refl) t.further;
           lets = t.lets;
-          fits = (let h = t.fits in let more = waiting_last w.heap 0 now n in omega (arith, h, more));
+          fits = (let h = t.fits in let more = waiting_last w.heap 0 now n in let l = length-append now (n ∷ []) in omega (arith, h, more, l));
         }
     proof_spends world lets names (by_gap e) = spends_within world (write_proof env ctx lets (by_gap e)) (5 * size e + 5) (6 * proof_weight env (by_gap e)) (omega arith)
         (spends_then world (write_expr ctx e) (command code.Sorry 0) (5 * size e) 5 (expr_spends world e) (spends_quiet world (command code.Sorry 0) true 5 (quiet_five a_gap code.Sorry 0)))
@@ -162,15 +160,17 @@ module _ (env : List Declaration) (ctx : List Binder) where
     proofs_spend world lets names (more_proofs p ps) = spends_within world (write_proofs env ctx lets (more_proofs p ps)) (6 * proof_weight env p + 6 * proofs_weight env ps) (6 * proofs_weight env (more_proofs p ps)) (omega arith)
         (spends_then world (write_proof env ctx lets p) (write_proofs env ctx lets ps) (6 * proof_weight env p) (6 * proofs_weight env ps) (proof_spends world lets names p) (proofs_spend world lets names ps))
 
-  -- a whole theorem
-  theorem_spends : (params : List Binder) (hs : Trees) (p : Proof) → bytes_in ((write_hyps ctx 0 (listed hs) >> write_proof env ctx [] p) (at_first params)).commands ≤ 6 * (trees_size hs + proof_weight env p)
+  -- a whole theorem, with a byte for each let
+  pub theorem_spends : (params : List Binder) (hs : Trees) (p : Proof)
+      → bytes_in ((write_hyps ctx 0 (listed hs) >> write_proof env ctx [] p) (at_first params)).commands + ((write_hyps ctx 0 (listed hs) >> write_proof env ctx [] p) (at_first params)).after.lets
+      ≤ 6 * (trees_size hs + proof_weight env p)
   theorem_spends params hs p =
       let whole = spends_then [] (write_hyps ctx 0 (listed hs)) (write_proof env ctx [] p) (6 * trees_size hs) (6 * proof_weight env p)
       (spends_quiet [] (write_hyps ctx 0 (listed hs)) false (6 * trees_size hs) (hyps_quiet a_gap ctx hs 0)) (proof_spends [] [] (λ i. nothing_spent [] 6) p) (at_first params) [] (extends_self ℕ []) refl in
-      (let h = whole.fits in omega (arith, h))
+      (let h = whole.fits in let l = whole.lets in omega (arith, h, l))
 
 pub theorem_bytes : (env : List Declaration) (params dummies : List Binder) (hs : Trees) (p : Proof) → bytes_in (theorem_written env params dummies (listed hs) p).commands ≤ 6 * (trees_size hs + proof_weight env p)
-theorem_bytes env params dummies hs p = theorem_spends env (params ++ dummies) params hs p
+theorem_bytes env params dummies hs p = (let s = theorem_spends env (params ++ dummies) params hs p in omega (arith, s))
 
 pub axiom_bytes : (params dummies : List Binder) (hs : Trees) (e : Tree) → bytes_in (axiom_written params dummies (listed hs) e).commands ≤ 6 * (trees_size hs + size e)
 axiom_bytes params dummies hs e =

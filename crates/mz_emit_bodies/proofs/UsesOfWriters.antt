@@ -20,7 +20,7 @@ use Rattle.mz_emit_theory.specs.BodyWriting.{Kept, hypothesis, first_part, is_sa
 use Rattle.mz_emit_bodies.specs.WrittenLaws.{TheoremsUseWhatProofsUse}
 use Rattle.mz_emit_bodies.proofs.Heaps.{none_or_some, place_old, kept_there, not_kept, no_part}
 use Rattle.mz_emit_bodies.proofs.Lists.{get_end}
-use Rattle.mz_emit_bodies.proofs.Using.{or_assoc}
+use Rattle.mz_emit_bodies.proofs.Commands.{or_assoc}
 use Rattle.mz_emit_bodies.proofs.QuietWriters.{Extends, extends_self, extends_then, uses_join, IsQuiet, quiet_nothing, quiet_five, quiet_kept, quiet_within, expr_quiet, exprs_quiet, hyps_quiet, payment_quiet}
 
 -- ---- truth values

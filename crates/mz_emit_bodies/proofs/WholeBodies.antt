@@ -25,10 +25,9 @@ use Rattle.mz_emit_theory.proofs.Offered.{has-place as meets, own-below, own-ite
 use Rattle.mz_emit_bodies.specs.Laws.{AreDummiesBehind, TakeFourBytes, DefinitionsAreWritten, AxiomsAreWritten, TheoremsAreWritten}
 use Rattle.mz_emit_bodies.specs.WrittenLaws.{TheoremBodiesUse}
 use Rattle.mz_emit_bodies.proofs.Beginning.{heap_long}
-use Rattle.mz_emit_bodies.proofs.Building.{builds_steps}
+use Rattle.mz_emit_bodies.proofs.Commands.{builds_steps, in_theorem}
 use Rattle.mz_emit_bodies.proofs.Heaps.{below_long, below_at, below_is, no_hypothesis, no_part, none_or_some, kept_there, not_kept}
 use Rattle.mz_emit_bodies.proofs.Running.{Any, item_of, Agrees, Taken, taken_then, any_expr, Names, proof_taken, hyps_assumed}
-use Rattle.mz_emit_bodies.proofs.Standing.{in_theorem}
 use Rattle.mz_emit_bodies.proofs.UsesOfWriters.{theorems_use}
 
 -- ---- at first

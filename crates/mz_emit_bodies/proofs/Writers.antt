@@ -10,17 +10,16 @@ use Rattle.mz_logic_theory.specs.Legality.{binder_at}
 use Rattle.mz_logic_theory.specs.declared.binder.Binder.{Binder}
 use Rattle.mz_store.specs.Sharing.{Sharing, IsIn, tree_of, trees_of, head_of, operands_of}
 use Rattle.mz_store.specs.declared.item.Id.{Id}
-use Rattle.mz_unify_theory.specs.Profile.{Item}
 use Rattle.mz_mmu_theory.specs.Proof.{Proof, by_hyp, by_name, by_let}
 use Rattle.mz_emit_bodies.specs.Instances.{Grows}
 use Rattle.mz_emit_bodies.specs.Places.{place_of}
 use Rattle.mz_emit_bodies.proofs.Making.{tree_grown}
 use Rattle.mz_emit_bodies.specs.Sight.{Part, links, parts, part_at, place_at, InSight, AreRight, IsThere}
 use Rattle.mz_emit_bodies.specs.Scopes.{in_sight}
-use Rattle.mz_emit_bodies.specs.TaskInvariant.{Task, prove, prove_all, cite, push, make, pay, pay_all, give, save, Turns, Owes}
+use Rattle.mz_emit_bodies.specs.TaskInvariant.{Task, prove, prove_all, cite, push, make, pay, pay_all, give, save, CanBeDone, AllCanBeDone}
 use Rattle.mz_emit_bodies.specs.Pushing.{pushes}
 use Rattle.mz_emit_theory.specs.BodyWriting.{Kept, expression, hypothesis, first_part, Writing, place_in, Written, Writer, and_then, nothing, ◌>>◌, command, keeping, write_expr, write_exprs, at_name, write_proof, write_proofs, write_hyp, write_hyps}
-use Rattle.mz_emit_bodies.specs.Writers.{let_writers, term_of, write_task, write_tasks, IsKept, behind, IsWriting}
+use Rattle.mz_emit_bodies.specs.Writers.{let_writers, term_of, write_task, write_tasks, IsKept, behind, HasRoom, IsWriting}
 use Rattle.mz_emit_bodies.specs.declared.let_scopes.Cell.{Cell}
 use Rattle.mz_emit_bodies.proofs.Scoping.{sight_more, sight_new, named}
 use Rattle.mz_emit_bodies.proofs.Heaps.{written, then_assoc, then_first, then_second, then_nothing, kept_there, not_kept, expr_there, expr_new, dummy_new, expr_absent, met_kept, kept_grown}
@@ -33,62 +32,63 @@ then_assoc4 f g h k l w = then_assoc f (g >> h >> k) l w ∙ then_second f ((g >
 
 -- ---- a store that grew
 
-module _ (gaps : Bool) (env : List Declaration) (ctx : List Binder) (hyps : List Tree) (s s' : Sharing) (g : Grows s s') (ps : List Part) where
-  task_grown : (t : Task) (xs ys : List (Item Tree)) → Turns gaps env ctx hyps s ps t xs ys → (w : Writing) → write_task env ctx s' ps t w ≡ write_task env ctx s ps t w
-  task_grown (prove p chain) xs ys h w = refl
-  task_grown (prove_all qs chain) xs ys h w = refl
-  task_grown (cite T es) xs ys h w = refl
-  task_grown (push i) xs ys h w = ap (λ (e : Tree). write_expr ctx e w) (tree_grown s s' g i h.0)
-  task_grown (make i) xs ys h w = ap (λ (e : Tree). keeping code.TermSave (term_of e) (expression e) w) (tree_grown s s' g i h.0)
-  task_grown (pay c) xs ys h w = refl
-  task_grown (pay_all cs) xs ys h w = refl
-  task_grown (give c v) xs ys h w = refl
-  task_grown (save c) xs ys h w = refl
+module _ (gaps : Bool) (env : List Declaration) (ctx : List Binder) (hyps : List Tree) (n : ℕ) (s s' : Sharing) (g : Grows s s') (ps : List Part) where
+  task_grown : (t : Task) → CanBeDone gaps env ctx hyps n s ps t → (w : Writing) → write_task env ctx s' ps t w ≡ write_task env ctx s ps t w
+  task_grown (prove p chain) h w = refl
+  task_grown (prove_all qs chain) h w = refl
+  task_grown (cite T es) h w = refl
+  task_grown (push i) h w = ap (λ (e : Tree). write_expr ctx e w) (tree_grown s s' g i h)
+  task_grown (make i) h w = ap (λ (e : Tree). keeping code.TermSave (term_of e) (expression e) w) (tree_grown s s' g i h.0)
+  task_grown (pay c) h w = refl
+  task_grown (pay_all cs) h w = refl
+  task_grown (give c v) h w = refl
+  task_grown (save c) h w = refl
 
-  pub tasks_grown : (ts : List Task) (xs goal : List (Item Tree)) → Owes gaps env ctx hyps s ps xs ts goal → (w : Writing) → write_tasks env ctx s' ps ts w ≡ write_tasks env ctx s ps ts w
-  tasks_grown [] xs goal h w = refl
-  tasks_grown (t ∷ ts) xs goal (ys, turns, h) w =
-      then_first (write_task env ctx s' ps t) (write_task env ctx s ps t) (write_tasks env ctx s' ps ts) w (task_grown t xs ys turns w)
-      ∙ then_second (write_task env ctx s ps t) (write_tasks env ctx s' ps ts) (write_tasks env ctx s ps ts) w (tasks_grown ts ys goal h)
+  pub tasks_grown : (ts : List Task) → AllCanBeDone gaps env ctx hyps n s ps ts → (w : Writing) → write_tasks env ctx s' ps ts w ≡ write_tasks env ctx s ps ts w
+  tasks_grown [] h w = refl
+  tasks_grown (t ∷ ts) (can, h) w =
+      then_first (write_task env ctx s' ps t) (write_task env ctx s ps t) (write_tasks env ctx s' ps ts) w (task_grown t can w)
+      ∙ then_second (write_task env ctx s ps t) (write_tasks env ctx s' ps ts) (write_tasks env ctx s ps ts) w (tasks_grown ts h)
 
-pub writing_grown : (gaps : Bool) (env : List Declaration) (hyps : List Tree) (s s' : Sharing) → Grows s s' → (places : List (Option ℕ)) (len : ℕ) (hps : List ℕ) (cells : List Cell) (ts : List Task)
-    (cs : List (ProofCode × ℕ)) (whole : Written) (xs goal : List (Item Tree)) → Owes gaps env s.context hyps s (parts cells) xs ts goal
+pub writing_grown : (gaps : Bool) (env : List Declaration) (hyps : List Tree) (n : ℕ) (s s' : Sharing) → Grows s s' → (places : List (Option ℕ)) (len : ℕ) (hps : List ℕ) (cells : List Cell) (ts : List Task)
+    (cs : List (ProofCode × ℕ)) (whole : Written) → AllCanBeDone gaps env s.context hyps n s (parts cells) ts
     → IsWriting env s places len hps cells ts cs whole → IsWriting env s' places len hps cells ts cs whole
-writing_grown gaps env hyps s s' gr places len hps cells ts cs whole xs goal owes h = record {
+writing_grown gaps env hyps n s s' gr places len hps cells ts cs whole can h = record {
   here = h.here;
   kept = kept_grown s places len hps cells h.here h.kept s' gr;
   comes = ap (behind cs) (ap (λ (ctx : List Binder). write_tasks env ctx s' (parts cells) ts h.here) gr.0
-      ∙ tasks_grown gaps env s.context hyps s s' gr (parts cells) ts xs goal owes h.here) ∙ h.comes;
+      ∙ tasks_grown gaps env s.context hyps n s s' gr (parts cells) ts can h.here) ∙ h.comes;
+  room = h.room;
 }
 
 -- ---- one let more
 
-module _ (gaps : Bool) (env : List Declaration) (ctx : List Binder) (hyps : List Tree) (s : Sharing) (ps : List Part) (p : Part) where
+module _ (gaps : Bool) (env : List Declaration) (ctx : List Binder) (hyps : List Tree) (count : ℕ) (s : Sharing) (ps : List Part) (p : Part) where
   lets_opened : (o : Option ℕ) → IsThere (length ps) o → in_sight (let_writers env ctx (ps ++ p ∷ [])) o ≡ in_sight (let_writers env ctx ps) o
   lets_opened o there = sight_more Writer (λ n lets q. at_name n (write_proof env ctx lets q)) ps p o there
 
-  task_opened : (t : Task) (xs ys : List (Item Tree)) → Turns gaps env ctx hyps s ps t xs ys → (w : Writing) → write_task env ctx s (ps ++ p ∷ []) t w ≡ write_task env ctx s ps t w
-  task_opened (prove q chain) xs ys h w = ap (λ (L : List Writer). write_proof env ctx L q w) (lets_opened chain h.0)
-  task_opened (prove_all qs chain) xs ys h w = ap (λ (L : List Writer). write_proofs env ctx L qs w) (lets_opened chain h.0)
-  task_opened (cite T es) xs ys h w = refl
-  task_opened (push i) xs ys h w = refl
-  task_opened (make i) xs ys h w = refl
-  task_opened (pay c) xs ys h w = refl
-  task_opened (pay_all cs) xs ys h w = refl
-  task_opened (give c v) xs ys h w = refl
-  task_opened (save c) xs ys h w = refl
+  task_opened : (t : Task) → CanBeDone gaps env ctx hyps count s ps t → (w : Writing) → write_task env ctx s (ps ++ p ∷ []) t w ≡ write_task env ctx s ps t w
+  task_opened (prove q chain) h w = ap (λ (L : List Writer). write_proof env ctx L q w) (lets_opened chain h.1)
+  task_opened (prove_all qs chain) h w = ap (λ (L : List Writer). write_proofs env ctx L qs w) (lets_opened chain h.1)
+  task_opened (cite T es) h w = refl
+  task_opened (push i) h w = refl
+  task_opened (make i) h w = refl
+  task_opened (pay c) h w = refl
+  task_opened (pay_all cs) h w = refl
+  task_opened (give c v) h w = refl
+  task_opened (save c) h w = refl
 
-  pub tasks_opened : (ts : List Task) (xs goal : List (Item Tree)) → Owes gaps env ctx hyps s ps xs ts goal → (w : Writing) → write_tasks env ctx s (ps ++ p ∷ []) ts w ≡ write_tasks env ctx s ps ts w
-  tasks_opened [] xs goal h w = refl
-  tasks_opened (t ∷ ts) xs goal (ys, turns, h) w =
-      then_first (write_task env ctx s (ps ++ p ∷ []) t) (write_task env ctx s ps t) (write_tasks env ctx s (ps ++ p ∷ []) ts) w (task_opened t xs ys turns w)
-      ∙ then_second (write_task env ctx s ps t) (write_tasks env ctx s (ps ++ p ∷ []) ts) (write_tasks env ctx s ps ts) w (tasks_opened ts ys goal h)
+  pub tasks_opened : (ts : List Task) → AllCanBeDone gaps env ctx hyps count s ps ts → (w : Writing) → write_tasks env ctx s (ps ++ p ∷ []) ts w ≡ write_tasks env ctx s ps ts w
+  tasks_opened [] h w = refl
+  tasks_opened (t ∷ ts) (can, h) w =
+      then_first (write_task env ctx s (ps ++ p ∷ []) t) (write_task env ctx s ps t) (write_tasks env ctx s (ps ++ p ∷ []) ts) w (task_opened t can w)
+      ∙ then_second (write_task env ctx s ps t) (write_tasks env ctx s (ps ++ p ∷ []) ts) (write_tasks env ctx s ps ts) w (tasks_opened ts h)
 
   -- a let is met, and what stands over it is written
-  pub let_opened : (q r : Proof) (chain : Option ℕ) (n : ℕ) (us : List Task) (xs goal : List (Item Tree)) (w : Writing) → Owes gaps env ctx hyps s ps xs us goal → n ≡ length ps → w.lets ≡ n
+  pub let_opened : (q r : Proof) (chain : Option ℕ) (n : ℕ) (us : List Task) (w : Writing) → AllCanBeDone gaps env ctx hyps count s ps us → n ≡ length ps → w.lets ≡ n
       → p ≡ record { proof = q; outer = chain }
       → write_tasks env ctx s (ps ++ p ∷ []) (prove r (Some n) ∷ us) (record w { lets = suc w.lets }) ≡ write_tasks env ctx s ps (prove (by_let q r) chain ∷ us) w
-  let_opened q r chain n us xs goal w owes n-is met p-is =
+  let_opened q r chain n us w can n-is met p-is =
       let v : Writing = record w { lets = suc w.lets } in
       let lets : List Writer = in_sight (let_writers env ctx ps) chain in
       let row : in_sight (let_writers env ctx (ps ++ p ∷ [])) (Some n) ≡ lets ++ at_name w.lets (write_proof env ctx lets q) ∷ [] =
@@ -98,21 +98,22 @@ module _ (gaps : Bool) (env : List Declaration) (ctx : List Binder) (hyps : List
       then_first (write_proof env ctx (in_sight (let_writers env ctx (ps ++ p ∷ [])) (Some n)) r) (write_proof env ctx (lets ++ at_name w.lets (write_proof env ctx lets q) ∷ []) r)
       (write_tasks env ctx s (ps ++ p ∷ []) us) v (ap (λ (L : List Writer). write_proof env ctx L r v) row)
       ∙ then_second (write_proof env ctx (lets ++ at_name w.lets (write_proof env ctx lets q) ∷ []) r) (write_tasks env ctx s (ps ++ p ∷ []) us) (write_tasks env ctx s ps us) v
-      (tasks_opened us xs goal owes)
+      (tasks_opened us can)
 
-pub writing_opened : (gaps : Bool) (env : List Declaration) (hyps : List Tree) (s : Sharing) (places : List (Option ℕ)) (len : ℕ) (hps : List ℕ) (cells cells' : List Cell) (q r : Proof) (chain : Option ℕ) (n : ℕ)
-    (us ts' : List Task) (cs : List (ProofCode × ℕ)) (whole : Written) (xs goal : List (Item Tree)) → Owes gaps env s.context hyps s (parts cells) xs us goal
+pub writing_opened : (gaps : Bool) (env : List Declaration) (hyps : List Tree) (count : ℕ) (s : Sharing) (places : List (Option ℕ)) (len : ℕ) (hps : List ℕ) (cells cells' : List Cell) (q r : Proof) (chain : Option ℕ) (n : ℕ)
+    (us ts' : List Task) (cs : List (ProofCode × ℕ)) (whole : Written) → AllCanBeDone gaps env s.context hyps count s (parts cells) us
     → parts cells' ≡ parts cells ++ record { proof = q; outer = chain } ∷ [] → length cells' ≡ length cells + 1 → n ≡ length cells → n ≡ length (parts cells) → ts' ≡ prove r (Some n) ∷ us
     → ((c : ℕ) → place_at cells' c ≡ place_at cells c)
     → IsWriting env s places len hps cells (prove (by_let q r) chain ∷ us) cs whole → IsWriting env s places len hps cells' ts' cs whole
-writing_opened gaps env hyps s places len hps cells cells' q r chain n us ts' cs whole xs goal owes parts-are many n-is n-parts ts-is same h =
+writing_opened gaps env hyps count s places len hps cells cells' q r chain n us ts' cs whole can parts-are many n-is n-parts ts-is same h =
     let v : Writing = record { heap = h.here.heap; lets = suc h.here.lets } in
     record {
       here = v;
       kept = met_kept s places len hps cells h.here h.kept cells' many same;
       comes = ap (behind cs) (ap (λ (ps : List Part). write_tasks env s.context s ps ts' v) parts-are
           ∙ ap (λ (ts : List Task). write_tasks env s.context s (parts cells ++ record { proof = q; outer = chain } ∷ []) ts v) ts-is
-          ∙ let_opened gaps env s.context hyps s (parts cells) (record { proof = q; outer = chain }) q r chain n us xs goal h.here owes n-parts (h.kept.met ∙ sym n-is) refl) ∙ h.comes;
+          ∙ let_opened gaps env s.context hyps count s (parts cells) (record { proof = q; outer = chain }) q r chain n us h.here can n-parts (h.kept.met ∙ sym n-is) refl) ∙ h.comes;
+      room = h.room;
     }
 
 -- ---- commands
@@ -121,7 +122,7 @@ module _ (env : List Declaration) (s : Sharing) (places : List (Option ℕ)) (le
     (h : IsWriting env s places len hps cells ts cs whole) where
   -- other tasks, for which the same is written
   pub writing_others : (us : List Task) → write_tasks env s.context s (parts cells) us h.here ≡ write_tasks env s.context s (parts cells) ts h.here → IsWriting env s places len hps cells us cs whole
-  writing_others us same = record { here = h.here; kept = h.kept; comes = ap (behind cs) same ∙ h.comes }
+  writing_others us same = record { here = h.here; kept = h.kept; comes = ap (behind cs) same ∙ h.comes; room = h.room }
 
   one_before : (c : ProofCode × ℕ) (r : Written) → behind (cs ++ c ∷ []) r ≡ behind cs (behind (c ∷ []) r)
   one_before c r = ap (λ (xs : List (ProofCode × ℕ)). written xs r.after) (append_assoc cs (c ∷ []) r.commands)
@@ -134,6 +135,7 @@ module _ (env : List Declaration) (s : Sharing) (places : List (Option ℕ)) (le
     here = w;
     kept = kept;
     comes = one_before (c, v) (write_tasks env s.context s (parts cells') us w) ∙ ap (behind cs) (sym same) ∙ h.comes;
+    room = h.room;
   }
 
   -- a command that puts nothing into the heap
@@ -246,26 +248,27 @@ module _ (env : List Declaration) (s : Sharing) (places : List (Option ℕ)) (le
 module _ (env : List Declaration) (s : Sharing) (places : List (Option ℕ)) (len : ℕ) (hps : List ℕ) (cells : List Cell) (cs : List (ProofCode × ℕ)) (whole : Written) (ts : List Task) (none-left : ts ≡ [])
     (h : IsWriting env s places len hps cells ts cs whole) where
   -- nothing is left to be written
-  so_far : written cs h.here ≡ whole
+  pub so_far : written cs h.here ≡ whole
   so_far = ap (λ (xs : List (ProofCode × ℕ)). written xs h.here) (sym (append-nil cs)) ∙ ap (λ (us : List Task). behind cs (write_tasks env s.context s (parts cells) us h.here)) (sym none-left) ∙ h.comes
 
   pub writing_ended : cs ≡ whole.commands
   writing_ended = ap (λ (r : Written). r.commands) so_far
 
   -- this is to be written behind it
-  pub writing_more : (us : List Task) (f : Writer) → ((w : Writing) → write_tasks env s.context s (parts cells) us w ≡ f w) → IsWriting env s places len hps cells us cs (and_then whole f)
-  writing_more us f same = record { here = h.here; kept = h.kept; comes = ap (behind cs) (same h.here) ∙ ap (λ (r : Written). and_then r f) so_far }
+  pub writing_more : (us : List Task) (f : Writer) → ((w : Writing) → write_tasks env s.context s (parts cells) us w ≡ f w) → HasRoom (and_then whole f) → IsWriting env s places len hps cells us cs (and_then whole f)
+  writing_more us f same room = record { here = h.here; kept = h.kept; comes = ap (behind cs) (same h.here) ∙ ap (λ (r : Written). and_then r f) so_far; room = room }
 
   -- a command is written, and this stands in the heap
   pub writing_put : (places' : List (Option ℕ)) (len' : ℕ) (hps' : List ℕ) (c : ProofCode) (v : ℕ) (x : Kept) → IsKept s places' len' hps' cells (record { heap = x ∷ h.here.heap; lets = h.here.lets })
-      → IsWriting env s places' len' hps' cells ts (cs ++ (c, v) ∷ []) (and_then whole (keeping c v x))
-  writing_put places' len' hps' c v x kept =
+      → HasRoom (and_then whole (keeping c v x)) → IsWriting env s places' len' hps' cells ts (cs ++ (c, v) ∷ []) (and_then whole (keeping c v x))
+  writing_put places' len' hps' c v x kept room =
       let w : Writing = record { heap = x ∷ h.here.heap; lets = h.here.lets } in
       record {
         here = w;
         kept = kept;
         comes = ap (λ (us : List Task). behind (cs ++ (c, v) ∷ []) (write_tasks env s.context s (parts cells) us w)) none-left
             ∙ ap (λ (xs : List (ProofCode × ℕ)). written xs w) (append-nil (cs ++ (c, v) ∷ [])) ∙ ap (λ (r : Written). and_then r (keeping c v x)) so_far;
+        room = room;
       }
 
 -- ---- hypotheses

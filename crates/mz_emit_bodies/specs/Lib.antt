@@ -2,12 +2,9 @@ pub mod Sight
 pub mod Scopes
 pub mod TaskInvariant
 pub mod Writers
-pub mod UsesLeft
 pub mod Pushing
 pub mod Going
 pub mod Stages
-pub mod Lengths
-pub mod Making
 pub mod Laws
 pub mod WrittenLaws
 pub mod GapLaws

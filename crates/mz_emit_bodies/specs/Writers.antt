@@ -1,6 +1,6 @@
 -- What is written for tasks, and what stands in the heap of a body that is being written: what is written so far, with
 -- what is written for the tasks, is the whole.
-use Rattle.std.specs.Prelude.{ℕ, ◌≡◌, List, [], ◌∷◌, ◌++◌, length, slice_get, Option, Some}
+use Rattle.std.specs.Prelude.{ℕ, ◌≡◌, ◌<◌, ◌^◌, List, [], ◌∷◌, ◌++◌, length, slice_get, Option, Some}
 use Rattle.mz_cmd.specs.declared.code.ProofCode.{ProofCode}
 use Rattle.mz_cmd.specs.declared.code.ProofCode.TheVariants as code
 use Rattle.mz_logic_theory.specs.Tree.{Tree, var, app, instance}
@@ -53,9 +53,14 @@ pub record IsKept (s : Sharing) (places : List (Option ℕ)) (len : ℕ) (hyp_pl
 abbrev pub behind : List (ProofCode × ℕ) → Written → Written
 behind cs r = record { commands = cs ++ r.commands; after = r.after }
 
--- these are the commands so far, and with what is written for the tasks it is the whole
+-- 32 bits are enough for the number of what is in the heap, and for that of the lets
+abbrev pub HasRoom : Written → Type 0
+HasRoom r = (length r.after.heap < 2 ^ 32) × (r.after.lets < 2 ^ 32)
+
+-- these are the commands so far, and with what is written for the tasks it is the whole, for which there is room
 pub record IsWriting (env : List Declaration) (s : Sharing) (places : List (Option ℕ)) (len : ℕ) (hyp_places : List ℕ) (cells : List Cell) (tasks : List Task)
     (commands : List (ProofCode × ℕ)) (whole : Written) : Type 0 where
   pub here : Writing
   pub kept : IsKept s places len hyp_places cells here
   pub comes : behind commands (write_tasks env s.context s (parts cells) tasks here) ≡ whole
+  pub room : HasRoom whole

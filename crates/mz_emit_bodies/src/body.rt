@@ -1,23 +1,19 @@
 //! Bodies of statements.
-ghost use Rattle.std.specs.Prelude.{ℕ, ◌≡◌, ◌<◌, ◌^◌, ◌+◌, ◌*◌, ◌∷◌, [], ◌++◌, OnOk, IfOk, Option, None, length};
+ghost use Rattle.std.specs.Prelude.{ℕ, ◌≡◌, ◌<◌, ◌^◌, ◌+◌, ◌∷◌, [], ◌++◌, OnOk, IfOk, Option, None, length};
 ghost use Rattle.mz_cmd.specs.declared.code.ProofCode.TheVariants.{Conv as conv_code, Thm, Unfold};
 ghost use Rattle.mz_logic_theory.specs.Conversions.{unfold_conv};
 ghost use Rattle.mz_logic_theory.specs.View.{tree};
 ghost use Rattle.mz_mmu_theory.specs.ConvView.{conversion, conversions};
 ghost use Rattle.mz_mmu_theory.specs.Proof.{by_name, by_conv, by_let, by_gap};
 ghost use Rattle.mz_mmu_theory.specs.ProofView.{proof_view, proofs_view};
-ghost use Rattle.mz_logic_theory.specs.Tree.{size};
 ghost use Rattle.mz_store.specs.Sharing.{head_of, tree_of};
-ghost use Rattle.mz_emit_theory.specs.Weights.{proof_weight};
 ghost use Rattle.mz_emit_theory.specs.Steps.{command_bytes};
 ghost use Rattle.mz_emit_bodies.specs.TaskInvariant.{prove, prove_all, cite, push, make, pay, pay_all, give, save, task_view, to_do};
 ghost use Rattle.mz_emit_bodies.specs.Places.{place_of};
 ghost use Rattle.mz_emit_bodies.specs.Pushing.{pushes};
 ghost use Rattle.mz_emit_bodies.specs.Going.{Job, IsAfter, Does, steps_left};
-ghost use Rattle.mz_emit_bodies.specs.Stages.{HasDummiesBehind, Begins, Rests, leaving, spending, writing_too, assuming, with_hyps, Writes, Assumes, AssumesAll, Proves};
+ghost use Rattle.mz_emit_bodies.specs.Stages.{HasDummiesBehind, Begins, Rests, writing_too, assuming, with_hyps, Writes, Assumes, AssumesAll, Proves};
 ghost use Rattle.mz_emit_theory.specs.BodyWriting.{write_expr, write_hyp, write_proof};
-ghost use Rattle.mz_emit_theory.specs.Claims.{proved};
-ghost use Rattle.mz_unify_theory.specs.Profile.{expr, proof};
 
 use crate::let_scopes::{Cells, Chain};
 use crate::work_list::Task;
@@ -162,7 +158,7 @@ impl<'t> Body<'t> {
         requires before { IsAfter self.old.before }
         requires can { (o : Job) × Writes o self.old id.0 }
         ensures does { OnOk result ((o : Job) → Writes o self.old id.0
-            → Does (writing_too (leaving o (expr (tree_of o.store id.0)) (5 * size (tree_of o.store id.0))) (write_expr o.store.context (tree_of o.store id.0))) self.new []) }
+            → Does (writing_too o (write_expr o.store.context (tree_of o.store id.0))) self.new []) }
         ensures done { OnOk result (self.new.tasks.items ≡ []) }
         ensures same { OnOk result (self.new.before ≡ self.old.before) }
     {
@@ -175,12 +171,12 @@ impl<'t> Body<'t> {
         requires before { IsAfter self.old.before }
         requires can { (o : Job) × Assumes o self.old id.0 }
         ensures does { OnOk result ((o : Job) → Assumes o self.old id.0
-            → Rests (writing_too (assuming o (o.count + 1) (6 * size (tree_of o.store id.0))) (write_hyp o.store.context o.count (tree_of o.store id.0))) self.new) }
+            → Rests (writing_too (assuming o (o.count + 1)) (write_hyp o.store.context o.count (tree_of o.store id.0))) self.new) }
         ensures same { OnOk result (self.new.before ≡ self.old.before) }
     {
         self.put_expr(id)?;
         put(&mut self.out, ProofCode::Hyp, 0)?;
-        let place = self.heap.push()?;
+        let place = self.heap.push();
         self.hyps.push(place)?;
         Ok(())
     }
@@ -204,8 +200,7 @@ impl<'t> Body<'t> {
         requires before { IsAfter self.old.before }
         requires can { (o : Job) × Proves o self.old (proof_view stated.now) }
         ensures does { OnOk result ((o : Job) → Proves o self.old (proof_view stated.now)
-            → Does (writing_too (spending (leaving o (proof (proved self.old.before.env.now o.hyps [] (proof_view stated.now))) (6 * proof_weight self.old.before.env.now (proof_view stated.now))) (proof_view stated.now))
-            (write_proof self.old.before.env.now o.store.context [] (proof_view stated.now))) self.new []) }
+            → Does (writing_too o (write_proof self.old.before.env.now o.store.context [] (proof_view stated.now))) self.new []) }
         ensures done { OnOk result (self.new.tasks.items ≡ []) }
         ensures same { OnOk result (self.new.before ≡ self.old.before) }
     {
@@ -418,7 +413,7 @@ impl<'t> Body<'t> {
         ensures same { OnOk result (self.new.before ≡ self.old.before) }
     {
         put(&mut self.out, ProofCode::Save, 0)?;
-        let place = self.heap.push()?;
+        let place = self.heap.push();
         self.cells.set_place(cell, place);
         Ok(())
     }

@@ -1,10 +1,10 @@
 //! Where the expressions stand in a heap.
-ghost use Rattle.std.specs.Prelude.{ℕ, ◌≡◌, ◌<◌, ◌+◌, ◌-◌, ◌^◌, OnOk, OnErr, IfOk, Some, None, length};
+ghost use Rattle.std.specs.Prelude.{ℕ, ◌≡◌, ◌<◌, ◌+◌, ◌^◌, OnOk, IfOk, Some, None, length};
 ghost use Rattle.mz_emit_bodies.specs.Places.{place_of};
 
 use mz_cmd::Mem;
 use mz_store::Id;
-use std::alloc::{AllocError, Global};
+use std::alloc::Global;
 
 /// The heap of a body or of a unify stream: how long it is, and where expressions stand in it.
 #[derive(Drop)]
@@ -67,38 +67,32 @@ impl Heap {
         place_at(&self.places, id.0 as usize)
     }
 
-    /// Appends something that isn't an expression, and says where it stands.
-    ///
-    /// # Errors
-    ///
-    /// Where the heap is as long as can be, and nowhere else: no memory is taken.
-    pub fn push(&mut self) -> Result<u32, Mem>
-        ensures at { IfOk result (λ place. place ≡ self.old.len) }
-        ensures places { OnOk result (self.new.places.items ≡ self.old.places.items) }
-        ensures more { OnOk result (self.new.len ≡ self.old.len + 1) }
-        ensures full { OnErr result (self.old.len ≡ 2 ^ 32 - 1) }
+    /// Appends something that isn't an expression, and says where it stands. No memory is taken.
+    pub fn push(&mut self) -> u32
+        requires room { self.old.len + 1 < 2 ^ 32 }
+        ensures at { result ≡ self.old.len }
+        ensures places { self.new.places.items ≡ self.old.places.items }
+        ensures more { self.new.len ≡ self.old.len + 1 }
     {
         let place = self.len;
-        if place == u32::MAX {
-            return Err(AllocError);
-        }
         self.len = place + 1;
-        Ok(place)
+        place
     }
 
     /// Appends an expression.
     ///
     /// # Errors
     ///
-    /// Where the heap is as long as can be, or there is no memory.
+    /// Where there is no memory.
     pub fn push_expr(&mut self, id: Id) -> Result<(), Mem>
+        requires room { self.old.len + 1 < 2 ^ 32 }
         ensures at { OnOk result (place_of self.new.places.items id.0 ≡ Some self.old.len) }
         ensures others { OnOk result ((j : ℕ) → (j ≡ id.0 → ⊥) → place_of self.new.places.items j ≡ place_of self.old.places.items j) }
         ensures more { OnOk result (self.new.len ≡ self.old.len + 1) }
     {
         let i = id.0 as usize;
         reach(&mut self.places, i)?;
-        let place = self.push()?;
+        let place = self.push();
         self.places[i] = Some(place);
         Ok(())
     }

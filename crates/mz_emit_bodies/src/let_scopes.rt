@@ -5,7 +5,7 @@ ghost use Rattle.mz_emit_bodies.specs.Sight.{link_at, links, part_of, parts, par
 
 use mz_cmd::Mem;
 use mz_mmu_theory::Proof;
-use std::alloc::{AllocError, Global};
+use std::alloc::Global;
 
 /// The lets that are in sight: the number of the innermost one's cell, or none.
 pub type Chain = Option<u32>;
@@ -135,8 +135,9 @@ impl<'t> Cells<'t> {
     ///
     /// # Errors
     ///
-    /// Where there are as many as can be, or there is no memory.
+    /// Where there is no memory.
     pub fn open(&mut self, part: &'t Proof, outer: Chain) -> Result<u32, Mem>
+        requires room { length self.old.cells.items + 1 < 2 ^ 32 }
         requires right { AreRight (links self.old.cells.items) }
         requires there { IsThere (length self.old.cells.items) outer }
         ensures number { IfOk result (λ c. c ≡ length self.old.cells.items) }
@@ -146,11 +147,7 @@ impl<'t> Cells<'t> {
         ensures many { OnOk result (length self.new.cells.items ≡ length self.old.cells.items + 1) }
         ensures right { OnOk result (AreRight (links self.new.cells.items)) }
     {
-        let len = self.cells.len();
-        if len >= u32::MAX as usize {
-            return Err(AllocError);
-        }
-        let number = len as u32;
+        let number = self.cells.len() as u32;
         let (depth, jump) = next_link(&self.cells, outer, number);
         self.cells.push(Cell {
             part,

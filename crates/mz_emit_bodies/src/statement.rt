@@ -1,5 +1,5 @@
 //! The bodies of whole statements.
-ghost use Rattle.std.specs.Prelude.{ℕ, Bool, ◌≡◌, ◌≤◌, ◌+◌, ◌*◌, ◌++◌, [], IfOk, List, length};
+ghost use Rattle.std.specs.Prelude.{ℕ, Bool, ◌≡◌, ◌<◌, ◌≤◌, ◌+◌, ◌*◌, ◌^◌, ◌++◌, [], IfOk, List, length};
 ghost use Rattle.mz_logic_theory.specs.Sorts.{AreProvable};
 ghost use Rattle.mz_logic_theory.specs.Tree.{listed, size, trees_size};
 ghost use Rattle.mz_logic_theory.specs.declared.binder.Binder.{Binder as BinderOf};
@@ -41,6 +41,7 @@ pub fn definition_body(
     requires behind { HasDummiesBehind before.env.now params shared.store shared.variables.items }
     requires few { bound_count shared.store.context ≤ 55 }
     requires inside { IsIn shared.store body.0 }
+    requires room { params + 6 * size (tree_of shared.store body.0) < 2 ^ 32 }
     ensures body { IfOk result (λ b. (gaps : Bool) (ps ds : List BinderOf) → shared.store.context ≡ ps ++ ds → length ps ≡ params
         → IsSharedBody gaps before.entry.env.now is_definition ps ds (tree_of shared.store body.0) [] b.items) }
     ensures written { IfOk result (λ b. (ps ds : List BinderOf) → shared.store.context ≡ ps ++ ds → length ps ≡ params
@@ -72,6 +73,7 @@ pub fn axiom_body(
     requires inside { IsIn shared.store conclusion.0 }
     requires hyps { AreIn shared.store hyps.now }
     requires provable { AreProvable before.env.now shared.store.context (trees_of shared.store hyps.now) }
+    requires room { params + 6 * (trees_size (trees_of shared.store hyps.now) + size (tree_of shared.store conclusion.0)) < 2 ^ 32 }
     ensures body { IfOk result (λ b. (gaps : Bool) (ps ds : List BinderOf) → shared.store.context ≡ ps ++ ds → length ps ≡ params
         → IsSharedBody gaps before.entry.env.now is_axiom ps ds (tree_of shared.store conclusion.0) (listed (trees_of shared.store hyps.now)) b.items) }
     ensures written { IfOk result (λ b. (ps ds : List BinderOf) → shared.store.context ≡ ps ++ ds → length ps ≡ params
@@ -105,6 +107,7 @@ pub fn theorem_body(
     requires hyps { AreIn shared.store hyps.now }
     requires provable { AreProvable before.env.now shared.store.context (trees_of shared.store hyps.now) }
     requires sound { (gaps : Bool) × IsSound gaps before.env.now shared.store.context (listed (trees_of shared.store hyps.now)) [] (proof_view proof.now) }
+    requires room { params + 6 * (trees_size (trees_of shared.store hyps.now) + proof_weight before.env.now (proof_view proof.now)) < 2 ^ 32 }
     ensures body { IfOk result (λ b. (gaps : Bool) → IsSound gaps before.entry.env.now shared.store.context (listed (trees_of shared.store hyps.now)) [] (proof_view proof.now)
         → (ps ds : List BinderOf) → shared.store.context ≡ ps ++ ds → length ps ≡ params
         → IsSharedBody gaps before.entry.env.now is_theorem ps ds (proved before.entry.env.now (listed (trees_of shared.store hyps.now)) [] (proof_view proof.now))

@@ -1,9 +1,9 @@
 //! The sorts and terms of a text, as words.
-ghost use Rattle.std.specs.Prelude.{◌≡◌, ◌<◌, ◌^◌, ◌++◌, ◌∷◌, [], OnOk, length, map};
+ghost use Rattle.std.specs.Prelude.{◌≡◌, ◌<◌, ◌+◌, ◌^◌, ◌++◌, ◌∷◌, [], OnOk, length, map};
 
 use mz_cmd::Mem;
 use mz_logic_theory::{SortMods, Terms, Word};
-use std::alloc::{AllocError, Global};
+use std::alloc::Global;
 
 /// A term's words.
 #[derive(Drop)]
@@ -46,14 +46,12 @@ impl TermTable {
     ///
     /// # Errors
     ///
-    /// Where there is no memory, or there are 2^32 - 1 sorts.
+    /// Where there is no memory.
     pub fn add_sort(&mut self, mods: SortMods) -> Result<(), Mem>
+        requires room { length self.old.sorts.items + 1 < 2 ^ 32 }
         ensures sorts { OnOk result (self.new.sorts.items ≡ self.old.sorts.items ++ mods ∷ []) }
         ensures terms { OnOk result (self.new.terms.items ≡ self.old.terms.items) }
     {
-        if self.sorts.len() >= u32::MAX as usize {
-            return Err(AllocError);
-        }
         self.sorts.push(mods)?;
         Ok(())
     }
@@ -62,19 +60,18 @@ impl TermTable {
     ///
     /// # Errors
     ///
-    /// Where there is no memory, or there are 2^32 - 1 terms, or more parameters.
+    /// Where there is no memory.
     pub fn add_term(
         &mut self,
         params: Vec<Word>,
         result_word: Word,
         has_body: bool,
     ) -> Result<(), Mem>
+        requires room { length self.old.terms.items + 1 < 2 ^ 32 }
+        requires few { length params.items < 2 ^ 32 }
         ensures sorts { OnOk result (self.new.sorts.items ≡ self.old.sorts.items) }
         ensures terms { OnOk result (map (words_of_row) self.new.terms.items ≡ map (words_of_row) self.old.terms.items ++ record { params = params.items; result = result_word; has_body = has_body } ∷ []) }
     {
-        if self.terms.len() >= u32::MAX as usize || params.len() > u32::MAX as usize {
-            return Err(AllocError);
-        }
         self.terms.push(TermEntry {
             params,
             result_word,

@@ -85,6 +85,20 @@ assertion_body-requires-clause-sound c =
     let hyps = ap (trees_of c.hyp_ids.new.self.store) c.deref-3.ensures.value ∙ c.in_ok-hyps.ensures.trees in
     (c.requires.proved.0, sound_there c.args.self.now.env (assertion_view c.args.thm.now) c.args.dummies.now c.requires.can c.requires.proved.0 (stated c.args.proof) c.hyp_ids.new.self.store.context (trees_of c.hyp_ids.new.self.store c.deref-3.result.now) is hyps c.requires.proved.1)
 
+pub assertion_stream-requires-clause-room : goal.assertion_stream-requires-clause-room
+assertion_stream-requires-clause-room c =
+    let many = sym (ap length c.requires.params) ∙ binders_many c.args.words.now.params.items ∙ ap length (sym c.as_slice.ensures.value) in
+    let conclusion = held_after c.id.new.self.store c.hyp_ids.new.self.store c.in_ok-conclusion.conclusion.0 (tree c.args.thm.now.conclusion) c.in_ok-hyps.ensures.grows c.in_ok-conclusion.ensures.holds in
+    let hyps = ap (trees_of c.hyp_ids.new.self.store) c.deref-2.ensures.value ∙ c.in_ok-hyps.ensures.trees in
+    omega (arith, many, ap size conclusion, ap trees_size hyps, c.requires.room)
+
+pub assertion_body-requires-clause-room : goal.assertion_body-requires-clause-room
+assertion_body-requires-clause-room c =
+    let many = sym (ap length c.requires.params) ∙ binders_many c.args.words.now.params.items ∙ ap length (sym c.as_slice.ensures.value) in
+    let conclusion = held_after c.id.new.self.store c.hyp_ids.new.self.store c.in_ok-conclusion.conclusion.0 (tree c.args.thm.now.conclusion) c.in_ok-hyps.ensures.grows c.in_ok-conclusion.ensures.holds in
+    let hyps = ap (trees_of c.hyp_ids.new.self.store) c.deref-3.ensures.value ∙ c.in_ok-hyps.ensures.trees in
+    omega (arith, many, ap size conclusion, ap trees_size hyps, c.requires.room)
+
 pub returns : goal.returns
 returns c = λ gaps by.
     let is = c.in_ok-hyps.ensures.grows.0 ∙ c.in_ok-conclusion.ensures.grows.0 ∙ c.in_ok-shared.ensures.context ∙ ap (λ (ws : List Word). binders_of ws ++ c.args.dummies.now) c.deref.ensures.value ∙ ap (λ ps. ps ++ c.args.dummies.now) c.requires.params in

@@ -1,4 +1,5 @@
 use Rattle.std.proofs.Common.{◌≤◌, ◌++◌, ◌+◌, ◌∙◌, List, length, sym, subst, ap, arith}
+use Rattle.mz_logic_theory.specs.Tree.{size}
 use Rattle.mz_logic_theory.specs.View.{tree}
 use Rattle.mz_logic_theory.specs.Words.{binders_of}
 use Rattle.mz_logic_theory.specs.declared.word.Word.{Word}
@@ -36,6 +37,16 @@ definition_body-requires-clause-behind c =
     let shared = subst (λ sigs. IsShared sigs c.id.new.self.store c.id.new.self.variables.items) c.requires.table c.in_ok-id.ensures.shared in
     dummies_behind c.args.self.now.env (binders_of c.args.words.now.params.items) c.args.dummies.now c.requires.can.ready c.id.new.self.store c.id.new.self.variables.items
     (length c.as_slice.result.now) is many shared
+
+pub definition_stream-requires-clause-room : goal.definition_stream-requires-clause-room
+definition_stream-requires-clause-room c =
+    let many = binders_many c.args.words.now.params.items ∙ ap length (sym c.as_slice.ensures.value) in
+    omega (arith, many, ap size c.in_ok-id.ensures.holds.1, c.requires.can.room)
+
+pub definition_body-requires-clause-room : goal.definition_body-requires-clause-room
+definition_body-requires-clause-room c =
+    let many = binders_many c.args.words.now.params.items ∙ ap length (sym c.as_slice.ensures.value) in
+    omega (arith, many, ap size c.in_ok-id.ensures.holds.1, c.requires.can.room)
 
 pub returns : goal.returns
 returns c =

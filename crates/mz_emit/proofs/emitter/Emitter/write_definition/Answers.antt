@@ -5,7 +5,7 @@ use Rattle.mz_logic_theory.specs.Legality.{IsLegalEnv}
 use Rattle.mz_logic_theory.specs.View.{tree}
 use Rattle.mz_type.specs.StatedView.{with_decl}
 use Rattle.mz_emit.specs.Emitting.{CanBeDefined, SaysDefinition}
-use Rattle.mz_emit.proofs.Rows.{definition_rows}
+use Rattle.mz_emit.proofs.Rows.{definition_rows, terms_room}
 use Rattle.mz_emit.proofs.Saying.{term_words, definition_can}
 use Rattle.mz_emit.proofs.emitter.Emitter.write_definition.Goals as goal
 
@@ -36,3 +36,6 @@ returns-clause-rows c = λ gaps earlier next.
     (dummies_of (form c.args.term.now.form)) (tree c.args.body.now) c.definition_code-code.result stream bytes is c.definition_code-code.ensures.code
     (subst (λ (env : List Declaration). SaysDefinition env (signature c.args.term.now).params (dummies_of (form c.args.term.now.form)) (tree c.args.body.now) stream bytes) next.before.env says)
     writer c.in_ok-definition.ensures.sorts c.in_ok-definition.ensures.terms
+
+pub definition-requires-clause-room : goal.definition-requires-clause-room
+definition-requires-clause-room c = terms_room c.requires.next.0 c.requires.next.1 (with_decl (term_of c.args.term.now) c.args.beside.now) c.args.self.now c.requires.next.2

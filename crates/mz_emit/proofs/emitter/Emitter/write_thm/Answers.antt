@@ -9,7 +9,7 @@ use Rattle.mz_type_rules.specs.Answers.{stated}
 use Rattle.mz_type.specs.StatedView.{with_decl}
 use Rattle.mz_type.specs.TypedText.{declared}
 use Rattle.mz_emit.specs.Emitting.{CanBeAsserted, SaysAssertion}
-use Rattle.mz_emit.proofs.Rows.{proved_here, assertion_rows}
+use Rattle.mz_emit.proofs.Rows.{proved_here, assertion_rows, room_here}
 use Rattle.mz_emit.proofs.Saying.{thm_words, assertion_can}
 use Rattle.mz_emit.proofs.emitter.Emitter.write_thm.Goals as goal
 
@@ -50,3 +50,7 @@ returns-clause-rows c = λ gaps earlier next.
     let with_proof = subst (λ (q : Option Proof). SaysAssertion gaps (declared earlier) (assertion_view c.args.thm.now) s.dummies q stream bytes) (sym proof) with_dummies in
     assertion_rows gaps earlier s next.follows c.args.self.now c.assertion.new.self next.before.rows (assertion_view c.args.thm.now)
     c.assertion_code-code.result stream bytes refl c.assertion_code-code.ensures.code with_proof writer c.in_ok-assertion.ensures.table
+
+pub assertion-requires-clause-room : goal.assertion-requires-clause-room
+assertion-requires-clause-room c =
+    room_here c.requires.0 c.requires.1 (with_decl (assertion_of c.args.thm.now) c.args.beside.now) c.args.self.now c.requires.2 (assertion_view c.args.thm.now) refl (stated c.proof.result) (sym c.proof.ensures)

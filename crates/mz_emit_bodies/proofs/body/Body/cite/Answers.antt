@@ -14,12 +14,12 @@ use Rattle.mz_emit_bodies.proofs.Growing.{cite_done, cite_cost, cite_reach, conc
 use Rattle.mz_emit_bodies.proofs.body.Body.cite.Goals as goal
 
 pub ids-requires-clause-sorted : goal.ids-requires-clause-sorted
-ids-requires-clause-sorted c = (let k = c.requires.can.1.owes.1.2 in
+ids-requires-clause-sorted c = (let k = c.requires.can.1.can.0.1 in
     subst (λ (sigs : List Signature). AreSorted sigs c.args.self.now.shared.store.context c.args.es.now) (sym c.requires.before.1) (fits_sorted _ _ c.args.es.now _ k.2))
 
 pub instance-requires-clause-there : goal.instance-requires-clause-there
 instance-requires-clause-there c = cite_reach c.args.self.now.before.env.now _ c.args.number c.args.es.now _ (assertion_view c.in-Some.thm.now) c.ids.new.self.store c.in_ok-operands.operands.items c.deref.result.now
-    c.requires.can.1.owes.1.2 c.in-Some.ensures c.deref.ensures.value c.in_ok-operands.ensures.trees
+    c.requires.can.1.can.0.1 c.in-Some.ensures c.deref.ensures.value c.in_ok-operands.ensures.trees
 
 pub returns-clause-does : goal.returns-clause-does
 returns-clause-does c = on_ok_weaker c.add_citation.result (λ tasks-are o d.

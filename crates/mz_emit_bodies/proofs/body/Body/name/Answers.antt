@@ -42,7 +42,7 @@ visible-cell-requires-clause-right c = c.requires.can.1.lets.linked
 pub visible-cell-requires-clause-there : goal.visible-cell-requires-clause-there
 visible-cell-requires-clause-there c =
     let cells = c.args.self.now.cells.cells.items in
-    let there = subst (IsThere (length (parts cells))) c.in-Some.is c.requires.can.1.owes.1.0 in
+    let there = subst (IsThere (length (parts cells))) c.in-Some.is c.requires.can.1.can.0.1 in
     omega (arith, there, parts_long cells, links_long cells)
 
 pub place-requires : goal.place-requires

@@ -1,11 +1,9 @@
-use Rattle.std.proofs.Common.{ap, ◌*◌}
+use Rattle.std.proofs.Common.{ap}
 use Rattle.std.proofs.lemmas.Result.{on_ok_weaker}
-use Rattle.mz_logic_theory.specs.Tree.{size}
 use Rattle.mz_store.specs.Sharing.{tree_of}
-use Rattle.mz_unify_theory.specs.Profile.{expr}
-use Rattle.mz_emit_bodies.specs.TaskInvariant.{to_do}
-use Rattle.mz_emit_bodies.specs.Stages.{leaving, writing_too}
 use Rattle.mz_emit_theory.specs.BodyWriting.{write_expr}
+use Rattle.mz_emit_bodies.specs.TaskInvariant.{to_do}
+use Rattle.mz_emit_bodies.specs.Stages.{writing_too}
 use Rattle.mz_emit_bodies.proofs.Ends.{expr_owed}
 use Rattle.mz_emit_bodies.proofs.body.Body.put_expr.Goals as goal
 
@@ -13,9 +11,9 @@ pub run-requires-clause-can : goal.run-requires-clause-can
 run-requires-clause-can c =
     let o = c.requires.can.0 in
     let w = c.requires.can.1 in
-    (writing_too (leaving o (expr (tree_of o.store c.args.id.0)) (5 * size (tree_of o.store c.args.id.0))) (write_expr o.store.context (tree_of o.store c.args.id.0)), expr_owed c.args.self.now.before.env.now o c.args.self.now.shared.store _ _ _ _ _ c.args.id.0 (to_do c.args.self.now.tasks.items) _ _ (ap to_do w.0.1) c.in_ok-add.ensures w.0.2 w.1 w.0.0)
+    (writing_too o (write_expr o.store.context (tree_of o.store c.args.id.0)), expr_owed c.args.self.now.before.env.now o c.args.self.now.shared.store _ _ _ _ _ c.args.id.0 (to_do c.args.self.now.tasks.items) _ _ (ap to_do w.0.1) c.in_ok-add.ensures w.1 w.2 w.0.0)
 
 pub returns-clause-does : goal.returns-clause-does
-returns-clause-does c = on_ok_weaker c.run.result (λ does o w. does (writing_too (leaving o (expr (tree_of o.store c.args.id.0)) (5 * size (tree_of o.store c.args.id.0))) (write_expr o.store.context (tree_of o.store c.args.id.0)))
-    (expr_owed c.args.self.now.before.env.now o c.args.self.now.shared.store _ _ _ _ _ c.args.id.0 (to_do c.args.self.now.tasks.items) _ _ (ap to_do w.0.1) c.in_ok-add.ensures w.0.2 w.1 w.0.0))
+returns-clause-does c = on_ok_weaker c.run.result (λ does o w. does (writing_too o (write_expr o.store.context (tree_of o.store c.args.id.0)))
+    (expr_owed c.args.self.now.before.env.now o c.args.self.now.shared.store _ _ _ _ _ c.args.id.0 (to_do c.args.self.now.tasks.items) _ _ (ap to_do w.0.1) c.in_ok-add.ensures w.1 w.2 w.0.0))
     c.run.ensures.does

@@ -5,7 +5,7 @@ use Rattle.mz_emit_bodies.proofs.Ends.{recounted, next_hyp, rests_next, rests_al
 use Rattle.mz_emit_bodies.proofs.body.Body.put_hyps.Goals as goal
 
 pub loop-id-init : goal.loop-id-init
-loop-id-init c = (refl, λ o all. (recounted _ o _ _ _ _ _ _ 0 _ _ (sym all.none_yet) all.rests.0, all.rests.1, all.rests.2))
+loop-id-init c = (refl, λ o all. (recounted _ o _ _ _ _ _ _ 0 _ _ (sym all.none_yet) all.rests.0, all.rests.1))
 
 pub put_hyp-requires-clause-before : goal.put_hyp-requires-clause-before
 put_hyp-requires-clause-before c = subst IsAfter (sym c.loop-id.invariant.0) c.requires.before
@@ -15,7 +15,7 @@ put_hyp-requires-clause-can c =
     let o = c.requires.can.0 in
     let js = take c.loop-id.id-index c.args.ids.now in (
       with_hyps o c.loop-id.id-index js,
-      next_hyp o c.args.self.now c.loop-id.self c.args.ids.now js c.loop-id.id-index _ c.loop-id.invariant.0 c.requires.can.1 c.loop-id-test.true (c.loop-id.invariant.1 o c.requires.can.1),
+      next_hyp o c.args.self.now c.loop-id.self c.args.ids.now c.loop-id.id-index _ c.requires.can.1 c.loop-id-test.true (c.loop-id.invariant.1 o c.requires.can.1),
     )
 
 pub loop-id-preserved : goal.loop-id-preserved
@@ -25,7 +25,7 @@ loop-id-preserved c = (
       let js = take c.loop-id.id-index c.args.ids.now in
       rests_next o c.put_hyp.new.self c.args.ids.now c.loop-id.id-index _ c.loop-id-test.true
       (c.in_ok-put_hyp.ensures.does (with_hyps o c.loop-id.id-index js)
-      (next_hyp o c.args.self.now c.loop-id.self c.args.ids.now js c.loop-id.id-index _ c.loop-id.invariant.0 all c.loop-id-test.true (c.loop-id.invariant.1 o all))),
+      (next_hyp o c.args.self.now c.loop-id.self c.args.ids.now c.loop-id.id-index _ all c.loop-id-test.true (c.loop-id.invariant.1 o all))),
 )
 
 pub returns-clause-does : goal.returns-clause-does

@@ -14,7 +14,7 @@ step-requires-clause-before c = subst IsAfter (sym c.loop-task.invariant.0) c.re
 pub step-requires-clause-can : goal.step-requires-clause-can
 step-requires-clause-can c = (
   c.requires.can.0,
-  at_last _ _ _ _ _ _ _ _ _ _ _ _ (sym (popped c.loop-task.self.tasks.items c.pop.new.self.items c.in-Some.task c.in-Some.ensures.items)) refl (c.loop-task.invariant.1 c.requires.can.0 c.requires.can.1),
+  at_last _ _ _ _ _ _ _ _ _ _ _ (sym (popped c.loop-task.self.tasks.items c.pop.new.self.items c.in-Some.task c.in-Some.ensures.items)) (c.loop-task.invariant.1 c.requires.can.0 c.requires.can.1),
 )
 
 pub loop-task-smaller : goal.loop-task-smaller
@@ -26,5 +26,5 @@ pub loop-task-preserved : goal.loop-task-preserved
 loop-task-preserved c = (
   c.in_ok-step.ensures.same ∙ c.loop-task.invariant.0,
   λ o d. c.in_ok-step.ensures.does o
-      (at_last _ _ _ _ _ _ _ _ _ _ _ _ (sym (popped c.loop-task.self.tasks.items c.pop.new.self.items c.in-Some.task c.in-Some.ensures.items)) refl (c.loop-task.invariant.1 o d)),
+      (at_last _ _ _ _ _ _ _ _ _ _ _ (sym (popped c.loop-task.self.tasks.items c.pop.new.self.items c.in-Some.task c.in-Some.ensures.items)) (c.loop-task.invariant.1 o d)),
 )

@@ -16,11 +16,11 @@ use Rattle.mz_emit_bodies.proofs.body.Body.unfold.Goals as goal
 
 pub ids-requires-clause-sorted : goal.ids-requires-clause-sorted
 ids-requires-clause-sorted c =
-    subst (λ (sigs : List Signature). AreSorted sigs c.args.self.now.shared.store.context c.args.es.now) (sym c.requires.before.1) (fits_sorted _ _ c.args.es.now _ c.requires.can.1.owes.1.2.0.3.4)
+    subst (λ (sigs : List Signature). AreSorted sigs c.args.self.now.shared.store.context c.args.es.now) (sym c.requires.before.1) (fits_sorted _ _ c.args.es.now _ c.requires.can.1.can.0.2.0.3.4)
 
 pub app-requires-clause-sorted : goal.app-requires-clause-sorted
 app-requires-clause-sorted c =
-    let can = c.requires.can.1.owes.1 in
+    let can = c.requires.can.1.can.0 in
     sorted_as _ _ c.args.self.now.shared.store.context _ (app c.args.number c.args.es.now) _ c.requires.before.1 c.in_ok-operands.ensures.grows.0
     (ap (app c.args.number) (ap (trees_of c.ids.new.self.store) c.deref.ensures.value ∙ c.in_ok-operands.ensures.trees))
     (left_sorted c.args.self.now.before.env.now c.args.self.now.shared.store.context c.args.number c.args.es.now c.args.vars.now (conversion c.args.part.now) can.0 can.1 can.2.0)
@@ -31,11 +31,11 @@ push_variables-requires-clause-ids c = are_in_grown c.ids.new.self.store c.app.n
 pub push_variables-requires-clause-there : goal.push_variables-requires-clause-there
 push_variables-requires-clause-there c = λ k d lt.
     subst (λ (n : ℕ). slice_index_or c.args.vars.now k d < n) (ap length (sym (c.in_ok-left.ensures.grows.0 ∙ c.in_ok-operands.ensures.grows.0)))
-    (fresh_below c.args.self.now.shared.store.context c.args.es.now c.args.vars.now _ c.requires.can.1.owes.1.2.0.3.5 k d lt)
+    (fresh_below c.args.self.now.shared.store.context c.args.es.now c.args.vars.now _ c.requires.can.1.can.0.2.0.3.5 k d lt)
 
 pub instance-requires-clause-there : goal.instance-requires-clause-there
 instance-requires-clause-there c =
-    let can = c.requires.can.1.owes.1 in
+    let can = c.requires.can.1.can.0 in
     let env = c.args.self.now.before.env.now in
     subst (InReach (length c.deref-2.result.now)) (body_found env c.args.number (term_view c.in-Some.term.now) (tree c.in-Some-body.body.now) c.in-Some.ensures.term c.in-Some-body.ensures)
     (unfold_reach env c.args.self.now.shared.store.context c.args.number c.args.es.now c.args.vars.now (conversion c.args.part.now) can.0 can.1 (length c.deref-2.result.now) c.requires.before.0 can.2.0
@@ -44,7 +44,7 @@ instance-requires-clause-there c =
 
 pub instance-requires-clause-sorted : goal.instance-requires-clause-sorted
 instance-requires-clause-sorted c =
-    let can = c.requires.can.1.owes.1 in
+    let can = c.requires.can.1.can.0 in
     let env = c.args.self.now.before.env.now in
     sorted_as _ _ c.args.self.now.shared.store.context _ _ _ c.requires.before.1 (c.in_ok-left.ensures.grows.0 ∙ c.in_ok-operands.ensures.grows.0)
     (ap (λ es. instance es (tree c.in-Some-body.body.now)) (ap (trees_of c.app.new.self.store) c.deref-2.ensures.value ∙ c.in_ok-push_variables.ensures.trees
