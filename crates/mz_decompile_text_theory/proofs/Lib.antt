@@ -10,3 +10,4 @@ pub mod Binders
 pub mod Behind
 pub mod Declared
 pub mod Stated
+pub mod Offered

@@ -159,7 +159,7 @@ keywords-named m =
 
 -- ---- lines
 
-line-is : (l : Line) (rest : List ℕ) → IsPlain l → AreWords (line_words l) rest
+pub line-is : (l : Line) (rest : List ℕ) → IsPlain l → AreWords (line_words l) rest
 line-is (sort_line m n) rest plain =
     words-append (sort_words m) (spaced_name n ∷ end_words) rest (keywords-are [] (sort_keywords m) _ refl (keywords-named m) refl) (named (codes " ") n refl plain, refl, end-is rest)
 line-is (term_line n bs t) rest plain =
@@ -175,7 +175,7 @@ stop-is p [] = omega arith
 stop-is p (w ∷ ws) = omega (arith, stop-is (p + length w.gap + length w.text) ws, length-append w.gap (w.text ++ written ws), length-append w.text (written ws))
 
 -- whitespace before the lexemes
-blank-first : (text : List ℕ) (from at : ℕ) (ls : List Lexeme) → IsBlank text from at → LexesFrom text at ls None → LexesFrom text from ls None
+pub blank-first : (text : List ℕ) (from at : ℕ) (ls : List Lexeme) → IsBlank text from at → LexesFrom text at ls None → LexesFrom text from ls None
 blank-first text from at [] blank end = blank-then text from at (length text) blank end
 blank-first text from at (l ∷ ls) blank (next, rest) = (record { blank = blank-then text from at l.from blank next.blank; some = next.some; within = next.within; spelled = next.spelled; kind = next.kind; longest = next.longest }, rest)
 

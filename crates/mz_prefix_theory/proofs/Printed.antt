@@ -182,13 +182,13 @@ module _ (v : Vocabulary) (n : ℕ) (variables : HasVariables v n) where
 
   -- ---- one statement
 
-  record Step (σ : State) (place : ℕ) (s : Statement) (name : List ℕ) (d : Declaration) : Type 0 where
-    state : State
-    good : IsGood σ place s
-    after : After σ place s state
-    behind : IsBehind v n state
-    env : state.env ≡ σ.env ++ d ∷ []
-    used : state.assertion_names ≡ used_with σ.assertion_names name d
+  pub record Step (σ : State) (place : ℕ) (s : Statement) (name : List ℕ) (d : Declaration) : Type 0 where
+    pub state : State
+    pub good : IsGood σ place s
+    pub after : After σ place s state
+    pub behind : IsBehind v n state
+    pub env : state.env ≡ σ.env ++ d ∷ []
+    pub used : state.assertion_names ≡ used_with σ.assertion_names name d
 
   sort-step : (σ : State) (place : ℕ) (l : Lexeme) (m : SortMods) → IsBehind v n σ → IsPrintable v n σ.env σ.assertion_names (record { name = l.text; decl = sort_decl m })
       → Step σ place (sort_statement (modifiers_of m) l) l.text (sort_decl m)
@@ -328,7 +328,7 @@ no-dummies : (v : Vocabulary) (bs : List Binder) (x : ℕ) → HaveNoDummies (pl
 no-dummies v [] x = tt
 no-dummies v (b ∷ bs) x = (refl, no-dummies v bs (suc x))
 
-its-dummies : (v : Vocabulary) (name : List ℕ) (d : Declaration) → HasItsDummies (line_of_decl v name d)
+pub its-dummies : (v : Vocabulary) (name : List ℕ) (d : Declaration) → HasItsDummies (line_of_decl v name d)
 its-dummies v name (sort_decl m) = tt
 its-dummies v name (term_decl d) = go d.form
   where
@@ -383,7 +383,7 @@ module _ (v : Vocabulary) (n : ℕ) (variables : HasVariables v n) (σ : State) 
         tokens-are v n variables σ behind (length (sig.params ++ ds)) few e names.4.0,
       )
 
-  line-plain : (name : List ℕ) (d : Declaration) → IsPrintable v n σ.env σ.assertion_names (record { name = name; decl = d }) → IsPlain (line_of_decl v name d)
+  pub line-plain : (name : List ℕ) (d : Declaration) → IsPrintable v n σ.env σ.assertion_names (record { name = name; decl = d }) → IsPlain (line_of_decl v name d)
   line-plain name (sort_decl m) printable = printable.identifier
   line-plain name (term_decl d) printable = term-plain name d.signature d.form printable
   line-plain name (assertion_decl a) printable =
@@ -408,7 +408,7 @@ module _ (v : Vocabulary) (n : ℕ) (variables : HasVariables v n) where
       defined-step v n variables σ place (stop p (title_words Definition name)) c (lexeme_at (stop p (name_word (keyword_of Definition) ∷ [])) (spaced_name name))
       (lexeme_at (stop (stop c (type_words (plain_type v sig.result.sort sig.result.deps))) (spaced_mark (codes "=") ∷ [])) (math_word (formula_of v e))) sig ds e refl behind printable
 
-  step-of : (σ : State) (place p : ℕ) (name : List ℕ) (d : Declaration) → IsBehind v n σ → IsPrintable v n σ.env σ.assertion_names (record { name = name; decl = d })
+  pub step-of : (σ : State) (place p : ℕ) (name : List ℕ) (d : Declaration) → IsBehind v n σ → IsPrintable v n σ.env σ.assertion_names (record { name = name; decl = d })
       → Step v n variables σ place (statement_at p (line_of_decl v name d)) name d
   step-of σ place p name (sort_decl m) behind printable = sort-step v n variables σ place (lexeme_at (stop p (sort_words (modifiers_of m))) (spaced_name name)) m behind printable
   step-of σ place p name (term_decl d) behind printable = form-step σ place p name d.signature d.form behind printable
@@ -444,7 +444,7 @@ module _ (v : Vocabulary) (n : ℕ) (variables : HasVariables v n) where
         plain = (line-plain v n variables σ behind d.name d.decl printable.0, rest.plain);
       }
 
-  behind-nothing : IsBehind v n nothing
+  pub behind-nothing : IsBehind v n nothing
   behind-nothing = record {
     sorts_many = refl;
     terms_many = refl;

@@ -1,12 +1,11 @@
 mod Requests
 mod Sizes
-mod StatedBodies
-mod StatedLists
 mod Compiles
 mod CompiledOnce
 mod Tables
 mod Sampled
 mod Assemblies
+mod Listed
 mod Specifications
 mod Rests
 mod Drafted

@@ -1,53 +1,21 @@
 -- What comes of a sample: its text is compiled, and the binary verified.
-use Rattle.std.proofs.Common.{◌≡◌, ◌∙◌, ◌++◌, ℕ, List, [], ◌∷◌, length, Option, Some, None, sym, subst, inl, inr, refl, ap, false, arith}
-use Rattle.mz_logic_theory.specs.LegalLists.{Statement}
-use Rattle.mz_binary_theory.proofs.Offered.{one-list, good-spelled}
-use Rattle.mz_spec_proved_theory.specs.Match.{publics, Agrees}
+use Rattle.std.proofs.Common.{◌≡◌, ◌∙◌, ◌++◌, ℕ, List, [], ◌∷◌, length, Option, Some, None, sym, subst, refl, ap, false, arith}
 use Rattle.mz_match_theory.specs.Verdict.{Accepts, IsSound, counts_of}
 use Rattle.mz_match_theory.proofs.Offered.{accepted-excludes}
-use Rattle.mz_mmu_theory.specs.TypeLaws.{IsTypedOrFaulty}
-use Rattle.mz_mmu_theory.specs.Meaning.{marked}
 use Rattle.mz_emit_accepted_theory.specs.Compiling.{CompilesTo}
-use Rattle.mz_sample.specs.Samples.{sample_specification, sample_text}
+use Rattle.mz_sample_theory.specs.Samples.{sample_specification, sample_text}
 use Rattle.mz_tool_engine.specs.declared.outcome.Outcome.{Outcome}
 use Rattle.mz_tool_engine.specs.declared.outcome.Outcome.TheVariants as outcomes
 use Rattle.mz_tool_engine.specs.Outcomes.{IfYes, IfNo, OnYes, OnNo, IsAfter}
 use Rattle.mz_tool_verify.specs.Verify.{IsVerified, IsRefuted}
 use Rattle.mz_tool.specs.Compile.{IsCompiledTo, IsNotCompiled}
-use Rattle.mz_tool.specs.Sample.{FitTogether, IsUpheld, IsFaulted, IsProvedByText, sizes_line, IsSampleUpheld, IsSampleFaulted}
-use Rattle.mz_tool.proofs.Compiles.{put-bytes, not-compiled-alone}
-use Rattle.mz_tool.proofs.StatedLists.{stated-agree}
-use Rattle.mz_binary_theory.specs.Standards.{strict_standard}
-
--- a text that is compiled is accepted or not whatever binary it is compiled to
-accepted-once : (spec text bin bin' : List ℕ) → IsTypedOrFaulty false text → CompilesTo false text bin → CompilesTo false text bin' → Accepts spec bin → Accepts spec bin'
-accepted-once spec text bin bin' one (ss, typed, within, binary) (ss', typed', within', binary') accepts =
-    let same : ss ≡ ss' = one.one_list ss ss' typed typed' in
-    let made = one-list bin accepts.statements binary.good.made (good-spelled strict_standard bin accepts.statements accepts.is_good) binary.good.spelled in
-    let agrees : Agrees accepts.declared (publics binary.good.made) = subst (λ (xs : List Statement). Agrees accepts.declared (publics xs)) made accepts.agrees in
-    let stated : Agrees accepts.declared (publics (marked ss)) = stated-agree accepts.declared (marked ss) binary.good.made binary.good.same agrees in
-    binary'.accepted spec accepts.declared accepts.is_spec (subst (λ (xs : _). Agrees accepts.declared (publics (marked xs))) same stated)
+use Rattle.mz_sample_theory.specs.Laws.{FitTogether}
+use Rattle.mz_tool.specs.Sample.{IsUpheld, IsProvedByText, sizes_line, IsSampleUpheld}
+use Rattle.mz_tool.proofs.Compiles.{put-bytes}
 
 -- the text's binary is the one that is put
 pub compiled-put : (text : List ℕ) (put : Option (List ℕ)) (line bin : List ℕ) → IsCompiledTo false text put line → put ≡ Some bin → CompilesTo false text bin
 compiled-put text put line bin (made, puts, compiles, finished, same) is = subst (CompilesTo false text) (put-bytes made bin (sym puts ∙ is)) compiles
-
-module _ (spec text : List ℕ) (one : IsTypedOrFaulty false text) where
-  not-both : (line line' : List ℕ) → IsUpheld spec text line → IsFaulted spec text line' → ⊥
-  not-both line line' (bin, compiles, verified) (unfit, inl not) = not-compiled-alone false text bin compiles line' not
-  not-both line line' (bin, compiles, (counts, (accepts, is), same)) (unfit, inr (bin', compiles', (verdict, refused, same'))) =
-      let accepts' = accepted-once spec text bin bin' one compiles compiles' accepts in
-      accepted-excludes spec bin' (counts_of accepts'.declared) verdict (accepts', refl) refused
-
-  pub upheld-only_yes : (o : Outcome) → IfNo o (λ line. IsFaulted spec text line) → (line : List ℕ) → IsUpheld spec text line → OnNo o ⊥
-  upheld-only_yes (outcomes.Yes put line') is line upheld = tt
-  upheld-only_yes (outcomes.No line') is line upheld = not-both line line'.items upheld is
-  upheld-only_yes outcomes.Mem is line upheld = tt
-
-  pub upheld-only_no : (o : Outcome) → IfYes o (λ put line. (put ≡ None) × IsUpheld spec text line) → (line : List ℕ) → IsFaulted spec text line → OnYes o ⊥
-  upheld-only_no (outcomes.Yes put line') is line faulted = not-both line'.items line is.1 faulted
-  upheld-only_no (outcomes.No line') is line faulted = tt
-  upheld-only_no outcomes.Mem is line faulted = tt
 
 -- a binary of a text is accepted against a specification that fits the text
 fit-accepted : (spec text bin line : List ℕ) → CompilesTo false text bin → IsRefuted spec bin line → FitTogether spec text → ⊥
@@ -62,9 +30,9 @@ module _ (spec text bin : List ℕ) (compiles : CompilesTo false text bin) where
   verified-yes (outcomes.No line) is = tt
   verified-yes outcomes.Mem is = tt
 
-  pub verified-no : (o : Outcome) → IfNo o (λ line. IsRefuted spec bin line) → IfNo o (λ line. IsFaulted spec text line)
+  pub verified-no : (o : Outcome) → IfNo o (λ line. IsRefuted spec bin line) → OnNo o (FitTogether spec text → ⊥)
   verified-no (outcomes.Yes put line) is = tt
-  verified-no (outcomes.No line) is = (fit-accepted spec text bin line.items compiles is, inr (bin, compiles, is))
+  verified-no (outcomes.No line) is = fit-accepted spec text bin line.items compiles is
   verified-no outcomes.Mem is = tt
 
   pub verified-proved : (o : Outcome) → OnYes o (IsSound spec bin) → OnYes o (IsProvedByText spec text)
@@ -79,10 +47,16 @@ module _ (spec text : List ℕ) where
   not-yes (outcomes.No line) P not = tt
   not-yes outcomes.Mem P not = tt
 
-  pub faulted-no : (o : Outcome) → IfNo o (λ line. IsNotCompiled false text line) → IfNo o (λ line. IsFaulted spec text line)
-  faulted-no (outcomes.Yes put line) is = tt
-  faulted-no (outcomes.No line) is = (λ fit. is.0 fit.0, inl is)
-  faulted-no outcomes.Mem is = tt
+  pub not-fit : (o : Outcome) → IfNo o (λ line. IsNotCompiled false text line) → OnNo o (FitTogether spec text → ⊥)
+  not-fit (outcomes.Yes put line) is = tt
+  not-fit (outcomes.No line) is = λ fit. is.0 fit.0
+  not-fit outcomes.Mem is = tt
+
+  -- where they fit there is no refusal
+  pub fit-never : (o : Outcome) → FitTogether spec text → OnNo o (FitTogether spec text → ⊥) → OnNo o ⊥
+  fit-never (outcomes.Yes put line) fit is = tt
+  fit-never (outcomes.No line) fit is = is fit
+  fit-never outcomes.Mem fit is = tt
 
 -- the line of the sizes stands before
 module _ (n : ℕ) (line : List ℕ) (sizes : line ≡ sizes_line n) where
@@ -97,17 +71,6 @@ module _ (n : ℕ) (line : List ℕ) (sizes : line ≡ sizes_line n) where
   after-yes outcomes.Mem (outcomes.Yes put' text') is upheld = absurd is
   after-yes outcomes.Mem (outcomes.No text') is upheld = tt
   after-yes outcomes.Mem outcomes.Mem is upheld = tt
-
-  pub after-no : (old new : Outcome) → IsAfter line old new → IfNo old (λ text. IsFaulted (sample_specification n) (sample_text n) text) → IfNo new (λ text. IsSampleFaulted n text)
-  after-no (outcomes.Yes put text) (outcomes.Yes put' text') is faulted = tt
-  after-no (outcomes.Yes put text) (outcomes.No text') is faulted = absurd is
-  after-no (outcomes.Yes put text) outcomes.Mem is faulted = tt
-  after-no (outcomes.No text) (outcomes.Yes put' text') is faulted = tt
-  after-no (outcomes.No text) (outcomes.No text') is faulted = (text.items, faulted, is ∙ ap (λ (front : List ℕ). front ++ text.items) sizes)
-  after-no (outcomes.No text) outcomes.Mem is faulted = tt
-  after-no outcomes.Mem (outcomes.Yes put' text') is faulted = tt
-  after-no outcomes.Mem (outcomes.No text') is faulted = absurd is
-  after-no outcomes.Mem outcomes.Mem is faulted = tt
 
 -- what holds of each yes, or of each no, still does
 module _ (P : Type 0) (line : List ℕ) where

@@ -1,6 +1,7 @@
 pub mod Sizes
 pub mod Compile
 pub mod Assemble
+pub mod Listed
 pub mod Axioms
 pub mod Draft
 pub mod Portable

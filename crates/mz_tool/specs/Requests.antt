@@ -3,7 +3,7 @@ use Rattle.std.specs.Prelude.{ℕ, Bool, List}
 use Rattle.mz_base.specs.Gaps.{gaps_of}
 use Rattle.mz_tool_engine.specs.Said.{Said}
 use Rattle.mz_tool_verify.specs.Verify.{verify_says}
-use Rattle.mz_tool_verify.specs.Show.{show_says}
+use Rattle.mz_tool.specs.Listed.{listed_says}
 use Rattle.mz_tool.specs.Compile.{compile_says}
 use Rattle.mz_tool.specs.Assemble.{assemble_says}
 use Rattle.mz_tool.specs.Axioms.{axioms_says}
@@ -32,7 +32,7 @@ pub data Request : Type 0 where
 -- what is said of each
 abbrev pub said_of : Request → Said
 said_of (verify spec bin) = verify_says spec bin
-said_of (show bin) = show_says bin
+said_of (show bin) = listed_says bin
 said_of (compile gaps text out) = compile_says gaps text out
 said_of (assemble listing out) = assemble_says listing out
 said_of (axioms spec bin) = axioms_says spec bin

@@ -1,42 +1,29 @@
 -- The command `sample N`: all that is said of it (this project's own).
-use Rattle.std.specs.Prelude.{◌≡◌, ◌≤◌, ◌⊎◌, ◌++◌, ℕ, false, List, [], ◌∷◌, length, None, codes, decimal}
+use Rattle.std.specs.Prelude.{◌≡◌, ◌≤◌, ◌++◌, ℕ, false, List, [], ◌∷◌, length, None, codes, decimal}
 use Rattle.mz_spec_proved_theory.specs.Headline.{Proves}
 use Rattle.mz_match_theory.specs.Verdict.{IsSound}
-use Rattle.mz_emit_accepted_theory.specs.Compiling.{IsCompilable, CompilesTo}
-use Rattle.mz_prefix_theory.specs.AgreeLaws.{DeclaresText}
-use Rattle.mz_sample.specs.Samples.{sample_specification, sample_text, sample_line}
+use Rattle.mz_emit_accepted_theory.specs.Compiling.{CompilesTo}
+use Rattle.mz_sample_theory.specs.Samples.{sample_specification, sample_text, sample_line}
 use Rattle.mz_tool_engine.specs.Said.{Said, OfNone}
-use Rattle.mz_tool_verify.specs.Verify.{IsVerified, IsRefuted}
-use Rattle.mz_tool.specs.Compile.{IsNotCompiled}
+use Rattle.mz_tool_verify.specs.Verify.{IsVerified}
 
 -- a text is compiled, and the binary accepted against the specification
 abbrev pub IsUpheld : List ℕ → List ℕ → List ℕ → Type 0
 IsUpheld spec text line = (bin : List ℕ) × CompilesTo false text bin × IsVerified spec bin line
 
--- the text can be compiled, and the specification declares what agrees with its public statements
-abbrev pub FitTogether : List ℕ → List ℕ → Type 0
-FitTogether spec text = IsCompilable false text × DeclaresText spec text
-
--- they don't fit together: the text isn't compiled, or the binary is refused
-abbrev pub IsFaulted : List ℕ → List ℕ → List ℕ → Type 0
-IsFaulted spec text line = (FitTogether spec text → ⊥) × (IsNotCompiled false text line ⊎ ((bin : List ℕ) × CompilesTo false text bin × IsRefuted spec bin line))
-
 -- the line that says how long a sample's specification and its text are
 abbrev pub sizes_line : ℕ → List ℕ
 sizes_line n = sample_line (length (sample_specification n)) (length (sample_text n))
 
--- the sample's text is compiled and accepted, or not: the line of the one or the other follows that of the sizes
+-- the sample's text is compiled and accepted: the line of that follows the one of the sizes
 abbrev pub IsSampleUpheld : ℕ → List ℕ → Type 0
 IsSampleUpheld n text = (line : List ℕ) × IsUpheld (sample_specification n) (sample_text n) line × (text ≡ sizes_line n ++ line)
-
-abbrev pub IsSampleFaulted : ℕ → List ℕ → Type 0
-IsSampleFaulted n text = (line : List ℕ) × IsFaulted (sample_specification n) (sample_text n) line × (text ≡ sizes_line n ++ line)
 
 -- each theorem of the specification is proved by a binary of the text
 abbrev pub IsProvedByText : List ℕ → List ℕ → Type 0
 IsProvedByText spec text = (bin : List ℕ) × CompilesTo false text bin × IsSound spec bin
 
--- A sample has 1 to 10,000 definitions.
+-- A sample has 1 to 10,000 definitions. Each is accepted, so none is refused.
 abbrev pub sample_says : (n : ℕ) → Said
 sample_says n = record {
   words = codes "sample" ∷ decimal n ∷ [];
@@ -45,7 +32,7 @@ sample_says n = record {
   puts = None;
   promise = λ file. Proves (sample_specification n);
   yes = λ contents put text. OfNone ((put ≡ None) × IsSampleUpheld n text) contents;
-  no = λ contents text. OfNone (IsSampleFaulted n text) contents;
+  no = λ contents text. ⊥;
   sound = λ contents. OfNone (IsProvedByText (sample_specification n) (sample_text n)) contents;
   begun = λ contents text. ⊥;
 }

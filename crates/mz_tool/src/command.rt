@@ -12,6 +12,7 @@ use crate::portable::PortableCommand;
 use crate::sample::SampleCommand;
 use crate::size::SampleSize;
 use crate::spec::SpecifyCommand;
+use mz_asm::listings_are_assembled;
 use mz_base::Mode;
 use mz_io::{Failed, Sink};
 use mz_store::Seed;
@@ -169,7 +170,10 @@ impl<'a> Command for ProgramCommand<'a> {
     ) -> Result<Outcome, Failed> {
         match self {
             ProgramCommand::Verify(command) => command.answer(alloc, contents, out),
-            ProgramCommand::Show(command) => command.answer(alloc, contents, out),
+            ProgramCommand::Show(command) => {
+                listings_are_assembled();
+                command.answer(alloc, contents, out)
+            }
             ProgramCommand::Compile(command) => command.answer(alloc, contents, out),
             ProgramCommand::Assemble(command) => command.answer(alloc, contents, out),
             ProgramCommand::Axioms(command) => command.answer(alloc, contents, out),

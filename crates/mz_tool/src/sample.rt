@@ -1,18 +1,19 @@
 // The command `sample`.
 ghost use Rattle.std.specs.Prelude.{◌≡◌, ◌<◌, ◌^◌, ℕ, List, None, length};
-ghost use Rattle.mz_sample.specs.Samples.{sample_specification, sample_text};
-ghost use Rattle.mz_tool_engine.specs.Outcomes.{IfYes, IfNo, OnYes, OnNo, IsAfter};
-ghost use Rattle.mz_tool.specs.Sample.{IsUpheld, IsFaulted, IsProvedByText, IsSampleUpheld, IsSampleFaulted};
+ghost use Rattle.mz_sample_theory.specs.Samples.{sample_specification, sample_text};
+ghost use Rattle.mz_tool_engine.specs.Outcomes.{IfYes, OnYes, OnNo, IsAfter};
+ghost use Rattle.mz_sample_theory.specs.Laws.{FitTogether};
+ghost use Rattle.mz_tool.specs.Sample.{IsUpheld, IsProvedByText, IsSampleUpheld};
 
 use crate::compile::compile;
 use crate::size::SampleSize;
 use mz_base::Mode;
 use mz_io::{Failed, Sink};
 use mz_sample::{sample_line, sample_specification, sample_text};
+use mz_sample_theory::samples_are_accepted;
 use mz_store::Seed;
 use mz_tool_engine::{Command, Contents, Inputs, Outcome, Output, Put};
 use mz_tool_verify::verify;
-use mz_type::typed_or_faulty;
 use std::alloc::Global;
 
 /// `sample N`: the size of the sample.
@@ -48,11 +49,10 @@ impl Command for SampleCommand {
 /// how long both are comes before that of the verdict.
 pub fn sample(alloc: Global, size: SampleSize) -> Outcome
     ensures yes { IfYes result (λ put text. (put ≡ None) × IsSampleUpheld size.number text) }
-    ensures no { IfNo result (λ text. IsSampleFaulted size.number text) }
+    ensures never_no { OnNo result ⊥ }
     ensures proved { OnYes result (IsProvedByText (sample_specification size.number) (sample_text size.number)) }
-    ensures only_yes { (text : List ℕ) → IsSampleUpheld size.number text → OnNo result ⊥ }
-    ensures only_no { (text : List ℕ) → IsSampleFaulted size.number text → OnYes result ⊥ }
 {
+    samples_are_accepted();
     let Ok(specification) = sample_specification(alloc, size.number) else {
         return Outcome::Mem;
     };
@@ -70,12 +70,9 @@ fn upheld(alloc: Global, specification: &[u8], text: &[u8]) -> Outcome
     requires specification { length specification.now < 2 ^ 32 }
     requires text { length text.now < 2 ^ 32 }
     ensures yes { IfYes result (λ put line. (put ≡ None) × IsUpheld specification.now text.now line) }
-    ensures no { IfNo result (λ line. IsFaulted specification.now text.now line) }
+    ensures no { OnNo result (FitTogether specification.now text.now → ⊥) }
     ensures proved { OnYes result (IsProvedByText specification.now text.now) }
-    ensures only_yes { (line : List ℕ) → IsUpheld specification.now text.now line → OnNo result ⊥ }
-    ensures only_no { (line : List ℕ) → IsFaulted specification.now text.now line → OnYes result ⊥ }
 {
-    typed_or_faulty();
     match compile(alloc, Seed::FIXED, text, Mode::Strict) {
         Outcome::Yes { put, .. } => match put {
             Put::File(bin) => verify(alloc, Seed::FIXED, specification, &bin),

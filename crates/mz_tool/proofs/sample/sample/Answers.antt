@@ -1,8 +1,9 @@
 use Rattle.std.proofs.Common.{◌≡◌, ◌∙◌, ℕ, List, None, length, ap}
-use Rattle.mz_sample.specs.Samples.{sample_specification, sample_text, sample_line}
-use Rattle.mz_tool_engine.specs.Outcomes.{IfYes, IfNo, OnYes, OnNo}
-use Rattle.mz_tool.specs.Sample.{IsUpheld, IsFaulted, IsProvedByText, sizes_line}
-use Rattle.mz_tool.proofs.Sampled.{after-yes, after-no, still-yes, still-no, at-sample}
+use Rattle.mz_sample_theory.specs.Samples.{sample_specification, sample_text, sample_line}
+use Rattle.mz_tool_engine.specs.Outcomes.{IfYes, OnYes, OnNo}
+use Rattle.mz_sample_theory.specs.Laws.{FitTogether}
+use Rattle.mz_tool.specs.Sample.{IsUpheld, IsProvedByText, sizes_line}
+use Rattle.mz_tool.proofs.Sampled.{after-yes, fit-never, still-yes, still-no, at-sample}
 use Rattle.mz_tool.proofs.sample.sample.Goals as goal
 
 pub returns : goal.returns
@@ -15,12 +16,9 @@ returns c =
     record {
       yes = after-yes c.args.size.number c.in-Ok-sample_line.line.items sizes c.upheld.result c.after.result c.after.ensures
           (at-sample _ _ _ _ (λ (a b : List ℕ). IfYes c.upheld.result (λ put line. (put ≡ None) × IsUpheld a b line)) spec text c.upheld.ensures.yes);
-      no = after-no c.args.size.number c.in-Ok-sample_line.line.items sizes c.upheld.result c.after.result c.after.ensures
-          (at-sample _ _ _ _ (λ (a b : List ℕ). IfNo c.upheld.result (λ line. IsFaulted a b line)) spec text c.upheld.ensures.no);
+      never_no = still-no ⊥ c.in-Ok-sample_line.line.items c.upheld.result c.after.result c.after.ensures
+          (fit-never _ _ c.upheld.result (c.samples_are_accepted.ensures c.args.size.number c.args.size.few)
+          (at-sample _ _ _ _ (λ (a b : List ℕ). OnNo c.upheld.result (FitTogether a b → ⊥)) spec text c.upheld.ensures.no));
       proved = still-yes _ c.in-Ok-sample_line.line.items c.upheld.result c.after.result c.after.ensures
           (at-sample _ _ _ _ (λ (a b : List ℕ). OnYes c.upheld.result (IsProvedByText a b)) spec text c.upheld.ensures.proved);
-      only_yes = λ whole is. still-no ⊥ c.in-Ok-sample_line.line.items c.upheld.result c.after.result c.after.ensures
-          (at-sample _ _ _ _ (λ (a b : List ℕ). (line : List ℕ) → IsUpheld a b line → OnNo c.upheld.result ⊥) spec text c.upheld.ensures.only_yes is.0 is.1);
-      only_no = λ whole is. still-yes ⊥ c.in-Ok-sample_line.line.items c.upheld.result c.after.result c.after.ensures
-          (at-sample _ _ _ _ (λ (a b : List ℕ). (line : List ℕ) → IsFaulted a b line → OnYes c.upheld.result ⊥) spec text c.upheld.ensures.only_no is.0 is.1);
     }

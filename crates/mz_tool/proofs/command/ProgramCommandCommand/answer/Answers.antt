@@ -1,8 +1,10 @@
-use Rattle.std.proofs.Common.{◌≤◌, ℕ, List, Option, length, subst}
+use Rattle.std.proofs.Common.{◌≤◌, ℕ, List, Option, length, sym, subst}
 use Rattle.mz_tool_engine.specs.Inputs.{contents_of}
+use Rattle.mz_tool_engine.specs.Answering.{IsAnswering}
 use Rattle.mz_tool_engine.specs.Run.{IsAnswer}
 use Rattle.mz_tool.specs.declared.command.ProgramCommand.{ProgramCommand}
 use Rattle.mz_tool.specs.Requests.{said_of, request}
+use Rattle.mz_tool.proofs.Listed.{shown-returns}
 use Rattle.mz_tool.proofs.command.ProgramCommandCommand.answer.Goals as goal
 
 -- that each answer of this command has room
@@ -14,6 +16,14 @@ returns-in-Verify-clause-only_full g c = λ clear fits. c.answer.ensures.only_fu
 
 pub returns-in-Verify-clause-left : goal.returns-in-Verify-clause-left
 returns-in-Verify-clause-left g c = λ clear fits. c.answer.ensures.left clear (subst (Fits (contents_of c.args.contents.now) (g.O.Sink.room c.args.out.now)) c.in-Verify.is fits)
+
+-- what the verifier's `show` answers leads back
+pub returns-in-Show-clause-log : goal.returns-in-Show-clause-log
+returns-in-Show-clause-log g c =
+    let contents = contents_of c.args.contents.now in
+    let log = c.answer-in-Show.ensures.log in
+    let answering = shown-returns c.listings_are_assembled.ensures.assembled c.in-Show.command.bin.now contents c.answer-in-Show.result log.0 c.requires.short log.2 in
+    (log.0, log.1, subst (λ (command : ProgramCommand). IsAnswering (said_of (request command)) contents c.answer-in-Show.result log.0) (sym c.in-Show.is) answering)
 
 pub returns-in-Show-clause-only_full : goal.returns-in-Show-clause-only_full
 returns-in-Show-clause-only_full g c = λ clear fits. c.answer-in-Show.ensures.only_full clear (subst (Fits (contents_of c.args.contents.now) (g.O.Sink.room c.args.out.now)) c.in-Show.is fits)

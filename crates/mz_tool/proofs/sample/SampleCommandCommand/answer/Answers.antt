@@ -11,7 +11,7 @@ returns-clause-log g c =
     let said = sample_says c.args.self.now.size.number in
     let contents = contents_of c.args.contents.now in
     let answers = answers-of said contents ([]) (none-read contents c.requires.files) c.sample.result
-    c.sample.ensures.yes c.sample.ensures.no c.sample.ensures.proved (λ put text is. c.sample.ensures.only_yes text is.1) c.sample.ensures.only_no
+    c.sample.ensures.yes c.sample.ensures.never_no c.sample.ensures.proved (λ put text is. c.sample.ensures.never_no) (λ text is. absurd is)
     (none-short (λ text. IsSampleUpheld c.args.self.now.size.number text) c.sample.result c.sample.ensures.yes) in
     grows-none _ _ (at_once-log said contents c.sample.result answers)
 
@@ -20,6 +20,6 @@ returns-clause-left g c = λ clear fits.
     let said = sample_says c.args.self.now.size.number in
     let contents = contents_of c.args.contents.now in
     let answers = answers-of said contents ([]) (none-read contents c.requires.files) c.sample.result
-    c.sample.ensures.yes c.sample.ensures.no c.sample.ensures.proved (λ put text is. c.sample.ensures.only_yes text is.1) c.sample.ensures.only_no
+    c.sample.ensures.yes c.sample.ensures.never_no c.sample.ensures.proved (λ put text is. c.sample.ensures.never_no) (λ text is. absurd is)
     (none-short (λ text. IsSampleUpheld c.args.self.now.size.number text) c.sample.result c.sample.ensures.yes) in
     (clear, at_once-fits said contents c.sample.result (g.O.Sink.room c.args.out.now) answers fits)
