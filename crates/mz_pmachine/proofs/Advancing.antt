@@ -1,6 +1,6 @@
 -- A command on the parts of a machine, said of the machine that they make.
 use Rattle.std.specs.Prelude.{OnOk}
-use Rattle.std.proofs.Common.{◌≡◌, ◌≤◌, ◌+◌, ◌<◌, ◌^◌, ℕ, length, Result, Ok, Err, refl, sym, ◌∙◌, subst}
+use Rattle.std.proofs.Common.{◌≡◌, ◌≤◌, ◌+◌, ◌<◌, ◌^◌, ℕ, length, Result, Ok, Err, refl, sym, ap, ◌∙◌, subst, arith, length-append}
 use Rattle.mz_cmd.specs.declared.command.Cmd.{Cmd}
 use Rattle.mz_cmd.specs.declared.rule.K.{K}
 use Rattle.mz_pmachine_theory.specs.NodeIdentity.{Numbered, portable}
@@ -18,10 +18,14 @@ use Rattle.mz_pmachine.specs.Stepping.{IsStepped}
 use Rattle.mz_pmachine.specs.Steps.{row_by, steps_by, steps_for, heading_for}
 use Rattle.mz_pmachine.specs.declared.machine.Parts.{Parts}
 use Rattle.mz_pmachine.specs.declared.machine.Setting.{Setting}
-use Rattle.mz_pmachine_unify.specs.Numbering.{AreIn}
+use Rattle.mz_pmachine_unify.specs.Numbering.{Numbering, AreIn, KeepsIds}
 use Rattle.mz_pmachine_unify.specs.Stored.{AreItemsIn}
 use Rattle.mz_machine_env.proofs.Offered.{kind-byte, kind-is}
 use Rattle.mz_pmachine.proofs.Machines.{goes-on}
+
+-- nodes that keep their ids are at most one more
+one-more : (s s' : Numbering) → KeepsIds s s' → length s'.entries ≤ length s.entries + 1
+one-more s s' (last, is, few) = (let len : length s'.entries ≡ length s.entries + length last = ap length is ∙ length-append s.entries last in omega (arith, len, few))
 
 module _ (t : Setting) (p q : Parts) where
   row-kind : (heading_of t.earlier.file (byte_of t.kind) t.row).kind ≡ kind_of t.kind
@@ -41,11 +45,11 @@ module _ (t : Setting) (p q : Parts) where
     its-kind : (at : ℕ) (r : Result (State Numbered) K) → by_kind at (kind_of t.kind) ≡ r → by_kind at (heading_of t.earlier.file (byte_of t.kind) t.row).kind ≡ r
     its-kind at r is = subst (λ (k : Kind). by_kind at k ≡ r) (sym row-kind) is
 
-    pub stepped : {A : Type 0} (at : ℕ) (result : Result A Stop) → Gives (by_kind at (kind_of t.kind)) result (λ _. (machine_of t q).state) → (OnOk result (q.nodes.next ≤ at + 1))
+    pub stepped : {A : Type 0} (at : ℕ) (result : Result A Stop) → Gives (by_kind at (kind_of t.kind)) result (λ _. (machine_of t q).state) → OnOk result (Grows (signatures_of t.earlier) p.nodes q.nodes) → OnOk result (q.nodes.next ≤ at + 1)
         → IsStepped (machine_of t p) c at (machine_of t q) result
-    stepped at (Ok x) is next = (its-kind at (Ok (machine_of t q).state) is, record { file = refl; kind = refl; row = refl; before = refl; next = next })
-    stepped at (Err (Rule k)) is next = its-kind at (Err k) is
-    stepped at (Err Mem) is next = tt
+    stepped at (Ok x) is grows next = (its-kind at (Ok (machine_of t q).state) is, record { file = refl; kind = refl; row = refl; before = refl; next = next; nodes = one-more p.nodes q.nodes grows.keeps })
+    stepped at (Err (Rule k)) is grows next = its-kind at (Err k) is
+    stepped at (Err Mem) is grows next = tt
 
     pub counted : {A : Type 0} (result : Result A Stop) (old new : ℕ) → UnlessMem result (new ≡ old + steps_by (tables_of t.earlier) (machine_of t p).state (body_command portable (kind_of t.kind) c.code c.value))
         → UnlessMem result (new ≡ old + steps_for (tables_of t.earlier) (heading_for (machine_of t p)) (machine_of t p).state c)

@@ -4,3 +4,4 @@ pub mod BodyAnswers
 pub mod Endings
 pub mod Stepping
 pub mod Running
+pub mod Rooms

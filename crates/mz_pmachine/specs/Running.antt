@@ -10,7 +10,7 @@ use Rattle.mz_pmachine.specs.declared.machine.Parts.{Parts}
 
 -- the machine that both are
 abbrev pub machine_of : Setting → Parts → Underway
-machine_of t p = record { file = t.earlier.file; kind = byte_of t.kind; row = t.row; before = t.earlier.rows; state = state_at p.nodes p.heap.items p.stack.items p.hyps.items; next = p.nodes.next }
+machine_of t p = record { file = t.earlier.file; kind = byte_of t.kind; row = t.row; before = t.earlier.rows; state = state_at p.nodes p.heap.items p.stack.items p.hyps.items; next = p.nodes.next; nodes = length p.nodes.entries }
 
 abbrev pub IsRunning : Setting → Parts → Type 0
 IsRunning t p =

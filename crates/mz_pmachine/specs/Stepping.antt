@@ -1,5 +1,5 @@
 -- What a machine answers to a command, and to the END.
-use Rattle.std.specs.Prelude.{◌≡◌, ℕ, ⊤, ◌+◌, ◌≤◌, List, Result, Ok, Err}
+use Rattle.std.specs.Prelude.{◌≡◌, ℕ, ⊤, ◌+◌, ◌≤◌, List, length, Result, Ok, Err}
 use Rattle.mz_cmd.specs.declared.command.Cmd.{Cmd}
 use Rattle.mz_machine_theory.specs.MachineState.{State}
 use Rattle.mz_machine_theory.specs.ProofMachine.{proof_end}
@@ -22,16 +22,18 @@ pub record IsBegun (file : List ℕ) (kind row : ℕ) (before : Rows) (u : Under
   pub before_is : u.before ≡ before
   pub state : u.state ≡ body_start portable (heading_of file kind row)
   pub next : u.next ≡ 0
+  pub nodes : u.nodes ≡ length (heading_of file kind row).params
 
 -- ---- a command
 
--- the same body; a number above the place of the command is above all that made an expression
+-- the same body, with at most one node more; a number above the place of the command is above all that made an expression
 pub record GoesOn (u : Underway) (at : ℕ) (after : Underway) : Type 0 where
   pub file : after.file ≡ u.file
   pub kind : after.kind ≡ u.kind
   pub row : after.row ≡ u.row
   pub before : after.before ≡ u.before
   pub next : after.next ≤ at + 1
+  pub nodes : after.nodes ≤ u.nodes + 1
 
 -- what the command at a place leads to, where it isn't stopped; out of memory says nothing
 abbrev pub IsStepped : {A : Type 0} → Underway → Cmd → ℕ → Underway → Result A Stop → Type 0

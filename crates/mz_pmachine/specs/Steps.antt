@@ -11,8 +11,8 @@ use Rattle.mz_machine_env.specs.OneCommand.{row_in, steps_in}
 use Rattle.mz_layout_tables.specs.declared.rows_so_far.Rows.{Rows}
 use Rattle.mz_pmachine_theory.specs.NodeIdentity.{Numbered, portable}
 
--- a machine between two commands: the file, the statement whose body runs with the rows before it, the state, and a
--- number above those of all commands that have made an expression
+-- a machine between two commands: the file, the statement whose body runs with the rows before it, the state, a number
+-- above those of all commands that have made an expression, and how many nodes there are
 pub record Underway : Type 0 where
   pub file : List ℕ
   pub kind : ℕ
@@ -20,6 +20,7 @@ pub record Underway : Type 0 where
   pub before : Rows
   pub state : State Numbered
   pub next : ℕ
+  pub nodes : ℕ
 
 abbrev pub tables_for : Underway → RowsBefore
 tables_for u = tables_before u.file u.before

@@ -7,8 +7,9 @@ ghost use Rattle.mz_layout_tables.specs.Heads.{body_bytes};
 ghost use Rattle.mz_machine_env.specs.OwnRow.{MayRun, byte_of};
 ghost use Rattle.mz_machine_theory.specs.Headings.{heading_of};
 ghost use Rattle.mz_machine_env.specs.Before.{tables_before};
-ghost use Rattle.mz_machine.specs.BodyAnswers.{UnlessMem};
+ghost use Rattle.mz_machine.specs.BodyAnswers.{IfRan, UnlessMem};
 ghost use Rattle.mz_pmachine.specs.BodyAnswers.{IsBodyRun};
+ghost use Rattle.mz_pmachine.specs.Rooms.{HoldsAtMost};
 ghost use Rattle.mz_pmachine.specs.Running.{IsRunning, machine_of};
 
 use crate::machine::{Parts, Setting};
@@ -66,6 +67,7 @@ pub fn check_portable_in<L: Ledger>(
     ensures run { IsBodyRun (heading_of mmb.now (byte_of kind) row) (body_run portable (tables_before mmb.now before) (heading_of mmb.now (byte_of kind) row) body.0 (body_bytes mmb.now body.0 body.1)) result }
     ensures most { steps.new ≤ steps.old + (body.1 - body.0) * (length mmb.now + 1) }
     ensures steps { UnlessMem result (steps.new ≡ steps.old + body_steps portable (tables_before mmb.now before) (heading_of mmb.now (byte_of kind) row) body.0 (body_bytes mmb.now body.0 body.1)) }
+    ensures nodes { IfRan result (HoldsAtMost (length (heading_of mmb.now (byte_of kind) row).params + length (body_bytes mmb.now body.0 body.1)) room.new) }
 {
     let Ok(mut desk) = room.take(alloc) else {
         return BodyChecked::Mem;
@@ -91,6 +93,7 @@ fn check_on<L: Ledger>(
     ensures run { IsBodyRun (heading_of mmb.now (byte_of kind) row) (body_run portable (tables_before mmb.now before) (heading_of mmb.now (byte_of kind) row) body.0 (body_bytes mmb.now body.0 body.1)) result }
     ensures most { steps.new ≤ steps.old + (body.1 - body.0) * (length mmb.now + 1) }
     ensures steps { UnlessMem result (steps.new ≡ steps.old + body_steps portable (tables_before mmb.now before) (heading_of mmb.now (byte_of kind) row) body.0 (body_bytes mmb.now body.0 body.1)) }
+    ensures nodes { IfRan result (length desk.new.parts.nodes.entries ≤ length (heading_of mmb.now (byte_of kind) row).params + length (body_bytes mmb.now body.0 body.1)) }
 {
     let Ok(setting) = Setting::begin(mmb, kind, row, before, &mut desk.words, &mut desk.parts)
     else {
@@ -115,6 +118,7 @@ fn run<L: Ledger>(
     ensures run { IsBodyRun (heading_for (machine_of setting.now parts.old)) (body_from portable (tables_for (machine_of setting.now parts.old)) (heading_for (machine_of setting.now parts.old)) (length bytes.now) from bytes.now (machine_of setting.now parts.old).state) result }
     ensures steps { UnlessMem result (steps.new ≡ steps.old + body_steps_from portable (tables_for (machine_of setting.now parts.old)) (heading_for (machine_of setting.now parts.old)) (length bytes.now) from bytes.now (machine_of setting.now parts.old).state) }
     ensures most { steps.new ≤ steps.old + length bytes.now * (length setting.now.earlier.file + 1) }
+    ensures nodes { IfRan result (length parts.new.nodes.entries ≤ length parts.old.nodes.entries + length bytes.now) }
 {
     let mut at = 0;
     'commands: loop {

@@ -135,6 +135,7 @@ impl<'a> Setting<'a> {
         ensures run { IsFinished (machine_of self.now parts.old) result }
         ensures steps { UnlessEndMem result (steps.new ≡ steps.old + end_steps (tables_of self.now.earlier) (heading_for (machine_of self.now parts.old)) (machine_of self.now parts.old).state) }
         ensures most { steps.new ≤ steps.old + (1 + length self.now.earlier.file) }
+        ensures nodes { parts.new.nodes ≡ parts.old.nodes }
     {
         steps.tick();
         match end(

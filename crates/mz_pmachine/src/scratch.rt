@@ -1,10 +1,11 @@
 //! Room that one body leaves to the next.
+ghost use Rattle.std.specs.Prelude.{◌≡◌, Some};
 
 use crate::machine::Parts;
 use mz_logic_theory::Word;
 use std::alloc::{AllocError, Global};
 
-/// What bodies have taken of memory, kept for the next one. It says nothing of them.
+/// What bodies have taken of memory, kept for the next one. What lies there changes no answer.
 #[derive(Drop)]
 pub struct PortableRoom {
     desk: Option<Box<Desk>>,
@@ -32,7 +33,9 @@ impl PortableRoom {
     }
 
     /// Keeps a desk for the next body.
-    pub(crate) fn keep(&mut self, desk: Box<Desk>) {
+    pub(crate) fn keep(&mut self, desk: Box<Desk>)
+        ensures { self.new.desk ≡ Some desk }
+    {
         self.desk = Some(desk);
     }
 }

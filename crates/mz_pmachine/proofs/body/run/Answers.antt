@@ -1,17 +1,20 @@
-use Rattle.std.proofs.Common.{◌+◌, ◌∙◌, length, sym, ap, arith}
+use Rattle.std.proofs.Common.{◌≤◌, ◌+◌, ◌∙◌, length, refl, sym, ap, subst, arith}
+use Rattle.mz_pmachine_unify.specs.Numbering.{Numbering}
+use Rattle.mz_machine.specs.Stepping.{ended_at, stopped_at}
 use Rattle.mz_pmachine.specs.Running.{machine_of}
 use Rattle.mz_pmachine.specs.Steps.{tables_for, heading_for}
 use Rattle.mz_pmachine_theory.specs.NodeIdentity.{portable}
 use Rattle.mz_unify_theory.proofs.Offered.{further}
 use Rattle.mz_machine_env.proofs.Offered.{at-first, cut-whole, long-whole, end-whole, end-refused, end-many, refused-whole, refused-many, goes-on, ends-there, goes-further}
-use Rattle.mz_pmachine.proofs.BodyRunning.{itself, goes, row-over, steps-over, most-over, end-answer, end-counts, stop-answer, stop-counts}
+use Rattle.mz_pmachine.proofs.BodyRunning.{itself, goes, row-over, steps-over, most-over, end-answer, end-counts, stop-answer, stop-counts, ran-by, stopped-ran}
+use Rattle.mz_unify.proofs.Offered.{counted-within}
 use Rattle.mz_machine_theory.proofs.Offered.{more-steps, within-steps}
 use Rattle.mz_machine.proofs.Offered.{place-fits}
 use Rattle.mz_pmachine.proofs.body.run.Goals as goal
 
 pub commands-init : goal.commands-init
 commands-init g c =
-    record { in_range = omega arith; running = c.requires.running; same = itself (machine_of c.args.setting.now c.args.parts.now); underway = at-first portable (tables_for (machine_of c.args.setting.now c.args.parts.now)) (heading_for (machine_of c.args.setting.now c.args.parts.now)) c.args.from c.args.bytes.now (machine_of c.args.setting.now c.args.parts.now).state c.args.steps.now; first = omega (arith, c.requires.first); most = omega arith }
+    record { in_range = omega arith; running = c.requires.running; same = itself (machine_of c.args.setting.now c.args.parts.now); underway = at-first portable (tables_for (machine_of c.args.setting.now c.args.parts.now)) (heading_for (machine_of c.args.setting.now c.args.parts.now)) c.args.from c.args.bytes.now (machine_of c.args.setting.now c.args.parts.now).state c.args.steps.now; first = omega (arith, c.requires.first); most = omega arith; nodes = omega arith }
 
 pub returns-in_default-clause-run : goal.returns-in_default-clause-run
 returns-in_default-clause-run g c =
@@ -134,6 +137,26 @@ returns-in-Err-clause-most g c =
     within-steps c.args.steps.now c.advance.new.steps (c.commands.at + cmd.len) (length c.args.bytes.now) (length u.file)
     (more-steps c.args.steps.now c.commands.steps c.advance.new.steps c.commands.at cmd.len (length u.file) c.commands.invariant.most (most-over u v c.advance.new.steps c.commands.steps same c.advance.ensures.most) ahead.0) ahead.1
 
+-- ---- the nodes
+
+pub returns-then-cmd-eq-END-clause-nodes : goal.returns-then-cmd-eq-END-clause-nodes
+returns-then-cmd-eq-END-clause-nodes g c =
+    let first = length c.args.parts.now.nodes.entries in
+    let whole = length c.args.bytes.now in
+    let most : length c.commands.parts.nodes.entries ≤ first + whole =
+    counted-within first (length c.commands.parts.nodes.entries) c.commands.at whole c.commands.invariant.nodes c.commands.invariant.in_range in
+    rw c.ended.ensures
+    (ran-by (ended_at (c.args.from + c.commands.at) c.finish.result) (length c.finish.new.parts.nodes.entries ≤ first + whole)
+    (λ end is. subst (λ (s : Numbering). length s.entries ≤ first + whole) (sym c.finish.ensures.nodes) most))
+
+pub returns-in-Err-clause-nodes : goal.returns-in-Err-clause-nodes
+returns-in-Err-clause-nodes g c =
+    rw c.stopped.ensures
+    (stopped-ran (c.args.from + c.commands.at) c.in-Err.stop (stopped_at (c.args.from + c.commands.at) c.in-Err.stop) refl
+    (length c.advance.new.parts.nodes.entries ≤ length c.args.parts.now.nodes.entries + length c.args.bytes.now))
+
+-- ---- the loop
+
 pub commands-smaller : goal.commands-smaller
 commands-smaller g c =
     let cmd = c.in-Ok.cmd in
@@ -161,4 +184,5 @@ commands-preserved g c =
           (row-over u v place v.state cmd _ same c.in-Ok-advance.ensures.row.0) (steps-over u v v.state cmd c.advance.new.steps c.commands.steps same c.in-Ok-advance.ensures.steps));
       first = rw c.from.ensures (omega (arith, ahead.0, c.in-Ok-advance.ensures.row.1.next));
       most = rw c.from.ensures (more-steps c.args.steps.now c.commands.steps c.advance.new.steps c.commands.at cmd.len (length u.file) c.commands.invariant.most (most-over u v c.advance.new.steps c.commands.steps same c.in-Ok-advance.ensures.most) ahead.0);
+      nodes = rw c.from.ensures (omega (arith, c.commands.invariant.nodes, c.in-Ok-advance.ensures.row.1.nodes, ahead.0));
     }

@@ -14,6 +14,7 @@ invariant-commands g l = record {
   underway : IsUnderway portable (tables_for (machine_of l.setting l.fn.parts)) (heading_for (machine_of l.setting l.fn.parts)) l.from l.bytes (machine_of l.setting l.fn.parts).state l.fn.steps l.at (machine_of l.setting l.parts).state l.steps;
   first : (machine_of l.setting l.parts).next ≤ l.from + l.at;
   most : l.steps ≤ l.fn.steps + l.at * (length l.setting.earlier.file + 1);
+  nodes : length l.parts.nodes.entries ≤ length l.fn.parts.nodes.entries + l.at;
 }
 
 abbrev pub decreases-commands : goal.decreases-commands

@@ -10,7 +10,7 @@ returns-clause-running g c =
 pub returns-clause-row : goal.returns-clause-row
 returns-clause-row g c =
     let after : Parts = record { nodes = c.obey.new.nodes; heap = c.obey.new.heap; stack = c.obey.new.stack; hyps = c.obey.new.hyps; spare = c.obey.new.spare } in
-    stepped c.args.self.now c.args.parts.now after c.args.cmd c.args.at c.obey.result c.obey.ensures.row c.obey.ensures.next
+    stepped c.args.self.now c.args.parts.now after c.args.cmd c.args.at c.obey.result c.obey.ensures.row c.obey.ensures.grows c.obey.ensures.next
 
 pub returns-clause-steps : goal.returns-clause-steps
 returns-clause-steps g c = counted c.args.self.now c.args.parts.now c.args.parts.now c.args.cmd c.obey.result c.args.steps.now c.obey.new.steps c.obey.ensures.steps

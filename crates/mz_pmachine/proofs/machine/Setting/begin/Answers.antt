@@ -6,7 +6,7 @@ use Rattle.mz_machine_env.specs.OwnRow.{byte_of, mode_for, first_items}
 use Rattle.mz_machine_theory.specs.Headings.{kind_at}
 use Rattle.mz_machine_env.specs.Before.{tables_before}
 use Rattle.mz_machine_env.proofs.Offered.{kind-byte, own-bits, words-are}
-use Rattle.mz_pmachine.proofs.Beginning.{params-are, is-begun, state-begun, AreVars}
+use Rattle.mz_pmachine.proofs.Beginning.{params-are, params-many, is-begun, state-begun, AreVars}
 use Rattle.mz_pmachine.proofs.machine.Setting.begin.Goals as goal
 
 pub read_words-requires : goal.read_words-requires
@@ -45,4 +45,5 @@ returns-clause-begun c =
       before_is = c.new-earlier.ensures.rows;
       state = rw (c.in_ok-first_items.ensures ∙ ap first_items (c.len.ensures ∙ c.read_words.new.words.ok.0), c.clear.ensures.items, c.clear-2.ensures.items) (state-begun c.args.mmb.now (byte_of c.args.kind) c.args.row c.args.before s ws c.requires words ctx many exprs);
       next = c.in_ok-begin.ensures.next;
+      nodes = many ∙ sym (params-many c.args.mmb.now (byte_of c.args.kind) c.args.row c.args.before s ws c.requires words ctx many exprs);
     }
