@@ -22,7 +22,7 @@ use Rattle.mz_unify_theory.specs.Profile.{Profile, plain as standard}
 use Rattle.mz_machine_theory.specs.Lists.{kind_of}
 use Rattle.mz_machine_theory.specs.MachineState.{Kind as BodyKind, is_definition}
 use Rattle.mz_binary_theory.specs.Spelling.{IsKindOf, is_local_code}
-use Rattle.mz_show.specs.Words.{unify_has_number, proof_has_number}
+use Rattle.mz_show.specs.Tokens.{unify_has_number, proof_has_number}
 use Rattle.mz_asm.specs.Assembling.{IsNormal}
 use Rattle.mz_asm.specs.Rows.{no_rows, taken}
 use Rattle.mz_asm.specs.Statements.{Statement, statement_lines, all_lines, listing_lines, unify_bytes, proof_bytes, with_statement, parts_from}

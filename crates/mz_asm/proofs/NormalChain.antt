@@ -23,7 +23,7 @@ use Rattle.mz_show.specs.declared.stream.Stream.TheVariants as streams
 use Rattle.mz_show.specs.Listing.{Chain, EndsAt}
 use Rattle.mz_show.specs.Statements.{Statement as Shown, has_streams as shown_streams, unify_at}
 use Rattle.mz_show.specs.Streams.{Run}
-use Rattle.mz_show.specs.Words.{texts, unify_has_number, proof_has_number}
+use Rattle.mz_show.specs.Tokens.{texts, unify_has_number, proof_has_number}
 use Rattle.mz_asm.specs.declared.kind.Kind.{Kind}
 use Rattle.mz_asm.specs.declared.kind.Kind.TheVariants as kinds
 use Rattle.mz_asm.specs.declared.line.Line.{Line}

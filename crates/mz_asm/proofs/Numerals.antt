@@ -12,7 +12,7 @@ use Rattle.hex.specs.Hex.{encode_lower, decode_sized, IsBytes}
 use Rattle.hex.specs.declared.error.FromHexError.{FromHexError}
 use Rattle.hex.proofs.HexLemmas.{decode_of-ok, decode_sized-ok, decode_sized-twice, decode_sized-encode_lower}
 use Rattle.mz_logic_theory.specs.declared.word.Word.{Word}
-use Rattle.mz_show.specs.Words.{word_text}
+use Rattle.mz_show.specs.Tokens.{word_text}
 use Rattle.mz_base.proofs.Offered.{digit-at, digit-between}
 use Rattle.mz_asm.specs.Numbers.{are_digits, is_numeral, number_of, IsNumber, number_in, word_from, word_in}
 

@@ -15,7 +15,7 @@ use Rattle.mz_logic_theory.specs.declared.word.Word.{Word}
 use Rattle.mz_show.specs.declared.stream.Stream.{Stream}
 use Rattle.mz_show.specs.declared.stream.Stream.TheVariants as streams
 use Rattle.mz_show.specs.Streams.{belongs, Follow}
-use Rattle.mz_show.specs.Words.{unify_has_number, proof_has_number}
+use Rattle.mz_show.specs.Tokens.{unify_has_number, proof_has_number}
 use Rattle.mz_asm.specs.declared.line.Line.{Line}
 use Rattle.mz_asm.specs.declared.line.Line.TheVariants as lines
 use Rattle.mz_asm.specs.declared.rows.Rows.{Rows}

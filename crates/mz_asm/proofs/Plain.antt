@@ -2,7 +2,7 @@
 use Rattle.std.proofs.Common.{◌≡◌, ◌<◌, ◌^◌, false, List, [], ◌∷◌, ℕ}
 use Rattle.std.specs.Prelude.{⊤}
 use Rattle.mz_layout_tables.specs.Normal.{file_of}
-use Rattle.mz_show.specs.Words.{unify_has_number, proof_has_number}
+use Rattle.mz_show.specs.Tokens.{unify_has_number, proof_has_number}
 use Rattle.mz_asm.specs.declared.line.Line.{Line}
 use Rattle.mz_asm.specs.declared.line.Line.TheVariants as lines
 use Rattle.mz_asm.specs.Rows.{no_rows}

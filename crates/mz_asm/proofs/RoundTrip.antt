@@ -3,7 +3,7 @@ use Rattle.std.proofs.Common.{◌<◌, ◌^◌, ◌∙◌, List, [], ℕ, length
 use Rattle.mz_layout_tables.specs.Normal.{file_length, file_of}
 use Rattle.mz_layout_tables.proofs.Offered.{file-length}
 use Rattle.mz_show.specs.Listing.{IsListing}
-use Rattle.mz_show.specs.Words.{texts}
+use Rattle.mz_show.specs.Tokens.{texts}
 use Rattle.mz_show.proofs.Offered.{text-unique}
 use Rattle.mz_asm.specs.Assembling.{IsNormal, IsBinaryOf, IsAssembly, IsListedBack, GivesBack}
 use Rattle.mz_asm.proofs.Plain.{IsMade}

@@ -20,7 +20,7 @@ use Rattle.mz_layout_tables.specs.Heads.{body_bytes}
 use Rattle.mz_layout_tables.proofs.Offered.{layout-holds, all-listed, counts-said, mods-read, term-read, thm-read, term-stream, thm-stream}
 use Rattle.mz_show.specs.declared.place.Place.{Place}
 use Rattle.mz_show.specs.declared.stream.Stream.TheVariants as streams
-use Rattle.mz_show.specs.Words.{texts, numbered, param_line, result_line}
+use Rattle.mz_show.specs.Tokens.{texts, numbered, param_line, result_line}
 use Rattle.mz_show.specs.Streams.{belongs, command_line, stream_text}
 use Rattle.mz_show.specs.Listing.{Chain, chain_text, EndsAt, IsListing}
 use Rattle.mz_show.specs.Statements.{Stands as StandsThere, Statement as Shown, after, has_streams as shown_streams, unify_at, statement_checks, part_checks, statement_text, streams_text}

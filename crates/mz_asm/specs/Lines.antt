@@ -1,6 +1,6 @@
 -- The lines of a listing, and which bytes they are, without their newlines (this project's own form).
 use Rattle.std.specs.Prelude.{◌≡◌, ◌<◌, ◌^◌, ◌++◌, ℕ, Bool, true, false, List, [], codes}
-use Rattle.mz_show.specs.Words.{unify_name, unify_has_number, proof_name, proof_has_number, word_text}
+use Rattle.mz_show.specs.Tokens.{unify_name, unify_has_number, proof_name, proof_has_number, word_text}
 use Rattle.mz_asm.specs.declared.kind.Kind.{Kind}
 use Rattle.mz_asm.specs.declared.kind.Kind.TheVariants as kinds
 use Rattle.mz_asm.specs.declared.line.Line.{Line}

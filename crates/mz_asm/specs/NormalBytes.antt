@@ -20,7 +20,7 @@ use Rattle.mz_show.specs.declared.stream.Stream.TheVariants.{Unify, Proof}
 use Rattle.mz_show.specs.Listing.{Chain, EndsAt}
 use Rattle.mz_show.specs.Statements.{Statement, first_place, after, has_streams, unify_at}
 use Rattle.mz_show.specs.Streams.{Run}
-use Rattle.mz_show.specs.Words.{unify_has_number, proof_has_number}
+use Rattle.mz_show.specs.Tokens.{unify_has_number, proof_has_number}
 
 -- each number of the list is a byte
 abbrev pub AreBytes : List ℕ → Type 0

@@ -6,7 +6,7 @@ use Rattle.mz_cmd.specs.declared.code.ProofCode.TheVariants as proofs
 use Rattle.mz_cmd.specs.declared.code.UnifyCode.{UnifyCode}
 use Rattle.mz_cmd.specs.declared.code.UnifyCode.TheVariants as unifies
 use Rattle.mz_logic_theory.specs.declared.word.Word.{Word}
-use Rattle.mz_show.specs.Words.{unify_has_number, proof_has_number}
+use Rattle.mz_show.specs.Tokens.{unify_has_number, proof_has_number}
 use Rattle.mz_asm.specs.declared.kind.Kind.{Kind}
 use Rattle.mz_asm.specs.declared.kind.Kind.TheVariants as kinds
 use Rattle.mz_asm.specs.declared.line.Line.{Line}

@@ -1,6 +1,6 @@
 // The lines of a listing.
 ghost use Rattle.std.specs.Prelude.{◌≡◌};
-ghost use Rattle.mz_show.specs.Words.{unify_has_number as unify_numbered, proof_has_number as proof_numbered};
+ghost use Rattle.mz_show.specs.Tokens.{unify_has_number as unify_numbered, proof_has_number as proof_numbered};
 ghost use Rattle.mz_asm.specs.Reading.{line_in, head_in, numbers_in, part_in, param_in, result_in, unify_line_in, proof_line_in, value_in, unify_named, proof_named, plain_proof_named};
 
 use crate::bytes::{first_word, is, other_words, place_of};

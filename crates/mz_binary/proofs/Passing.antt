@@ -22,7 +22,7 @@ use Rattle.mz_binary.specs.declared.statement.Found.TheVariants as seen
 use Rattle.mz_layout_tables.specs.declared.head.Head.{Head}
 use Rattle.mz_layout_tables.specs.declared.rows_so_far.Rows.{Rows}
 use Rattle.mz_layout_tables.specs.Heads.{IsHead, body_bytes, next_row, rows_after}
-use Rattle.mz_binary_theory.specs.declared.statement.Statement.{Statement as Told}
+use Rattle.mz_binary_theory.specs.declared.statement.Statement.{Statement as Reported}
 use Rattle.mz_machine_theory.specs.FileRows.{Taken, taken_by}
 use Rattle.mz_binary_theory.specs.Spelling.{IsKindOf, HasKind, IsSpelled, is_local_code}
 use Rattle.mz_binary_theory.specs.Checking.{kind_checks, place_checks}
@@ -49,7 +49,7 @@ mark-of codes.LocalDefinition = refl
 mark-of codes.LocalTheorem = refl
 
 -- the kind that is reported, and the row
-pub record IsTold (rows : Rows) (env : List Declaration) (k : StatementCode) (d : Declaration) : Type 0 where
+pub record IsReported (rows : Rows) (env : List Declaration) (k : StatementCode) (d : Declaration) : Type 0 where
   pub kind : kind_byte k ≡ kind_code d
   pub row : next_row rows k ≡ row_after env d
 
@@ -64,29 +64,29 @@ theorem-told code true (inr e) h = absurd (omega arith)
 theorem-told code false is h = refl
 
 module _ (rows : Rows) (env : List Declaration) (counts : CountsRows rows env) where
-  is-told : (k : StatementCode) (d : Declaration) → IsKindOf (statement_byte k) d → IsTold rows env k d
-  is-told codes.Sort (sort_decl m) h = record { kind = refl; row = counts.sorts_are }
-  is-told codes.Axiom (sort_decl m) h = absurd cc
-  is-told codes.Term (sort_decl m) h = absurd cc
-  is-told codes.Theorem (sort_decl m) h = absurd cc
-  is-told codes.LocalDefinition (sort_decl m) h = absurd cc
-  is-told codes.LocalTheorem (sort_decl m) h = absurd cc
-  is-told codes.Term (term_decl d) h = record { kind = refl; row = counts.terms_are }
-  is-told codes.LocalDefinition (term_decl d) h = record { kind = refl; row = counts.terms_are }
-  is-told codes.Sort (term_decl d) (inl h) = absurd cc
-  is-told codes.Sort (term_decl d) (inr h) = absurd cc
-  is-told codes.Axiom (term_decl d) (inl h) = absurd cc
-  is-told codes.Axiom (term_decl d) (inr h) = absurd cc
-  is-told codes.Theorem (term_decl d) (inl h) = absurd cc
-  is-told codes.Theorem (term_decl d) (inr h) = absurd cc
-  is-told codes.LocalTheorem (term_decl d) (inl h) = absurd cc
-  is-told codes.LocalTheorem (term_decl d) (inr h) = absurd cc
-  is-told codes.Sort (assertion_decl a) h = absurd (no-assertion 0x04 a.is_axiom (inl refl) h)
-  is-told codes.Term (assertion_decl a) h = absurd (no-assertion 0x05 a.is_axiom (inr (inl refl)) h)
-  is-told codes.LocalDefinition (assertion_decl a) h = absurd (no-assertion 0x0D a.is_axiom (inr (inr refl)) h)
-  is-told codes.Axiom (assertion_decl a) h = record { kind = axiom-told 0x02 a.is_axiom refl h; row = counts.thms_are }
-  is-told codes.Theorem (assertion_decl a) h = record { kind = theorem-told 0x06 a.is_axiom (inl refl) h; row = counts.thms_are }
-  is-told codes.LocalTheorem (assertion_decl a) h = record { kind = theorem-told 0x0E a.is_axiom (inr refl) h; row = counts.thms_are }
+  is-reported : (k : StatementCode) (d : Declaration) → IsKindOf (statement_byte k) d → IsReported rows env k d
+  is-reported codes.Sort (sort_decl m) h = record { kind = refl; row = counts.sorts_are }
+  is-reported codes.Axiom (sort_decl m) h = absurd cc
+  is-reported codes.Term (sort_decl m) h = absurd cc
+  is-reported codes.Theorem (sort_decl m) h = absurd cc
+  is-reported codes.LocalDefinition (sort_decl m) h = absurd cc
+  is-reported codes.LocalTheorem (sort_decl m) h = absurd cc
+  is-reported codes.Term (term_decl d) h = record { kind = refl; row = counts.terms_are }
+  is-reported codes.LocalDefinition (term_decl d) h = record { kind = refl; row = counts.terms_are }
+  is-reported codes.Sort (term_decl d) (inl h) = absurd cc
+  is-reported codes.Sort (term_decl d) (inr h) = absurd cc
+  is-reported codes.Axiom (term_decl d) (inl h) = absurd cc
+  is-reported codes.Axiom (term_decl d) (inr h) = absurd cc
+  is-reported codes.Theorem (term_decl d) (inl h) = absurd cc
+  is-reported codes.Theorem (term_decl d) (inr h) = absurd cc
+  is-reported codes.LocalTheorem (term_decl d) (inl h) = absurd cc
+  is-reported codes.LocalTheorem (term_decl d) (inr h) = absurd cc
+  is-reported codes.Sort (assertion_decl a) h = absurd (no-assertion 0x04 a.is_axiom (inl refl) h)
+  is-reported codes.Term (assertion_decl a) h = absurd (no-assertion 0x05 a.is_axiom (inr (inl refl)) h)
+  is-reported codes.LocalDefinition (assertion_decl a) h = absurd (no-assertion 0x0D a.is_axiom (inr (inr refl)) h)
+  is-reported codes.Axiom (assertion_decl a) h = record { kind = axiom-told 0x02 a.is_axiom refl h; row = counts.thms_are }
+  is-reported codes.Theorem (assertion_decl a) h = record { kind = theorem-told 0x06 a.is_axiom (inl refl) h; row = counts.thms_are }
+  is-reported codes.LocalTheorem (assertion_decl a) h = record { kind = theorem-told 0x0E a.is_axiom (inr refl) h; row = counts.thms_are }
 
   -- ---- rows
 
@@ -222,7 +222,7 @@ module _ (p : Progress) (ss : List Statement) (env : List Declaration) (before :
         followed p.standard p.file env p.at (statement_byte head.code) head.body head.next stands-there head.code (code-of head.code) legal declares kind-holds
 
 -- the checker and what it says, past a statement
-pub record IsPast (p after : Progress) (told : Told) (head : Head) : Type 0 where
+pub record IsPast (p after : Progress) (told : Reported) (head : Head) : Type 0 where
   pub same_file : after.file ≡ p.file
   pub same_standard : after.standard ≡ p.standard
   pub goes_on : after.at ≡ head.next
@@ -242,7 +242,7 @@ spelled-kind file env at s next code body sp e =
     let same : sp.code ≡ code = cc in
     subst (λ (z : ℕ). HasKind z s) same sp.kind
 
-module _ (p after : Progress) (told : Told) (head : Head) (past : IsPast p after told head) (stands : IsHead p.file head) (place : head.at ≡ p.at)
+module _ (p after : Progress) (told : Reported) (head : Head) (past : IsPast p after told head) (stands : IsHead p.file head) (place : head.at ≡ p.at)
     (ran : run_place p.standard p.file (taken_before p.file p.rows) p.at ≡ Ok (onward (after_kind p.file (taken_before p.file p.rows) head.code) head.next)) where
   module _ (ss : List Statement) (env : List Declaration) (before : HasPassed p ss env) where
     f : FollowedBy p.standard p.file env p.at head.body head.next head.code
@@ -284,7 +284,7 @@ module _ (p after : Progress) (told : Told) (head : Head) (past : IsPast p after
     pub passes : Passes p ss env after told
     passes =
         let kind : HasKind (statement_byte head.code) s = kind-is in
-        let t : IsTold p.rows env head.code s.decl = is-told p.rows env before.rows head.code s.decl kind.0 in
+        let t : IsReported p.rows env head.code s.decl = is-reported p.rows env before.rows head.code s.decl kind.0 in
         record {
           statement = s;
           good = good;

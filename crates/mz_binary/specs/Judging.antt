@@ -5,7 +5,7 @@ use Rattle.mz_logic_theory.specs.LegalLists.{Statement, Legal, DraftLegal, decla
 use Rattle.mz_logic_theory.specs.Closed.{TheoremsClosed}
 use Rattle.mz_layout_tables.specs.Tables.{list_at}
 use Rattle.mz_layout_tables.specs.Layout.{Layout}
-use Rattle.mz_binary_theory.specs.declared.statement.Statement.{Statement as Told}
+use Rattle.mz_binary_theory.specs.declared.statement.Statement.{Statement as Reported}
 use Rattle.mz_binary.specs.declared.checker.Next.{Next}
 use Rattle.mz_binary.specs.declared.checker.Next.TheVariants as next
 use Rattle.mz_binary.specs.declared.check_file.Checked.{Checked}
@@ -21,7 +21,7 @@ use Rattle.mz_binary_theory.specs.Standards.{lets_gaps}
 
 -- the next statement is good, it is what is reported, and the checker has passed it; in a draft it is reported where it is a gapped
 -- theorem
-pub record Passes (p : Progress) (ss : List Statement) (env : List Declaration) (after : Progress) (told : Told) : Type 0 where
+pub record Passes (p : Progress) (ss : List Statement) (env : List Declaration) (after : Progress) (told : Reported) : Type 0 where
   pub statement : Statement
   pub good : IsGoodStatement p.standard p.file env p.at statement after.at
   pub passed : HasPassed after (ss ++ statement ∷ []) (env ++ statement.decl ∷ [])

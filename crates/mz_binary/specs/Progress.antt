@@ -14,7 +14,7 @@ use Rattle.mz_layout_tables.specs.declared.rows_so_far.Rows.{Rows}
 use Rattle.mz_machine_theory.specs.Headings.{heading_of}
 use Rattle.mz_machine_env.specs.Before.{taken_before}
 use Rattle.mz_binary_theory.specs.FileRun.{Found, list_ends, stands_alone, has_body, after_kind, find_at, found_steps, list_steps}
-use Rattle.mz_binary_theory.specs.declared.statement.Statement.{Statement as Told}
+use Rattle.mz_binary_theory.specs.declared.statement.Statement.{Statement as Reported}
 use Rattle.mz_binary.specs.declared.statement.Found.{Found as Seen}
 use Rattle.mz_binary.specs.declared.statement.Found.TheVariants as seen
 use Rattle.mz_machine_theory.specs.Sound.{HasGap}
@@ -152,7 +152,7 @@ row_after env (term_decl _) = length (terms env)
 row_after env (assertion_decl _) = length (assertions env)
 
 -- the n-th statement, at a place after env
-pub record Tells (told : Told) (n at : ℕ) (env : List Declaration) (s : Statement) : Type 0 where
+pub record Tells (told : Reported) (n at : ℕ) (env : List Declaration) (s : Statement) : Type 0 where
   pub number : told.number ≡ n
   pub place : told.at ≡ at
   pub kind : told.kind ≡ kind_code s.decl

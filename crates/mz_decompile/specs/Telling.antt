@@ -27,7 +27,7 @@ use Rattle.mz_decompile_phrases.specs.Measures.{capped}
 use Rattle.mz_decompile_rows.specs.Rows.{AreArities, IsPhrase}
 use Rattle.mz_decompile.specs.Adding.{Adds}
 use Rattle.mz_decompile.specs.Naming.{next_name}
-use Rattle.mz_decompile.specs.declared.size.Told.{Told}
+use Rattle.mz_decompile.specs.declared.size.Sized.{Sized}
 use Rattle.mz_decompile.specs.declared.proof.Proved.{Proved}
 
 -- ---- what is known
@@ -72,7 +72,7 @@ SomeStands file names before head = (env : List Declaration) × (t : Statement) 
 -- ---- what is reported
 
 -- the statement's phrase, by its number, and its weight
-pub record IsTold (v : Vocabulary) (env : List Declaration) (ps : List Phrase) (told : Told) (t : Statement) : Type 0 where
+pub record IsSized (v : Vocabulary) (env : List Declaration) (ps : List Phrase) (told : Sized) (t : Statement) : Type 0 where
   pub phrase : IsPhrase ps told.phrase (statement v t)
   pub weight : told.weight ≡ capped (statement_weight env t)
 

@@ -6,7 +6,7 @@ use Rattle.mz_layout_tables.specs.Tables.{list_at}
 use Rattle.mz_layout_tables.specs.declared.rows_so_far.Rows.{Rows}
 use Rattle.mz_binary_theory.specs.Chains.{IsGoodStatement, GoodTo}
 use Rattle.mz_binary_theory.specs.Standards.{strict_standard}
-use Rattle.mz_binary_theory.specs.declared.statement.Statement.{Statement as Told}
+use Rattle.mz_binary_theory.specs.declared.statement.Statement.{Statement as Sized}
 use Rattle.mz_binary.specs.Progress.{Tells}
 use Rattle.mz_trace.specs.Runs.{IsTheoremAt}
 
@@ -20,4 +20,4 @@ abbrev pub GoodTheoremsStand : Type 0
 GoodTheoremsStand = (file : List ℕ) (done : List Statement) (env : List Declaration) (at : ℕ) (s : Statement) (next : ℕ)
     → GoodTo strict_standard file [] (list_at file) done env at → IsGoodStatement strict_standard file env at s next
     → (a : Assertion) → s.decl ≡ assertion_decl a → a.is_axiom ≡ false
-    → (told : Told) (n : ℕ) → Tells told n at env s → IsTheoremAt file told.at told.row (rows_of env)
+    → (told : Sized) (n : ℕ) → Tells told n at env s → IsTheoremAt file told.at told.row (rows_of env)

@@ -3,11 +3,11 @@ ghost use Rattle.std.specs.Prelude.{IfOk, List};
 ghost use Rattle.mz_logic_theory.specs.Declaration.{Declaration};
 ghost use Rattle.mz_mmu_theory.specs.Statements.{Statement};
 ghost use Rattle.mz_decompile_text_theory.specs.Naming.{vocabulary_by};
-ghost use Rattle.mz_decompile.specs.Telling.{AreParts, IsTold, SomeStands, Stands};
+ghost use Rattle.mz_decompile.specs.Telling.{AreParts, IsSized, SomeStands, Stands};
 
 use crate::axiom::put_axiom;
 use crate::parts::put_word_if;
-use crate::size::Told;
+use crate::size::Sized;
 use crate::sort::put_sort;
 use crate::term::put_term;
 use crate::theorem::put_theorem;
@@ -31,16 +31,16 @@ pub fn statement(
     head: Head,
     before: Rows,
     phrases: &mut Phrases,
-) -> Result<Told, Mem>
+) -> Result<Sized, Mem>
     requires { SomeStands mmb.now names.now before head }
     ensures { IfOk result (λ told. (env : List Declaration) (t : Statement) → Stands mmb.now names.now before env head t
-        → IsTold (vocabulary_by names.now) env phrases.new told t) }
+        → IsSized (vocabulary_by names.now) env phrases.new told t) }
 {
     let mut parts = Vec::new(alloc);
     put_word_if(is_local(head.code), b"local", phrases, &mut parts)?;
     let weight = put_parts(alloc, mmb, names, head, before, phrases, &mut parts)?;
     let phrase = phrases.list(&parts)?;
-    Ok(Told { phrase, weight })
+    Ok(Sized { phrase, weight })
 }
 
 /// Adds the parts of a statement but for its visibility. The result is its weight.

@@ -11,18 +11,18 @@ use Rattle.mz_decompile_phrases.proofs.Offered.{capped-small}
 use Rattle.mz_decompile_proofs.specs.Growing.{AreThere, Tells}
 use Rattle.mz_decompile_proofs.specs.Telling.{told_behind, weight_at, weight_behind}
 use Rattle.mz_decompile_proofs.specs.Gathering.{AreTold, IsBehind, phrases_in}
-use Rattle.mz_decompile_proofs.specs.declared.proof.Told.{Told}
+use Rattle.mz_decompile_proofs.specs.declared.proof.SizedNodes.{SizedNodes}
 use Rattle.mz_decompile_proofs.proofs.Longer.{grows-same, grows-on, same-phrase, chosen-phrase}
 
 -- ---- what is read of a node
 
-pub read-there : (ps : List Phrase) (t : Told) (n x : ℕ) → AreThere ps t.phrases.items → n < length t.phrases.items → x ≡ get_or t.phrases.items n x → x < length ps
+pub read-there : (ps : List Phrase) (t : SizedNodes) (n x : ℕ) → AreThere ps t.phrases.items → n < length t.phrases.items → x ≡ get_or t.phrases.items n x → x < length ps
 read-there ps t n x there less is = subst (λ y. y < length ps) (sym is) (there n x less)
 
-pub read-phrase : (ps : List Phrase) (t : Told) (n x : ℕ) → n < length t.phrases.items → x ≡ get_or t.phrases.items n x → phrase_at ps x ≡ phrase_at (phrases_in ps t) n
+pub read-phrase : (ps : List Phrase) (t : SizedNodes) (n x : ℕ) → n < length t.phrases.items → x ≡ get_or t.phrases.items n x → phrase_at ps x ≡ phrase_at (phrases_in ps t) n
 read-phrase ps t n x less is = ap (phrase_at ps) (is ∙ get_or_default_zero t.phrases.items n x less) ∙ chosen-phrase ps t.phrases.items n less
 
-pub read-weight : (ps : List Phrase) (t : Told) (n x : ℕ) → AreTold ps t → n < length t.phrases.items → x ≡ get_or t.weights.items n x → x ≡ weight_at t.weights.items n
+pub read-weight : (ps : List Phrase) (t : SizedNodes) (n x : ℕ) → AreTold ps t → n < length t.phrases.items → x ≡ get_or t.weights.items n x → x ≡ weight_at t.weights.items n
 read-weight ps t n x h less is =
     let same = h.same in
     let low : n < length t.weights.items = omega (arith, same, less) in
@@ -30,7 +30,7 @@ read-weight ps t n x h less is =
 
 -- ---- no let, and one more
 
-pub behind-none : (v : Vocabulary) (ps : List Phrase) (t : Told) (lets : List ℕ) (root k phrase weight : ℕ) → AreTold ps t → root < length t.phrases.items → length lets ≤ k
+pub behind-none : (v : Vocabulary) (ps : List Phrase) (t : SizedNodes) (lets : List ℕ) (root k phrase weight : ℕ) → AreTold ps t → root < length t.phrases.items → length lets ≤ k
     → phrase ≡ get_or t.phrases.items root phrase → weight ≡ get_or t.weights.items root weight → weight < 2 ^ 128
     → IsBehind v ps ps t lets root k phrase weight
 behind-none v ps t lets root k phrase weight h less high is weighs small =
@@ -51,7 +51,7 @@ one-more : (a b w r full : ℕ) → a ≡ capped (r + 1) → b ≡ capped (a + w
 one-more a b w r full first second is = omega (arith, first, second, is)
 
 -- the phrase of the let is read as q, its weight as w; a and b are the sums
-pub behind-more : (v : Vocabulary) (ps qs rs : List Phrase) (t : Told) (lets : List ℕ) (root j k phrase weight q p w a b : ℕ) → AreTold ps t → j ≡ suc k → k < length lets
+pub behind-more : (v : Vocabulary) (ps qs rs : List Phrase) (t : SizedNodes) (lets : List ℕ) (root j k phrase weight q p w a b : ℕ) → AreTold ps t → j ≡ suc k → k < length lets
     → get_or lets k 0 < length t.phrases.items → q ≡ get_or t.phrases.items (get_or lets k 0) q → w ≡ get_or t.weights.items (get_or lets k 0) w
     → IsBehind v ps qs t lets root j phrase weight
     → Tells qs rs (list_of (a_word (codes ":let") ∷ a_word (v.let_name k) ∷ phrase_at qs q ∷ phrase_at qs phrase ∷ [])) p

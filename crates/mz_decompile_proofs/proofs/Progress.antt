@@ -13,7 +13,7 @@ use Rattle.mz_decompile_proofs.specs.Growing.{AreThere, those_at}
 use Rattle.mz_decompile_proofs.specs.Telling.{told, weight_at, weights_at, weighed, weighed_after, all_weighed, told_after, all_told, AreLowerAfter}
 use Rattle.mz_decompile_proofs.specs.Gathering.{AreTold, AreGathered, IsOneMore, phrases_in}
 use Rattle.mz_decompile_proofs.proofs.Longer.{grows-on, grows-same, no-numbers}
-use Rattle.mz_decompile_proofs.specs.declared.proof.Told.{Told}
+use Rattle.mz_decompile_proofs.specs.declared.proof.SizedNodes.{SizedNodes}
 
 -- ---- sums of numbers that are cut off
 
@@ -68,7 +68,7 @@ capped-weighed ws (node.Unfold t e es ys c) =
 -- ---- the nodes so far
 
 -- what is reported so far, and these nodes are left
-pub record IsSoFar (v : Vocabulary) (first ps : List Phrase) (ns left : List RunNode) (t : Told) : Type 0 where
+pub record IsSoFar (v : Vocabulary) (first ps : List Phrase) (ns left : List RunNode) (t : SizedNodes) : Type 0 where
   pub grows : Grows first ps
   pub there : AreTold ps t
   pub phrases : told_after v (phrases_in ps t) left ≡ all_told v ns
@@ -77,7 +77,7 @@ pub record IsSoFar (v : Vocabulary) (first ps : List Phrase) (ns left : List Run
   pub weights : weighed_after ws left ≡ all_weighed ns
   pub lower : AreLowerAfter (length t.phrases.items) left
 
-pub at-first : (v : Vocabulary) (ps : List Phrase) (ns : List RunNode) (t : Told) → t.phrases.items ≡ [] → t.weights.items ≡ [] → AreLowerAfter 0 ns → IsSoFar v ps ps ns ns t
+pub at-first : (v : Vocabulary) (ps : List Phrase) (ns : List RunNode) (t : SizedNodes) → t.phrases.items ≡ [] → t.weights.items ≡ [] → AreLowerAfter 0 ns → IsSoFar v ps ps ns ns t
 at-first v ps ns t none empty lower = record {
   grows = grows-same ps;
   there = record { there = subst (λ xs. AreThere ps xs) (sym none) (no-numbers (length ps)); same = ap length empty ∙ sym (ap length none) };
@@ -88,7 +88,7 @@ at-first v ps ns t none empty lower = record {
   lower = subst (λ xs. AreLowerAfter (length xs) ns) (sym none) lower;
 }
 
-pub one-further : (v : Vocabulary) (first ps qs : List Phrase) (ns left : List RunNode) (n : RunNode) (t u : Told) → IsSoFar v first ps ns (n ∷ left) t → IsOneMore v ps qs t u n
+pub one-further : (v : Vocabulary) (first ps qs : List Phrase) (ns left : List RunNode) (n : RunNode) (t u : SizedNodes) → IsSoFar v first ps ns (n ∷ left) t → IsOneMore v ps qs t u n
     → IsSoFar v first qs ns left u
 one-further v first ps qs ns left n t u h m =
     let all = ap length m.phrases in
@@ -108,5 +108,5 @@ one-further v first ps qs ns left n t u h m =
       lower = subst (λ k. AreLowerAfter k left) (sym many) h.lower.1;
     }
 
-pub at-last : (v : Vocabulary) (first ps : List Phrase) (ns : List RunNode) (t : Told) → IsSoFar v first ps ns [] t → AreGathered v ps ns t
+pub at-last : (v : Vocabulary) (first ps : List Phrase) (ns : List RunNode) (t : SizedNodes) → IsSoFar v first ps ns [] t → AreGathered v ps ns t
 at-last v first ps ns t h = record { there = h.there; phrases = h.phrases; weights = h.capped_are ∙ ap (map capped) h.weights }

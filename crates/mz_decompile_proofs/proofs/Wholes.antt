@@ -15,7 +15,7 @@ use Rattle.mz_trace.specs.declared.run.Run.{Run}
 use Rattle.mz_decompile_proofs.specs.Telling.{told_behind, weight_at, weight_behind, all_weighed}
 use Rattle.mz_decompile_proofs.specs.Gathering.{AreGathered, IsBehind, phrases_in}
 use Rattle.mz_decompile_proofs.specs.Retelling.{IsRetold, IsWeighed}
-use Rattle.mz_decompile_proofs.specs.declared.proof.Told.{Told}
+use Rattle.mz_decompile_proofs.specs.declared.proof.SizedNodes.{SizedNodes}
 use Rattle.mz_decompile_proofs.proofs.Values.{value_phrases, value_weights, proof-phrase, proof-weight, nodes-phrases, nodes-weights}
 use Rattle.mz_decompile_proofs.proofs.Progress.{sums-alike, capped-weight}
 use Rattle.mz_decompile_proofs.proofs.Lowering.{proof-low, proofs-low}
@@ -48,26 +48,26 @@ capped-behind ws (n ∷ lets) root =
 
 -- ---- a whole run
 
-run-phrases : (v : Vocabulary) (r : Run) (ps : List Phrase) (t : Told) (k : ℕ) → IsWhole r → AreGathered v ps r.nodes t → phrases_in ps t ≡ value_phrases v k (values_in r)
+run-phrases : (v : Vocabulary) (r : Run) (ps : List Phrase) (t : SizedNodes) (k : ℕ) → IsWhole r → AreGathered v ps r.nodes t → phrases_in ps t ≡ value_phrases v k (values_in r)
 run-phrases v r ps t k h g = g.phrases ∙ nodes-phrases v k h.tables [] r.nodes h.parts
 
 -- as many are reported as there are values
-many-told : (v : Vocabulary) (r : Run) (ps : List Phrase) (t : Told) → IsWhole r → AreGathered v ps r.nodes t → length t.phrases.items ≡ length (values_in r)
+many-told : (v : Vocabulary) (r : Run) (ps : List Phrase) (t : SizedNodes) → IsWhole r → AreGathered v ps r.nodes t → length t.phrases.items ≡ length (values_in r)
 many-told v r ps t h g =
     sym (length-map t.phrases.items (phrase_at ps)) ∙ ap length (run-phrases v r ps t 0 h g) ∙ length-map (values_in r) _
 
-pub lets-there : (v : Vocabulary) (r : Run) (ps : List Phrase) (t : Told) → IsWhole r → AreGathered v ps r.nodes t → All (λ n. n < length t.phrases.items) r.lets
+pub lets-there : (v : Vocabulary) (r : Run) (ps : List Phrase) (t : SizedNodes) → IsWhole r → AreGathered v ps r.nodes t → All (λ n. n < length t.phrases.items) r.lets
 lets-there v r ps t h g = subst (λ k. All (λ n. n < k) r.lets) (sym (many-told v r ps t h g)) (proofs-low (values_in r) r.lets h.lets)
 
-pub root-there : (v : Vocabulary) (r : Run) (ps : List Phrase) (t : Told) → IsWhole r → AreGathered v ps r.nodes t → r.root < length t.phrases.items
+pub root-there : (v : Vocabulary) (r : Run) (ps : List Phrase) (t : SizedNodes) → IsWhole r → AreGathered v ps r.nodes t → r.root < length t.phrases.items
 root-there v r ps t h g = subst (λ k. r.root < k) (sym (many-told v r ps t h g)) (proof-low (values_in r) r.root h.root)
 
-pub run-phrase : (v : Vocabulary) (r : Run) (ps qs : List Phrase) (t : Told) (phrase weight : ℕ) → IsWhole r → AreGathered v ps r.nodes t
+pub run-phrase : (v : Vocabulary) (r : Run) (ps qs : List Phrase) (t : SizedNodes) (phrase weight : ℕ) → IsWhole r → AreGathered v ps r.nodes t
     → IsBehind v ps qs t r.lets r.root 0 phrase weight → IsRetold v r qs phrase
 run-phrase v r ps qs t phrase weight h g b =
     (b.there, b.is ∙ behind-phrase v (phrases_in ps t) (values_in r) 0 r.lets r.root (λ j. run-phrases v r ps t j h g) h.lets h.root)
 
-pub run-weight : (v : Vocabulary) (r : Run) (ps qs : List Phrase) (t : Told) (phrase weight : ℕ) → IsWhole r → AreGathered v ps r.nodes t
+pub run-weight : (v : Vocabulary) (r : Run) (ps qs : List Phrase) (t : SizedNodes) (phrase weight : ℕ) → IsWhole r → AreGathered v ps r.nodes t
     → IsBehind v ps qs t r.lets r.root 0 phrase weight → IsWeighed r weight
 run-weight v r ps qs t phrase weight h g b = λ env claims.
     let lets = r.lets in

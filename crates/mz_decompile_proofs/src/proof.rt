@@ -28,7 +28,7 @@ pub struct Retold {
 
 /// Of each node its phrase, by its number, and its weight.
 #[derive(Drop)]
-pub(crate) struct Told {
+pub(crate) struct SizedNodes {
     pub phrases: Vec<usize>,
     pub weights: Vec<u128>,
 }
@@ -58,12 +58,12 @@ fn tell_all(
     nodes: &[RunNode],
     names: &PairNames,
     phrases: &mut Phrases,
-) -> Result<Told, Mem>
+) -> Result<SizedNodes, Mem>
     requires { AreLowerAfter 0 nodes.now }
     ensures grows { OnOk result (Grows phrases.old phrases.new) }
     ensures told { IfOk result (λ t. AreGathered (vocabulary_by names.now) phrases.new nodes.now t) }
 {
-    let mut told = Told {
+    let mut told = SizedNodes {
         phrases: Vec::new(alloc),
         weights: Vec::new(alloc),
     };
@@ -77,7 +77,7 @@ fn tell_all(
 fn tell_next(
     alloc: Global,
     node: &RunNode,
-    told: &mut Told,
+    told: &mut SizedNodes,
     names: &PairNames,
     phrases: &mut Phrases,
 ) -> Result<(), Mem>
@@ -97,7 +97,7 @@ fn behind_lets(
     alloc: Global,
     lets: &[u32],
     root: u32,
-    told: &Told,
+    told: &SizedNodes,
     names: &PairNames,
     phrases: &mut Phrases,
 ) -> Result<Retold, Mem>

@@ -13,10 +13,10 @@ use Rattle.mz_spec_theory.specs.declared.spec.NameSpan.{NameSpan}
 use Rattle.mz_base.specs.Names.{IsNew}
 use Rattle.mz_base.proofs.Offered.{new-first}
 use Rattle.mz_spec_theory.specs.Dependencies.{Every}
-use Rattle.mz_spec_theory.specs.State.{State, Entry, nothing, mark_at, env_of, with_table}
+use Rattle.mz_spec_theory.specs.State.{State, Entry, nothing, span_at, env_of, with_table}
 use Rattle.mz_spec_theory.specs.Declaring.{After}
 use Rattle.mz_spec_theory.specs.Spec.{IsGood, Stand, SpecMakes}
-use Rattle.mz_spec_theory.proofs.Offered.{IsOfKind, every-front, good-new, entries-decls, entries-marks, kept-nothing, lexes-kinds, stand-kept}
+use Rattle.mz_spec_theory.proofs.Offered.{IsOfKind, every-front, good-new, entries-decls, entries-spans, kept-nothing, lexes-kinds, stand-kept}
 use Rattle.mz_spec_theory.specs.Names.{name_in}
 use Rattle.mz_decompile_text_theory.specs.Names.{names_from, declared_names}
 use Rattle.mz_decompile_theory.proofs.Seen.{Seen, none_seen, seen_in, seen_with, IsOther, AreNew}
@@ -74,39 +74,39 @@ module _ (text : List ℕ) where
   abbrev seen : State → Seen
   seen σ = record { sorts = σ.sort_names; terms = σ.term_names; assertions = σ.assertion_names }
 
-  abbrev mark_name : NameSpan → List ℕ
-  mark_name m = slice_range text m.from m.to
+  abbrev span_name : NameSpan → List ℕ
+  span_name m = slice_range text m.from m.to
 
   -- one declaration more, under a new name
   record Adds (σ ρ : State) : Type 0 where
     decl : Declaration
-    mark : NameSpan
+    span : NameSpan
     env_is : ρ.env ≡ σ.env ++ decl ∷ []
-    marks_are : ρ.marks ≡ σ.marks ++ mark ∷ []
-    seen_is : seen ρ ≡ seen_with (seen σ) (mark_name mark) decl
-    is_named : IsTrue (is_name (mark_name mark))
-    other : IsOther (mark_name mark) (seen_in (seen σ) decl)
+    spans_are : ρ.spans ≡ σ.spans ++ span ∷ []
+    seen_is : seen ρ ≡ seen_with (seen σ) (span_name span) decl
+    is_named : IsTrue (is_name (span_name span))
+    other : IsOther (span_name span) (seen_in (seen σ) decl)
 
   record Stays (σ ρ : State) : Type 0 where
     env_is : ρ.env ≡ σ.env
-    marks_are : ρ.marks ≡ σ.marks
+    spans_are : ρ.spans ≡ σ.spans
     seen_is : seen ρ ≡ seen σ
 
   -- by the lexeme that names it
-  adds : (σ ρ : State) (d : Declaration) (place : ℕ) (n : Lexeme) → ρ.env ≡ σ.env ++ d ∷ [] → ρ.marks ≡ σ.marks ++ mark_at place n ∷ [] → seen ρ ≡ seen_with (seen σ) n.text d
+  adds : (σ ρ : State) (d : Declaration) (place : ℕ) (n : Lexeme) → ρ.env ≡ σ.env ++ d ∷ [] → ρ.spans ≡ σ.spans ++ span_at place n ∷ [] → seen ρ ≡ seen_with (seen σ) n.text d
       → IsNameHere n → IsOther n.text (seen_in (seen σ) d) → Adds σ ρ
-  adds σ ρ d place n env marks is (named, here) other = record {
+  adds σ ρ d place n env spans is (named, here) other = record {
     decl = d;
-    mark = mark_at place n;
+    span = span_at place n;
     env_is = env;
-    marks_are = marks;
+    spans_are = spans;
     seen_is = is ∙ ap (λ (w : List ℕ). seen_with (seen σ) w d) here;
     is_named = subst (λ (w : List ℕ). IsTrue (is_name w)) here named;
     other = subst (λ (w : List ℕ). IsOther w (seen_in (seen σ) d)) here other;
   }
 
   stays : (σ ρ : State) (u : Table) → ρ ≡ with_table σ u → Stays σ ρ
-  stays σ ρ u is = record { env_is = ap (λ (x : State). x.env) is; marks_are = ap (λ (x : State). x.marks) is; seen_is = ap seen is }
+  stays σ ρ u is = record { env_is = ap (λ (x : State). x.env) is; spans_are = ap (λ (x : State). x.spans) is; seen_is = ap seen is }
 
   -- in the space of the declaration's kind
   in-space : (σ : State) (d e : Declaration) (w : List ℕ) → d ≡ e → IsOther w (seen_in (seen σ) e) → IsOther w (seen_in (seen σ) d)
@@ -116,22 +116,22 @@ module _ (text : List ℕ) where
   step σ ρ place (sort_statement m n) ls here spells (tokens, cut, good) (d, is, same) =
       let named = sort-here (modifier_signs m) n (signs-here (statement_signs (sort_statement m n)) ls spells here) in
       let new = new-other σ.sort_names n.text (good-new σ place (sort_statement m n) tokens good).0 in
-      inl (adds σ ρ d place n (ap (λ (x : State). x.env) same) (ap (λ (x : State). x.marks) same)
+      inl (adds σ ρ d place n (ap (λ (x : State). x.env) same) (ap (λ (x : State). x.spans) same)
       (ap seen same ∙ ap (seen_with (seen σ) n.text) (sym is)) named (in-space σ d _ n.text is new))
   step σ ρ place (term_statement h ts t) ls here spells (tokens, cut, good) (d, is, same) =
       let named = (signs-here (statement_signs (term_statement h ts t)) ls spells here).1.0 in
       let new = new-other σ.term_names h.name.text (good-new σ place (term_statement h ts t) tokens good).0 in
-      inl (adds σ ρ d place h.name (ap (λ (x : State). x.env) same) (ap (λ (x : State). x.marks) same)
+      inl (adds σ ρ d place h.name (ap (λ (x : State). x.env) same) (ap (λ (x : State). x.spans) same)
       (ap seen same ∙ ap (seen_with (seen σ) h.name.text) (sym is)) named (in-space σ d _ h.name.text is new))
   step σ ρ place (assert_statement k h ps c) ls here spells (tokens, cut, good) (d, (hyps, e, are, means, is), same) =
       let named = (signs-here (statement_signs (assert_statement k h ps c)) ls spells here).1.0 in
       let new = new-other σ.assertion_names h.name.text (good-new σ place (assert_statement k h ps c) tokens good).0 in
-      inl (adds σ ρ d place h.name (ap (λ (x : State). x.env) same) (ap (λ (x : State). x.marks) same)
+      inl (adds σ ρ d place h.name (ap (λ (x : State). x.env) same) (ap (λ (x : State). x.spans) same)
       (ap seen same ∙ ap (seen_with (seen σ) h.name.text) (sym is)) named (in-space σ d _ h.name.text is new))
   step σ ρ place (definition_statement h t b) ls here spells (tokens, cut, good) (d, (f, form, is), same) =
       let named = (signs-here (statement_signs (definition_statement h t b)) ls spells here).1.0 in
       let new = new-other σ.term_names h.name.text (good-new σ place (definition_statement h t b) tokens good).0 in
-      inl (adds σ ρ d place h.name (ap (λ (x : State). x.env) same) (ap (λ (x : State). x.marks) same)
+      inl (adds σ ρ d place h.name (ap (λ (x : State). x.env) same) (ap (λ (x : State). x.spans) same)
       (ap seen same ∙ ap (seen_with (seen σ) h.name.text) (sym is)) named (in-space σ d _ h.name.text is new))
   step σ ρ place (operator_statement f n c l) ls here spells good (u, changes, same) = inr (stays σ ρ u same)
   step σ ρ place (coercion_statement n from to) ls here spells good (u, changes, same) = inr (stays σ ρ u same)
@@ -143,35 +143,35 @@ module _ (text : List ℕ) where
   -- what stands behind σ in τ, under new names
   record Further (σ τ : State) : Type 0 where
     decls : List Declaration
-    marks : List NameSpan
+    spans : List NameSpan
     env_is : τ.env ≡ σ.env ++ decls
-    marks_are : τ.marks ≡ σ.marks ++ marks
-    new : AreNew (seen σ) decls (map mark_name marks)
+    spans_are : τ.spans ≡ σ.spans ++ spans
+    new : AreNew (seen σ) decls (map span_name spans)
 
   add-first : (σ ρ τ : State) → Adds σ ρ → Further ρ τ → Further σ τ
   add-first σ ρ τ a f = record {
     decls = a.decl ∷ f.decls;
-    marks = a.mark ∷ f.marks;
+    spans = a.span ∷ f.spans;
     env_is = f.env_is ∙ ap (λ (xs : List Declaration). xs ++ f.decls) a.env_is ∙ append_assoc σ.env (a.decl ∷ []) f.decls;
-    marks_are = f.marks_are ∙ ap (λ (xs : List NameSpan). xs ++ f.marks) a.marks_are ∙ append_assoc σ.marks (a.mark ∷ []) f.marks;
-    new = (a.is_named, a.other, subst (λ (x : Seen). AreNew x f.decls (map mark_name f.marks)) a.seen_is f.new);
+    spans_are = f.spans_are ∙ ap (λ (xs : List NameSpan). xs ++ f.spans) a.spans_are ∙ append_assoc σ.spans (a.span ∷ []) f.spans;
+    new = (a.is_named, a.other, subst (λ (x : Seen). AreNew x f.decls (map span_name f.spans)) a.seen_is f.new);
   }
 
   stay-first : (σ ρ τ : State) → Stays σ ρ → Further ρ τ → Further σ τ
   stay-first σ ρ τ a f = record {
     decls = f.decls;
-    marks = f.marks;
+    spans = f.spans;
     env_is = f.env_is ∙ ap (λ (xs : List Declaration). xs ++ f.decls) a.env_is;
-    marks_are = f.marks_are ∙ ap (λ (xs : List NameSpan). xs ++ f.marks) a.marks_are;
-    new = subst (λ (x : Seen). AreNew x f.decls (map mark_name f.marks)) a.seen_is f.new;
+    spans_are = f.spans_are ∙ ap (λ (xs : List NameSpan). xs ++ f.spans) a.spans_are;
+    new = subst (λ (x : Seen). AreNew x f.decls (map span_name f.spans)) a.seen_is f.new;
   }
 
   stand-further : (σ τ : State) (ss : List Statement) (ls rest : List Lexeme) → Every IsHere ls → Stand σ ss ls τ rest → Further σ τ
   stand-further σ τ [] ls rest here (same, _) = record {
     decls = [];
-    marks = [];
+    spans = [];
     env_is = ap (λ (x : State). x.env) same ∙ sym (append-nil σ.env);
-    marks_are = ap (λ (x : State). x.marks) same ∙ sym (append-nil σ.marks);
+    spans_are = ap (λ (x : State). x.spans) same ∙ sym (append-nil σ.spans);
     new = tt;
   }
   stand-further σ τ (s ∷ ss) ls rest here (front, back, ρ, is, spells, good, after, more) =
@@ -198,9 +198,9 @@ module _ (text : List ℕ) where
   spec-names entries (ls, ss, σ, lexes, stand, is) =
       let further = stand-further nothing σ ss ls [] (lexes-here 0 ls None lexes) stand in
       let kept = stand-kept nothing σ ss ls [] kept-nothing (lexes-kinds text 0 ls None lexes) stand in
-      let names : declared_names text entries ≡ map mark_name σ.marks =
+      let names : declared_names text entries ≡ map span_name σ.spans =
       names-mapped entries 0 entries refl ∙ ap (map (λ (e : Entry). slice_range text e.from e.to)) is
-      ∙ entries-marks (λ e. slice_range text e.from e.to) mark_name (λ d m. refl) σ.env σ.marks kept.marks in
-      let decls : env_of entries ≡ σ.env = ap env_of is ∙ entries-decls σ.env σ.marks kept.marks in
+      ∙ entries-spans (λ e. slice_range text e.from e.to) span_name (λ d m. refl) σ.env σ.spans kept.spans in
+      let decls : env_of entries ≡ σ.env = ap env_of is ∙ entries-decls σ.env σ.spans kept.spans in
       subst (λ (ds : List Declaration). AreNew none_seen ds (declared_names text entries)) (sym (decls ∙ further.env_is))
-      (subst (AreNew none_seen further.decls) (sym (names ∙ ap (map mark_name) further.marks_are)) further.new)
+      (subst (AreNew none_seen further.decls) (sym (names ∙ ap (map span_name) further.spans_are)) further.new)

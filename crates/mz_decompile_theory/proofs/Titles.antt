@@ -285,8 +285,8 @@ module _ (L : ℕ) (all : List (List ℕ)) (whole : List Statement) (n : ℕ) wh
     stands : Stands whole env names (sort_names ts) (term_names ts) (assertion_names ts)
     small : number + length ts < 2 ^ 64
 
-  abbrev mark_of : Statement → Marked
-  mark_of t = record { is_local = t.is_local; decl = t.decl }
+  abbrev visibility_of : Statement → Marked
+  visibility_of t = record { is_local = t.is_local; decl = t.decl }
 
   -- a local statement
   as-far-local : (k number : ℕ) (before : List Marked) (t : Statement) (ts : List Statement) (ds : List Declaration) (ws : List (List ℕ)) (spec : Seen) (names : Names) (env : List Declaration) (s : Marked)
@@ -326,14 +326,14 @@ module _ (L : ℕ) (all : List (List ℕ)) (whole : List Statement) (n : ℕ) wh
       → IsAsFar k number before ts ds ws spec names env → AreTitled v n env names ts
   all-titled k number before [] ds ws spec names env far = tt
   all-titled k number before (t ∷ ts) ds ws spec names env far = go t.is_local ds ws far far.named far.agrees
-      (λ l m es xs sp far'. all-titled l m (before ++ mark_of t ∷ []) ts es xs sp (names_with names t.name t.decl) (env ++ t.decl ∷ []) far')
+      (λ l m es xs sp far'. all-titled l m (before ++ visibility_of t ∷ []) ts es xs sp (names_with names t.name t.decl) (env ++ t.decl ∷ []) far')
     where
       go : (b : Bool) (ds : List Declaration) (ws : List (List ℕ)) → IsAsFar k number before (t ∷ ts) ds ws spec names env
           → t.name ∷ map (λ t. t.name) ts
           ≡ (if b then local_name L number ∷ statement_names all (prefix_of L) k (suc number) (marked ts) else get_or all k [] ∷ statement_names all (prefix_of L) (suc k) (suc number) (marked ts))
-          → Agrees ds (if b then publics_after (before ++ mark_of t ∷ []) (marked ts) else partner_of before (mark_of t) ∷ publics_after (before ++ mark_of t ∷ []) (marked ts))
+          → Agrees ds (if b then publics_after (before ++ visibility_of t ∷ []) (marked ts) else partner_of before (visibility_of t) ∷ publics_after (before ++ visibility_of t ∷ []) (marked ts))
           → ((l m : ℕ) (es : List Declaration) (xs : List (List ℕ)) (sp : Seen)
-          → IsAsFar l m (before ++ mark_of t ∷ []) ts es xs sp (names_with names t.name t.decl) (env ++ t.decl ∷ [])
+          → IsAsFar l m (before ++ visibility_of t ∷ []) ts es xs sp (names_with names t.name t.decl) (env ++ t.decl ∷ [])
           → AreTitled v n (env ++ t.decl ∷ []) (names_with names t.name t.decl) ts)
           → IsName t.name × HasNewName v n env names t.name t.decl × AreTitled v n (env ++ t.decl ∷ []) (names_with names t.name t.decl) ts
       go true ds ws far is agrees on =
@@ -344,7 +344,7 @@ module _ (L : ℕ) (all : List (List ℕ)) (whole : List Statement) (n : ℕ) wh
             titled whole env names (sort_names ts) (term_names ts) (assertion_names ts) (prefix_of L) n t.decl t.name far.stands
                 (subst (λ (w : List ℕ). IsOther w (seen_in (seen_of names) t.decl)) (sym name-is) (local-other L number spec (seen_of names) t.decl small far.beside))
                 (λ x less same. let bad = same-letter L 118 108 x number (same ∙ name-is) in omega (arith, bad)),
-            on k (suc number) ds ws spec (as-far-local k number before t ts ds ws spec names env (mark_of t) name-is rest agrees far),
+            on k (suc number) ds ws spec (as-far-local k number before t ts ds ws spec names env (visibility_of t) name-is rest agrees far),
           )
       go false [] ws far is agrees on = absurd agrees
       go false (d ∷ ds) [] far is agrees on = absurd far.new
@@ -359,7 +359,7 @@ module _ (L : ℕ) (all : List (List ℕ)) (whole : List Statement) (n : ℕ) wh
                 (subst (λ (w : List ℕ). IsOther w (seen_in (seen_of names) t.decl)) (sym name-is) (public-other L number spec (seen_of names) d t.decl w same far.short.0 far.new.1 far.beside))
                 (λ x less is. not-short L 118 x w refl far.short.0 (is ∙ name-is)),
             on (suc k) (suc number) ds ws (seen_with spec w d)
-                (as-far-public k number before t ts d ds w ws spec names env (mark_of t) name-is same rest here.1 agrees.1 far),
+                (as-far-public k number before t ts d ds w ws spec names env (visibility_of t) name-is same rest here.1 agrees.1 far),
           )
 
 -- restated statements, beside the declarations with which the public ones agree

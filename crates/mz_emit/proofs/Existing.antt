@@ -1,5 +1,5 @@
 -- Each text that can be compiled has its binary: what is written of its statements, without a run.
-use Rattle.std.proofs.Common.{ℕ, zero, suc, ◌≡◌, ◌≤◌, ◌<◌, ◌+◌, ◌*◌, ◌^◌, Bool, true, false, List, [], ◌∷◌, ◌++◌, length, take, All, refl, subst, ap, ◌∙◌, arith}
+use Rattle.std.proofs.Common.{ℕ, zero, suc, ◌≡◌, ◌≤◌, ◌<◌, ◌+◌, ◌*◌, ◌^◌, Bool, true, false, List, [], ◌∷◌, ◌++◌, length, take, All, refl, sym, subst, ap, ◌∙◌, arith}
 use Rattle.std.specs.Prelude.{Option, Some, None, IsTrue}
 use Rattle.std.proofs.lemmas.List.{take_all, length-append}
 use Rattle.std.proofs.lemmas.List.Elements.{All-nil, All-cons, All-append}
@@ -13,31 +13,28 @@ use Rattle.mz_logic_theory.specs.WordsWritten.{words_of, result_word, WordsFit, 
 use Rattle.mz_logic_theory.specs.declared.binder.Binder.{Binder}
 use Rattle.mz_logic_theory.specs.declared.word.Word.{Word}
 use Rattle.mz_logic_theory.proofs.Offered.{each_from_all, terms_are_sorted}
-use Rattle.mz_layout_tables.specs.Normal.{Row, Written, Parts, no_parts, row_of_term, row_of_thm, file_of}
+use Rattle.mz_layout_tables.specs.Normal.{Row, Written, Parts, no_parts, row_of_term, row_of_thm}
 use Rattle.mz_layout_tables.specs.Standing.{HasRoom, HaveRoom, Fit}
 use Rattle.mz_mmu_theory.specs.Proof.{Proof}
-use Rattle.mz_mmu_theory.specs.Name.{no_names}
 use Rattle.mz_mmu_theory.specs.Statements.{Statement}
-use Rattle.mz_mmu_theory.specs.TextOf.{TextOf}
 use Rattle.mz_mmu_theory.specs.Weight.{declaration_weight, stated_weight, IsWithinLimits}
-use Rattle.mz_mmu_theory.proofs.Offered.{are_whole, statements_there}
 use Rattle.mz_type.specs.Ready.{StatementsCanBeWords}
+use Rattle.mz_type.specs.StatedView.{AreRead}
 use Rattle.mz_type.specs.TypedText.{statement_at, declared}
 use Rattle.mz_emit_theory.proofs.Offered.{words-say-params}
 use Rattle.mz_emit_bodies.proofs.Offered.{axioms_are_written, axioms_short, axioms_take, definitions_are_written, definitions_short, definitions_take, theorem_bodies_use, theorems_short, theorems_take}
 use Rattle.mz_emit_accepted_theory.specs.ClaimsLaws.{StatedProofsAreSound}
-use Rattle.mz_emit_accepted_theory.specs.CompiledFile.{with_sort, with_term, with_thm, term_row, thm_row, definition_code, assertion_code, definition_stream_of, definition_body_of, assertion_stream_of, assertion_body_of}
+use Rattle.mz_emit_accepted_theory.specs.CompiledFile.{with_sort, with_term, with_thm, with_form, with_declaration, term_row, thm_row, definition_code, assertion_code, definition_stream_of, definition_body_of, assertion_stream_of, assertion_body_of, compiled_parts, compiled_file}
+use Rattle.mz_emit_accepted_theory.specs.Compiling.{IsBinaryOf}
 use Rattle.mz_emit_accepted_theory.specs.CompiledLaws.{HasFile, FileUsesWhatProofsUse}
 use Rattle.mz_emit_accepted_theory.specs.Gapped.{SayTheirUses}
-use Rattle.mz_emit.specs.Emitting.{IsStated, MayFollow, SaysDefinition, SaysAssertion, IsProvedBy, body_weight, MakesBody, HasWritten}
+use Rattle.mz_emit.specs.Emitting.{IsLegalWith, IsStated, MayFollow, IsProvedBy, body_weight}
 use Rattle.mz_emit.proofs.Finished.{few_sorts, short, is_binary}
-use Rattle.mz_emit.proofs.Following.{follows}
-use Rattle.mz_emit.proofs.Looping.{legal_with, one_more}
-use Rattle.mz_emit.proofs.OneMore.{sort_next, plain_next, definition_next, assertion_next, words_many}
-use Rattle.mz_emit.proofs.Rows.{proved_by}
+use Rattle.mz_emit.proofs.Looping.{legal_with, all_follow, one_more}
+use Rattle.mz_emit.proofs.OneMore.{HasWritten, sort_next, plain_next, definition_next, assertion_next, words_many}
+use Rattle.mz_emit.proofs.Rows.{parts_more, proved_by}
 use Rattle.mz_emit.proofs.Saying.{definition_kind, env_short, term_words, same_form, thm_words, sort_unmarked, plain_unmarked, thm_kind, definition_can, assertion_can}
-use Rattle.mz_emit.proofs.Speaking.{dummies_fine, definition_says, conclusion_sorted, hyps_provable, assertion_says}
-use Rattle.mz_emit.proofs.Stated.{all_stated}
+use Rattle.mz_emit.proofs.Speaking.{SaysDefinition, SaysAssertion, MakesBody, dummies_fine, definition_says, conclusion_sorted, hyps_provable, assertion_says}
 use Rattle.mz_emit.proofs.Weights.{stated_same}
 
 -- ---- counts
@@ -91,9 +88,9 @@ sort_more p m room few = record {
 
 -- ---- one statement
 
--- these are written, within the format's bounds
-abbrev AreThere : Bool → List Statement → Type 0
-AreThere gaps ss = (p : Parts) × HasWritten gaps ss p × HaveRoom p
+-- the parts say these, within the format's bounds
+abbrev AreThere : Bool → List Statement → Parts → Type 0
+AreThere gaps ss p = HasWritten gaps ss p × HaveRoom p
 
 module _ (words_fit : WordsFit) (results_fit : ResultWordsFit) (sound : StatedProofsAreSound) (gaps : Bool) (b : List Statement) (s : Statement) (next : MayFollow gaps b s) where
   few_assertions : length (assertions (declared b)) ≤ 2 ^ 32
@@ -102,7 +99,7 @@ module _ (words_fit : WordsFit) (results_fit : ResultWordsFit) (sound : StatedPr
   -- ---- a definition
 
   definition_made : (sg : Signature) (dummies : List Binder) (e : Tree) → s.decl ≡ term_decl (record { signature = sg; form = defined dummies e })
-      → SaysDefinition (declared b) sg.params dummies e (definition_stream_of sg.params dummies e) (definition_body_of sg.params dummies e)
+      → SaysDefinition (declared b) sg.params dummies e
   definition_made sg dummies e is =
       let env : List Declaration = declared b in
       let can = definition_can gaps b s next sg dummies e is in
@@ -110,8 +107,7 @@ module _ (words_fit : WordsFit) (results_fit : ResultWordsFit) (sound : StatedPr
       let light = next.light in
       let room : length sg.params + 6 * size e ≤ 2 ^ 32 = omega (arith, light, ap declaration_weight is) in
       let four = definitions_take env sg.params dummies e can.ready.small few_assertions fine can.sorted room in
-      definition_says env sg.params dummies e e (definition_stream_of sg.params dummies e) (definition_body_of sg.params dummies e) can refl refl
-      (λ g. definitions_are_written g env sg.params dummies e can.ready.few fine can.sorted four) (definitions_short sg.params dummies e) refl
+      definition_says env sg.params dummies e can (λ g. definitions_are_written g env sg.params dummies e can.ready.few fine can.sorted four) (definitions_short sg.params dummies e)
 
   sg_room : (sg : Signature) (f : Form) → s.decl ≡ term_decl (record { signature = sg; form = f }) → (stream : Option (List ℕ)) → HasRoom 1 (term_row sg stream)
   sg_room sg f is stream =
@@ -124,21 +120,19 @@ module _ (words_fit : WordsFit) (results_fit : ResultWordsFit) (sound : StatedPr
       term_room (words_of sg.params) (result_word sg.params sg.result) stream (omega (arith, many, few)) (words_fit (sorts env) sg.params words.can)
       (results_fit (sorts env) sg.params sg.result words.can (slice_get_within (sorts env) sg.result.sort m at))
 
-  form_there : (p : Parts) → HasWritten gaps b p → HaveRoom p → (sg : Signature) (f : Form) → s.decl ≡ term_decl (record { signature = sg; form = f }) → AreThere gaps (b ++ s ∷ [])
+  form_there : (p : Parts) → HasWritten gaps b p → HaveRoom p → (sg : Signature) (f : Form) → s.decl ≡ term_decl (record { signature = sg; form = f })
+      → AreThere gaps (b ++ s ∷ []) (with_form p s.is_local sg f)
   form_there p written room sg plain_form is =
       let w : Written = record { code = 0x05; body = [] } in
       let words = term_words gaps b s next sg plain_form is in
-      (with_term p (term_row sg None) w, plain_next gaps b p written s sg is (plain_unmarked gaps b s next sg is) words.say, term_more p room w refl (term_row sg None) (sg_room sg plain_form is None))
+      (plain_next gaps b p written s sg is (plain_unmarked gaps b s next sg is) words.say, term_more p room w refl (term_row sg None) (sg_room sg plain_form is None))
   form_there p written room sg abstract_form is = absurd (let stated : IsStated (term_decl (record { signature = sg; form = abstract_form })) = subst IsStated is next.stated in stated)
   form_there p written room sg (defined dummies e) is =
       let words = term_words gaps b s next sg (defined dummies e) is in
-      let code : ℕ = definition_code s.is_local in
       let stream : List ℕ = definition_stream_of sg.params dummies e in
-      let body : List ℕ = definition_body_of sg.params dummies e in
-      let w : Written = record { code = code; body = body } in (
-        with_term p (term_row sg (Some stream)) w,
-        definition_next gaps b p written s sg dummies e code stream body is (definition_kind s.is_local) words.say
-            (same_form gaps b s next sg dummies e (definition_can gaps b s next sg dummies e is)) (definition_made sg dummies e is) refl,
+      let w : Written = record { code = definition_code s.is_local; body = definition_body_of sg.params dummies e } in (
+        definition_next gaps b p written s sg dummies e is (definition_kind s.is_local) words.say
+            (same_form gaps b s next sg dummies e (definition_can gaps b s next sg dummies e is)) (definition_made sg dummies e is),
         term_more p room w (definition_begins s.is_local) (term_row sg (Some stream)) (sg_room sg (defined dummies e) is (Some stream)),
       )
 
@@ -171,77 +165,73 @@ module _ (words_fit : WordsFit) (results_fit : ResultWordsFit) (sound : StatedPr
     body_short None = (let h = axioms_short a.params s.dummies a.hyps a.conclusion in omega (arith, h))
     body_short (Some p) = (let h = theorems_short (declared b) a.params s.dummies a.hyps p in omega (arith, h))
 
-    assertion_made : SaysAssertion gaps (declared b) a s.dummies s.proof (assertion_stream_of a) (assertion_body_of (declared b) a.params s.dummies (listed a.hyps) a.conclusion s.proof)
+    assertion_made : SaysAssertion gaps (declared b) a s.dummies s.proof
     assertion_made =
         let by = proved_by gaps b s next sound a is s.proof refl in
-        assertion_says (declared b) a s.dummies (assertion_can gaps b s next a is) gaps s.proof a.conclusion a.hyps (assertion_stream_of a)
-        (assertion_body_of (declared b) a.params s.dummies (listed a.hyps) a.conclusion s.proof) by refl refl refl (body_made s.proof refl by) (body_short s.proof) refl
+        assertion_says (declared b) a s.dummies (assertion_can gaps b s next a is) gaps s.proof by (body_made s.proof refl by) (body_short s.proof)
 
-    assertion_there : (p : Parts) → HasWritten gaps b p → HaveRoom p → AreThere gaps (b ++ s ∷ [])
+    assertion_there : (p : Parts) → HasWritten gaps b p → HaveRoom p → AreThere gaps (b ++ s ∷ []) (with_declaration (declared b) p s.is_local s.dummies s.proof (assertion_decl a))
     assertion_there p written room =
         let env : List Declaration = declared b in
         let can = assertion_can gaps b s next a is in
-        let code : ℕ = assertion_code a.is_axiom s.is_local in
         let stream : List ℕ = assertion_stream_of a in
-        let body : List ℕ = assertion_body_of env a.params s.dummies (listed a.hyps) a.conclusion s.proof in
-        let w : Written = record { code = code; body = body } in
+        let w : Written = record { code = assertion_code a.is_axiom s.is_local; body = assertion_body_of env a.params s.dummies (listed a.hyps) a.conclusion s.proof } in
         let words = thm_words gaps b s next a is in
         let many = words_many 0 [] a.params in
         let few = can.ready.few_params in (
-          with_thm p (thm_row a stream) w,
-          assertion_next gaps b p written s a s.dummies code stream body is (thm_kind gaps b s next a is) (words-say-params (sorts env) a.params words)
-              (λ i d at. (each_from_all IsDummy s.dummies can.ready.dummies_are i d at).1) assertion_made refl refl,
+          assertion_next gaps b p written s a is (thm_kind gaps b s next a is) (words-say-params (sorts env) a.params words)
+              (λ i d at. (each_from_all IsDummy s.dummies can.ready.dummies_are i d at).1) assertion_made,
           thm_more p room w (assertion_begins a.is_axiom s.is_local) (thm_row a stream) (thm_room (words_of a.params) stream (omega (arith, many, few)) (words_fit (sorts env) a.params words)),
         )
 
-  statement_there : (p : Parts) → HasWritten gaps b p → HaveRoom p → (d : Declaration) → s.decl ≡ d → AreThere gaps (b ++ s ∷ [])
-  statement_there p written room (sort_decl m) is = (
-    with_sort p m.0,
-    sort_next gaps b p written s m is (sort_unmarked gaps b s next m is),
-    sort_more p m.0 room (subst IsStated is next.stated),
-  )
+  statement_there : (p : Parts) → HasWritten gaps b p → HaveRoom p → (d : Declaration) → s.decl ≡ d → AreThere gaps (b ++ s ∷ []) (with_declaration (declared b) p s.is_local s.dummies s.proof d)
+  statement_there p written room (sort_decl m) is = (sort_next gaps b p written s m is (sort_unmarked gaps b s next m is), sort_more p m.0 room (subst IsStated is next.stated))
   statement_there p written room (term_decl d) is = form_there p written room d.signature d.form is
   statement_there p written room (assertion_decl a) is = assertion_there a is p written room
 
 -- ---- all of them
 
 module _ (words_fit : WordsFit) (results_fit : ResultWordsFit) (sound : StatedProofsAreSound) (ready : StatementsCanBeWords) where
-  nothing_there : (gaps : Bool) → AreThere gaps []
+  nothing_there : (gaps : Bool) → AreThere gaps [] no_parts
   nothing_there gaps = (
-    no_parts,
-    record { says = record { no_sorts = refl; no_terms = refl; no_thms = refl }; uses = tt; short = omega arith; parts = refl },
+    record { says = record { no_sorts = refl; no_terms = refl; no_thms = refl }; uses = tt; short = omega arith },
     record { mods = All-nil (λ m. m < 16); terms = All-nil (HasRoom 1); thms = All-nil (HasRoom 0); codes = All-nil (λ v. IsTrue (begins_statement v.code)) },
   )
 
-  module _ (gaps : Bool) (text : List ℕ) (ss : List Statement) (typed : TextOf gaps text ss) (within : IsWithinLimits ss) where
-    next_there : (i : ℕ) → i < length ss → MayFollow gaps (take i ss) (statement_at ss i)
-    next_there i below =
-        let ((nodes, read), legal) = typed in
-        let whole = are_whole (no_names gaps) nodes ss read.1 in
-        let has_gaps = (legal_with gaps text ss typed).1 in
-        follows gaps ss legal (statements_there gaps nodes ss read.1) whole (all_stated (no_names gaps) nodes ss read.1) has_gaps (ready gaps ss legal whole within) within i below
-
-    first_there : (i : ℕ) → i ≤ length ss → AreThere gaps (take i ss)
+  module _ (mode : Bool) (ss : List Statement) (read : AreRead mode ss) (within : IsWithinLimits ss) (gaps : Bool) (legal : IsLegalWith gaps ss) where
+    first_there : (i : ℕ) → i ≤ length ss → AreThere gaps (take i ss) (compiled_parts (take i ss))
     first_there zero le = nothing_there gaps
     first_there (suc i) le =
-        let (p, written, room) = first_there i (omega (arith, le)) in
+        let (written, room) = first_there i (omega (arith, le)) in
         let below : i < length ss = omega (arith, le) in
         let same : i + 1 ≡ suc i = omega arith in
-        subst (λ (ts : List Statement). AreThere gaps ts) (one_more ss i below ∙ ap (λ (n : ℕ). take n ss) same)
-        (statement_there words_fit results_fit sound gaps (take i ss) (statement_at ss i) (next_there i below) p written room (statement_at ss i).decl refl)
+        let b : List Statement = take i ss in
+        let s : Statement = statement_at ss i in
+        let next = all_follow ready mode ss read within gaps legal i below in
+        subst (λ (ts : List Statement). AreThere gaps ts (compiled_parts ts)) (one_more ss i below ∙ ap (λ (n : ℕ). take n ss) same)
+        (subst (AreThere gaps (b ++ s ∷ [])) (sym (parts_more [] no_parts b s)) (statement_there words_fit results_fit sound gaps b s next (compiled_parts b) written room s.decl refl))
 
-    all_there : AreThere gaps ss
-    all_there = subst (λ (ts : List Statement). AreThere gaps ts) (take_all (length ss) ss (omega arith)) (first_there (length ss) (omega arith))
+    all_there : AreThere gaps ss (compiled_parts ss)
+    all_there = subst (λ (ts : List Statement). AreThere gaps ts (compiled_parts ts)) (take_all (length ss) ss (omega arith)) (first_there (length ss) (omega arith))
+
+    pub fits : Fit (compiled_parts ss)
+    fits =
+        let (written, room) = all_there in
+        let small = short gaps ss written within in
+        record { room = room; few_sorts = few_sorts gaps ss written within; short = omega (arith, small) }
+
+    pub has_binary : (bytes : List ℕ) → bytes ≡ compiled_file ss → IsBinaryOf gaps ss bytes
+    has_binary bytes is = is_binary gaps ss all_there.0 within legal.0 bytes is fits
+
+    uses_there : SayTheirUses ss (compiled_parts ss).statements
+    uses_there = all_there.0.uses
 
   pub has_file : (text : List ℕ) → HasFile text
   has_file text gaps (ss, typed, within) =
-      let (p, written, room) = all_there gaps text ss typed within in
-      let legal = typed.1 in
-      let fits = short gaps ss p written legal within in
-      let fit : Fit p = record { room = room; few_sorts = few_sorts gaps ss p written legal within; short = omega (arith, fits) } in
-      (file_of p, (ss, typed, within, is_binary gaps ss p written legal within (file_of p) refl fit))
+      let ((nodes, read), legal) = typed in
+      (compiled_file ss, (ss, typed, within, has_binary gaps ss (nodes, read.1) within gaps (legal_with gaps text ss typed) (compiled_file ss) refl))
 
   pub file_uses : (text : List ℕ) → FileUsesWhatProofsUse text
   file_uses text gaps ss typed within =
-      let (p, written, room) = all_there gaps text ss typed within in
-      subst (λ (q : Parts). SayTheirUses ss q.statements) written.parts written.uses
+      let ((nodes, read), legal) = typed in
+      uses_there gaps ss (nodes, read.1) within gaps (legal_with gaps text ss typed)

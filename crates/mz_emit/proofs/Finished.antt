@@ -18,13 +18,12 @@ use Rattle.mz_emit_theory.specs.FileWriting.{IsWrittenAs}
 use Rattle.mz_emit_theory.proofs.Offered.{written-gapped, files-good, files-spell, written-same}
 use Rattle.mz_emit_accepted_theory.proofs.Offered.{files-accepted, accepted-by-identity}
 use Rattle.mz_emit_accepted_theory.specs.Compiling.{IsBinaryOf}
-use Rattle.mz_emit.specs.Emitting.{HasWritten}
-use Rattle.mz_emit_accepted_theory.specs.CompiledFile.{compiled_file}
+use Rattle.mz_emit_accepted_theory.specs.CompiledFile.{compiled_parts, compiled_file}
 use Rattle.mz_emit_accepted_theory.specs.Gapped.{proofs_of, IsGappedIn}
 use Rattle.mz_emit.proofs.Following.{short_enough}
 use Rattle.mz_emit.proofs.Gapped.{gapped_same}
 use Rattle.mz_emit.proofs.Lengths.{short_file}
-use Rattle.mz_emit.proofs.OneMore.{counted}
+use Rattle.mz_emit.proofs.OneMore.{HasWritten, counted}
 
 sorts_counted : (ss : List Statement) → sort_count ss ≡ length (sorts (declared ss))
 sorts_counted [] = refl
@@ -51,26 +50,26 @@ binary_of gaps ss p made fit legal says gapped short compiled = record {
   compiled = compiled;
 }
 
-module _ (gaps : Bool) (ss : List Statement) (p : Parts) (h : HasWritten gaps ss p) (legal : LegalAsStated gaps ss) (within : IsWithinLimits ss) where
-  pub few_sorts : length p.sorts ≤ 128
+module _ (gaps : Bool) (ss : List Statement) (h : HasWritten gaps ss (compiled_parts ss)) (within : IsWithinLimits ss) where
+  pub few_sorts : length (compiled_parts ss).sorts ≤ 128
   few_sorts =
       let few : sort_count ss ≤ 128 = within.0 in
-      let same = (counted gaps ss p h).no_sorts in
+      let same = (counted gaps ss (compiled_parts ss) h).no_sorts in
       omega (arith, few, same, sorts_counted ss)
 
-  bounded : file_length p ≤ byte_bound ss
-  bounded = short_file file-bound p ss h.short
+  bounded : file_length (compiled_parts ss) ≤ byte_bound ss
+  bounded = short_file file-bound (compiled_parts ss) ss h.short
 
-  pub short : file_length p ≤ 4294967295
+  pub short : file_length (compiled_parts ss) ≤ 4294967295
   short = omega (arith, bounded, short_enough ss within)
 
-  gapped_there : Fit p → (T : ℕ) → GappedIn (file_of p) (list_spelled (marked ss)) T ↔ IsGappedIn (proofs_of ss) T
+  gapped_there : Fit (compiled_parts ss) → (T : ℕ) → GappedIn (compiled_file ss) (list_spelled (marked ss)) T ↔ IsGappedIn (proofs_of ss) T
   gapped_there fit T =
-      let written = written-gapped gaps p (marked ss) (list_spelled (marked ss)) fit h.says T in
-      let same = gapped_same ss p.statements h.uses T in
+      let written = written-gapped gaps (compiled_parts ss) (marked ss) (list_spelled (marked ss)) fit h.says T in
+      let same = gapped_same ss (compiled_parts ss).statements h.uses T in
       (λ in_file. same.0 (written.0 in_file), λ in_text. written.1 (same.1 in_text))
 
-  pub is_binary : (bytes : List ℕ) → bytes ≡ file_of p → Fit p → IsBinaryOf gaps ss bytes
-  is_binary bytes is fit =
+  pub is_binary : LegalAsStated gaps ss → (bytes : List ℕ) → bytes ≡ compiled_file ss → Fit (compiled_parts ss) → IsBinaryOf gaps ss bytes
+  is_binary legal bytes is fit =
       subst (IsBinaryOf gaps ss) (sym is)
-      (binary_of gaps ss p (list_spelled (marked ss)) fit (stated_is_legal gaps ss legal) h.says (gapped_there fit) (omega (arith, bounded, file-length p)) (ap file_of h.parts))
+      (binary_of gaps ss (compiled_parts ss) (list_spelled (marked ss)) fit (stated_is_legal gaps ss legal) h.says (gapped_there fit) (omega (arith, bounded, file-length (compiled_parts ss))) refl)

@@ -14,7 +14,7 @@ use Rattle.mz_logic_theory.specs.Variables.{InV, IsBoundAt}
 use Rattle.mz_logic_theory.specs.declared.binder.Binder.{Binder}
 use Rattle.mz_logic_theory.proofs.Offered.{extends_append, one_at, trees_size-followed}
 use Rattle.mz_store.specs.Bits.{Tells, bound_vars}
-use Rattle.mz_store.specs.Sharing.{AreIn, Sharing, IsIn, IsOver, IsTold, head_of as head_term, operands_of, tree_of, trees_of}
+use Rattle.mz_store.specs.Sharing.{AreIn, Sharing, IsIn, IsOver, DependsOn, head_of as head_term, operands_of, tree_of, trees_of}
 use Rattle.mz_store.specs.declared.item.Id.{Id}
 use Rattle.mz_emit_theory.specs.SymbolicState.{from_to}
 use Rattle.mz_unify_theory.specs.Streams.{UnifyCommand, u_ref, u_dummy, u_hyp}
@@ -171,7 +171,7 @@ module _ (o : Job) (s : Sharing) (places : List (Option ℕ)) (len met : ℕ) (o
 
   pub dummy_done : (i sort word : ℕ) (rest : Trees) (places' : List (Option ℕ)) (len' : ℕ) (out' : List ℕ) → IsIn s i → head_term (tree_of s i) ≡ None → place_of places i ≡ None
       → ((sigs : List Signature) → IsOver sigs s → HasSort sigs s.context (tree_of s i) sort)
-      → ((sigs : List Signature) → IsOver sigs s → Tells (bound_vars s.context) word (IsTold s.mode sigs s.context (tree_of s i)))
+      → ((sigs : List Signature) → IsOver sigs s → Tells (bound_vars s.context) word (DependsOn s.mode sigs s.context (tree_of s i)))
       → place_of places' i ≡ Some len → ((j : ℕ) → (j ≡ i → ⊥) → place_of places' j ≡ place_of places j) → len' ≡ len + 1 → out' ≡ out ++ shortest 0x33 sort
       → IsGoing o s places len met out (more (tree_of s i) rest) → IsGoing o s places' len' (bit_or met word) out' rest
   dummy_done i sort word rest places' len' out' inside head fresh sorted tells at others more-len is g =
@@ -188,7 +188,7 @@ module _ (o : Job) (s : Sharing) (places : List (Option ℕ)) (len met : ℕ) (o
       ap (λ (b : Binder). b.sort) (one_at here h.1) ∙ h.2) in
       let in-v : Tells (bound_vars s.context) word (λ y. InV s.context y (var x)) =
       subst (λ (e : Tree). Tells (bound_vars s.context) word (λ y. InV s.context y e)) v.1
-      (subst (λ m. Tells (bound_vars s.context) word (IsTold m st.sigs s.context (tree_of s i))) st.all (tells st.sigs st.over)) in
+      (subst (λ m. Tells (bound_vars s.context) word (DependsOn m st.sigs s.context (tree_of s i))) st.all (tells st.sigs st.over)) in
       let a = write_dummy (own o) (scope o) g.work x (sym (same_place o.params o.dummies s st places len met g.work g.marked i inside ∙ ap (λ (e : Tree). place_in e g.work.trees) v.1) ∙ fresh) in
       let w' : Writing = meeting g.work x in
       record {
@@ -232,14 +232,14 @@ module _ (o : Job) (s : Sharing) (places : List (Option ℕ)) (len met : ℕ) (o
 
   -- whether all dummies of an expression are met
   pub met_tells : (i word : ℕ) (rest : Trees) (r : Bool) (g : IsGoing o s places len met out (more (tree_of s i) rest))
-      → ((sigs : List Signature) → IsOver sigs s → Tells (bound_vars s.context) word (IsTold s.mode sigs s.context (tree_of s i)))
+      → ((sigs : List Signature) → IsOver sigs s → Tells (bound_vars s.context) word (DependsOn s.mode sigs s.context (tree_of s i)))
       → IsTrue r ↔ ((k : ℕ) → bit_at word k ≡ 1 → bit_at met k ≡ 1) → r ≡ are_met (met_so_far o g.work) (tree_of s i)
   met_tells i word rest r g tells is =
       let st = g.statement in
       bits_tell (length o.params) s.context st.regular (met_so_far o g.work) (λ y lt. Contains-append_left (own o) g.work.dummies y (own_is o.params y lt)) (tree_of s i)
       (λ y occ. (binder_at (scope o) y, binder_there st y (reach_occurs (length (scope o)) (tree_of s i) g.inside.0 y occ)))
       word met
-      (subst (λ m. Tells (bound_vars s.context) word (IsTold m st.sigs s.context (tree_of s i))) st.all (tells st.sigs st.over)) g.marked.told r is
+      (subst (λ m. Tells (bound_vars s.context) word (DependsOn m st.sigs s.context (tree_of s i))) st.all (tells st.sigs st.over)) g.marked.told r is
 
   -- its head, and its operands before what is to do
   module _ (w : Writing) (t : ℕ) (es rest : Trees) (b : Bool) (fresh : place_in (app t es) w.trees ≡ None) (met-is : are_met (own o ++ w.dummies) (app t es) ≡ b) where

@@ -5,7 +5,6 @@ use Rattle.mz_layout_tables.specs.Normal.{Row, Written, Parts, file_length}
 use Rattle.mz_layout_tables.specs.NormalLaws.{rows_cost, statements_cost, LengthIsBounded}
 use Rattle.mz_mmu_theory.specs.Statements.{Statement}
 use Rattle.mz_type.specs.TypedText.{declared}
-use Rattle.mz_emit.specs.Emitting.{cost_of}
 use Rattle.mz_mmu_theory.specs.Weight.{statement_weight, weight_after, weight_of, byte_bound}
 
 -- ---- the weight of one more statement
@@ -18,6 +17,10 @@ weight_more env (t ∷ ss) s =
     omega (arith, weight_more (env ++ t.decl ∷ []) ss s, ap (λ d. statement_weight d s) e)
 
 -- ---- the cost of one more row and statement
+
+-- what rows and statements cost
+abbrev pub cost_of : Parts → ℕ
+cost_of p = length p.sorts + rows_cost p.terms + rows_cost p.thms + statements_cost p.statements
 
 rows_more : (rs : List Row) (r : Row) → rows_cost (rs ++ r ∷ []) ≡ rows_cost rs + (15 + 8 * length r.words + length r.stream)
 rows_more [] r = omega arith

@@ -11,13 +11,12 @@ use Rattle.mz_mmu_theory.specs.Meaning.{LegalAsStated}
 use Rattle.mz_mmu_theory.specs.TextOf.{TextOf}
 use Rattle.mz_type.specs.StatedView.{AreRead, with_decl, statements_of}
 use Rattle.mz_type.specs.declared.typed.Beside.{Beside}
-use Rattle.mz_type.specs.TypedText.{statement_at, declared}
+use Rattle.mz_type.specs.TypedText.{statement_at}
 use Rattle.mz_mmu_theory.specs.Weight.{IsWithinLimits}
 use Rattle.mz_type.specs.Ready.{StatementsCanBeWords}
-use Rattle.mz_emit.specs.Emitting.{IsLegalWith, HasRows, HasEmitted, IsNext, EmitsNext}
+use Rattle.mz_emit.specs.Emitting.{IsLegalWith, MayFollow, HasEmitted, EmitsNext}
 use Rattle.mz_emit.specs.declared.emitter.Emitter.{Emitter}
 use Rattle.mz_emit.proofs.Following.{follows}
-use Rattle.mz_emit.proofs.Rows.{declared_more}
 use Rattle.mz_emit.proofs.Stated.{all_stated}
 
 -- the statements of bytes are, and those that are read are in the text's mode
@@ -27,24 +26,17 @@ legal_with gaps bytes ss ((ns, read), legal) = (legal, only_drafts (no_names gap
 pub own_mode : (mode : Bool) (ss : List Statement) → AreRead mode ss → LegalAsStated mode ss → IsLegalWith mode ss
 own_mode mode ss (nodes, read) legal = (legal, only_drafts (no_names mode) nodes ss read)
 
-pub next_there : StatementsCanBeWords → (mode : Bool) (ss : List Statement) → AreRead mode ss → IsWithinLimits ss
-    → (gaps : Bool) → IsLegalWith gaps ss → (i : ℕ) (e : Emitter) → i < length ss → HasEmitted gaps (take i ss) e → IsNext gaps (take i ss) (statement_at ss i) e
-next_there ready mode ss (nodes, read) within gaps (legal, has_gaps) i e below before =
+pub all_follow : StatementsCanBeWords → (mode : Bool) (ss : List Statement) → AreRead mode ss → IsWithinLimits ss
+    → (gaps : Bool) → IsLegalWith gaps ss → (i : ℕ) → i < length ss → MayFollow gaps (take i ss) (statement_at ss i)
+all_follow ready mode ss (nodes, read) within gaps (legal, has_gaps) i below =
     let whole = are_whole (no_names mode) nodes ss read in
-    record {
-      before = before;
-      follows = follows gaps ss legal (statements_there mode nodes ss read) whole (all_stated (no_names mode) nodes ss read) has_gaps (ready gaps ss legal whole within) within i below;
-    }
+    follows gaps ss legal (statements_there mode nodes ss read) whole (all_stated (no_names mode) nodes ss read) has_gaps (ready gaps ss legal whole within) within i below
 
 pub one_more : (ss : List Statement) (i : ℕ) → i < length ss → take i ss ++ statement_at ss i ∷ [] ≡ take (i + 1) ss
 one_more ss i below = sym (take_more ss i _ below)
 
-pub emitted_next : (gaps : Bool) (earlier : List Statement) (s : Statement) (e : Emitter) → HasRows gaps (earlier ++ s ∷ []) e
-    → e.env ≡ declared earlier ++ s.decl ∷ [] → HasEmitted gaps (earlier ++ s ∷ []) e
-emitted_next gaps earlier s e rows env = record { rows = rows; env = env ∙ sym (declared_more earlier s) }
-
-pub emitted_all : (gaps : Bool) (ss : List Statement) (i : ℕ) (e : Emitter) → length ss ≤ i → HasEmitted gaps (take i ss) e → HasEmitted gaps ss e
-emitted_all gaps ss i e past h = subst (λ ts. HasEmitted gaps ts e) (take_all i ss past) h
+pub emitted_all : (ss : List Statement) (i : ℕ) (e : Emitter) → length ss ≤ i → HasEmitted (take i ss) e → HasEmitted ss e
+emitted_all ss i e past h = subst (λ ts. HasEmitted ts e) (take_all i ss past) h
 
 -- ---- what is left of a text that is taken apart
 
@@ -84,16 +76,10 @@ module _ (ss : List Statement) (env : List Declaration) (b : Beside) (bs : List 
     are = rw add-one ((first_left ss env b bs place d h.many h.are at).2);
   }
 
--- the first of them is written, and with it one more
-pub written_more : StatementsCanBeWords → (mode : Bool) (ss : List Statement) → AreRead mode ss → IsWithinLimits ss → (env : List Declaration) (b : Beside) (bs : List Beside) (place : ℕ)
-    → AreLeft ss env (b ∷ bs) place → (d : Declaration) → slice_get env place ≡ Some d → (e e' : Emitter) → EmitsNext (with_decl d b) e e'
-    → ((gaps : Bool) → IsLegalWith gaps ss → HasEmitted gaps (take place ss) e) → (gaps : Bool) → IsLegalWith gaps ss → HasEmitted gaps (take (place + 1) ss) e'
-written_more ready mode ss read limits env b bs place left d at e e' emits written gaps legal =
-    let below = within ss env b bs place left d at in
-    let is = is_there ss env b bs place left d at in
-    let next = next_there ready mode ss read limits gaps legal place e below (written gaps legal) in
-    let emitted = emits gaps (take place ss) (subst (λ s. IsNext gaps (take place ss) s e) is next) in
-    subst (λ ts. HasEmitted gaps ts e') (one_more ss place below) (subst (λ s. HasEmitted gaps (take place ss ++ s ∷ []) e') (sym is) emitted)
+  -- the first of them is written, and with it one more
+  pub written_more : (e e' : Emitter) → EmitsNext (with_decl d b) e e' → HasEmitted (take place ss) e → HasEmitted (take (place + 1) ss) e'
+  written_more e e' emits written =
+      subst (λ ts. HasEmitted ts e') (one_more ss place within) (subst (λ s. HasEmitted (take place ss ++ s ∷ []) e') (sym is_there) (emits (take place ss) written))
 
 -- a declaration is there
 pub is_declared : (env : List Declaration) (place : ℕ) (n : ℕ) → length env ≡ place + suc n → slice_get env place ≡ None → ⊥

@@ -1,30 +1,30 @@
 -- One statement more is written, by the next row of its kind.
-use Rattle.std.proofs.Common.{ℕ, suc, Bool, if◌then◌else◌, length-append, ◌≡◌, ◌≤◌, ◌+◌, ◌*◌, false, ◌⊎◌, inl, List, [], ◌∷◌, ◌++◌, length, refl, sym, ap, subst, ◌∙◌, arith, append_assoc, append-nil}
+use Rattle.std.proofs.Common.{ℕ, suc, Bool, if◌then◌else◌, length-append, ◌≡◌, ◌≤◌, ◌+◌, ◌*◌, false, ◌⊎◌, inl, List, [], ◌∷◌, ◌++◌, length, refl, sym, ap, subst, ◌∙◌, arith}
 use Rattle.std.specs.Prelude.{Some, None}
 use Rattle.mz_logic_theory.specs.Tree.{Tree, listed}
 use Rattle.mz_logic_theory.specs.Signature.{Signature}
-use Rattle.mz_logic_theory.specs.Declaration.{plain_form, defined, Assertion, Declaration, sort_decl, term_decl, assertion_decl, sorts}
+use Rattle.mz_logic_theory.specs.Declaration.{plain_form, defined, Assertion, sort_decl, term_decl, assertion_decl, sorts}
 use Rattle.mz_logic_theory.specs.Legality.{Each}
 use Rattle.mz_logic_theory.specs.LegalLists.{Statement as Marked, declarations}
 use Rattle.mz_logic_theory.specs.WordsWritten.{words_of, words_from, result_word}
 use Rattle.mz_logic_theory.specs.declared.binder.Binder.{Binder}
 use Rattle.mz_logic_theory.specs.declared.binder.SortMods.{SortMods}
-use Rattle.mz_layout_tables.specs.Normal.{Row, Written, Parts, no_parts, row_of_term, row_of_thm}
+use Rattle.mz_layout_tables.specs.Normal.{Row, Written, Parts, row_of_term}
 use Rattle.mz_binary_theory.specs.Spelling.{HasKind, is_local_code}
 use Rattle.mz_mmu_theory.specs.Statements.{Statement}
 use Rattle.mz_mmu_theory.specs.Meaning.{marked}
 use Rattle.mz_type.specs.TypedText.{declared}
-use Rattle.mz_mmu_theory.specs.Weight.{declaration_weight, statement_weight}
+use Rattle.mz_mmu_theory.specs.Weight.{declaration_weight, statement_weight, weight_of}
 use Rattle.mz_emit_theory.specs.AlphaEquivalence.{IsSameForm}
 use Rattle.mz_emit_theory.specs.SpelledLists.{form_spelled, decl_spelled, statement_spelled, list_spelled}
 use Rattle.mz_emit_theory.specs.FileGrowing.{HasOneMore}
 use Rattle.mz_emit_theory.specs.FileWriting.{SayParams, SaySignature, IsWrittenDeclaration, IsWrittenStatement, IsWrittenAssertion, HaveNoMore, IsWrittenAs}
 use Rattle.mz_emit_theory.proofs.Offered.{writing-grows, rows-counted, appended-next}
-use Rattle.mz_emit.specs.Emitting.{SaysDefinition, SaysAssertion, cost_of, HasWritten}
-use Rattle.mz_emit_accepted_theory.specs.CompiledFile.{with_sort, with_term, with_thm, term_row, thm_row, definition_code, assertion_code, definition_stream_of, definition_body_of, assertion_stream_of, assertion_body_of, with_declaration, parts_after}
+use Rattle.mz_emit_accepted_theory.specs.CompiledFile.{with_sort, with_term, with_thm, with_form, with_declaration, term_row, thm_row, definition_code, assertion_code, definition_stream_of, definition_body_of, assertion_stream_of, assertion_body_of}
 use Rattle.mz_emit_accepted_theory.specs.Gapped.{StatementUses, SayTheirUses}
 use Rattle.mz_emit.proofs.Gapped.{uses_more}
-use Rattle.mz_emit.proofs.Lengths.{sort_more, term_more, thm_more, short_more}
+use Rattle.mz_emit.proofs.Lengths.{cost_of, sort_more, term_more, thm_more, short_more}
+use Rattle.mz_emit.proofs.Speaking.{SaysDefinition, SaysAssertion}
 use Rattle.mz_emit.proofs.Weights.{stated_same}
 
 -- a statement with its visibility alone
@@ -47,16 +47,11 @@ pub words_many : (i : ℕ) (places : List ℕ) (bs : List Binder) → length (wo
 words_many i places [] = refl
 words_many i places (b ∷ bs) = ap suc (words_many (suc i) (if b.bound then places ++ i ∷ [] else places) bs)
 
-abbrev written : ℕ → List ℕ → Written
-written code body = record { code = code; body = body }
-
--- the parts of one statement more
-parts_more : (env : List Declaration) (p : Parts) (ss : List Statement) (s : Statement) → parts_after env p (ss ++ s ∷ []) ≡ with_declaration (env ++ declared ss) (parts_after env p ss) s.is_local s.dummies s.proof s.decl
-parts_more env p [] s = ap (λ ds. with_declaration ds p s.is_local s.dummies s.proof s.decl) (sym (append-nil env))
-parts_more env p (t ∷ ss) s =
-    let q : Parts = with_declaration env p t.is_local t.dummies t.proof t.decl in
-    parts_more (env ++ t.decl ∷ []) q ss s
-    ∙ ap (λ ds. with_declaration ds (parts_after (env ++ t.decl ∷ []) q ss) s.is_local s.dummies s.proof s.decl) (append_assoc env (t.decl ∷ []) (declared ss))
+-- the parts say these statements, of whose theorems the bodies use what the proofs do, in proportion to their weight
+pub record HasWritten (gaps : Bool) (ss : List Statement) (p : Parts) : Type 0 where
+  pub says : IsWrittenAs gaps p (marked ss) (list_spelled (marked ss))
+  pub uses : SayTheirUses ss p.statements
+  pub short : cost_of p ≤ 32 * weight_of ss
 
 module _ (gaps : Bool) (ss : List Statement) (p : Parts) (h : HasWritten gaps ss p) where
   pub counted : HaveNoMore p (declared ss)
@@ -65,8 +60,8 @@ module _ (gaps : Bool) (ss : List Statement) (p : Parts) (h : HasWritten gaps ss
   grown : (p' : Parts) (s : Statement) (w : Written) → HasOneMore p p' s.decl w → p'.statements ≡ p.statements ++ w ∷ []
       → StatementUses s.decl s.proof w.body
       → IsWrittenStatement gaps p' (declared ss) (mark s) (statement_spelled (mark s)) w
-      → cost_of p' ≤ cost_of p + 32 * statement_weight (declared ss) s → p' ≡ with_declaration (declared ss) p s.is_local s.dummies s.proof s.decl → HasWritten gaps (ss ++ s ∷ []) p'
-  grown p' s w more listed using said cost is = record {
+      → cost_of p' ≤ cost_of p + 32 * statement_weight (declared ss) s → HasWritten gaps (ss ++ s ∷ []) p'
+  grown p' s w more listed using said cost = record {
     says =
         let there = subst (λ env. IsWrittenStatement gaps p' env (mark s) (statement_spelled (mark s)) w) (sym (marked_declared ss)) said in
         let all = writing-grows gaps p p' (marked ss) (list_spelled (marked ss)) (mark s) (statement_spelled (mark s)) w h.says more there in
@@ -76,7 +71,6 @@ module _ (gaps : Bool) (ss : List Statement) (p : Parts) (h : HasWritten gaps ss
         (subst (IsWrittenAs gaps p' (marked ss ++ mark s ∷ [])) spelled all);
     uses = subst (SayTheirUses (ss ++ s ∷ [])) (sym listed) (uses_more ss p.statements s w h.uses using);
     short = short_more p p' ss s h.short cost;
-    parts = is ∙ ap (λ z. with_declaration (declared ss) z s.is_local s.dummies s.proof s.decl) h.parts ∙ sym (parts_more [] no_parts ss s);
   }
 
   module _ (s : Statement) where
@@ -96,7 +90,6 @@ module _ (gaps : Bool) (ss : List Statement) (p : Parts) (h : HasWritten gaps ss
         (subst (λ d. IsWrittenDeclaration gaps (with_sort p m.0) (declared ss) s.is_local d (decl_spelled d) []) (sym e)
         (refl, (appended-next p (declared ss) counted).0 m.0, refl)))
         (omega (arith, sort_more p w m.0))
-        (ap (with_declaration (declared ss) p s.is_local s.dummies s.proof) (sym e))
 
     pub plain_next : (sg : Signature) → s.decl ≡ term_decl (record { signature = sg; form = plain_form }) → s.is_local ≡ false
         → SaySignature (sorts (declared ss)) (words_of sg.params) (result_word sg.params sg.result) sg
@@ -112,17 +105,18 @@ module _ (gaps : Bool) (ss : List Statement) (p : Parts) (h : HasWritten gaps ss
         (subst (λ d. IsWrittenDeclaration gaps (with_term p r w) (declared ss) s.is_local d (decl_spelled d) []) (sym e)
         ((refl, tt), (words_of sg.params, result_word sg.params sg.result, say, ((appended-next p (declared ss) counted).1 r, unmarked, refl)))))
         (omega (arith, term_more p w r, ap declaration_weight e, length-append (words_of sg.params) (result_word sg.params sg.result ∷ []), words_many 0 [] sg.params))
-        (ap (with_declaration (declared ss) p s.is_local s.dummies s.proof) (sym e))
 
-    pub definition_next : (sg : Signature) (dummies : List Binder) (body : Tree) (code : ℕ) (stream bytes : List ℕ)
-        → s.decl ≡ term_decl (record { signature = sg; form = defined dummies body }) → ((code ≡ 0x05) ⊎ (code ≡ 0x0D)) × (s.is_local ≡ is_local_code code)
+    pub definition_next : (sg : Signature) (dummies : List Binder) (body : Tree) → s.decl ≡ term_decl (record { signature = sg; form = defined dummies body })
+        → ((definition_code s.is_local ≡ 0x05) ⊎ (definition_code s.is_local ≡ 0x0D)) × (s.is_local ≡ is_local_code (definition_code s.is_local))
         → SaySignature (sorts (declared ss)) (words_of sg.params) (result_word sg.params sg.result) sg
-        → IsSameForm sg.params (defined dummies body) (form_spelled sg.params (defined dummies body))
-        → SaysDefinition (declared ss) sg.params dummies body stream bytes → code ≡ definition_code s.is_local
-        → HasWritten gaps (ss ++ s ∷ []) (with_term p (row_of_term (words_of sg.params) (result_word sg.params sg.result) (Some stream)) (record { code = code; body = bytes }))
-    definition_next sg dummies body code stream bytes e kind say same says code_is =
+        → IsSameForm sg.params (defined dummies body) (form_spelled sg.params (defined dummies body)) → SaysDefinition (declared ss) sg.params dummies body
+        → HasWritten gaps (ss ++ s ∷ []) (with_form p s.is_local sg (defined dummies body))
+    definition_next sg dummies body e kind say same says =
+        let code : ℕ = definition_code s.is_local in
+        let stream : List ℕ = definition_stream_of sg.params dummies body in
+        let bytes : List ℕ = definition_body_of sg.params dummies body in
         let w : Written = record { code = code; body = bytes } in
-        let r : Row = row_of_term (words_of sg.params) (result_word sg.params sg.result) (Some stream) in
+        let r : Row = term_row sg (Some stream) in
         grown (with_term p r w) s w
         (subst (λ d. HasOneMore p (with_term p r w) d w) (sym e) (r, refl)) refl
         (subst (λ d. StatementUses d s.proof bytes) (sym e) tt)
@@ -131,24 +125,23 @@ module _ (gaps : Bool) (ss : List Statement) (p : Parts) (h : HasWritten gaps ss
         (subst (λ d. IsWrittenDeclaration gaps (with_term p r w) (declared ss) s.is_local d (decl_spelled d) bytes) (sym e)
         ((refl, same), (words_of sg.params, result_word sg.params sg.result, say, (stream, (appended-next p (declared ss) counted).1 r, says.text, says.makes gaps)))))
         (omega (arith, term_more p w r, ap declaration_weight e, length-append (words_of sg.params) (result_word sg.params sg.result ∷ []), words_many 0 [] sg.params, says.short))
-        (ap (λ x. with_term p (term_row sg (Some x)) w) says.stream_is ∙ ap (λ x. with_term p (term_row sg (Some (definition_stream_of sg.params dummies body))) x) (ap (λ x. written code x) says.body_is
-        ∙ ap (λ x. written x (definition_body_of sg.params dummies body)) code_is) ∙ ap (with_declaration (declared ss) p s.is_local s.dummies s.proof) (sym e))
 
-    pub assertion_next : (a : Assertion) (dummies : List Binder) (code : ℕ) (stream bytes : List ℕ)
-        → s.decl ≡ assertion_decl a → HasKind code (record { is_local = s.is_local; decl = assertion_decl a })
-        → SayParams (sorts (declared ss)) (words_of a.params) a.params → Each dummies (λ _ b. b.deps ≡ [])
-        → SaysAssertion gaps (declared ss) a dummies s.proof stream bytes → code ≡ assertion_code a.is_axiom s.is_local → dummies ≡ s.dummies
-        → HasWritten gaps (ss ++ s ∷ []) (with_thm p (row_of_thm (words_of a.params) stream) (record { code = code; body = bytes }))
-    assertion_next a dummies code stream bytes e kind say free says code_is dummies_are =
+    pub assertion_next : (a : Assertion) → s.decl ≡ assertion_decl a → HasKind (assertion_code a.is_axiom s.is_local) (record { is_local = s.is_local; decl = assertion_decl a })
+        → SayParams (sorts (declared ss)) (words_of a.params) a.params → Each s.dummies (λ _ b. b.deps ≡ []) → SaysAssertion gaps (declared ss) a s.dummies s.proof
+        → HasWritten gaps (ss ++ s ∷ []) (with_declaration (declared ss) p s.is_local s.dummies s.proof (assertion_decl a))
+    assertion_next a e kind say free says =
+        let code : ℕ = assertion_code a.is_axiom s.is_local in
+        let stream : List ℕ = assertion_stream_of a in
+        let bytes : List ℕ = assertion_body_of (declared ss) a.params s.dummies (listed a.hyps) a.conclusion s.proof in
         let w : Written = record { code = code; body = bytes } in
-        let r : Row = row_of_thm (words_of a.params) stream in
+        let r : Row = thm_row a stream in
         let said : IsWrittenAssertion gaps (with_thm p r w) (declared ss) a bytes = record {
           words = words_of a.params;
           stream = stream;
           row = (appended-next p (declared ss) counted).2 r;
           say = say;
           text = says.text;
-          dummies = dummies;
+          dummies = s.dummies;
           are_dummies = free;
           body = says.makes;
         } in
@@ -159,7 +152,3 @@ module _ (gaps : Bool) (ss : List Statement) (p : Parts) (h : HasWritten gaps ss
         (subst (λ d. HasKind code (record { is_local = s.is_local; decl = decl_spelled d })) (sym e) kind)
         (subst (λ d. IsWrittenDeclaration gaps (with_thm p r w) (declared ss) s.is_local d (decl_spelled d) bytes) (sym e) (refl, said)))
         (omega (arith, thm_more p w r, ap declaration_weight e, words_many 0 [] a.params, says.short, stated_same (declared ss) s.proof))
-        (ap (λ x. with_thm p (thm_row a x) w) says.stream_is
-        ∙ ap (with_thm p (thm_row a (assertion_stream_of a))) (ap (λ x. written code x) (says.body_is ∙ ap (λ ds. assertion_body_of (declared ss) a.params ds (listed a.hyps) a.conclusion s.proof) dummies_are)
-        ∙ ap (λ x. written x (assertion_body_of (declared ss) a.params s.dummies (listed a.hyps) a.conclusion s.proof)) code_is)
-        ∙ ap (with_declaration (declared ss) p s.is_local s.dummies s.proof) (sym e))

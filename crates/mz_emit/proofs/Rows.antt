@@ -1,32 +1,49 @@
 -- The rows of one statement more.
-use Rattle.std.proofs.Common.{ℕ, suc, ◌≡◌, ◌≤◌, ◌<◌, ◌+◌, ◌^◌, Bool, List, [], ◌∷◌, ◌++◌, ◌∙◌, ◌⊎◌, length, map, refl, sym, subst, ap, append-nil, arith}
+use Rattle.std.proofs.Common.{suc, ◌≡◌, ◌≤◌, ◌<◌, ◌+◌, ◌^◌, Bool, List, [], ◌∷◌, ◌++◌, ◌∙◌, length, map, refl, sym, subst, ap, append_assoc, append-nil, arith}
 use Rattle.std.specs.Prelude.{Option, Some, None}
 use Rattle.mz_logic_theory.specs.Tree.{Tree, none, more}
-use Rattle.mz_logic_theory.specs.Signature.{Signature}
 use Rattle.mz_logic_theory.specs.Declaration.{Form, plain_form, abstract_form, defined, body_of, dummies_of, Assertion, Declaration, sort_decl, term_decl, assertion_decl, sorts, signatures}
-use Rattle.mz_logic_theory.specs.Legality.{IsDummy}
 use Rattle.mz_logic_theory.specs.declared.binder.Binder.{Binder}
-use Rattle.mz_logic_theory.specs.declared.binder.SortMods.{SortMods}
-use Rattle.mz_logic_theory.proofs.Offered.{sorts-append, each_from_all, signatures-append}
+use Rattle.mz_logic_theory.proofs.Offered.{sorts-append, signatures-append}
+use Rattle.mz_layout_tables.specs.Normal.{Parts, no_parts}
 use Rattle.mz_mmu_theory.specs.Proof.{Proof}
 use Rattle.mz_mmu_theory.specs.Statements.{Statement}
 use Rattle.mz_type.specs.TypedText.{declared}
-use Rattle.mz_binary_theory.specs.Spelling.{HasKind, is_local_code}
-use Rattle.mz_emit_theory.proofs.Offered.{words-say-params}
 use Rattle.mz_logic_theory.specs.Words.{signatures_of}
 use Rattle.mz_emit_bodies.specs.Rows.{words_of_row}
 use Rattle.mz_emit_bodies.specs.declared.table.TermEntry.{TermEntry}
 use Rattle.mz_emit_bodies.specs.declared.table.TermTable.{TermTable}
 use Rattle.mz_emit_accepted_theory.specs.ClaimsLaws.{StatedProofsAreSound}
-use Rattle.mz_emit.specs.Emitting.{IsConcrete, MayFollow, CountsFit, SaysDefinition, SaysAssertion, IsProvedBy, HasWritten, table_of, HasRows, IsNext}
-use Rattle.mz_emit_accepted_theory.specs.CompiledFile.{with_sort, with_term, with_thm, term_row, thm_row, definition_code, assertion_code}
+use Rattle.mz_emit.specs.Emitting.{IsConcrete, MayFollow, CountsFit, IsProvedBy, HasEmitted, IsNext, WritesNext}
+use Rattle.mz_emit_accepted_theory.specs.CompiledFile.{with_declaration, parts_after}
 use Rattle.mz_emit.specs.declared.emitter.Emitter.{Emitter}
-use Rattle.mz_emit.proofs.Saying.{env_short, definition_kind, term_words, same_form, thm_words, sort_unmarked, plain_unmarked, thm_kind, definition_can, assertion_can, assertion_room, proof_can, axiom_is}
-use Rattle.mz_emit.proofs.OneMore.{sort_next, plain_next, definition_next, assertion_next}
+use Rattle.mz_emit.proofs.Saying.{env_short, assertion_room, proof_can, axiom_is}
 
 pub declared_more : (ss : List Statement) (s : Statement) → declared (ss ++ s ∷ []) ≡ declared ss ++ s.decl ∷ []
 declared_more [] s = refl
 declared_more (t ∷ ss) s = ap (λ ds. t.decl ∷ ds) (declared_more ss s)
+
+-- the parts of one statement more
+pub parts_more : (env : List Declaration) (p : Parts) (ss : List Statement) (s : Statement)
+    → parts_after env p (ss ++ s ∷ []) ≡ with_declaration (env ++ declared ss) (parts_after env p ss) s.is_local s.dummies s.proof s.decl
+parts_more env p [] s = ap (λ ds. with_declaration ds p s.is_local s.dummies s.proof s.decl) (sym (append-nil env))
+parts_more env p (t ∷ ss) s =
+    let q : Parts = with_declaration env p t.is_local t.dummies t.proof t.decl in
+    parts_more (env ++ t.decl ∷ []) q ss s
+    ∙ ap (λ ds. with_declaration ds (parts_after (env ++ t.decl ∷ []) q ss) s.is_local s.dummies s.proof s.decl) (append_assoc env (t.decl ∷ []) (declared ss))
+
+-- what is written of it and declared stands before the next
+pub emitted_next : (earlier : List Statement) (s : Statement) (e new e' : Emitter) → HasEmitted earlier e → WritesNext s e new → e'.writer ≡ new.writer → e'.table ≡ new.table
+    → e'.env ≡ e.env ++ s.decl ∷ [] → HasEmitted (earlier ++ s ∷ []) e'
+emitted_next earlier s e new e' before writes writer table env = record {
+  written = writer ∙ writes.writer ∙ ap (λ ds. with_declaration ds e.writer s.is_local s.dummies s.proof s.decl) before.env
+      ∙ ap (λ p. with_declaration (declared earlier) p s.is_local s.dummies s.proof s.decl) before.written ∙ sym (parts_more [] no_parts earlier s);
+  sorts_are = ap (λ (t : TermTable). t.sorts.items) table ∙ writes.more_sorts ∙ ap (λ xs. xs ++ sorts (s.decl ∷ [])) before.sorts_are
+      ∙ sym (sorts-append (declared earlier) (s.decl ∷ [])) ∙ ap sorts (sym (declared_more earlier s));
+  terms_are = ap (λ (t : TermTable). signatures_of (map words_of_row t.terms.items)) table ∙ writes.more_terms ∙ ap (λ xs. xs ++ signatures (s.decl ∷ [])) before.terms_are
+      ∙ sym (signatures-append (declared earlier) (s.decl ∷ [])) ∙ ap signatures (sym (declared_more earlier s));
+  env = env ∙ ap (λ ds. ds ++ s.decl ∷ []) before.env ∙ sym (declared_more earlier s);
+}
 
 -- a term that has no body is plain, and one that has a body is its definition
 pub plain_is : (f : Form) → IsConcrete f → body_of f ≡ none → f ≡ plain_form
@@ -47,58 +64,6 @@ module _ (gaps : Bool) (b : List Statement) (s : Statement) (follows : MayFollow
       let can = proof_can gaps b s follows a is p some in
       let by = sound gaps (declared b) follows.legal_env (a.params ++ s.dummies) a p can.1 can.2 can.3 in
       (can.0, by.0, by.1)
-
-  module _ (e e' : Emitter) (rows : HasRows gaps b e) where
-    next : HasWritten gaps (b ++ s ∷ []) e'.writer → e'.table.sorts.items ≡ e.table.sorts.items ++ sorts (s.decl ∷ [])
-        → table_of e' ≡ table_of e ++ signatures (s.decl ∷ []) → HasRows gaps (b ++ s ∷ []) e'
-    next written more_sorts more_terms = record {
-      written = written;
-      sorts_are = more_sorts ∙ ap (λ xs. xs ++ sorts (s.decl ∷ [])) rows.sorts_are ∙ sym (sorts-append (declared b) (s.decl ∷ [])) ∙ ap sorts (sym (declared_more b s));
-      terms_are = more_terms ∙ ap (λ xs. xs ++ signatures (s.decl ∷ [])) rows.terms_are ∙ sym (signatures-append (declared b) (s.decl ∷ []))
-          ∙ ap signatures (sym (declared_more b s));
-    }
-
-    pub sort_rows : (m : SortMods) → s.decl ≡ sort_decl m → e'.writer ≡ with_sort e.writer m.0 → e'.table.sorts.items ≡ e.table.sorts.items ++ m ∷ []
-        → e'.table.terms.items ≡ e.table.terms.items → HasRows gaps (b ++ s ∷ []) e'
-    sort_rows m is writer grew same =
-        next (subst (HasWritten gaps (b ++ s ∷ [])) (sym writer) (sort_next gaps b e.writer rows.written s m is (sort_unmarked gaps b s follows m is)))
-        (grew ∙ ap (λ d. e.table.sorts.items ++ sorts (d ∷ [])) (sym is))
-        (ap (λ rs. signatures_of (map words_of_row rs)) same ∙ sym (append-nil (table_of e)) ∙ ap (λ d. table_of e ++ signatures (d ∷ [])) (sym is))
-
-    pub plain_rows : (sg : Signature) → s.decl ≡ term_decl (record { signature = sg; form = plain_form })
-        → e'.writer ≡ with_term e.writer (term_row sg None) (record { code = 0x05; body = [] }) → e'.table.sorts.items ≡ e.table.sorts.items
-        → table_of e' ≡ table_of e ++ sg ∷ [] → HasRows gaps (b ++ s ∷ []) e'
-    plain_rows sg is writer same grew =
-        next (subst (HasWritten gaps (b ++ s ∷ [])) (sym writer)
-        (plain_next gaps b e.writer rows.written s sg is (plain_unmarked gaps b s follows sg is) (term_words gaps b s follows sg plain_form is).say))
-        (same ∙ sym (append-nil e.table.sorts.items) ∙ ap (λ d. e.table.sorts.items ++ sorts (d ∷ [])) (sym is))
-        (grew ∙ ap (λ d. table_of e ++ signatures (d ∷ [])) (sym is))
-
-    pub definition_rows : (sg : Signature) (dummies : List Binder) (body : Tree) (code : ℕ) (stream bytes : List ℕ)
-        → s.decl ≡ term_decl (record { signature = sg; form = defined dummies body }) → code ≡ definition_code s.is_local
-        → SaysDefinition (declared b) sg.params dummies body stream bytes
-        → e'.writer ≡ with_term e.writer (term_row sg (Some stream)) (record { code = code; body = bytes }) → e'.table.sorts.items ≡ e.table.sorts.items
-        → table_of e' ≡ table_of e ++ sg ∷ [] → HasRows gaps (b ++ s ∷ []) e'
-    definition_rows sg dummies body code stream bytes is code_is says writer same grew =
-        let kind = subst (λ n. ((n ≡ 0x05) ⊎ (n ≡ 0x0D)) × (s.is_local ≡ is_local_code n)) (sym code_is) (definition_kind s.is_local) in
-        next (subst (HasWritten gaps (b ++ s ∷ [])) (sym writer)
-        (definition_next gaps b e.writer rows.written s sg dummies body code stream bytes is kind (term_words gaps b s follows sg (defined dummies body) is).say
-        (same_form gaps b s follows sg dummies body (definition_can gaps b s follows sg dummies body is)) says code_is))
-        (same ∙ sym (append-nil e.table.sorts.items) ∙ ap (λ d. e.table.sorts.items ++ sorts (d ∷ [])) (sym is))
-        (grew ∙ ap (λ d. table_of e ++ signatures (d ∷ [])) (sym is))
-
-    pub assertion_rows : (a : Assertion) (code : ℕ) (stream bytes : List ℕ) → s.decl ≡ assertion_decl a → code ≡ assertion_code a.is_axiom s.is_local
-        → SaysAssertion gaps (declared b) a s.dummies s.proof stream bytes
-        → e'.writer ≡ with_thm e.writer (thm_row a stream) (record { code = code; body = bytes }) → e'.table ≡ e.table → HasRows gaps (b ++ s ∷ []) e'
-    assertion_rows a code stream bytes is code_is says writer same =
-        let kind = subst (λ n. HasKind n (record { is_local = s.is_local; decl = assertion_decl a })) (sym code_is) (thm_kind gaps b s follows a is) in
-        let can = assertion_can gaps b s follows a is in
-        next (subst (HasWritten gaps (b ++ s ∷ [])) (sym writer)
-        (assertion_next gaps b e.writer rows.written s a s.dummies code stream bytes is kind
-        (words-say-params (sorts (declared b)) a.params (thm_words gaps b s follows a is))
-        (λ i d at. (each_from_all IsDummy s.dummies can.ready.dummies_are i d at).1) says code_is refl))
-        (ap (λ (t : TermTable). t.sorts.items) same ∙ sym (append-nil e.table.sorts.items) ∙ ap (λ d. e.table.sorts.items ++ sorts (d ∷ [])) (sym is))
-        (ap (λ (t : TermTable). signatures_of (map words_of_row t.terms.items)) same ∙ sym (append-nil (table_of e)) ∙ ap (λ d. table_of e ++ signatures (d ∷ [])) (sym is))
 
 -- the next statement, an axiom or a theorem, is proved over what the emitter has declared
 pub proved_here : (gaps : Bool) (b : List Statement) (s : Statement) (e : Emitter) → IsNext gaps b s e → StatedProofsAreSound → (a : Assertion) → s.decl ≡ assertion_decl a
@@ -122,10 +87,10 @@ rows_many (r ∷ rs) = ap suc (rows_many rs)
 
 module _ (gaps : Bool) (b : List Statement) (s : Statement) (e : Emitter) (next : IsNext gaps b s e) where
   pub sorts_room : length e.table.sorts.items + 1 < 2 ^ 32
-  sorts_room = omega (arith, ap length next.before.rows.sorts_are, rows_few (declared b), env_short gaps b s next.follows)
+  sorts_room = omega (arith, ap length next.before.sorts_are, rows_few (declared b), env_short gaps b s next.follows)
 
   pub terms_room : length e.table.terms.items + 1 < 2 ^ 32
-  terms_room = omega (arith, ap length next.before.rows.terms_are, rows_many e.table.terms.items, rows_few (declared b), env_short gaps b s next.follows)
+  terms_room = omega (arith, ap length next.before.terms_are, rows_many e.table.terms.items, rows_few (declared b), env_short gaps b s next.follows)
 
   pub room_here : (a : Assertion) → s.decl ≡ assertion_decl a → (q : Option Proof) → s.proof ≡ q → CountsFit e.env a q
   room_here a is q proof =

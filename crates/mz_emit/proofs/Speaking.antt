@@ -19,13 +19,13 @@ use Rattle.mz_unify_theory.specs.Spells.{dummy_of}
 use Rattle.mz_unify_theory.specs.Streams.{of_definition, of_assertion}
 use Rattle.mz_machine_theory.specs.Lists.{kind_of}
 use Rattle.mz_machine_theory.specs.Premises.{bound_count as bound_in}
-use Rattle.mz_machine_theory.specs.MachineState.{is_theorem, is_definition}
+use Rattle.mz_machine_theory.specs.MachineState.{is_axiom, is_theorem, is_definition}
 use Rattle.mz_machine_env.proofs.Offered.{binders_many}
 use Rattle.mz_mmu_theory.specs.Proof.{Proof}
 use Rattle.mz_emit_theory.specs.SharedBodies.{IsSharedBody}
 use Rattle.mz_emit_theory.specs.StreamLaws.{IsSmall}
 use Rattle.mz_emit_theory.specs.SharedTexts.{IsSharedText}
-use Rattle.mz_emit_theory.specs.StreamWriting.{assertion_written, definition_written, body_spelled, dummies_spelled, stream_of}
+use Rattle.mz_emit_theory.specs.StreamWriting.{assertion_written, definition_written, body_spelled, dummies_spelled}
 use Rattle.mz_emit_theory.proofs.Offered.{assertions-short, definitions-short, assertions-bounded, definitions-bounded, assertions-written, definitions-written, assertions-shared, definitions-shared, reach_of_sort}
 use Rattle.mz_emit_bodies.specs.Instances.{Grows}
 use Rattle.mz_emit_theory.specs.InReach.{InReach, AllInReach, AreSorted}
@@ -34,12 +34,13 @@ use Rattle.mz_emit_bodies.specs.Variables.{IsShared}
 use Rattle.mz_emit_bodies.proofs.Offered.{tree_grown}
 use Rattle.mz_emit.specs.Params.{HasParams}
 use Rattle.mz_emit_theory.specs.Claims.{IsSound, proved}
+use Rattle.mz_emit_theory.specs.Uses.{uses, IsBodyUsing}
 use Rattle.mz_emit_bodies.specs.Stages.{HasDummiesBehind}
 use Rattle.mz_emit.proofs.Saying.{few_nodes}
 use Rattle.mz_emit.proofs.Using.{used_as_stated}
 use Rattle.mz_emit_accepted_theory.specs.Gapped.{SaysItsUses}
-use Rattle.mz_emit.specs.Emitting.{AreReady, CanBeDefined, CanBeAsserted, SaysDefinition, SaysAssertion, IsProvedBy, IsSoundIfStated, body_weight, MakesBody}
-use Rattle.mz_emit_accepted_theory.specs.CompiledFile.{definition_body_of, assertion_body_of}
+use Rattle.mz_emit.specs.Emitting.{AreReady, CanBeDefined, CanBeAsserted, IsProvedBy, IsSoundIfStated, body_weight}
+use Rattle.mz_emit_accepted_theory.specs.CompiledFile.{definition_stream_of, definition_body_of, assertion_stream_of, assertion_body_of}
 
 -- ---- counts of bound variables
 
@@ -88,9 +89,6 @@ module _ (env : List Declaration) (ps ds : List Binder) (ready : AreReady env ps
     dummies = λ x b at past. dummies_fine x b (sym (ap (λ ctx. slice_get ctx x) is) ∙ at) (omega (arith, many, past));
   }
 
-  pub bound_below : (ctx : List Binder) → ctx ≡ ps ++ ds → bound_in ctx ≤ 55
-  bound_below ctx is = subst (λ c. bound_in c ≤ 55) (sym is) ready.few
-
 pub few_words : (ws : List Word) → length (binders_of ws) ≤ 65535 → length ws ≤ 65535
 few_words ws few = omega (arith, few, binders_many ws)
 
@@ -101,27 +99,30 @@ held_after s s' i e grows (inside, holds) = tree_grown s s' grows i inside ∙ h
 
 -- ---- definitions
 
-pub definition_says : (env : List Declaration) (ps ds : List Binder) (e t : Tree) (stream bytes : List ℕ) → CanBeDefined env ps ds e → t ≡ e
-    → stream ≡ stream_of (definition_written ps ds t).commands → ((gaps : Bool) → IsSharedBody gaps env is_definition ps ds t [] bytes) → length bytes ≤ 6 * size t + 1 → bytes ≡ definition_body_of ps ds t
-    → SaysDefinition env ps ds e stream bytes
-definition_says env ps ds e t stream bytes can is spelled makes short body = record {
+-- the stream spells the definition, and the body makes it, in which no gap can stand; both share what they build, and
+-- are in proportion to it
+pub record SaysDefinition (env : List Declaration) (params dummies : List Binder) (e : Tree) : Type 0 where
+  pub text : IsSharedText of_definition (signatures env) params (definition_stream_of params dummies e) none (body_spelled params dummies e) (dummies_spelled params dummies e)
+  pub makes : (gaps : Bool) → IsSharedBody gaps env is_definition params dummies e [] (definition_body_of params dummies e)
+  pub short : length (definition_stream_of params dummies e) + length (definition_body_of params dummies e) ≤ 11 * size e + 2
+
+pub definition_says : (env : List Declaration) (ps ds : List Binder) (e : Tree) → CanBeDefined env ps ds e
+    → ((gaps : Bool) → IsSharedBody gaps env is_definition ps ds e [] (definition_body_of ps ds e)) → length (definition_body_of ps ds e) ≤ 6 * size e + 1
+    → SaysDefinition env ps ds e
+definition_says env ps ds e can makes short = record {
   text =
       let short_ones = definitions-short (signatures env) ps ds e can.ready.small can.sorted (let r = can.room in omega (arith, r)) in
-      let same : stream_of (definition_written ps ds e).commands ≡ stream = ap (λ x. stream_of (definition_written ps ds x).commands) (sym is) ∙ sym spelled in
-      subst (λ bs. IsSharedText of_definition (signatures env) ps bs none (body_spelled ps ds e) (dummies_spelled ps ds e)) same (record {
+      record {
         commands = (definition_written ps ds e).commands;
         written = refl;
         short = short_ones;
         spells = definitions-written (signatures env) ps ds e can.sorted short_ones;
         shares = definitions-shared (signatures env) ps ds e can.sorted short_ones;
-      });
-  makes = λ gaps. subst (λ x. IsSharedBody gaps env is_definition ps ds x [] bytes) is (makes gaps);
+      };
+  makes = makes;
   short =
-      let stream_short = definitions-bounded (signatures env) ps ds e can.ready.small can.sorted in
-      let same : length stream ≡ length (stream_of (definition_written ps ds e).commands) = ap length spelled ∙ ap (λ x. length (stream_of (definition_written ps ds x).commands)) is in
-      omega (arith, stream_short, same, short, ap size is);
-  stream_is = spelled ∙ ap (λ x. stream_of (definition_written ps ds x).commands) is;
-  body_is = body ∙ ap (definition_body_of ps ds) is;
+      let stream_short : length (definition_stream_of ps ds e) ≤ 5 * size e + 1 = definitions-bounded (signatures env) ps ds e can.ready.small can.sorted in
+      omega (arith, stream_short, short);
 }
 
 -- ---- axioms and theorems
@@ -144,6 +145,21 @@ module _ (env : List Declaration) (ps : List Binder) where
   reach_all : (es : Trees) → ((i : ℕ) (e : Tree) → slice_get (listed es) i ≡ Some e → HasProvable env ps e) → AllInReach (length ps) es
   reach_all none h = tt
   reach_all (more e es) h = let p = h 0 e refl in (reach_of_sort (signatures env) ps e p.0 p.1, reach_all es (λ i. h (suc i)))
+
+-- the body makes what the proof proves, and uses what it uses, or else makes an axiom's conclusion; it builds no
+-- application twice
+abbrev pub MakesBody : Bool → List Declaration → Option Proof → List Binder → List Binder → Tree → List Tree → List ℕ → Type 0
+MakesBody gaps env None params dummies e hyps bytes = IsSharedBody gaps env is_axiom params dummies e hyps bytes
+MakesBody gaps env (Some p) params dummies e hyps bytes = IsBodyUsing gaps env is_theorem params dummies (proved env hyps [] p) hyps bytes (λ u. uses u [] p)
+
+-- as of a definition the stream and the body of an axiom, or of a theorem with this proof, with gaps or without; the body
+-- uses what the proof does
+pub record SaysAssertion (gaps : Bool) (env : List Declaration) (a : Assertion) (dummies : List Binder) (stated : Option Proof) : Type 0 where
+  pub text : IsSharedText of_assertion (signatures env) a.params (assertion_stream_of a) a.hyps a.conclusion []
+  pub makes : IsSharedBody gaps env (kind_of a.is_axiom) a.params dummies a.conclusion (listed a.hyps) (assertion_body_of env a.params dummies (listed a.hyps) a.conclusion stated)
+  pub uses : SaysItsUses a.is_axiom stated (assertion_body_of env a.params dummies (listed a.hyps) a.conclusion stated)
+  pub short : length (assertion_stream_of a) + length (assertion_body_of env a.params dummies (listed a.hyps) a.conclusion stated)
+      ≤ 16 * (trees_size a.hyps + size a.conclusion + body_weight env stated) + 2
 
 module _ (env : List Declaration) (a : Assertion) (ds : List Binder) (can : CanBeAsserted env a ds) where
   pub conclusion_sorted : Sorted (signatures env) (a.params ++ ds) a.conclusion
@@ -180,37 +196,28 @@ module _ (env : List Declaration) (a : Assertion) (ds : List Binder) (can : CanB
   using gaps None bytes by makes = by
   using gaps (Some p) bytes by makes = (by.0, used_as_stated gaps env is_theorem a.params ds (proved env (listed a.hyps) [] p) (listed a.hyps) bytes p makes)
 
-  made_there : (gaps : Bool) (q : Option Proof) (t : Tree) (hs : Trees) (bytes : List ℕ) → t ≡ a.conclusion → hs ≡ a.hyps → MakesBody gaps env q a.params ds t (listed hs) bytes
-      → MakesBody gaps env q a.params ds a.conclusion (listed a.hyps) bytes
-  made_there gaps q t hs bytes t_is hs_is makes =
-      subst (λ x. MakesBody gaps env q a.params ds x (listed a.hyps) bytes) t_is (subst (λ xs. MakesBody gaps env q a.params ds t (listed xs) bytes) hs_is makes)
-
-  pub assertion_says : (gaps : Bool) (q : Option Proof) (t : Tree) (hs : Trees) (stream bytes : List ℕ) → IsProvedBy gaps env (a.params ++ ds) a q → t ≡ a.conclusion → hs ≡ a.hyps
-      → stream ≡ stream_of (assertion_written a.params hs t).commands → MakesBody gaps env q a.params ds t (listed hs) bytes
-      → length bytes ≤ 6 * (trees_size hs + size t + body_weight env q) + 1 → bytes ≡ assertion_body_of env a.params ds (listed hs) t q → SaysAssertion gaps env a ds q stream bytes
-  assertion_says gaps q t hs stream bytes by t_is hs_is spelled makes short body = record {
-    text =
-        let sorted = all_sorted env a.params a.hyps can.hyps in
-        let small = small_front (signatures env) a.params ds can.ready.small in
-        let one : Sorted (signatures env) a.params a.conclusion = (can.conclusion.0, can.conclusion.1) in
-        let short_ones = assertions-short (signatures env) a.params a.hyps a.conclusion small sorted one can.short in
-        let same : stream_of (assertion_written a.params a.hyps a.conclusion).commands ≡ stream
-        = ap (λ x. stream_of (assertion_written a.params x a.conclusion).commands) (sym hs_is) ∙ ap (λ x. stream_of (assertion_written a.params hs x).commands) (sym t_is) ∙ sym spelled in
-        subst (λ bs. IsSharedText of_assertion (signatures env) a.params bs a.hyps a.conclusion []) same (record {
-          commands = (assertion_written a.params a.hyps a.conclusion).commands;
-          written = refl;
-          short = short_ones;
-          spells = assertions-written (signatures env) a.params a.hyps a.conclusion sorted one short_ones;
-          shares = assertions-shared (signatures env) a.params a.hyps a.conclusion sorted one short_ones;
-        });
-    makes = made gaps q bytes by (made_there gaps q t hs bytes t_is hs_is makes);
-    uses = using gaps q bytes by (made_there gaps q t hs bytes t_is hs_is makes);
-    short =
-        let one : Sorted (signatures env) a.params a.conclusion = (can.conclusion.0, can.conclusion.1) in
-        let stream_short = assertions-bounded (signatures env) a.params a.hyps a.conclusion (small_front (signatures env) a.params ds can.ready.small) (all_sorted env a.params a.hyps can.hyps) one in
-        let same : length stream ≡ length (stream_of (assertion_written a.params a.hyps a.conclusion).commands)
-        = ap length spelled ∙ ap (λ x. length (stream_of (assertion_written a.params hs x).commands)) t_is ∙ ap (λ x. length (stream_of (assertion_written a.params x a.conclusion).commands)) hs_is in
-        omega (arith, stream_short, same, short, few_nodes a.hyps, ap size t_is, ap trees_size hs_is);
-    stream_is = spelled ∙ ap (λ x. stream_of (assertion_written a.params hs x).commands) t_is ∙ ap (λ x. stream_of (assertion_written a.params x a.conclusion).commands) hs_is;
-    body_is = body ∙ ap (λ x. assertion_body_of env a.params ds (listed hs) x q) t_is ∙ ap (λ x. assertion_body_of env a.params ds (listed x) a.conclusion q) hs_is;
-  }
+  pub assertion_says : (gaps : Bool) (q : Option Proof) → IsProvedBy gaps env (a.params ++ ds) a q
+      → MakesBody gaps env q a.params ds a.conclusion (listed a.hyps) (assertion_body_of env a.params ds (listed a.hyps) a.conclusion q)
+      → length (assertion_body_of env a.params ds (listed a.hyps) a.conclusion q) ≤ 6 * (trees_size a.hyps + size a.conclusion + body_weight env q) + 1 → SaysAssertion gaps env a ds q
+  assertion_says gaps q by makes short =
+      let body : List ℕ = assertion_body_of env a.params ds (listed a.hyps) a.conclusion q in
+      let sorted = all_sorted env a.params a.hyps can.hyps in
+      let small = small_front (signatures env) a.params ds can.ready.small in
+      let one : Sorted (signatures env) a.params a.conclusion = (can.conclusion.0, can.conclusion.1) in
+      record {
+        text =
+            let short_ones = assertions-short (signatures env) a.params a.hyps a.conclusion small sorted one can.short in
+            record {
+              commands = (assertion_written a.params a.hyps a.conclusion).commands;
+              written = refl;
+              short = short_ones;
+              spells = assertions-written (signatures env) a.params a.hyps a.conclusion sorted one short_ones;
+              shares = assertions-shared (signatures env) a.params a.hyps a.conclusion sorted one short_ones;
+            };
+        makes = made gaps q body by makes;
+        uses = using gaps q body by makes;
+        short =
+            let stream_short : length (assertion_stream_of a) ≤ 5 * (size a.conclusion + (trees_size a.hyps + length (listed a.hyps))) + 1
+            = assertions-bounded (signatures env) a.params a.hyps a.conclusion small sorted one in
+            omega (arith, stream_short, short, few_nodes a.hyps);
+      }

@@ -13,7 +13,7 @@ use Rattle.mz_logic_theory.specs.declared.binder.SortMods.{SortMods}
 use Rattle.mz_logic_theory.specs.declared.binder.Binder.{Binder}
 use Rattle.mz_logic_theory.proofs.Offered.{split_at, one_at}
 use Rattle.mz_store.specs.Bits.{Tells, bound_vars}
-use Rattle.mz_store.specs.Sharing.{Sharing, Holds, IsIn, IsOver, IsTold, tree_of, trees_of}
+use Rattle.mz_store.specs.Sharing.{Sharing, Holds, IsIn, IsOver, DependsOn, tree_of, trees_of}
 use Rattle.mz_store.specs.declared.item.Id.{Id}
 use Rattle.mz_unify_theory.specs.Streams.{UnifyCommand}
 use Rattle.mz_emit_bodies.specs.Variables.{IsShared}
@@ -84,10 +84,10 @@ bits_done params dummies s st n i word many is tells =
     (first_bits (length params) s.context st.regular word (subst (λ (m : ℕ). Tells (bound_vars s.context) word (λ y. (z : ℕ) × (z < m) × InV s.context y (var z))) (is ∙ sym many) tells))
 
 pub param_word : (params dummies : List Binder) (s : Sharing) (st : IsStatement params dummies s) (x word : ℕ) → x < length params
-    → ((sigs : List Signature) → IsOver sigs s → Tells (bound_vars s.context) word (IsTold s.mode sigs s.context (tree_of s x))) → Tells (bound_vars s.context) word (λ y. InV s.context y (var x))
+    → ((sigs : List Signature) → IsOver sigs s → Tells (bound_vars s.context) word (DependsOn s.mode sigs s.context (tree_of s x))) → Tells (bound_vars s.context) word (λ y. InV s.context y (var x))
 param_word params dummies s st x word lt tells =
     subst (λ (e : Tree). Tells (bound_vars s.context) word (λ y. InV s.context y e)) (st.variables x lt).1
-    (subst (λ m. Tells (bound_vars s.context) word (IsTold m st.sigs s.context (tree_of s x))) st.all (tells st.sigs st.over))
+    (subst (λ m. Tells (bound_vars s.context) word (DependsOn m st.sigs s.context (tree_of s x))) st.all (tells st.sigs st.over))
 
 -- ---- statements
 

@@ -17,6 +17,7 @@ use mz_cmd::Mem;
 use mz_emit_accepted_theory::{Compiled, Passed, stated_proofs_are_sound};
 use mz_logic_theory::{Env, words_are_read_back};
 use mz_mmu::{TextRead, read_text};
+use mz_store::Seed;
 use mz_type::{
     Beside, Typed, TypedRead, check_text, limits_are_decided, statements_can_be_words, take_last,
     typed_or_faulty,
@@ -25,17 +26,17 @@ use std::alloc::Global;
 
 /// Emits the statements that declare what the environment has, each in its place, and say these beside it. What one
 /// says is let go once it is written.
-fn emit_all(alloc: Global, env: &Env, mut besides: Vec<Beside>) -> Result<Emitter, Mem>
+fn emit_all(alloc: Global, seed: Seed, env: &Env, mut besides: Vec<Beside>) -> Result<Emitter, Mem>
     requires many { length env.now ≡ length besides.items }
     requires few { length env.now < 2 ^ 32 }
     requires legal { (mode : Bool) × AreRead mode (statements_of env.now besides.items) × LegalAsStated mode (statements_of env.now besides.items) }
     requires within { IsWithinLimits (statements_of env.now besides.items) }
-    ensures { IfOk result (λ emitter. (gaps : Bool) → IsLegalWith gaps (statements_of env.now besides.entry.items) → HasEmitted gaps (statements_of env.now besides.entry.items) emitter) }
+    ensures { IfOk result (λ emitter. HasEmitted (statements_of env.now besides.entry.items) emitter) }
 {
     statements_can_be_words();
     // from the last one on, so that they can be taken from the end
     besides.reverse();
-    let mut emitter = Emitter::new(alloc);
+    let mut emitter = Emitter::new(alloc, seed);
     let mut place: usize = 0;
     while let Some(beside) = take_last(&mut besides) {
         let Some(decl) = env.get(place) else {
@@ -48,60 +49,63 @@ fn emit_all(alloc: Global, env: &Env, mut besides: Vec<Beside>) -> Result<Emitte
 }
 
 /// The binary of a well-typed text within the limits. It is one in each mode in which the text is legal as stated.
-fn emit(alloc: Global, text: Typed) -> Result<Vec<u8>, Mem>
+fn emit(alloc: Global, seed: Seed, text: Typed) -> Result<Vec<u8>, Mem>
     requires { IsWithinLimits text.statements }
     ensures { IfOk result (λ bytes. (gaps : Bool) → IsLegalWith gaps text.entry.statements → IsBinaryOf gaps text.entry.statements bytes.items) }
 {
+    words_are_read_back();
+    stated_proofs_are_sound();
+    statements_can_be_words();
     // that the statements are read, and legal as stated
     let _count = text.len();
     let (env, besides) = text.into_parts();
-    let emitter = emit_all(alloc, &env, besides)?;
+    let emitter = emit_all(alloc, seed, &env, besides)?;
     let bytes = emitter.finish()?;
     Ok(bytes)
 }
 
 /// Compiles a well-typed text, in whichever mode its bytes are these statements.
-fn compile_typed(alloc: Global, typed: Typed) -> Compiled
+fn compile_typed(alloc: Global, seed: Seed, typed: Typed) -> Compiled
     ensures { (gaps : Bool) (bytes : List ℕ) → TextOf gaps bytes typed.entry.statements → IsCompilation gaps bytes result }
 {
     if let Some(Passed { rule, count }) = limit_of(&typed) {
         return Compiled::Limit { rule, count };
     }
-    match emit(alloc, typed) {
+    match emit(alloc, seed, typed) {
         Ok(bytes) => Compiled::Bytes(bytes),
         Err(_) => Compiled::Mem,
     }
 }
 
 /// Compiles a text in the mode in which it is read. One that is finished is compiled as a finished text.
-fn compile_read(alloc: Global, hashing: Hashing, text: &[u8], mode: Mode) -> Compiled
+fn compile_read(alloc: Global, seed: Seed, text: &[u8], mode: Mode) -> Compiled
     requires { length text.now < 2 ^ 32 }
     ensures answer { IsCompilation (gaps_of mode) text.now result }
     ensures finished { (ss : List Statement) → TextOf false text.now ss → IsCompilation false text.now result }
 {
     typed_or_faulty();
-    let text = match read_text(alloc, hashing, text, mode) {
+    let text = match read_text(alloc, Hashing::from(seed), text, mode) {
         TextRead::Text(text) => text,
         TextRead::Refused(refusal) => return Compiled::Refused(refusal),
         TextRead::Mem => return Compiled::Mem,
     };
     match check_text(alloc, text) {
-        TypedRead::Typed(typed) => compile_typed(alloc, typed),
+        TypedRead::Typed(typed) => compile_typed(alloc, seed, typed),
         TypedRead::Refused(refusal) => Compiled::Refused(refusal),
         TypedRead::Mem => Compiled::Mem,
     }
 }
 
-/// Compiles a text of at most 4,294,967,295 bytes, whose names are hashed by `hashing`: the binary where the text is
-/// well typed and within the limits, else its first fault, or the first limit that it passes. A draft may have gaps;
-/// one that is finished is compiled as a finished text.
+/// Compiles a text of at most 4,294,967,295 bytes, whose names and terms are looked up by numbers that the seed makes:
+/// the binary where the text is well typed and within the limits, else its first fault, or the first limit that it
+/// passes. A draft may have gaps; one that is finished is compiled as a finished text.
 ///
 /// The binary's bodies build no application twice, and its streams none once all its dummies are met. So that of a
 /// finished text is accepted by verifiers that compare by identity, too.
 ///
 /// The bytes are a function of the text's statements, in which neither the mode nor the seed is: where the text can be
 /// compiled, it has its file, and the answer is this file or out of memory; that of a finished text is one in both modes.
-pub fn compile_bytes(alloc: Global, hashing: Hashing, text: &[u8], mode: Mode) -> Compiled
+pub fn compile_bytes(alloc: Global, seed: Seed, text: &[u8], mode: Mode) -> Compiled
     requires { length text.now < 2 ^ 32 }
     ensures answer { IsCompilation (gaps_of mode) text.now result }
     ensures finished { (ss : List Statement) → TextOf false text.now ss → IsCompilation false text.now result }
@@ -111,7 +115,7 @@ pub fn compile_bytes(alloc: Global, hashing: Hashing, text: &[u8], mode: Mode) -
     compilation_is_decided();
     texts_have_one_file();
     compilable_texts_have_files();
-    compile_read(alloc, hashing, text, mode)
+    compile_read(alloc, seed, text, mode)
 }
 
 /// Each text can be compiled, or has exactly one first fault, or passes exactly one first limit.

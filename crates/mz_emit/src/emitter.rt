@@ -1,33 +1,27 @@
 // The statements of a text, one after another, as rows, streams and bodies of a binary.
-ghost use Rattle.std.specs.Prelude.{ℕ, Bool, List, ◌≡◌, ◌<◌, ◌≤◌, ◌+◌, ◌*◌, ◌^◌, ◌++◌, ◌∷◌, [], ◌⊎◌, OnOk, IfOk, None, Some, Option, length, map, take, IsTrue};
+ghost use Rattle.std.specs.Prelude.{Bool, List, ◌≡◌, ◌<◌, ◌≤◌, ◌+◌, ◌*◌, ◌^◌, ◌++◌, ◌∷◌, [], OnOk, IfOk, None, Some, Option, length, map, IsTrue};
 ghost use Rattle.mz_cmd.specs.Codes.{begins_statement};
 ghost use Rattle.mz_logic_theory.specs.DeclView.{declaration, term_of, assertion_of, assertion_view, signature, form, is_axiom as is_axiom_form};
-ghost use Rattle.mz_logic_theory.specs.Declaration.{Assertion, sort_decl, term_decl, assertion_decl, plain_form, defined, dummies_of, sorts, signatures};
+ghost use Rattle.mz_logic_theory.specs.Declaration.{sort_decl, plain_form, defined, dummies_of, sorts, signatures};
 ghost use Rattle.mz_logic_theory.specs.Legality.{IsLegalEnv};
-ghost use Rattle.mz_logic_theory.specs.Modifiers.{MayBeResultSort};
 ghost use Rattle.mz_logic_theory.specs.Sorts.{AreProvable};
 ghost use Rattle.mz_logic_theory.specs.Tree.{listed, size, trees_size};
 ghost use Rattle.mz_logic_theory.specs.View.{tree};
 ghost use Rattle.mz_logic_theory.specs.Words.{BitsRight, binders_of, signatures_of};
-ghost use Rattle.mz_logic_theory.specs.WordsWritten.{CanBeWords, words_of, result_word};
+ghost use Rattle.mz_logic_theory.specs.WordsWritten.{CanBeWords};
 ghost use Rattle.mz_logic_theory.specs.declared.binder.Binder.{Binder as BinderOf};
 ghost use Rattle.mz_logic_theory.specs.declared.binder.SortMods.{SortMods as Modifiers};
-ghost use Rattle.mz_layout_tables.specs.Normal.{row_of_term, row_of_thm};
-ghost use Rattle.mz_mmu_theory.specs.ProofView.{proof_view};
-ghost use Rattle.mz_mmu_theory.specs.Statements.{Statement};
+ghost use Rattle.mz_layout_tables.specs.Normal.{file_of};
+ghost use Rattle.mz_layout_tables.specs.Standing.{Fit};
 ghost use Rattle.mz_type_rules.specs.Answers.{stated};
-ghost use Rattle.mz_mmu_theory.specs.Meaning.{LegalAsStated};
 ghost use Rattle.mz_type.specs.StatedView.{with_decl};
-ghost use Rattle.mz_mmu_theory.specs.Weight.{IsWithinLimits};
-ghost use Rattle.mz_emit_accepted_theory.specs.Compiling.{IsBinaryOf};
 ghost use Rattle.mz_store.specs.Sharing.{AreIn, IsIn, tree_of, trees_of};
 ghost use Rattle.mz_machine_theory.specs.Premises.{bound_count as bound_in};
 ghost use Rattle.mz_emit_bodies.specs.Rows.{words_of_row};
 ghost use Rattle.mz_emit_bodies.specs.Stages.{HasDummiesBehind};
-ghost use Rattle.mz_emit.specs.Emitting;
-ghost use Rattle.mz_emit.specs.Emitting.{CanBeNext, WritesNext, EmitsNext, MayFollow, CanBeDefined, CanBeAsserted, CountsFit, HasWords, table_of, SaysDefinition, SaysAssertion, IsProvedBy, IsSoundIfStated, MakesBody, body_weight, HasEmitted};
+ghost use Rattle.mz_emit.specs.Emitting.{CanBeNext, WritesNext, EmitsNext, CanBeDefined, CanBeAsserted, CountsFit, HasWords, table_of, IsProvedBy, IsSoundIfStated, body_weight, HasEmitted};
 ghost use Rattle.mz_emit_accepted_theory.specs.CompiledFile;
-ghost use Rattle.mz_emit_accepted_theory.specs.CompiledFile.{term_row, thm_row, assertion_body_of, with_sort, with_term, with_thm};
+ghost use Rattle.mz_emit_accepted_theory.specs.CompiledFile.{term_row, thm_row, definition_stream_of, definition_body_of, assertion_stream_of, assertion_body_of, with_sort, with_term, with_thm};
 
 use crate::statement::{assertion_stream, definition_stream};
 use mz_cmd::{Mem, StatementCode};
@@ -39,7 +33,7 @@ use mz_layout::LayoutWriter;
 use mz_logic_copy::copy_of_decl;
 use mz_logic_theory::{Binder, Decl, Env, Expr, SortMods, TermDecl, ThmDecl, ThmForm};
 use mz_mmu_theory::Proof;
-use mz_store::Id;
+use mz_store::{Id, Seed};
 use mz_type::Beside;
 use std::alloc::Global;
 
@@ -47,6 +41,7 @@ use std::alloc::Global;
 #[derive(Drop)]
 pub(crate) struct Emitter {
     pub(crate) alloc: Global,
+    pub(crate) seed: Seed,
     pub(crate) env: Env,
     pub(crate) table: TermTable,
     pub(crate) writer: LayoutWriter,
@@ -89,12 +84,13 @@ fn assertion_code(form: ThmForm, is_local: bool) -> u8
 }
 
 impl Emitter {
-    /// No statements.
-    pub(crate) fn new(alloc: Global) -> Emitter
-        ensures { (gaps : Bool) → HasEmitted gaps [] result }
+    /// No statements. Terms of one are looked up by numbers that the seed makes.
+    pub(crate) fn new(alloc: Global, seed: Seed) -> Emitter
+        ensures { HasEmitted [] result }
     {
         Emitter {
             alloc,
+            seed,
             env: Env::new(alloc),
             table: TermTable::new(alloc),
             writer: LayoutWriter::new(alloc),
@@ -141,9 +137,9 @@ impl Emitter {
         requires table { table_of self.old ≡ signatures self.old.env }
         requires can { CanBeDefined self.old.env (signature term.now).params (dummies_of (form term.now.form)) (tree body.now) }
         requires code { IsTrue (begins_statement code) }
-        ensures written { OnOk result ((stream : List ℕ) × (bytes : List ℕ)
-            × SaysDefinition self.old.env (signature term.now).params (dummies_of (form term.now.form)) (tree body.now) stream bytes
-            × (self.new.writer ≡ with_term self.old.writer (term_row (signature term.now) (Some stream)) (record { code = code; body = bytes }))) }
+        ensures writer { OnOk result (self.new.writer ≡ with_term self.old.writer
+            (term_row (signature term.now) (Some (definition_stream_of (signature term.now).params (dummies_of (form term.now.form)) (tree body.now))))
+            (record { code = code; body = definition_body_of (signature term.now).params (dummies_of (form term.now.form)) (tree body.now) })) }
         ensures sorts { OnOk result (self.new.table.sorts.items ≡ self.old.table.sorts.items) }
         ensures terms { OnOk result (table_of self.new ≡ table_of self.old ++ signature term.now ∷ []) }
         ensures env { OnOk result (self.new.env ≡ self.old.env) }
@@ -173,10 +169,11 @@ impl Emitter {
         requires room { CountsFit self.old.env (assertion_view thm.now) (stated proof) }
         requires proved { (gaps : Bool) × IsProvedBy gaps self.old.env ((assertion_view thm.now).params ++ dummies.now) (assertion_view thm.now) (stated proof) }
         requires code { IsTrue (begins_statement code) }
-        ensures written { OnOk result ((stream : List ℕ) × (bytes : List ℕ)
-            × ((gaps : Bool) → IsProvedBy gaps self.old.env ((assertion_view thm.now).params ++ dummies.now) (assertion_view thm.now) (stated proof.entry)
-            → SaysAssertion gaps self.old.env (assertion_view thm.now) dummies.now (stated proof.entry) stream bytes)
-            × (self.new.writer ≡ with_thm self.old.writer (thm_row (assertion_view thm.now) stream) (record { code = code; body = bytes }))) }
+        ensures writer { OnOk result (self.new.writer ≡ with_thm self.old.writer (thm_row (assertion_view thm.now) (assertion_stream_of (assertion_view thm.now)))
+            (record {
+              code = code;
+              body = assertion_body_of self.old.env (assertion_view thm.now).params dummies.now (listed (assertion_view thm.now).hyps) (assertion_view thm.now).conclusion (stated proof.entry);
+            })) }
         ensures table { OnOk result (self.new.table ≡ self.old.table) }
         ensures env { OnOk result (self.new.env ≡ self.old.env) }
     {
@@ -190,7 +187,7 @@ impl Emitter {
     /// Writes a statement, a sort.
     fn write_sort(&mut self, beside: &Beside, mods: SortMods) -> Result<(), Mem>
         requires { CanBeNext (with_decl (sort_decl mods) beside.now) self.old }
-        ensures rows { OnOk result (WritesNext (with_decl (sort_decl mods) beside.now) self.old self.new) }
+        ensures writes { OnOk result (WritesNext (with_decl (sort_decl mods) beside.now) self.old self.new) }
         ensures env { OnOk result (self.new.env ≡ self.old.env) }
     {
         self.sort(mods)?;
@@ -201,7 +198,7 @@ impl Emitter {
     fn write_plain(&mut self, beside: &Beside, term: &TermDecl) -> Result<(), Mem>
         requires next { CanBeNext (with_decl (term_of term.now) beside.now) self.old }
         requires plain { form term.now.form ≡ plain_form }
-        ensures rows { OnOk result (WritesNext (with_decl (term_of term.now) beside.now) self.old self.new) }
+        ensures writes { OnOk result (WritesNext (with_decl (term_of term.now) beside.now) self.old self.new) }
         ensures env { OnOk result (self.new.env ≡ self.old.env) }
     {
         self.plain(term)?;
@@ -212,7 +209,7 @@ impl Emitter {
     fn write_definition(&mut self, beside: &Beside, term: &TermDecl, body: &Expr) -> Result<(), Mem>
         requires next { CanBeNext (with_decl (term_of term.now) beside.now) self.old }
         requires body { form term.now.form ≡ defined (dummies_of (form term.now.form)) (tree body.now) }
-        ensures rows { OnOk result (WritesNext (with_decl (term_of term.now) beside.now) self.old self.new) }
+        ensures writes { OnOk result (WritesNext (with_decl (term_of term.now) beside.now) self.old self.new) }
         ensures env { OnOk result (self.new.env ≡ self.old.env) }
     {
         let code = definition_code(beside.is_local);
@@ -223,7 +220,7 @@ impl Emitter {
     /// Writes a statement, a term.
     fn write_term(&mut self, beside: &Beside, term: &TermDecl) -> Result<(), Mem>
         requires { CanBeNext (with_decl (term_of term.now) beside.now) self.old }
-        ensures rows { OnOk result (WritesNext (with_decl (term_of term.now) beside.now) self.old self.new) }
+        ensures writes { OnOk result (WritesNext (with_decl (term_of term.now) beside.now) self.old self.new) }
         ensures env { OnOk result (self.new.env ≡ self.old.env) }
     {
         match term.form.body() {
@@ -235,7 +232,7 @@ impl Emitter {
     /// Writes a statement, an axiom or a theorem.
     fn write_thm(&mut self, beside: &Beside, thm: &ThmDecl) -> Result<(), Mem>
         requires { CanBeNext (with_decl (assertion_of thm.now) beside.now) self.old }
-        ensures rows { OnOk result (WritesNext (with_decl (assertion_of thm.now) beside.now) self.old self.new) }
+        ensures writes { OnOk result (WritesNext (with_decl (assertion_of thm.now) beside.now) self.old self.new) }
         ensures env { OnOk result (self.new.env ≡ self.old.env) }
     {
         stated_proofs_are_sound();
@@ -247,7 +244,7 @@ impl Emitter {
     /// Writes the statement that declares this, and says that beside it.
     fn write(&mut self, decl: &Decl, beside: &Beside) -> Result<(), Mem>
         requires { CanBeNext (with_decl (declaration decl.now) beside.now) self.old }
-        ensures rows { OnOk result (WritesNext (with_decl (declaration decl.now) beside.now) self.old self.new) }
+        ensures writes { OnOk result (WritesNext (with_decl (declaration decl.now) beside.now) self.old self.new) }
         ensures env { OnOk result (self.new.env ≡ self.old.env) }
     {
         match decl {
@@ -277,8 +274,8 @@ impl Emitter {
 
     /// The binary.
     pub(crate) fn finish(self) -> Result<Vec<u8>, Mem>
-        requires { (gaps : Bool) × (ss : List Statement) × HasEmitted gaps ss self × LegalAsStated gaps ss × IsWithinLimits ss }
-        ensures { IfOk result (λ bytes. (gaps : Bool) (ss : List Statement) → HasEmitted gaps ss self → LegalAsStated gaps ss → IsWithinLimits ss → IsBinaryOf gaps ss bytes.items) }
+        requires { Fit self.writer }
+        ensures { IfOk result (λ bytes. bytes.items ≡ file_of self.writer) }
     {
         let writer = self.into_writer();
         let bytes = writer.finish()?;
@@ -291,10 +288,11 @@ impl Emitter {
         requires table { signatures_of (map words_of_row self.now.table.terms.items) ≡ signatures self.now.env }
         requires right { BitsRight words.now.params.items }
         requires can { CanBeDefined self.now.env (binders_of words.now.params.items) dummies.now (tree body.now) }
-        ensures { IfOk result (λ e. SaysDefinition self.now.env (binders_of words.now.params.items) dummies.now (tree body.now) e.stream.items e.body.items) }
+        ensures stream { IfOk result (λ e. e.stream.items ≡ definition_stream_of (binders_of words.now.params.items) dummies.now (tree body.now)) }
+        ensures body { IfOk result (λ e. e.body.items ≡ definition_body_of (binders_of words.now.params.items) dummies.now (tree body.now)) }
     {
         let params = words.params.as_slice().len() as u32;
-        let mut shared = Shared::new(self.alloc, &words.params, dummies)?;
+        let mut shared = Shared::new(self.alloc, self.seed, &words.params, dummies)?;
         let id = shared.id(&self.table, body)?;
         let stream = definition_stream(self.alloc, &shared, params, id)?;
         let before = Before {
@@ -323,13 +321,8 @@ impl Emitter {
         requires provable { AreProvable self.now.env shared.store.context (trees_of shared.store hyps.now) }
         requires room { params + 6 * (trees_size (trees_of shared.store hyps.now) + size (tree_of shared.store conclusion.0) + body_weight self.now.env (stated proof)) < 2 ^ 32 }
         requires sound { (gaps : Bool) × IsSoundIfStated gaps self.now.env shared.store.context (listed (trees_of shared.store hyps.now)) (stated proof) }
-        ensures body { IfOk result (λ b. (gaps : Bool) → IsSoundIfStated gaps self.now.env shared.store.context (listed (trees_of shared.store hyps.now)) (stated proof.entry)
-            → (ps ds : List BinderOf) → shared.store.context ≡ ps ++ ds → length ps ≡ params
-            → MakesBody gaps self.now.env (stated proof.entry) ps ds (tree_of shared.store conclusion.0) (listed (trees_of shared.store hyps.now)) b.items) }
-        ensures written { IfOk result (λ b. (ps ds : List BinderOf) → shared.store.context ≡ ps ++ ds → length ps ≡ params
+        ensures { IfOk result (λ b. (ps ds : List BinderOf) → shared.store.context ≡ ps ++ ds → length ps ≡ params
             → b.items ≡ assertion_body_of self.now.env ps ds (listed (trees_of shared.store hyps.now)) (tree_of shared.store conclusion.0) (stated proof.entry)) }
-        ensures short { IfOk result (λ b. length b.items
-            ≤ 6 * (trees_size (trees_of shared.store hyps.now) + size (tree_of shared.store conclusion.0) + body_weight self.now.env (stated proof.entry)) + 1) }
     {
         let before = Before {
             env: &self.env,
@@ -356,11 +349,12 @@ impl Emitter {
         requires can { CanBeAsserted self.now.env (assertion_view thm.now) dummies.now }
         requires room { CountsFit self.now.env (assertion_view thm.now) (stated proof) }
         requires proved { (gaps : Bool) × IsProvedBy gaps self.now.env ((assertion_view thm.now).params ++ dummies.now) (assertion_view thm.now) (stated proof) }
-        ensures { IfOk result (λ e. (gaps : Bool) → IsProvedBy gaps self.now.env ((assertion_view thm.now).params ++ dummies.now) (assertion_view thm.now) (stated proof.entry)
-            → SaysAssertion gaps self.now.env (assertion_view thm.now) dummies.now (stated proof.entry) e.stream.items e.body.items) }
+        ensures stream { IfOk result (λ e. e.stream.items ≡ assertion_stream_of (assertion_view thm.now)) }
+        ensures body { IfOk result (λ e. e.body.items
+            ≡ assertion_body_of self.now.env (assertion_view thm.now).params dummies.now (listed (assertion_view thm.now).hyps) (assertion_view thm.now).conclusion (stated proof.entry)) }
     {
         let params = words.params.as_slice().len() as u32;
-        let mut shared = Shared::new(self.alloc, &words.params, dummies)?;
+        let mut shared = Shared::new(self.alloc, self.seed, &words.params, dummies)?;
         let conclusion = shared.id(&self.table, &thm.conclusion)?;
         let hyps = shared.hyp_ids(&self.table, &thm.hyps)?;
         let stream = assertion_stream(self.alloc, &shared, params, conclusion, &hyps)?;

@@ -17,7 +17,7 @@ use crate::table::TermTable;
 use mz_cmd::Mem;
 use mz_logic_theory::{Binder, Expr, Exprs, Hyps, Terms, Word};
 use mz_mmu_theory::Vars;
-use mz_store::{DepsMode, Id, Store};
+use mz_store::{DepsMode, Id, Seed, Store};
 use std::alloc::Global;
 
 /// The expressions of one statement, over its parameters and dummies.
@@ -138,19 +138,24 @@ fn instance_hyps<T: Terms>(
 
 impl Shared {
     /// No expressions but the variables: the parameters that the words say, and the dummies behind them,
-    /// at most 55 of them bound.
+    /// at most 55 of them bound. Terms are looked up by numbers that the seed makes.
     ///
     /// # Errors
     ///
     /// Where there is no memory.
-    pub fn new(alloc: Global, params: &[Word], dummies: &[Binder]) -> Result<Shared, Mem>
+    pub fn new(
+        alloc: Global,
+        seed: Seed,
+        params: &[Word],
+        dummies: &[Binder],
+    ) -> Result<Shared, Mem>
         requires params { BitsRight params.now }
         requires dummies { All IsDummy dummies.now }
         requires few { length (bound_vars (binders_of params.now)) + length dummies.now ≤ 55 }
         ensures context { IfOk result (λ s. s.store.context ≡ binders_of params.now ++ dummies.now) }
         ensures shared { IfOk result (λ s. (sigs : List Signature) → IsShared sigs s.store s.variables.items) }
     {
-        let mut store = Store::new(alloc);
+        let mut store = Store::seeded(alloc, seed);
         store.begin(params, DepsMode::All)?;
         let mut variables = first_ids(alloc, params.len())?;
         add_dummies(&mut store, &mut variables, dummies)?;

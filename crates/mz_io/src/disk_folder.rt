@@ -165,12 +165,16 @@ impl<R: Files + Alloc> Folder for DiskFolder<R> {
     }
 
     fn pull(&mut self, buf: &mut [u8]) -> Result<usize, Failed> {
-        let done = self.read(buf);
-        match done {
-            Ok(count) => self.log.note(&Note::Pull(buf.len(), &buf[..count])),
-            Err(_) => self.log.note(&Note::PullFails),
+        match self.read(buf) {
+            Ok(count) => {
+                self.log.note(&Note::Pull(buf.len(), &buf[..count]));
+                Ok(count)
+            }
+            Err(_) => {
+                self.log.note(&Note::PullFails);
+                Err(Failed)
+            }
         }
-        done
     }
 
     fn put(&mut self, name: &str, bytes: &[u8]) -> Result<(), Failed> {

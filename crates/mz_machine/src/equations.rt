@@ -2,7 +2,7 @@
 ghost use Rattle.std.specs.Prelude.{◌≡◌, ◌<◌, ◌≤◌, ◌+◌, ◌++◌, ◌∷◌, ◌↔◌, [], None, List, IfSome, IsTrue, MatchResult, Some, length, slice_get, reverse, vec_len, vec_capacity};
 ghost use Rattle.mz_store.specs.Sharing.{IsIn};
 ghost use Rattle.mz_logic_theory.specs.Tree.{Tree};
-ghost use Rattle.mz_unify_theory.specs.Profile.{Item as Told};
+ghost use Rattle.mz_unify_theory.specs.Profile.{Item as UnifyItem};
 ghost use Rattle.mz_unify.specs.Stored.{items_at, item_at, AreItemsIn, IsItemIn};
 ghost use Rattle.mz_machine.specs.Executing.{WantsUnless};
 ghost use Rattle.mz_machine.specs.OpenEquations.{IsBarrier, IsOpen, AllOpen, AreOpen, AreSettled, IsInHand, whole_stack, opened_on, to_come, after, many_at, many_to_come};
@@ -122,7 +122,7 @@ fn side_in_hand(store: &Store, equation: Equation) -> Item
     requires { IsOpen store.now equation }
     ensures ids { IsItemIn store.now result }
     ensures barrier { IsBarrier (item_at store.now result) }
-    ensures side { (xs : List (Told Tree)) → to_come store.now equation xs ≡ item_at store.now result ∷ to_come store.now (after equation) xs }
+    ensures side { (xs : List (UnifyItem Tree)) → to_come store.now equation xs ≡ item_at store.now result ∷ to_come store.now (after equation) xs }
 {
     let left = id_at(store.args(equation.left), equation.next);
     let right = id_at(store.args(equation.right), equation.next);

@@ -5,7 +5,7 @@ use Rattle.mz_logic_theory.specs.Declaration.{Declaration, Assertion, sort_decl,
 use Rattle.mz_logic_theory.specs.LegalLists.{Statement, declarations}
 use Rattle.mz_logic_theory.proofs.Offered.{assertions-append}
 use Rattle.mz_layout_tables.specs.Tables.{list_at}
-use Rattle.mz_binary_theory.specs.declared.statement.Statement.{Statement as Told}
+use Rattle.mz_binary_theory.specs.declared.statement.Statement.{Statement as Reported}
 use Rattle.mz_binary_theory.specs.Chains.{IsGoodStatement}
 use Rattle.mz_binary_theory.specs.Gapped.{body_of, bodies_of, IsGapped, GappedIn}
 use Rattle.mz_binary.specs.Judging.{Passes}
@@ -18,7 +18,7 @@ use Rattle.mz_match_theory.specs.declared.verdict.Verdict.{Verdict}
 use Rattle.mz_match_theory.specs.declared.verdict.Verdict.TheVariants as verdicts
 use Rattle.mz_match.specs.Drafts.{IsGapOf, IsGapHere, ListsGaps, ListsGapsOf, IsDraft, IsDraftSound, IsDraftSoundIfAccepted, IsJudged, verdict_of, places_past}
 use Rattle.mz_spec_proved_theory.specs.Match.{publics}
-use Rattle.mz_match.specs.Told.{IsMatched}
+use Rattle.mz_match.specs.Reported.{IsMatched}
 use Rattle.mz_match.proofs.UnnamedFollow.{unnamed-follow}
 use Rattle.mz_match_theory.specs.Verdict.{AcceptsBy, IsDifferenceAt, IsVerdictBy}
 use Rattle.mz_binary_theory.specs.declared.standard.Standard.{Standard}
@@ -99,7 +99,7 @@ no-body file at (sort_decl m) none = refl
 no-body file at (term_decl t) none = refl
 no-body file at (assertion_decl a) none = absurd (none a refl)
 
-module _ (p : Progress) (ds : List Declaration) (m : Matching) (ss : List Statement) (env : List Declaration) (after : Progress) (told : Told) (matched : IsMatched p ds m ss env) (passes : Passes p ss env after told) (mode : lets_gaps p.standard ≡ true) where
+module _ (p : Progress) (ds : List Declaration) (m : Matching) (ss : List Statement) (env : List Declaration) (after : Progress) (told : Reported) (matched : IsMatched p ds m ss env) (passes : Passes p ss env after told) (mode : lets_gaps p.standard ≡ true) where
   abbrev s : Statement
   s = passes.statement
 
@@ -160,7 +160,7 @@ draft-verdict spec bin (drafts.Binary refusal) h = h
 draft-verdict spec bin (drafts.Match declaration statement rule) h = h
 draft-verdict spec bin drafts.Mem h = tt
 
-accepted-draft : (spec bin : List ℕ) → AcceptsBy draft_standard spec bin → IsDraftSound spec bin
+abbrev accepted-draft : (spec bin : List ℕ) → AcceptsBy draft_standard spec bin → IsDraftSound spec bin
 accepted-draft spec bin a = record {
   declared = a.declared;
   statements = a.statements;
@@ -173,7 +173,7 @@ accepted-draft spec bin a = record {
 }
 
 pub draft-sound : (spec bin : List ℕ) (d : Draft) → IsDraft spec bin d → IsDraftSoundIfAccepted spec bin d
-draft-sound spec bin (drafts.Accepted counts gaps) (accepts, is, lists) = accepted-draft spec bin accepts
+draft-sound spec bin (drafts.Accepted counts gaps) (accepts, is, lists) = let sound = accepted-draft spec bin accepts in (sound, sound.unnamed gaps lists)
 draft-sound spec bin (drafts.Spec refusal) h = tt
 draft-sound spec bin (drafts.Binary refusal) h = tt
 draft-sound spec bin (drafts.Match declaration statement rule) h = tt

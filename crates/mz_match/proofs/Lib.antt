@@ -1,4 +1,4 @@
-mod ToldRows
+mod ReportedRows
 pub mod Pairing
 pub mod UnnamedFollow
 pub mod GapPlaces

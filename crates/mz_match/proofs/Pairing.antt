@@ -16,7 +16,7 @@ use Rattle.mz_layout_tables.specs.Heads.{AllTaken}
 use Rattle.mz_binary_theory.specs.Checking.{counts, checks_of}
 use Rattle.mz_binary_theory.specs.Chains.{IsGoodStatement, GoodTo}
 use Rattle.mz_binary_theory.specs.Good.{Good, FailsAfter}
-use Rattle.mz_binary_theory.specs.declared.statement.Statement.{Statement as Told}
+use Rattle.mz_binary_theory.specs.declared.statement.Statement.{Statement as Reported}
 use Rattle.mz_binary.specs.Progress.{Progress, HasPassed, Tells, kind_code, next_steps, row_after, steps_left}
 use Rattle.mz_binary.specs.Judging.{Passes}
 use Rattle.mz_binary_theory.specs.FileRun.{find_at, found_steps, list_steps, file_steps, steps_through}
@@ -30,7 +30,7 @@ use Rattle.mz_match_theory.specs.declared.verdict.Verdict.{Verdict}
 use Rattle.mz_match_theory.specs.declared.verdict.Verdict.TheVariants as verdicts
 use Rattle.mz_spec_proved_theory.specs.Match.{partner_of, publics_after, publics, term_row_of, term_rows, Agrees, Leaves, partner_checks}
 use Rattle.mz_match.specs.Drafts.{ListsGapsOf, IsJudged}
-use Rattle.mz_match.specs.Told.{IsTold, IsMatched}
+use Rattle.mz_match.specs.Reported.{IsReported, IsMatched}
 use Rattle.mz_match_theory.specs.Verdict.{IsDifferenceAt, TicksBy, counts_of, IsSoundIfAccepted, IsVerdict, IsVerdictBy}
 use Rattle.mz_spec_proved_theory.proofs.Offered.{publics-append, publics-local, publics-public, term_rows-append, drop-further, drop-past, kinds-total, length-declarations, length-env, leaves-nothing, leaves-local, leaves-public, partner-there}
 use Rattle.mz_match_theory.proofs.Offered.{accepted-sound}
@@ -68,8 +68,8 @@ matched-nothing p ds m layout passed none no_statements no_rows = record {
 }
 
 -- what is reported is the next statement
-pub told-next : (p : Progress) (ds : List Declaration) (m : Matching) (ss : List Statement) (env : List Declaration) (after : Progress) (told : Told)
-    → IsMatched p ds m ss env → (passes : Passes p ss env after told) → IsTold p.standard p.file m.publics told ss env passes.statement after.at
+pub told-next : (p : Progress) (ds : List Declaration) (m : Matching) (ss : List Statement) (env : List Declaration) (after : Progress) (told : Reported)
+    → IsMatched p ds m ss env → (passes : Passes p ss env after told) → IsReported p.standard p.file m.publics told ss env passes.statement after.at
 told-next p ds m ss env after told matched passes =
     let here : p.at ≡ told.at = sym passes.tells.place in
     record {
@@ -79,7 +79,7 @@ told-next p ds m ss env after told matched passes =
       rows_are = matched.rows_are;
     }
 
-module _ (p : Progress) (ds : List Declaration) (m : Matching) (ss : List Statement) (env : List Declaration) (after : Progress) (told : Told)
+module _ (p : Progress) (ds : List Declaration) (m : Matching) (ss : List Statement) (env : List Declaration) (after : Progress) (told : Reported)
     (matched : IsMatched p ds m ss env) (passes : Passes p ss env after told) (later : Matching) (number : later.passed ≡ told.number) where
   abbrev s : Statement
   s = passes.statement
@@ -145,14 +145,14 @@ no-term-row n (term_decl d) is = absurd (is refl)
 no-term-row n (assertion_decl a) is = refl
 
 -- fewer declarations are done than statements were reported
-pub done-fewer : (p : Progress) (ds : List Declaration) (m : Matching) (ss : List Statement) (env : List Declaration) (after : Progress) (told : Told)
+pub done-fewer : (p : Progress) (ds : List Declaration) (m : Matching) (ss : List Statement) (env : List Declaration) (after : Progress) (told : Reported)
     → IsMatched p ds m ss env → Passes p ss env after told → m.done + 1 ≤ told.number
 done-fewer p ds m ss env after told matched passes = omega (arith, matched.done_is, passes.tells.number, publics-fewer ss)
 
 -- ---- verdicts
 
 -- a public statement differs
-pub differs-here : (text : List ℕ) (es : List Entry) (p : Progress) (m : Matching) (ss : List Statement) (env : List Declaration) (after : Progress) (told : Told) (rule : M)
+pub differs-here : (text : List ℕ) (es : List Entry) (p : Progress) (m : Matching) (ss : List Statement) (env : List Declaration) (after : Progress) (told : Reported) (rule : M)
     → SpecMakes text es → IsMatched p (env_of es) m ss env → (passes : Passes p ss env after told) → told.local ≡ false → FailsFirst (partner_checks (drop m.done (env_of es)) (partner_of ss passes.statement)) rule
     → IsVerdictBy p.standard text p.file (verdicts.Match (m.done + 1) told.number rule)
 differs-here text es p m ss env after told rule makes matched passes is_public fails = (

@@ -77,8 +77,12 @@ pub record IsDraftSound (spec bin : List ℕ) : Type 0 where
   pub agrees : Agrees declared (publics statements)
   pub unnamed : (places : List ℕ) → ListsGapsOf bin statements places → UnnamedFollow declared statements places
 
+-- sound, where these places are named
+abbrev pub IsDraftSoundBut : List ℕ → List ℕ → List ℕ → Type 0
+IsDraftSoundBut spec bin places = (sound : IsDraftSound spec bin) × UnnamedFollow sound.declared sound.statements places
+
 abbrev pub IsDraftSoundIfAccepted : List ℕ → List ℕ → Draft → Type 0
-IsDraftSoundIfAccepted spec bin (drafts.Accepted counts gaps) = IsDraftSound spec bin
+IsDraftSoundIfAccepted spec bin (drafts.Accepted counts gaps) = IsDraftSoundBut spec bin gaps
 IsDraftSoundIfAccepted spec bin (drafts.Spec refusal) = ⊤
 IsDraftSoundIfAccepted spec bin (drafts.Binary refusal) = ⊤
 IsDraftSoundIfAccepted spec bin (drafts.Match declaration statement rule) = ⊤

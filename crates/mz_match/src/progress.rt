@@ -7,7 +7,7 @@ ghost use Rattle.mz_binary.specs.Judging.{Passes};
 ghost use Rattle.mz_binary.specs.Progress.{HasPassed, Progress};
 ghost use Rattle.mz_spec_theory.specs.Spec.{SpecMakes};
 ghost use Rattle.mz_spec_theory.specs.State.{Entry, env_of};
-ghost use Rattle.mz_match.specs.Told.{IsMatched, IsNextTold};
+ghost use Rattle.mz_match.specs.Reported.{IsMatched, IsNextReported};
 ghost use Rattle.mz_match_theory.specs.Verdict.{IsDifferenceAt, IsVerdictBy, counts_of};
 
 use crate::statement::{has_kind, match_statement};
@@ -54,7 +54,7 @@ impl Matching {
         mmb: &Mmb,
         told: &Statement,
     ) -> Result<(), Verdict>
-        requires told { IsNextTold mmb.now (env_of spec.now) self.old told.now }
+        requires told { IsNextReported mmb.now (env_of spec.now) self.old told.now }
         ensures passed { (p after : Progress) (ss : List Declared) (env : List Declaration) → p.file ≡ mmb.now → IsMatched p (env_of spec.now) self.old ss env
             → (passes : Passes p ss env after told.now) → OnOk result (IsMatched after (env_of spec.now) self.new (ss ++ passes.statement ∷ []) (env ++ passes.statement.decl ∷ [])) }
         ensures kind { IfErr result (IsDifferenceAt told.now.number) }

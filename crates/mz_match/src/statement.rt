@@ -9,8 +9,8 @@ ghost use Rattle.mz_spec_theory.specs.State.{env_of};
 ghost use Rattle.mz_layout_tables.specs.Tables.{term_row};
 ghost use Rattle.mz_binary_theory.specs.declared.standard.Standard.{Standard};
 ghost use Rattle.mz_spec_proved_theory.specs.Match.{assertion_checks, form_checks, is_plain as plain_lem, match_checks, partner_checks, partner_of};
-ghost use Rattle.mz_match_rows.specs.TellsRow.{IsRowOf, IsTermRow, IsThmRow, assertion_code};
-ghost use Rattle.mz_match.specs.Told.{IsTold};
+ghost use Rattle.mz_match_rows.specs.ReportedRow.{IsRowOf, IsTermRow, IsThmRow, assertion_code};
+ghost use Rattle.mz_match.specs.Reported.{IsReported};
 
 use mz_binary_theory::Statement;
 use mz_cmd::StatementCode;
@@ -38,9 +38,9 @@ pub fn match_statement(
     publics: &Publics,
 ) -> Result<(), M>
     requires place { i ≤ length spec.now }
-    requires told { (standard : Standard) × (ss : List Declared) × (env : List Declaration) × (s : Declared) × (next : ℕ) × IsTold standard mmb.now publics.now statement.now ss env s next }
+    requires told { (standard : Standard) × (ss : List Declared) × (env : List Declaration) × (s : Declared) × (next : ℕ) × IsReported standard mmb.now publics.now statement.now ss env s next }
     requires public_ { statement.now.local ≡ false }
-    ensures { (standard : Standard) (ss : List Declared) (env : List Declaration) (s : Declared) (next : ℕ) → IsTold standard mmb.now publics.now statement.now ss env s next
+    ensures { (standard : Standard) (ss : List Declared) (env : List Declaration) (s : Declared) (next : ℕ) → IsReported standard mmb.now publics.now statement.now ss env s next
         → Judges result (partner_checks (drop i (env_of spec.now)) (partner_of ss s)) }
 {
     if i == spec.len() {

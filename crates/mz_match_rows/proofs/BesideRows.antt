@@ -16,9 +16,9 @@ use Rattle.mz_spec_proved_theory.specs.declared.rule.M.TheVariants as rules
 use Rattle.mz_spec_proved_theory.specs.Match.{form_checks}
 use Rattle.mz_unify_theory.specs.Spells.{Marks, trees_of}
 use Rattle.mz_unify_theory.proofs.Offered.{trees_of-listed}
-use Rattle.mz_match_rows.specs.declared.compare.Sides.{Sides}
+use Rattle.mz_match_rows.specs.declared.expression.Sides.{Sides}
 use Rattle.mz_spec_proved_theory.specs.AlphaTrees.{SameTrees, SameBody}
-use Rattle.mz_match_rows.specs.TellsRow.{SaysFirst, SaysForm, SaysClaims, IsTermRow}
+use Rattle.mz_match_rows.specs.ReportedRow.{SaysFirst, SaysForm, SaysClaims, IsTermRow}
 use Rattle.mz_match_rows.specs.Marks.{AreKept}
 use Rattle.mz_match_rows.specs.Beside.{IsStream, IsPlainStream}
 

@@ -12,13 +12,13 @@ use Rattle.mz_logic_theory.specs.Declaration.{Declaration, sort_decl, term_decl,
 use Rattle.mz_logic_theory.specs.Words.{signature_of}
 use Rattle.mz_logic_theory.proofs.Offered.{length-binders}
 use Rattle.mz_layout_tables.specs.Tables.{sort_count, mods_of, term_row}
-use Rattle.mz_binary_theory.specs.declared.statement.Statement.{Statement as Told}
+use Rattle.mz_binary_theory.specs.declared.statement.Statement.{Statement as Reported}
 use Rattle.mz_spec_proved_theory.specs.declared.kind.Kind.{Kind}
 use Rattle.mz_spec_proved_theory.specs.declared.kind.Kind.TheVariants as kinds
 use Rattle.mz_spec_proved_theory.specs.declared.rule.M.{M}
 use Rattle.mz_spec_proved_theory.specs.declared.rule.M.TheVariants as rules
 use Rattle.mz_spec_proved_theory.specs.Match.{Partner, kind_of_form, is_plain, match_checks, partner_checks, signature_checks, form_checks, assertion_checks}
-use Rattle.mz_match_rows.specs.TellsRow.{SaysForm, IsTermRow, IsThmRow, IsRowOf, assertion_code}
+use Rattle.mz_match_rows.specs.ReportedRow.{SaysForm, IsTermRow, IsThmRow, IsRowOf, assertion_code}
 
 -- the declaration at hand is the partner's
 pub judges-partner : {A : Type 0} → (ds rest : List Declaration) (d : Declaration) (p : Partner) (r : Result A M) → ds ≡ d ∷ rest → Judges r (match_checks d p) → Judges r (partner_checks ds p)
@@ -71,7 +71,7 @@ code-same false false e = refl
 
 -- ---- a sort
 
-module _ (rows bin : List ℕ) (told : Told) (mods : SortMods) where
+module _ (rows bin : List ℕ) (told : Reported) (mods : SortMods) where
   abbrev partner : Declaration → Partner
   partner p = record { rows = rows; decl = p }
 
@@ -90,7 +90,7 @@ module _ (rows bin : List ℕ) (told : Told) (mods : SortMods) where
   sort-same (term_decl d) row kind same = absurd (omega (arith, kind, row.0))
   sort-same (assertion_decl a) row kind same = absurd (code-sort a.is_axiom (sym row.0 ∙ kind))
 
-pub sort-row : (bin : List ℕ) (told : Told) (p : Declaration) → IsRowOf bin told p → told.kind ≡ statement_byte codes.Sort → told.row < sort_count bin
+pub sort-row : (bin : List ℕ) (told : Reported) (p : Declaration) → IsRowOf bin told p → told.kind ≡ statement_byte codes.Sort → told.row < sort_count bin
 sort-row bin told (sort_decl m) row kind = row.1
 sort-row bin told (term_decl d) row kind = absurd (omega (arith, kind, row.0))
 sort-row bin told (assertion_decl a) row kind = absurd (code-sort a.is_axiom (sym row.0 ∙ kind))
@@ -126,7 +126,7 @@ form-open rows n abstract_form g (Ok x) is none = tt
 form-open rows n (defined ds b) g (Ok x) is none = absurd (true≢false is)
 form-open rows n f g (Err e) is none = absurd none
 
-module _ (rows bin : List ℕ) (told : Told) (d : Term) where
+module _ (rows bin : List ℕ) (told : Reported) (d : Term) where
   pub term-kind-differs : (p : Declaration) → IsRowOf bin told p → (told.kind ≡ statement_byte codes.Term → ⊥) → FailsFirst (match_checks (term_decl d) (record { rows = rows; decl = p })) rules.Kind
   term-kind-differs (sort_decl m) row other = inl (λ e. form-kind d.form e, refl)
   term-kind-differs (term_decl e) row other = absurd (other row.0)
@@ -143,7 +143,7 @@ module _ (rows bin : List ℕ) (told : Told) (d : Term) where
   term-judged e r row other judges =
       judges-after (demand rules.Kind (kind_of_form d.form ≡ kind_of_form e.form)) _ r (same-kind d.form e.form bin _ _ row.form (λ same. other (same ∙ sym row.has_body)), tt) judges
 
-pub term-row : (bin : List ℕ) (told : Told) (p : Declaration) → IsRowOf bin told p → told.kind ≡ statement_byte codes.Term → (e : Term) × (p ≡ term_decl e) × IsTermRow bin told.row e
+pub term-row : (bin : List ℕ) (told : Reported) (p : Declaration) → IsRowOf bin told p → told.kind ≡ statement_byte codes.Term → (e : Term) × (p ≡ term_decl e) × IsTermRow bin told.row e
 term-row bin told (sort_decl m) row kind = absurd (omega (arith, kind, row.0))
 term-row bin told (term_decl e) row kind = (e, refl, row.1)
 term-row bin told (assertion_decl a) row kind = absurd (code-term a.is_axiom (sym row.0 ∙ kind))
@@ -154,17 +154,17 @@ signature-fails d s rest r fails = fails-before (signature_checks d s) rest r fa
 
 -- ---- an axiom or a theorem
 
-pub assertion-kind-differs : (rows bin : List ℕ) (told : Told) (a : Assertion) (p : Declaration) → IsRowOf bin told p → (told.kind ≡ code a.is_axiom → ⊥)
+pub assertion-kind-differs : (rows bin : List ℕ) (told : Reported) (a : Assertion) (p : Declaration) → IsRowOf bin told p → (told.kind ≡ code a.is_axiom → ⊥)
     → FailsFirst (match_checks (assertion_decl a) (record { rows = rows; decl = p })) rules.Kind
 assertion-kind-differs rows bin told a (sort_decl m) row other = inl (λ e. assertion-sort a.is_axiom e, refl)
 assertion-kind-differs rows bin told a (term_decl d) row other = inl (λ e. assertion-term a.is_axiom d.form e, refl)
 assertion-kind-differs rows bin told a (assertion_decl b) row other = inl (λ e. code-kind a.is_axiom b.is_axiom (λ same. other (row.0 ∙ sym same)) e, refl)
 
-pub assertion-judged : {A : Type 0} → (rows bin : List ℕ) (told : Told) (a b : Assertion) (r : Result A M) → told.kind ≡ code b.is_axiom → told.kind ≡ code a.is_axiom
+pub assertion-judged : {A : Type 0} → (rows bin : List ℕ) (told : Reported) (a b : Assertion) (r : Result A M) → told.kind ≡ code b.is_axiom → told.kind ≡ code a.is_axiom
     → Judges r (assertion_checks rows a b) → Judges r (match_checks (assertion_decl a) (record { rows = rows; decl = assertion_decl b }))
 assertion-judged rows bin told a b r kind same judges = judges-after (demand rules.Kind (assertion_kind a.is_axiom ≡ assertion_kind b.is_axiom)) _ r (code-same a.is_axiom b.is_axiom (sym same ∙ kind), tt) judges
 
-pub thm-row : (bin : List ℕ) (told : Told) (is_axiom : Bool) (p : Declaration) → IsRowOf bin told p → told.kind ≡ code is_axiom → (b : Assertion) × (p ≡ assertion_decl b) × IsThmRow bin told.row b
+pub thm-row : (bin : List ℕ) (told : Reported) (is_axiom : Bool) (p : Declaration) → IsRowOf bin told p → told.kind ≡ code is_axiom → (b : Assertion) × (p ≡ assertion_decl b) × IsThmRow bin told.row b
 thm-row bin told is_axiom (sort_decl m) row kind = absurd (code-sort is_axiom (sym kind ∙ row.0))
 thm-row bin told is_axiom (term_decl e) row kind = absurd (code-term is_axiom (sym kind ∙ row.0))
 thm-row bin told is_axiom (assertion_decl b) row kind = (b, refl, row.1)
@@ -185,7 +185,7 @@ both-defined (defined ds b) true other is = refl
 both-defined (defined ds b) false other is = absurd (other refl)
 
 -- all of a term's checks, where the signature is the row's
-pub term-whole : {A : Type 0} → (rows bin : List ℕ) (told : Told) (d e : Term) (r : Result A M) → IsTermRow bin told.row e → (is_plain d.form ≡ (term_row bin told.row).words.has_body → ⊥)
+pub term-whole : {A : Type 0} → (rows bin : List ℕ) (told : Reported) (d e : Term) (r : Result A M) → IsTermRow bin told.row e → (is_plain d.form ≡ (term_row bin told.row).words.has_body → ⊥)
     → AllHold (signature_checks d.signature (signature_of (term_row bin told.row).words))
     → (is_defined d.form ≡ true → is_defined e.form ≡ true → Judges r (form_checks rows (length (term_row bin told.row).words.params) d.form e.form))
     → (is_defined d.form ≡ false → OnErr r ⊥) → Judges r (match_checks (term_decl d) (record { rows = rows; decl = term_decl e }))

@@ -2,7 +2,7 @@
 use Rattle.std.specs.Prelude.{◌≡◌, ◌≤◌, ℕ, List, [], length, Some, slice_get}
 use Rattle.mz_logic_theory.specs.Tree.{Tree, Trees, listed}
 use Rattle.mz_unify_theory.specs.Spells.{Marks}
-use Rattle.mz_match_rows.specs.declared.compare.Sides.{Sides}
+use Rattle.mz_match_rows.specs.declared.expression.Sides.{Sides}
 use Rattle.mz_match_rows.specs.declared.stream.Cursor.{Cursor}
 use Rattle.mz_match_rows.specs.Marks.{AreKept}
 use Rattle.mz_match_rows.specs.Streams.{IsSaid, AreSaid, IsMade, AreMarks, HypsAreSaid}

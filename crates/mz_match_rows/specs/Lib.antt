@@ -3,4 +3,4 @@ pub mod Streams
 pub mod Marks
 pub mod Comparison
 pub mod Beside
-pub mod TellsRow
+pub mod ReportedRow

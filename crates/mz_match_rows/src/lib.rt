@@ -3,15 +3,15 @@
 //! `specs/Comparison.antt` says what is compared, by `mz_spec_proved_theory` when the two agree.
 #![tactic(auto)]
 
-mod compare;
 mod count;
-mod marks;
+mod expression;
+mod heap;
 mod publics;
 mod signature;
 mod stream;
 
-pub use compare::{Sides, same_body, same_first, same_hyps};
 pub use count::count_all;
-pub use marks::kept_marks;
+pub use expression::{Sides, same_body, same_first, same_hyps};
+pub use heap::kept_marks;
 pub use publics::Publics;
 pub use signature::{match_params, match_signature};

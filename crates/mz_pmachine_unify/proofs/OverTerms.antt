@@ -4,7 +4,7 @@ use Rattle.mz_logic_theory.specs.Tree.{app}
 use Rattle.mz_logic_theory.specs.Variables.{InSomeV}
 use Rattle.mz_logic_theory.specs.Words.{TermWords, term_at, word_sort, signature_of, signatures_of}
 use Rattle.mz_store.specs.Bits.{Tells, bound_vars}
-use Rattle.mz_store.specs.Sharing.{IsTold, CanTake}
+use Rattle.mz_store.specs.Sharing.{DependsOn, CanTake}
 use Rattle.mz_store.specs.declared.item.Id.{Id}
 use Rattle.mz_pmachine_theory.specs.NodeIdentity.{an_application}
 use Rattle.mz_store.proofs.Offered.{signature-at}
@@ -17,7 +17,7 @@ use Rattle.mz_pmachine_unify.proofs.Growing.{entered-begins, entry-kept, entry-n
 pub over-term : (terms : List TermWords) (s : Numbering) (number t : ℕ) (is : List Id) (sort vars deps : ℕ) (operands : Vec Id Global)
     → IsOver (signatures_of terms) s → CanTake terms s.context t (trees_of s is) → operands.items ≡ is → sort ≡ word_sort (term_at terms t).result
     → Tells (bound_vars s.context) vars (λ x. InSomeV s.context x (trees_of s is))
-    → Tells (bound_vars s.context) deps (IsTold s.mode (signatures_of terms) s.context (app t (trees_of s is)))
+    → Tells (bound_vars s.context) deps (DependsOn s.mode (signatures_of terms) s.context (app t (trees_of s is)))
     → IsOver (signatures_of terms) (entered s (record { sort = sort; vars = vars; deps = deps; form = Application number t operands }))
 over-term terms s number t is sort vars deps operands over (there, fits) same sort-is all tells i in_i = elim (in-cases s n i in_i) [
   | inl before ↦ subst (IsRightEntry s.mode (signatures_of terms) s.context) (sym (entry-kept s (entered s n) (entered-begins s n) i before)) (over i before)

@@ -6,7 +6,7 @@ ghost use Rattle.mz_logic_theory.specs.Variables.{InV};
 ghost use Rattle.mz_logic_theory.specs.Words.{BitsRight, BitsRightAfter, binders_of, signatures_of};
 ghost use Rattle.mz_store.specs.Bits.{Tells, bound_vars};
 ghost use Rattle.mz_store.specs.Nodes.{IsVariableWord};
-ghost use Rattle.mz_store.specs.Sharing.{IsTold, CanTake, dummy_binder};
+ghost use Rattle.mz_store.specs.Sharing.{DependsOn, CanTake, dummy_binder};
 ghost use Rattle.mz_pmachine_theory.specs.NodeIdentity.{a_variable, an_application};
 ghost use Rattle.mz_pmachine_unify.specs.Numbering.{IsIn, AreIn, Holds, expr_of, exprs_of, tree_of, trees_of, sort_of, vars_of, deps_of, head_of, operands_of, IsOver, KeepsIds, IsEmpty};
 ghost use Rattle.mz_pmachine_unify.specs.Entering.{variable_node, entered, entered_all, IsNewIn};
@@ -237,7 +237,7 @@ impl Nodes {
     pub fn deps(&self, id: Id) -> u64
         requires { IsIn self.now id.0 }
         ensures kept { result ≡ deps_of self.now id.0 }
-        ensures variables { (sigs : List Signature) → IsOver sigs self.now → Tells (bound_vars self.now.context) result (IsTold self.now.mode sigs self.now.context (tree_of self.now id.0)) }
+        ensures variables { (sigs : List Signature) → IsOver sigs self.now → Tells (bound_vars self.now.context) result (DependsOn self.now.mode sigs self.now.context (tree_of self.now id.0)) }
     {
         self.nodes[id.0 as usize].deps
     }

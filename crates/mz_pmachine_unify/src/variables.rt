@@ -7,7 +7,7 @@ ghost use Rattle.mz_logic_theory.specs.Variables.{InSomeV, IsBoundAt, IsOperandA
 ghost use Rattle.mz_logic_theory.specs.Words.{signatures_of, places_set};
 ghost use Rattle.mz_logic_theory.specs.declared.binder.Binder.{Binder};
 ghost use Rattle.mz_store.specs.Bits.{Tells, bound_vars};
-ghost use Rattle.mz_store.specs.Sharing.{IsTold, CanTake};
+ghost use Rattle.mz_store.specs.Sharing.{DependsOn, CanTake};
 ghost use Rattle.mz_store.specs.declared.item.DepsMode.TheVariants.{Free};
 ghost use Rattle.mz_pmachine_unify.specs.Numbering.{IsIn, AreIn, deps_of, trees_of, IsOver};
 
@@ -45,7 +45,7 @@ pub(crate) fn told_vars<T: Terms>(
     requires ids { AreIn nodes.now args.now }
     requires fit { CanTake (T.all_terms terms.now) nodes.now.context t (trees_of nodes.now args.now) }
     requires vars { Tells (bound_vars nodes.now.context) vars (λ x. InSomeV nodes.now.context x (trees_of nodes.now args.now)) }
-    ensures { IfOk result (λ word. Tells (bound_vars nodes.now.context) word (IsTold nodes.now.mode (signatures_of (T.all_terms terms.now)) nodes.now.context (app t (trees_of nodes.now args.now)))) }
+    ensures { IfOk result (λ word. Tells (bound_vars nodes.now.context) word (DependsOn nodes.now.mode (signatures_of (T.all_terms terms.now)) nodes.now.context (app t (trees_of nodes.now args.now)))) }
 {
     match nodes.mode() {
         DepsMode::All => Ok(vars),
@@ -66,7 +66,7 @@ fn free_deps<T: Terms>(
     requires over { IsOver (signatures_of (T.all_terms terms.now)) nodes.now }
     requires ids { AreIn nodes.now args.now }
     requires fit { CanTake (T.all_terms terms.now) nodes.now.context t (trees_of nodes.now args.now) }
-    ensures { IfOk result (λ word. Tells (bound_vars nodes.now.context) word (IsTold Free (signatures_of (T.all_terms terms.now)) nodes.now.context (app t (trees_of nodes.now args.now)))) }
+    ensures { IfOk result (λ word. Tells (bound_vars nodes.now.context) word (DependsOn Free (signatures_of (T.all_terms terms.now)) nodes.now.context (app t (trees_of nodes.now args.now)))) }
 {
     // the places of the bound parameters so far: only they can bind
     let mut bound = Vec::new(alloc);

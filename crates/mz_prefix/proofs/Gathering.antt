@@ -4,7 +4,7 @@ use Rattle.std.proofs.Common.{◌≡◌, ◌≤◌, ◌<◌, ◌+◌, ◌++◌, 
 use Rattle.std.proofs.Math.Seq.{drop-cons}
 use Rattle.std.proofs.lemmas.List.{drop_all}
 use Rattle.mz_logic_theory.specs.Declaration.{Declaration}
-use Rattle.mz_prefix_theory.specs.PublicPart.{mark_of}
+use Rattle.mz_prefix_theory.specs.PublicPart.{visibility_of}
 use Rattle.mz_mmu_theory.specs.Statements.{Statement}
 use Rattle.mz_type.specs.TypedText.{statement_at}
 use Rattle.mz_mmu_theory.specs.DeclaredNames.{sort_name, term_name, sort_names, term_names, underscores, longest_run, text_names}
@@ -42,7 +42,7 @@ pub record Gathered (ss : List Statement) (i : ℕ) (names : Names) : Type 0 whe
 pub gathered-on : (ss : List Statement) (i : ℕ) (old new : Names) (name : List ℕ) (is_local : Bool) (d : Declaration) → i < length ss
     → (statement_at ss i).name ≡ name → (statement_at ss i).is_local ≡ is_local → (statement_at ss i).decl ≡ d
     → texts new.sorts.items ≡ texts old.sorts.items ++ sort_name d name → texts new.terms.items ≡ texts old.terms.items ++ term_name d name
-    → new.locals.items ≡ old.locals.items ++ mark_of is_local d → new.prefix ≡ old.prefix → Gathered ss i old → Gathered ss (i + 1) new
+    → new.locals.items ≡ old.locals.items ++ visibility_of is_local d → new.prefix ≡ old.prefix → Gathered ss i old → Gathered ss (i + 1) new
 gathered-on ss i old new name is_local d below is-name is-local is-decl sorts terms locals prefix so_far =
     let s = statement_at ss i in
     record {
@@ -50,8 +50,8 @@ gathered-on ss i old new name is_local d below is-name is-local is-decl sorts te
           (sorts ∙ ap (λ n. texts old.sorts.items ++ sort_name d n) (sym is-name) ∙ ap (λ d. texts old.sorts.items ++ sort_name d s.name) (sym is-decl)) so_far.sorts;
       terms = one-more (λ s. term_name s.decl s.name) term_names (λ s ss. refl) ss i (texts old.terms.items) (texts new.terms.items) below
           (terms ∙ ap (λ n. texts old.terms.items ++ term_name d n) (sym is-name) ∙ ap (λ d. texts old.terms.items ++ term_name d s.name) (sym is-decl)) so_far.terms;
-      locals = one-more (λ s. mark_of s.is_local s.decl) local_terms (λ s ss. refl) ss i old.locals.items new.locals.items below
-          (locals ∙ ap (λ l. old.locals.items ++ mark_of l d) (sym is-local) ∙ ap (λ d. old.locals.items ++ mark_of s.is_local d) (sym is-decl)) so_far.locals;
+      locals = one-more (λ s. visibility_of s.is_local s.decl) local_terms (λ s ss. refl) ss i old.locals.items new.locals.items below
+          (locals ∙ ap (λ l. old.locals.items ++ visibility_of l d) (sym is-local) ∙ ap (λ d. old.locals.items ++ visibility_of s.is_local d) (sym is-decl)) so_far.locals;
       prefix = ap (λ p. p.items) prefix ∙ so_far.prefix;
     }
 
@@ -59,7 +59,7 @@ pub gathered-all : (ss : List Statement) (i : ℕ) (names : Names) → length ss
 gathered-all ss i names past so_far = record {
   sorts = at-end (λ s. sort_name s.decl s.name) sort_names (λ s ss. refl) ss i (texts names.sorts.items) past refl so_far.sorts;
   terms = at-end (λ s. term_name s.decl s.name) term_names (λ s ss. refl) ss i (texts names.terms.items) past refl so_far.terms;
-  locals = at-end (λ s. mark_of s.is_local s.decl) local_terms (λ s ss. refl) ss i names.locals.items past refl so_far.locals;
+  locals = at-end (λ s. visibility_of s.is_local s.decl) local_terms (λ s ss. refl) ss i names.locals.items past refl so_far.locals;
   prefix = so_far.prefix;
 }
 

@@ -9,7 +9,7 @@ use Rattle.mz_logic_theory.specs.declared.binder.SortMods.{SortMods}
 use Rattle.mz_spec_theory.specs.Statement.{keyword_of}
 use Rattle.mz_spec_theory.specs.declared.kind.Kind.{Kind}
 use Rattle.mz_spec_theory.specs.declared.kind.Kind.TheVariants.{Term, Assert, Definition}
-use Rattle.mz_prefix_theory.specs.Words.{Word, written}
+use Rattle.mz_prefix_theory.specs.Tokens.{Word, written}
 use Rattle.mz_prefix_theory.specs.Lines.{PlainBinder, PlainType, spaced_name, spaced_mark, math_word, type_words, head_words, colon_words, end_words, hyps_words, sort_words, line_text}
 use Rattle.mz_prefix_theory.proofs.Offered.{written-append}
 use Rattle.mz_prefix_theory.specs.PublicPart.{renamed, all_renamed}

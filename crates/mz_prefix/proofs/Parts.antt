@@ -8,7 +8,7 @@ use Rattle.mz_logic_theory.specs.View.{tree, trees}
 use Rattle.mz_logic_theory.specs.declared.expr.Expr.{Expr}
 use Rattle.mz_logic_theory.specs.declared.binder.Binder.{Binder}
 use Rattle.mz_spec_theory.specs.Statement.{opening_of, closing_of}
-use Rattle.mz_prefix_theory.specs.Words.{written}
+use Rattle.mz_prefix_theory.specs.Tokens.{written}
 use Rattle.mz_prefix_theory.specs.Lines.{Tokens, spaced, mark, spaced_mark, dep_words, type_words, binder_words, binders_words, hyp_words, hyps_words, math_word}
 use Rattle.mz_prefix_theory.specs.Prefix.{enclosed, operand_tokens}
 use Rattle.mz_prefix_theory.proofs.Offered.{written-append}

@@ -2,4 +2,4 @@ pub mod Measures
 pub mod Names
 pub mod Writing
 pub mod SpecTexts
-pub mod Told
+pub mod Printed

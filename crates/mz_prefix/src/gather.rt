@@ -1,7 +1,7 @@
 // The names of a text, gathered statement by statement.
 ghost use Rattle.std.specs.Prelude.{◌≡◌, ◌++◌, IfOk, OnOk};
 ghost use Rattle.mz_logic_theory.specs.DeclView.{declaration};
-ghost use Rattle.mz_prefix_theory.specs.PublicPart.{mark_of};
+ghost use Rattle.mz_prefix_theory.specs.PublicPart.{visibility_of};
 ghost use Rattle.mz_prefix_theory.specs.Wording;
 ghost use Rattle.mz_mmu_theory.specs.DeclaredNames;
 ghost use Rattle.mz_mmu_theory.specs.DeclaredNames.{sort_name, term_name, text_names};
@@ -56,7 +56,7 @@ impl<'a> Names<'a> {
     fn add(&mut self, name: &'a [u8], is_local: bool, decl: &Decl) -> Result<(), AllocError>
         ensures sorts { OnOk result (texts self.new.sorts.items ≡ texts self.old.sorts.items ++ sort_name (declaration decl.now) name.now) }
         ensures terms { OnOk result (texts self.new.terms.items ≡ texts self.old.terms.items ++ term_name (declaration decl.now) name.now) }
-        ensures locals { OnOk result (self.new.locals.items ≡ self.old.locals.items ++ mark_of is_local (declaration decl.now)) }
+        ensures locals { OnOk result (self.new.locals.items ≡ self.old.locals.items ++ visibility_of is_local (declaration decl.now)) }
         ensures prefix { OnOk result (self.new.prefix ≡ self.old.prefix) }
     {
         match decl {

@@ -9,7 +9,7 @@ use Rattle.mz_logic_theory.specs.Declaration.{Form, plain_form, abstract_form, d
 use Rattle.mz_logic_theory.specs.Legality.{InRange, AllInRange, NamesThere}
 use Rattle.mz_logic_theory.specs.LegalLists.{Statement, LegalAfter, Legal, gap_free, declarations}
 use Rattle.mz_logic_theory.specs.declared.binder.Binder.{Binder}
-use Rattle.mz_prefix_theory.specs.PublicPart.{public_number, is_local_term, marks_of, mark_of, renamed, all_renamed, mentions_local, public_decl, public_decls, public_part, Hides, IsSayable, AreSayable}
+use Rattle.mz_prefix_theory.specs.PublicPart.{public_number, is_local_term, visibilities_of, visibility_of, renamed, all_renamed, mentions_local, public_decl, public_decls, public_part, Hides, IsSayable, AreSayable}
 use Rattle.mz_prefix_theory.proofs.Renaming.{AllTerms, AllTermsIn}
 use Rattle.mz_prefix_theory.proofs.Beside.{all-public, all-public-in}
 use Rattle.mz_prefix_theory.proofs.Legal.{pick}
@@ -80,31 +80,31 @@ module _ (ls : List Bool) (hidden : Tree → Bool) (hides : Hides ls hidden) (ro
 
 -- ---- all statements
 
-marks-append : (before ss : List Statement) → marks_of (before ++ ss) ≡ marks_of before ++ marks_of ss
-marks-append [] ss = refl
-marks-append (s ∷ before) ss = ap (λ ls. mark_of s.is_local s.decl ++ ls) (marks-append before ss) ∙ sym (append_assoc (mark_of s.is_local s.decl) (marks_of before) (marks_of ss))
+visibilities-append : (before ss : List Statement) → visibilities_of (before ++ ss) ≡ visibilities_of before ++ visibilities_of ss
+visibilities-append [] ss = refl
+visibilities-append (s ∷ before) ss = ap (λ ls. visibility_of s.is_local s.decl ++ ls) (visibilities-append before ss) ∙ sym (append_assoc (visibility_of s.is_local s.decl) (visibilities_of before) (visibilities_of ss))
 
 module _ (ls : List Bool) (hidden : Tree → Bool) where
   abbrev Both : List Statement → Statement → List Statement → Bool → Type 0
   Both before s ss b = Agrees (if b then public_decls hidden (public_number ls) ss else public_decl hidden (public_number ls) s.decl ∷ public_decls hidden (public_number ls) ss)
       (if b then publics_after (before ++ s ∷ []) ss else partner_of before s ∷ publics_after (before ++ s ∷ []) ss)
 
-  tracked-before : (before ss : List Statement) → ls ≡ marks_of (before ++ ss) → (t : ℕ) → t < length (signatures (declarations before)) → is_local_term ls t ≡ false
+  tracked-before : (before ss : List Statement) → ls ≡ visibilities_of (before ++ ss) → (t : ℕ) → t < length (signatures (declarations before)) → is_local_term ls t ≡ false
       → IsTracked (term_rows 0 before) (public_number ls) t
   tracked-before before ss all t less public =
-      let is : ls ≡ marks_of before ++ marks_of ss = all ∙ marks-append before ss in
+      let is : ls ≡ visibilities_of before ++ visibilities_of ss = all ∙ visibilities-append before ss in
       ap (λ (xs : List Bool). slice_get (term_rows 0 before) (public_number xs t)) is
-      ∙ row-at before (marks_of ss) 0 t less (ap (λ (xs : List Bool). is_local_term xs t) (sym is) ∙ public)
+      ∙ row-at before (visibilities_of ss) 0 t less (ap (λ (xs : List Bool). is_local_term xs t) (sym is) ∙ public)
       ∙ ap (λ (u : ℕ). Some u) (omega arith)
 
-  agrees-after : Hides ls hidden → (before ss : List Statement) → ls ≡ marks_of (before ++ ss) → AreSayable ls ss → LegalAfter gap_free (declarations before) ss
+  agrees-after : Hides ls hidden → (before ss : List Statement) → ls ≡ visibilities_of (before ++ ss) → AreSayable ls ss → LegalAfter gap_free (declarations before) ss
       → Agrees (public_decls hidden (public_number ls) ss) (publics_after before ss)
   agrees-after hides before [] all sayable legal = tt
   agrees-after hides before (s ∷ ss) all sayable legal =
-      let rest = agrees-after hides (before ++ s ∷ []) ss (all ∙ ap marks_of (sym (append_assoc before (s ∷ []) ss))) sayable.1
+      let rest = agrees-after hides (before ++ s ∷ []) ss (all ∙ ap visibilities_of (sym (append_assoc before (s ∷ []) ss))) sayable.1
       (subst (λ (env : List Declaration). LegalAfter gap_free env ss) (sym (map-append (λ (t : Statement). t.decl) before (s ∷ []))) legal.1) in
       chosen (Both before s ss) s.is_local (λ local. rest)
       (λ public. (decl-agrees ls hidden hides (term_rows 0 before) (declarations before) (tracked-before before (s ∷ ss) all) s.decl (sayable.0 public) legal.0.0.0, rest))
 
-pub public-parts-agree : (ss : List Statement) (hidden : Tree → Bool) → Legal ss → Hides (marks_of ss) hidden → AreSayable (marks_of ss) ss → Agrees (public_part hidden ss) (publics ss)
-public-parts-agree ss hidden legal hides sayable = agrees-after (marks_of ss) hidden hides [] ss refl sayable legal
+pub public-parts-agree : (ss : List Statement) (hidden : Tree → Bool) → Legal ss → Hides (visibilities_of ss) hidden → AreSayable (visibilities_of ss) ss → Agrees (public_part hidden ss) (publics ss)
+public-parts-agree ss hidden legal hides sayable = agrees-after (visibilities_of ss) hidden hides [] ss refl sayable legal

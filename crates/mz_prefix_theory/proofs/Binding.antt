@@ -16,7 +16,7 @@ use Rattle.mz_logic_theory.specs.declared.binder.SortMods.{SortMods}
 use Rattle.mz_logic_theory.proofs.Offered.{one_at}
 use Rattle.mz_spec_theory.specs.Statement.{TypeText}
 use Rattle.mz_prefix_theory.specs.Lines.{binders_at, binder_words, opening_words, naming_words, type_at}
-use Rattle.mz_prefix_theory.specs.Words.{stop}
+use Rattle.mz_prefix_theory.specs.Tokens.{stop}
 use Rattle.mz_base.specs.Names.{number_of, IsNew, IsKnown}
 use Rattle.mz_base.proofs.Offered.{known-first, known-later, new-more}
 use Rattle.mz_spec_theory.specs.View.{Variable, name_texts, group_types}

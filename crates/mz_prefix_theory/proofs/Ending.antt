@@ -9,7 +9,7 @@ use Rattle.mz_lex.specs.Kinds.{is_space, is_number_start, is_symbol_byte, is_of_
 use Rattle.mz_lex.specs.declared.token.TokenKind.{TokenKind}
 use Rattle.mz_lex.specs.declared.token.TokenKind.TheVariants as kinds
 use Rattle.mz_lex.proofs.Offered.{among, longest-symbol, longest-name, two-bytes, starts-no_digit, longest-math}
-use Rattle.mz_prefix_theory.specs.Words.{ends}
+use Rattle.mz_prefix_theory.specs.Tokens.{ends}
 
 -- a test that each symbol but `_` fails
 symbol-fails : (p : ℕ → Bool) → list_all (λ s. not (p s) || (s == 95)) (codes "*.:;()>{}=_") ≡ true → (c : ℕ) → is_symbol_byte c ≡ true → (c == 95) ≡ false → p c ≡ false

@@ -14,7 +14,7 @@ use Rattle.mz_logic_theory.specs.LegalLists.{Statement, LegalAfter, MayBeLocal, 
 use Rattle.mz_logic_theory.specs.declared.binder.Binder.{Binder}
 use Rattle.mz_logic_theory.specs.declared.binder.SortMods.{SortMods}
 use Rattle.mz_logic_theory.proofs.Offered.{signatures-append, same-signatures}
-use Rattle.mz_prefix_theory.specs.PublicPart.{public_number, is_local_term, mark_of, marks_of, renamed, mentions_local, shown, renamed_assertion, public_decl, public_decls, Hides, IsSayable, AreSayable}
+use Rattle.mz_prefix_theory.specs.PublicPart.{public_number, is_local_term, visibility_of, visibilities_of, renamed, mentions_local, shown, renamed_assertion, public_decl, public_decls, Hides, IsSayable, AreSayable}
 use Rattle.mz_prefix_theory.specs.PublicLaws.{PublicPartsAreLegal}
 use Rattle.mz_prefix_theory.proofs.Renaming.{Kept, in-range, all-in-range, same-sort, operands-kept, sort-fits, bound-fits, each-kept, free-back}
 use Rattle.mz_prefix_theory.proofs.Beside.{AreBeside, none-beside, with-sort, with-assertion, with-local_assertion, with-term, with-local_term, none-mentioned, none-mentioned-in}
@@ -148,30 +148,30 @@ module _ (ls : List Bool) (hidden : Tree → Bool) (hides : Hides ls hidden) (en
 -- where the visibilities of the statements left begin
 pub record IsAt (ls : List Bool) (env : List Declaration) (ss : List Statement) : Type 0 where
   pub before : List Bool
-  pub all : ls ≡ before ++ marks_of ss
+  pub all : ls ≡ before ++ visibilities_of ss
   pub place : length before ≡ length (signatures env)
 
 pub mark-at : (ls : List Bool) (env : List Declaration) (l : Bool) (d : Term) (ss : List Statement) → IsAt ls env (record { is_local = l; decl = term_decl d } ∷ ss)
     → (length (signatures env) < length ls) × (is_local_term ls (length (signatures env)) ≡ l)
 mark-at ls env l d ss at =
-    let all : ls ≡ at.before ++ l ∷ marks_of ss = at.all in
+    let all : ls ≡ at.before ++ l ∷ visibilities_of ss = at.all in
     let place = at.place in
-    (omega (arith, ap length all, length-append at.before (l ∷ marks_of ss)), ap (λ xs. get_or xs (length (signatures env)) false) all ∙ ap (λ i. get_or (at.before ++ l ∷ marks_of ss) i false) (sym place) ∙ get_or-append_seam at.before l (marks_of ss) false)
+    (omega (arith, ap length all, length-append at.before (l ∷ visibilities_of ss)), ap (λ xs. get_or xs (length (signatures env)) false) all ∙ ap (λ i. get_or (at.before ++ l ∷ visibilities_of ss) i false) (sym place) ∙ get_or-append_seam at.before l (visibilities_of ss) false)
 
 pub at-next : (ls : List Bool) (env : List Declaration) (s : Statement) (ss : List Statement) → IsAt ls env (s ∷ ss) → IsAt ls (env ++ s.decl ∷ []) ss
 at-next ls env s ss at = record {
-  before = at.before ++ mark_of s.is_local s.decl;
-  all = at.all ∙ sym (append_assoc at.before (mark_of s.is_local s.decl) (marks_of ss));
-  place = length-append at.before (mark_of s.is_local s.decl) ∙ place-next env s.is_local s.decl (length at.before) at.place;
+  before = at.before ++ visibility_of s.is_local s.decl;
+  all = at.all ∙ sym (append_assoc at.before (visibility_of s.is_local s.decl) (visibilities_of ss));
+  place = length-append at.before (visibility_of s.is_local s.decl) ∙ place-next env s.is_local s.decl (length at.before) at.place;
 }
   where
-    place-next : (env : List Declaration) (l : Bool) (d : Declaration) (n : ℕ) → n ≡ length (signatures env) → n + length (mark_of l d) ≡ length (signatures (env ++ d ∷ []))
+    place-next : (env : List Declaration) (l : Bool) (d : Declaration) (n : ℕ) → n ≡ length (signatures env) → n + length (visibility_of l d) ≡ length (signatures (env ++ d ∷ []))
     place-next env l (sort_decl m) n place = omega (arith, place, ap length (same-signatures env (sort_decl m) refl))
     place-next env l (term_decl d) n place = omega (arith, place, ap length (signatures-append env (term_decl d ∷ [])), length-append (signatures env) (d.signature ∷ []))
     place-next env l (assertion_decl a) n place = omega (arith, place, ap length (same-signatures env (assertion_decl a) refl))
 
 pub at-known : (ls : List Bool) (env : List Declaration) (s : Statement) (ss : List Statement) (l : Bool) → s.is_local ≡ l → IsAt ls env (s ∷ ss) → IsAt ls env (record { is_local = l; decl = s.decl } ∷ ss)
-at-known ls env s ss l is at = record { before = at.before; all = at.all ∙ ap (λ b. at.before ++ (mark_of b s.decl ++ marks_of ss)) is; place = at.place }
+at-known ls env s ss l is at = record { before = at.before; all = at.all ∙ ap (λ b. at.before ++ (visibility_of b s.decl ++ visibilities_of ss)) is; place = at.place }
 
 module _ (ls : List Bool) (hidden : Tree → Bool) where
   pub public-next : (env env' : List Declaration) (d : Declaration) (ss : List Statement) → IsAt ls env (record { is_local = false; decl = d } ∷ ss) → AreBeside ls env env'
@@ -199,4 +199,4 @@ module _ (ls : List Bool) (hidden : Tree → Bool) where
 
 pub public-parts-legal : PublicPartsAreLegal
 public-parts-legal ss hidden legal hides sayable =
-    legal-after (marks_of ss) hidden hides ss [] [] (record { before = []; all = refl; place = refl }) (none-beside (marks_of ss)) sayable legal
+    legal-after (visibilities_of ss) hidden hides ss [] [] (record { before = []; all = refl; place = refl }) (none-beside (visibilities_of ss)) sayable legal

@@ -9,7 +9,7 @@ use Rattle.mz_lex.specs.Lexemes.{IsSpace, IsBlank, BlankVia, IsNext, Lexeme, Lex
 use Rattle.mz_lex.specs.declared.token.TokenKind.{TokenKind}
 use Rattle.mz_lex.specs.declared.token.TokenKind.TheVariants as kinds
 use Rattle.mz_lex.specs.declared.token.LexFault.{LexFault}
-use Rattle.mz_prefix_theory.specs.Words.{Word, written, lexeme_at, lexemes_at, IsWord, EndsBefore, AreWords}
+use Rattle.mz_prefix_theory.specs.Tokens.{Word, written, lexeme_at, lexemes_at, IsWord, EndsBefore, AreWords}
 use Rattle.mz_prefix_theory.specs.PrintLaws.{WordsAreLexemes}
 use Rattle.mz_prefix_theory.proofs.Ending.{word-ends}
 

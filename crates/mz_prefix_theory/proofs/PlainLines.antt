@@ -12,7 +12,7 @@ use Rattle.mz_spec_theory.specs.declared.kind.Kind.{Kind}
 use Rattle.mz_spec_theory.specs.declared.kind.Kind.TheVariants.{Term, Assert, Definition, Notation}
 use Rattle.mz_spec_theory.specs.declared.kind.AssertKind.TheVariants.{Axiom, Theorem}
 use Rattle.mz_spec_theory.specs.Statement.{Modifiers, keyword_of, opening_of, closing_of}
-use Rattle.mz_prefix_theory.specs.Words.{Word, written, stop, IsWord, AreWords, EndsBefore}
+use Rattle.mz_prefix_theory.specs.Tokens.{Word, written, stop, IsWord, AreWords, EndsBefore}
 use Rattle.mz_prefix_theory.specs.Lines.{PlainType, PlainBinder, Tokens, Line, sort_line, term_line, assert_line, definition_line, mark, spaced_mark, spaced_name, spaced, math_text, math_word, dep_words, type_words, dot_words, opening_words, naming_words, binder_words, binders_words, head_words, colon_words, end_words, hyps_words, body_words, modifier_names, sort_keywords, keyword_words, sort_words, line_words, line_text, lines_text, next_line}
 use Rattle.mz_prefix_theory.specs.Plain.{AreNames, is_token_byte, AreTokens, IsPlainType, IsPlainBinder, ArePlainBinders, AreFormulas, IsPlainBody, IsPlain, ArePlain, lines_lexemes}
 use Rattle.mz_prefix_theory.specs.PrintLaws.{LinesLex}

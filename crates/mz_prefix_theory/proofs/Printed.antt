@@ -20,7 +20,7 @@ use Rattle.mz_spec_theory.specs.declared.kind.AssertKind.{AssertKind}
 use Rattle.mz_spec_theory.specs.declared.kind.Kind.TheVariants.{Term as TermKind, Assert, Definition}
 use Rattle.mz_spec_theory.specs.Statement.{TypeText, Statement, sort_statement, term_statement, assert_statement, definition_statement, keyword_of}
 use Rattle.mz_spec_theory.specs.Reading.{place_of_first}
-use Rattle.mz_prefix_theory.specs.Words.{lexeme_at, lexemes_at, stop}
+use Rattle.mz_prefix_theory.specs.Tokens.{lexeme_at, lexemes_at, stop}
 use Rattle.mz_prefix_theory.specs.Lines.{Line, math_word, math_text, spaced_mark, spaced_name, sort_words, hyps_words, type_words, title_words, binders_at, type_at, hyps_at, colon_at, line_words, statement_at, next_line, HasItsDummies, HaveNoDummies, name_word}
 use Rattle.mz_prefix_theory.specs.Plain.{IsPlain, ArePlain, lines_lexemes, AreNames, IsPlainType, ArePlainBinders, AreFormulas}
 use Rattle.mz_base.specs.Names.{number_of, IsNew}
@@ -92,7 +92,7 @@ module _ (v : Vocabulary) (n : ℕ) (variables : HasVariables v n) where
       record {
         sorts_many = behind.sorts_many ∙ sym (ap length s);
         terms_many = behind.terms_many ∙ sym (ap length t);
-        marks_many = omega (arith, behind.marks_many, length-append σ.marks (record { from = l.from; to = l.to; place = place } ∷ []), length-append σ.env (assertion_decl a ∷ []));
+        spans_many = omega (arith, behind.spans_many, length-append σ.spans (record { from = l.from; to = l.to; place = place } ∷ []), length-append σ.env (assertion_decl a ∷ []));
         sort_at = behind.sort_at;
         term_at = behind.term_at;
         sort_number = λ i less. behind.sort_number i (omega (arith, ap length s));
@@ -113,7 +113,7 @@ module _ (v : Vocabulary) (n : ℕ) (variables : HasVariables v n) where
       record {
         sorts_many = omega (arith, behind.sorts_many, many, length-append σ.sort_names (l.text ∷ []));
         terms_many = behind.terms_many ∙ sym (ap length t);
-        marks_many = omega (arith, behind.marks_many, length-append σ.marks (record { from = l.from; to = l.to; place = place } ∷ []), length-append σ.env (sort_decl m ∷ []));
+        spans_many = omega (arith, behind.spans_many, length-append σ.spans (record { from = l.from; to = l.to; place = place } ∷ []), length-append σ.env (sort_decl m ∷ []));
         sort_at = at-last v.sort σ.sort_names l.text behind.sort_at (is ∙ ap v.sort (sym behind.sorts_many));
         term_at = behind.term_at;
         sort_number = λ i less. elim (cases_order i (length (sorts σ.env))) [
@@ -146,7 +146,7 @@ module _ (v : Vocabulary) (n : ℕ) (variables : HasVariables v n) where
       record {
         sorts_many = behind.sorts_many ∙ sym (ap length s);
         terms_many = omega (arith, behind.terms_many, many, length-append σ.term_names (l.text ∷ []));
-        marks_many = omega (arith, behind.marks_many, length-append σ.marks (record { from = l.from; to = l.to; place = place } ∷ []), length-append σ.env (term_decl d ∷ []));
+        spans_many = omega (arith, behind.spans_many, length-append σ.spans (record { from = l.from; to = l.to; place = place } ∷ []), length-append σ.env (term_decl d ∷ []));
         sort_at = behind.sort_at;
         term_at = at-last v.term σ.term_names l.text behind.term_at (is ∙ ap v.term (sym behind.terms_many));
         sort_number = λ i less. behind.sort_number i (omega (arith, ap length s));
@@ -426,11 +426,11 @@ module _ (v : Vocabulary) (n : ℕ) (variables : HasVariables v n) where
     last : State
     stand : Stand σ (statements_of p ds) (lines_lexemes p (lines_of v ds)) last []
     env : last.env ≡ σ.env ++ decls_of ds
-    marks : length last.marks ≡ length last.env
+    spans : length last.spans ≡ length last.env
     plain : ArePlain (lines_of v ds)
 
   stands : (ds : List Named) (σ : State) (p : ℕ) → IsBehind v n σ → ArePrintable v n σ.env σ.assertion_names ds → Stands σ p ds
-  stands [] σ p behind printable = record { last = σ; stand = (refl, refl); env = sym (append-nil σ.env); marks = behind.marks_many; plain = tt }
+  stands [] σ p behind printable = record { last = σ; stand = (refl, refl); env = sym (append-nil σ.env); spans = behind.spans_many; plain = tt }
   stands (d ∷ ds) σ p behind printable =
       let l : Line = line_of v d in
       let front : List Lexeme = lexemes_at p (line_words l) in
@@ -440,7 +440,7 @@ module _ (v : Vocabulary) (n : ℕ) (variables : HasVariables v n) where
         last = rest.last;
         stand = (front, lines_lexemes (next_line p l) (lines_of v ds), step.state, refl, lines-spell p l (its-dummies v d.name d.decl), step.good, step.after, rest.stand);
         env = rest.env ∙ ap (λ e. e ++ decls_of ds) step.env ∙ append_assoc σ.env (d.decl ∷ []) (decls_of ds);
-        marks = rest.marks;
+        spans = rest.spans;
         plain = (line-plain v n variables σ behind d.name d.decl printable.0, rest.plain);
       }
 
@@ -448,7 +448,7 @@ module _ (v : Vocabulary) (n : ℕ) (variables : HasVariables v n) where
   behind-nothing = record {
     sorts_many = refl;
     terms_many = refl;
-    marks_many = refl;
+    spans_many = refl;
     sort_at = λ i less. absurd (omega arith);
     term_at = λ i less. absurd (omega arith);
     sort_number = λ i less. absurd (omega arith);
@@ -463,7 +463,7 @@ module _ (v : Vocabulary) (n : ℕ) (variables : HasVariables v n) where
 pub printed-declare : PrintedSpecificationsDeclare
 printed-declare v n ds variables printable =
     let all = stands v n variables ds nothing 0 (behind-nothing v n variables) printable in (
-      entries_of all.last.env all.last.marks,
+      entries_of all.last.env all.last.spans,
       (lines_lexemes 0 (lines_of v ds), statements_of v n variables 0 ds, all.last, lines-lex (lines_of v ds) all.plain, all.stand, refl),
-      sym (entries-decls all.last.env all.last.marks all.marks ∙ all.env),
+      sym (entries-decls all.last.env all.last.spans all.spans ∙ all.env),
     )

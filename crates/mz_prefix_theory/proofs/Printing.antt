@@ -20,7 +20,7 @@ use Rattle.mz_mmu_theory.specs.ReadingLaws.{IsWhole, Ascends}
 use Rattle.mz_mmu_theory.specs.Meaning.{marked}
 use Rattle.mz_prefix_theory.specs.Prefix.{IsShort}
 use Rattle.mz_prefix_theory.specs.Declared.{Named, Vocabulary, formula_of, AreShort, HasNewName, HasShortBody, IsWithin, used_with, ArePrintable}
-use Rattle.mz_prefix_theory.specs.PublicPart.{public_number, is_local_term, mark_of, marks_of, renamed, all_renamed, mentions_local, any_mentions_local, shown, public_decl, Hides, IsSayable}
+use Rattle.mz_prefix_theory.specs.PublicPart.{public_number, is_local_term, visibility_of, visibilities_of, renamed, all_renamed, mentions_local, any_mentions_local, shown, public_decl, Hides, IsSayable}
 use Rattle.mz_prefix_theory.proofs.Beside.{AreBeside, none-beside, all-public}
 use Rattle.mz_prefix_theory.proofs.Legal.{pick, decl-legal, IsAt, mark-at, at-next, at-known, public-next, local-next}
 use Rattle.mz_spec_proved_theory.specs.Match.{term_rows}
@@ -33,14 +33,14 @@ use Rattle.mz_prefix_theory.proofs.Titles.{IsTitled, AreTitled}
 
 -- ---- numbers of terms
 
-marks-step : (l : Bool) (d : Declaration) (ss : List Marked) → length (marks_of ss) ≡ length (signatures (declarations ss)) → length (mark_of l d ++ marks_of ss) ≡ length (signatures (d ∷ declarations ss))
-marks-step l (sort_decl m) ss is = is
-marks-step l (term_decl d) ss is = omega (arith, is)
-marks-step l (assertion_decl a) ss is = is
+visibilities-step : (l : Bool) (d : Declaration) (ss : List Marked) → length (visibilities_of ss) ≡ length (signatures (declarations ss)) → length (visibility_of l d ++ visibilities_of ss) ≡ length (signatures (d ∷ declarations ss))
+visibilities-step l (sort_decl m) ss is = is
+visibilities-step l (term_decl d) ss is = omega (arith, is)
+visibilities-step l (assertion_decl a) ss is = is
 
-marks-many : (ss : List Marked) → length (marks_of ss) ≡ length (signatures (declarations ss))
-marks-many [] = refl
-marks-many (s ∷ ss) = marks-step s.is_local s.decl ss (marks-many ss)
+visibilities-many : (ss : List Marked) → length (visibilities_of ss) ≡ length (signatures (declarations ss))
+visibilities-many [] = refl
+visibilities-many (s ∷ ss) = visibilities-step s.is_local s.decl ss (visibilities-many ss)
 
 -- ---- names so far
 
@@ -122,7 +122,7 @@ module _ (all : List Statement) (hidden : Tree → Bool) (n : ℕ) where
   tracked : (t : ℕ) → t < length ls → is_local_term ls t ≡ false → IsTracked rows f t
   tracked t less public =
       ap (λ (xs : List Bool). slice_get rows (public_number xs t)) (sym (append-nil ls))
-      ∙ row-at (marked all) [] 0 t (omega (arith, less, marks-many (marked all))) (ap (λ (xs : List Bool). is_local_term xs t) (append-nil ls) ∙ public)
+      ∙ row-at (marked all) [] 0 t (omega (arith, less, visibilities-many (marked all))) (ap (λ (xs : List Bool). is_local_term xs t) (append-nil ls) ∙ public)
       ∙ ap (λ (u : ℕ). Some u) (omega arith)
 
   row-is : (t : ℕ) → t < length ls → is_local_term ls t ≡ false → get_or rows (f t) 0 ≡ t
@@ -181,7 +181,7 @@ module _ (all : List Statement) (hidden : Tree → Bool) (n : ℕ) where
     new_used : HasNew names used
 
   pub few-terms : (env : List Declaration) (ss : List Statement) → IsAt ls env (marked ss) → length (signatures env) ≤ length ls
-  few-terms env ss at = let place = at.place in omega (arith, place, ap length at.all, length-append at.before (marks_of (marked ss)))
+  few-terms env ss at = let place = at.place in omega (arith, place, ap length at.all, length-append at.before (visibilities_of (marked ss)))
 
   -- ---- the name of a public statement
 

@@ -34,7 +34,7 @@ use Rattle.mz_prefix_theory.proofs.Shown.{names_from, length-names, name-there}
 pub record IsBehind (v : Vocabulary) (n : ℕ) (σ : State) : Type 0 where
   pub sorts_many : length σ.sort_names ≡ length (sorts σ.env)
   pub terms_many : length σ.term_names ≡ length (signatures σ.env)
-  pub marks_many : length σ.marks ≡ length σ.env
+  pub spans_many : length σ.spans ≡ length σ.env
   pub sort_at : (i : ℕ) → i < length σ.sort_names → get_or σ.sort_names i [] ≡ v.sort i
   pub term_at : (t : ℕ) → t < length σ.term_names → get_or σ.term_names t [] ≡ v.term t
   pub sort_number : (i : ℕ) → i < length (sorts σ.env) → number_of σ.sort_names (v.sort i) ≡ Some i

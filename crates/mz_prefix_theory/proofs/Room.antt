@@ -10,7 +10,7 @@ use Rattle.mz_logic_theory.specs.declared.binder.Binder.{Binder}
 use Rattle.mz_spec_theory.specs.declared.kind.Kind.{Kind}
 use Rattle.mz_spec_theory.specs.declared.kind.Kind.TheVariants.{Term, Assert, Definition}
 use Rattle.mz_mmu_theory.specs.Statements.{Statement}
-use Rattle.mz_prefix_theory.specs.Words.{Word, written}
+use Rattle.mz_prefix_theory.specs.Tokens.{Word, written}
 use Rattle.mz_prefix_theory.specs.Lines.{PlainBinder, Line, binder_words, binders_words, colon_words, end_words, type_words, body_words, hyps_words, math_word, head_words, title_words, line_words, line_text, lines_text}
 use Rattle.mz_prefix_theory.proofs.PlainLines.{written-append}
 use Rattle.mz_prefix_theory.specs.Declared.{Vocabulary, kind_of, formula_of, formulas_of, plain_type, plain_param, plain_dummy, plain_dummies, plain_binders, term_line_of, line_of_decl, lines_of}

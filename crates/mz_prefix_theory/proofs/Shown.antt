@@ -8,7 +8,7 @@ use Rattle.mz_lex.specs.Lexemes.{Lexeme}
 use Rattle.mz_logic_theory.specs.declared.binder.Binder.{Binder}
 use Rattle.mz_logic_theory.specs.Legality.{IsDummy}
 use Rattle.mz_spec_theory.specs.Statement.{TypeText}
-use Rattle.mz_prefix_theory.specs.Words.{lexeme_at, lexemes_at, stop}
+use Rattle.mz_prefix_theory.specs.Tokens.{lexeme_at, lexemes_at, stop}
 use Rattle.mz_prefix_theory.specs.Lines.{name_word, spaced_name, dep_words, type_at, opening_words, naming_words, binder_words, binders_at}
 use Rattle.mz_spec_theory.specs.View.{Variable, variables_of, name_of, params_of, dummies_of, names_of, name_texts}
 use Rattle.mz_spec_theory.specs.State.{variable_bytes, bytes_of}

@@ -8,7 +8,7 @@ use Rattle.mz_spec_theory.specs.declared.kind.Kind.{Kind}
 use Rattle.mz_spec_theory.specs.declared.kind.Kind.TheVariants.{Term, Assert, Definition}
 use Rattle.mz_spec_theory.specs.Statement.{Sign, keyword, symbol, name, formula, AreSigns, optional, each, modifier_signs, Modifiers, type_signs, name_signs, group_signs, premise_signs, body_signs, head_signs, end_signs, takes_dummies, opening_of, closing_of}
 use Rattle.mz_spec_theory.proofs.Offered.{are_signs-append}
-use Rattle.mz_prefix_theory.specs.Words.{Word, lexeme_at, lexemes_at, stop}
+use Rattle.mz_prefix_theory.specs.Tokens.{Word, lexeme_at, lexemes_at, stop}
 use Rattle.mz_prefix_theory.specs.Lines.{PlainType, PlainBinder, Tokens, sort_line, term_line, assert_line, definition_line, mark, spaced_mark, name_word, spaced_name, math_word, hyp_words, dep_words, type_words, type_at, dot_words, opening_words, naming_words, binder_words, binder_at, binders_words, binders_at, title_words, head_words, head_at, colon_words, end_words, hyps_words, hyps_at, body_words, body_at, modifier_names, sort_keywords, keyword_words, sort_words, colon_at, HaveNoDummies}
 use Rattle.mz_prefix_theory.specs.PrintLaws.{LinesSpellStatements}
 

@@ -23,7 +23,7 @@ use Rattle.mz_logic_theory.specs.declared.binder.SortMods.{SortMods}
 use Rattle.mz_logic_theory.proofs.Offered.{sort_by_rules}
 use Rattle.mz_math_tokens.specs.declared.tokens.MathToken.{MathToken}
 use Rattle.mz_spec_theory.specs.Statement.{TypeText}
-use Rattle.mz_prefix_theory.specs.Words.{lexeme_at, stop}
+use Rattle.mz_prefix_theory.specs.Tokens.{lexeme_at, stop}
 use Rattle.mz_prefix_theory.specs.Lines.{PlainBinder, Tokens, math_word, math_text, hyp_words, binders_at, type_at, hyps_at}
 use Rattle.mz_base.specs.Names.{IsKnown}
 use Rattle.mz_spec_theory.specs.View.{Named as NamedIn, Variable, Formula, claim, body, variables_of, types_of, group_types, group_stated, premise_stated, stated_claim, params_of, dummies_of, names_of}

@@ -1,5 +1,5 @@
 pub mod AgreeLaws
-pub mod Words
+pub mod Tokens
 pub mod Lines
 pub mod Plain
 pub mod Prefix

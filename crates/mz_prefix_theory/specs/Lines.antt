@@ -7,7 +7,7 @@ use Rattle.mz_spec_theory.specs.declared.kind.Kind.{Kind}
 use Rattle.mz_spec_theory.specs.declared.kind.Kind.TheVariants.{Term, Assert, Definition}
 use Rattle.mz_spec_theory.specs.Statement.{Modifiers, TypeText, Source, type_source, formula_source, Group, Head, Statement, sort_statement, term_statement, assert_statement, definition_statement, keyword_of, opening_of, closing_of}
 use Rattle.mz_lex.specs.Lexemes.{Lexeme}
-use Rattle.mz_prefix_theory.specs.Words.{Word, written, lexeme_at, lexemes_at, stop}
+use Rattle.mz_prefix_theory.specs.Tokens.{Word, written, lexeme_at, lexemes_at, stop}
 
 -- the name of a sort, and those of the variables on which something depends
 pub record PlainType : Type 0 where

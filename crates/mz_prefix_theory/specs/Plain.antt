@@ -5,7 +5,7 @@ use Rattle.mz_base.specs.Identifiers.{is_name}
 use Rattle.mz_lex.specs.Kinds.{is_space, is_math_byte}
 use Rattle.mz_lex.specs.Lexemes.{Lexeme}
 use Rattle.mz_math_tokens.specs.declared.tokens.MathToken.{MathToken}
-use Rattle.mz_prefix_theory.specs.Words.{lexemes_at}
+use Rattle.mz_prefix_theory.specs.Tokens.{lexemes_at}
 use Rattle.mz_prefix_theory.specs.Lines.{PlainType, PlainBinder, Tokens, Line, sort_line, term_line, assert_line, definition_line, line_words, next_line}
 
 -- ---- names and tokens

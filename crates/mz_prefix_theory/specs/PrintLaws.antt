@@ -3,7 +3,7 @@ use Rattle.std.specs.Prelude.{◌≡◌, ◌+◌, ◌++◌, ℕ, List, length, O
 use Rattle.mz_lex.specs.Lexemes.{Lexeme, LexesFrom, Lexes}
 use Rattle.mz_lex.specs.declared.token.LexFault.{LexFault}
 use Rattle.mz_spec_theory.specs.Statement.{Spells}
-use Rattle.mz_prefix_theory.specs.Words.{Word, written, lexemes_at, AreWords}
+use Rattle.mz_prefix_theory.specs.Tokens.{Word, written, lexemes_at, AreWords}
 use Rattle.mz_prefix_theory.specs.Lines.{Line, Tokens, line_words, lines_text, math_text, statement_at, HasItsDummies}
 use Rattle.mz_prefix_theory.specs.Plain.{ArePlain, AreTokens, lines_lexemes, tokens_at}
 use Rattle.mz_lex.specs.Kinds.{inside_of}

@@ -17,15 +17,15 @@ public_number (l ∷ ls) (suc t) = if l then public_number ls t else suc (public
 abbrev pub is_local_term : List Bool → ℕ → Bool
 is_local_term ls t = get_or ls t false
 
-abbrev pub mark_of : Bool → Declaration → List Bool
-mark_of is_local (sort_decl _) = []
-mark_of is_local (term_decl _) = is_local ∷ []
-mark_of is_local (assertion_decl _) = []
+abbrev pub visibility_of : Bool → Declaration → List Bool
+visibility_of is_local (sort_decl _) = []
+visibility_of is_local (term_decl _) = is_local ∷ []
+visibility_of is_local (assertion_decl _) = []
 
 -- of each term of the statements, whether it is local
-abbrev pub marks_of : List Statement → List Bool
-marks_of [] = []
-marks_of (s ∷ ss) = mark_of s.is_local s.decl ++ marks_of ss
+abbrev pub visibilities_of : List Statement → List Bool
+visibilities_of [] = []
+visibilities_of (s ∷ ss) = visibility_of s.is_local s.decl ++ visibilities_of ss
 
 -- ---- expressions
 
@@ -71,7 +71,7 @@ public_decls hidden f [] = []
 public_decls hidden f (s ∷ ss) = if s.is_local then public_decls hidden f ss else public_decl hidden f s.decl ∷ public_decls hidden f ss
 
 abbrev pub public_part : (Tree → Bool) → List Statement → List Declaration
-public_part hidden ss = public_decls hidden (public_number (marks_of ss)) ss
+public_part hidden ss = public_decls hidden (public_number (visibilities_of ss)) ss
 
 -- ---- what can be said without local definitions
 

@@ -3,7 +3,7 @@ use Rattle.std.specs.Prelude.{◌≡◌, ◌≤◌, ◌++◌, ◌&&◌, ◌||◌
 use Rattle.mz_base_theory.specs.Checks.{Checks, nothing, demand, ◌>>◌, AllHold, FailsFirst}
 use Rattle.mz_logic_theory.specs.Tree.{Tree}
 use Rattle.mz_logic_theory.specs.Declaration.{Declaration, sort_decl, term_decl, assertion_decl}
-use Rattle.mz_prefix_theory.specs.PublicPart.{marks_of, mentions_local, public_decl, IsSayable}
+use Rattle.mz_prefix_theory.specs.PublicPart.{visibilities_of, mentions_local, public_decl, IsSayable}
 use Rattle.mz_math_theory.specs.Meaning.{height}
 use Rattle.mz_math_theory.specs.Formula.{most}
 use Rattle.mz_prefix_theory.specs.Prefix.{IsShort}
@@ -32,7 +32,7 @@ vocabulary_of ss = vocabulary_from (sort_names ss) (term_names ss) (variable_pre
 
 -- of each term, whether it is local
 abbrev pub local_terms : List Statement → List Bool
-local_terms ss = marks_of (marked ss)
+local_terms ss = visibilities_of (marked ss)
 
 -- its prefix form is within the limits of a math string
 abbrev pub is_short : Vocabulary → Tree → Bool

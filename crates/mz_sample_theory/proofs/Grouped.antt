@@ -13,7 +13,7 @@ use Rattle.mz_spec_theory.specs.Reading.{place_of_first}
 use Rattle.mz_spec_theory.specs.State.{State}
 use Rattle.mz_spec_theory.specs.Spec.{IsGood}
 use Rattle.mz_spec_theory.specs.View.{Variable, Formula, assertions, variables_of, claim, stated_claim, premise_stated}
-use Rattle.mz_prefix_theory.specs.Words.{Word, lexeme_at, lexemes_at, stop}
+use Rattle.mz_prefix_theory.specs.Tokens.{Word, lexeme_at, lexemes_at, stop}
 use Rattle.mz_prefix_theory.specs.Lines.{PlainType, Tokens, mark, spaced_mark, name_word, spaced_name, math_word, type_words, type_at, title_words, colon_words, end_words, hyps_words, hyps_at}
 use Rattle.mz_prefix_theory.specs.Declared.{IsPrintable, formula_of, formulas_of}
 use Rattle.mz_base_theory.specs.Checks.{AllHold, each_in_order}

@@ -2,7 +2,7 @@
 use Rattle.std.proofs.Common.{◌≡◌, ◌+◌, ◌++◌, ◌∷◌, [], ℕ, List, length, None, ap, sym, refl, subst, arith, append_assoc, append-nil, length-append, ◌∙◌}
 use Rattle.std.specs.Prelude.{⊤, codes}
 use Rattle.mz_lex.specs.Lexemes.{LexesFrom, Lexeme}
-use Rattle.mz_prefix_theory.specs.Words.{Word, written, stop, lexemes_at, AreWords}
+use Rattle.mz_prefix_theory.specs.Tokens.{Word, written, stop, lexemes_at, AreWords}
 use Rattle.mz_prefix_theory.proofs.Offered.{via-spaces, words-are-lexemes, blank-first, stop-is}
 
 abbrev pub row_text : List Word → List ℕ

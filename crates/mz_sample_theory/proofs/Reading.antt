@@ -6,7 +6,7 @@ use Rattle.mz_spec_theory.specs.Reading.{place_of_first}
 use Rattle.mz_spec_theory.specs.State.{State, nothing}
 use Rattle.mz_spec_theory.specs.Spec.{IsGood, Stand}
 use Rattle.mz_spec_theory.specs.Declaring.{After}
-use Rattle.mz_prefix_theory.specs.Words.{Word, lexemes_at, AreWords}
+use Rattle.mz_prefix_theory.specs.Tokens.{Word, lexemes_at, AreWords}
 use Rattle.mz_prefix_theory.specs.Lines.{line_words, statement_at}
 use Rattle.mz_prefix_theory.specs.Declared.{Vocabulary, HasVariables, IsPrintable, line_of_decl, used_with}
 use Rattle.mz_prefix_theory.proofs.Offered.{Step, behind-nothing, its-dummies, line-plain, step-of, IsBehind, lines-spell, line-is}
@@ -25,7 +25,7 @@ behind-as : (f g : ℕ → List ℕ) (σ : State) → AreVariables g → IsBehin
 behind-as f g σ are behind = record {
   sorts_many = behind.sorts_many;
   terms_many = behind.terms_many;
-  marks_many = behind.marks_many;
+  spans_many = behind.spans_many;
   sort_at = behind.sort_at;
   term_at = behind.term_at;
   sort_number = behind.sort_number;
@@ -96,7 +96,7 @@ pub record AllRead (σ : State) (p : ℕ) (wss : List (List Word)) (env ds : Lis
   pub statements : List Statement
   pub stand : Stand σ statements (rows_lexemes p wss) last []
   pub env_is : last.env ≡ env ++ ds
-  pub marks : length last.marks ≡ length last.env
+  pub spans : length last.spans ≡ length last.env
   pub are : AreRows wss
 
 pub none-read : (σ : State) (p : ℕ) (env : List Declaration) (used : List (List ℕ)) → Ready σ env used → AllRead σ p [] env []
@@ -105,7 +105,7 @@ none-read σ p env used ready = record {
   statements = [];
   stand = (refl, refl);
   env_is = ready.env_is ∙ sym (append-nil env);
-  marks = ready.behind.marks_many;
+  spans = ready.behind.spans_many;
   are = tt;
 }
 
@@ -116,6 +116,6 @@ one-more-read σ p ws wss env used name d ds one rest = record {
   statements = one.statement ∷ rest.statements;
   stand = (lexemes_at p ws, rows_lexemes (next_row p ws) wss, one.state, refl, one.spells, one.good, one.after, rest.stand);
   env_is = rest.env_is ∙ append_assoc env (d ∷ []) ds;
-  marks = rest.marks;
+  spans = rest.spans;
   are = (one.are, rest.are);
 }

@@ -9,7 +9,7 @@ use Rattle.mz_logic_theory.specs.Examples.{im_declared, ax_1, ax_mp}
 use Rattle.mz_spec_theory.specs.State.{State, nothing, entries_of}
 use Rattle.mz_spec_theory.specs.Spec.{SpecOf}
 use Rattle.mz_spec_theory.proofs.Offered.{entries-decls}
-use Rattle.mz_prefix_theory.specs.Words.{Word, written}
+use Rattle.mz_prefix_theory.specs.Tokens.{Word, written}
 use Rattle.mz_prefix_theory.specs.Lines.{Tokens, spaced, math_text, line_words}
 use Rattle.mz_prefix_theory.specs.Prefix.{IsShort}
 use Rattle.mz_prefix_theory.specs.Declared.{IsPrintable, line_of_decl, formula_of}
@@ -274,7 +274,7 @@ sample-specified n few =
     let all_ = sample-is-read n few in
     let e : 0 + n ≡ n = omega arith in
     subst (λ (text : List ℕ). SpecOf text (sample_declarations n)) (head-text n ∙ numbered-text 0 n ∙ ap sample_specification e) (
-      entries_of all_.last.env all_.last.marks,
+      entries_of all_.last.env all_.last.spans,
       (rows_lexemes 0 (sample_rows n), all_.statements, all_.last, rows-from (sample_rows n) [] all_.are, all_.stand, refl),
-      sym (entries-decls all_.last.env all_.last.marks all_.marks ∙ all_.env_is),
+      sym (entries-decls all_.last.env all_.last.spans all_.spans ∙ all_.env_is),
     )

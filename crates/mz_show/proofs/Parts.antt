@@ -11,7 +11,7 @@ use Rattle.mz_show.specs.declared.place.Place.{Place}
 use Rattle.mz_show.specs.declared.stream.Stream.TheVariants.{Unify, Proof}
 use Rattle.mz_show.specs.declared.stop.Stop.{Stop}
 use Rattle.mz_show.specs.declared.stop.Stop.TheVariants.{Refused, Mem}
-use Rattle.mz_show.specs.Words.{texts}
+use Rattle.mz_show.specs.Tokens.{texts}
 use Rattle.mz_show.specs.Streams.{EndStands, LeadsTo, command_line}
 use Rattle.mz_show.specs.Statements.{Statement, unify_at, has_streams, place_checks, told_there, part_checks, statement_checks, row_text, streams_text, statement_text, refusal_at}
 use Rattle.mz_show.specs.Answers.{AppendsRun, IsThere, IfRefused, TellsStreams, TellsStatement}

@@ -1,8 +1,7 @@
 -- Texts one after another.
-use Rattle.std.proofs.Common.{◌≡◌, ◌≤◌, ◌++◌, ◌+◌, ℕ, zero, suc, cond, List, [], ◌∷◌, take, length, slice_get, Some, Result, Ok, Err, OnOk, refl, ap, sym, ◌∙◌, append_assoc, append-nil, add-one}
-use Rattle.std.specs.Prelude.{is_ok}
+use Rattle.std.proofs.Common.{◌≡◌, ◌≤◌, ◌++◌, ◌+◌, ℕ, zero, suc, List, [], ◌∷◌, take, length, slice_get, Some, refl, ap, sym, ◌∙◌, append_assoc, append-nil, add-one}
 use Rattle.std.proofs.lemmas.List.{take_all}
-use Rattle.mz_show.specs.Words.{texts}
+use Rattle.mz_show.specs.Tokens.{texts}
 
 pub texts-append : {A : Type 0} → (text : A → List ℕ) → (xs ys : List A) → texts text (xs ++ ys) ≡ texts text xs ++ texts text ys
 texts-append text [] ys = refl
@@ -18,23 +17,16 @@ take-more (y ∷ xs) zero x e = let same : y ≡ x = cc in ap (λ z. z ∷ []) s
 take-more (y ∷ xs) (suc i) x e = ap (λ rest. y ∷ rest) (take-more xs i x e)
 
 -- one more element's text was appended
-pub texts-more : {A : Type 0} → (text : A → List ℕ) → (xs : List A) (i : ℕ) (x : A) (first before now line : List ℕ) → slice_get xs i ≡ Some x →
-    before ≡ first ++ texts text (take i xs) → line ≡ text x → now ≡ before ++ line → now ≡ first ++ texts text (take (i + 1) xs)
-texts-more text xs i x first before now line at e f g =
+pub texts-more : {A : Type 0} → (text : A → List ℕ) → (xs : List A) (i : ℕ) (x : A) (first before now : List ℕ) → slice_get xs i ≡ Some x →
+    before ≡ first ++ texts text (take i xs) → now ≡ before ++ text x → now ≡ first ++ texts text (take (i + 1) xs)
+texts-more text xs i x first before now at e f =
     let more : take (i + 1) xs ≡ take i xs ++ x ∷ [] = ap (λ (n : ℕ). take n xs) (add-one i) ∙ take-more xs i x at in
     let all : texts text (take (i + 1) xs) ≡ texts text (take i xs) ++ text x = ap (λ ys. texts text ys) more ∙ texts-snoc text (take i xs) x in
-    let line_too : before ++ line ≡ (first ++ texts text (take i xs)) ++ text x = cc in
-    g ∙ line_too ∙ append_assoc first (texts text (take i xs)) (text x) ∙ ap (λ rest. first ++ rest) (sym all)
-
--- what a call left where it went well
-pub on-ok : {T E : Type 0} → (r : Result T E) (new grown old wanted : List ℕ) → new ≡ cond (is_ok r) grown old → grown ≡ wanted → OnOk r (new ≡ wanted)
-on-ok (Ok x) new grown old wanted e f = e ∙ f
-on-ok (Err x) new grown old wanted e f = tt
+    f ∙ ap (λ front. front ++ text x) e ∙ append_assoc first (texts text (take i xs)) (text x) ∙ ap (λ rest. first ++ rest) (sym all)
 
 -- all elements' texts, and what follows them
-pub texts-whole : {A : Type 0} → (text : A → List ℕ) → (xs : List A) (i : ℕ) (first before line last : List ℕ) → length xs ≤ i →
-    before ≡ first ++ texts text (take i xs) → line ≡ last → before ++ line ≡ first ++ (texts text xs ++ last)
-texts-whole text xs i first before line last past e f =
+pub texts-whole : {A : Type 0} → (text : A → List ℕ) → (xs : List A) (i : ℕ) (first before last : List ℕ) → length xs ≤ i →
+    before ≡ first ++ texts text (take i xs) → before ++ last ≡ first ++ (texts text xs ++ last)
+texts-whole text xs i first before last past e =
     let whole : texts text (take i xs) ≡ texts text xs = ap (λ ys. texts text ys) (take_all i xs past) in
-    let both : before ++ line ≡ (first ++ texts text xs) ++ last = cc in
-    both ∙ append_assoc first (texts text xs) last
+    ap (λ front. front ++ last) (e ∙ ap (λ lines. first ++ lines) whole) ∙ append_assoc first (texts text xs) last

@@ -10,7 +10,7 @@ use Rattle.mz_show.specs.declared.statement.Next.TheVariants as next
 use Rattle.mz_show.specs.declared.stream.Stream.{Stream}
 use Rattle.mz_show.specs.declared.stop.Stop.{Stop}
 use Rattle.mz_show.specs.declared.stop.Stop.TheVariants.{Refused, Mem}
-use Rattle.mz_show.specs.Words.{texts}
+use Rattle.mz_show.specs.Tokens.{texts}
 use Rattle.mz_show.specs.Streams.{IsLongest, command_line}
 use Rattle.mz_show.specs.Statements.{Statement, Stands, after, part_checks, statement_checks, streams_text, statement_text, has_streams}
 use Rattle.mz_show.specs.Listing.{EndsAt, StopsAt}

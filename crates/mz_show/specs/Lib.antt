@@ -1,4 +1,4 @@
-pub mod Words
+pub mod Tokens
 pub mod Streams
 pub mod Statements
 pub mod Listing

@@ -12,7 +12,7 @@ use Rattle.mz_layout_tables.specs.Heads.{IsHeadAt, empty_checks, head_checks, ne
 use Rattle.mz_layout_tables.specs.declared.head.Head.{Head}
 use Rattle.mz_show.specs.declared.place.Place.{Place}
 use Rattle.mz_show.specs.declared.stream.Stream.TheVariants.{Unify, Proof}
-use Rattle.mz_show.specs.Words.{texts, numbered, param_line, result_line}
+use Rattle.mz_show.specs.Tokens.{texts, numbered, param_line, result_line}
 use Rattle.mz_show.specs.Streams.{Run, IsLongest, EndStands, LeadsTo, stream_text}
 
 -- ---- places

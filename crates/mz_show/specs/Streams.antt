@@ -8,7 +8,7 @@ use Rattle.mz_cmd.specs.Codes.{unify_code, proof_code}
 use Rattle.mz_cmd.specs.Reading.{command_at}
 use Rattle.mz_show.specs.declared.stream.Stream.{Stream}
 use Rattle.mz_show.specs.declared.stream.Stream.TheVariants.{Unify, Proof}
-use Rattle.mz_show.specs.Words.{texts, unify_name, unify_has_number, proof_name, proof_has_number, command_words}
+use Rattle.mz_show.specs.Tokens.{texts, unify_name, unify_has_number, proof_name, proof_has_number, command_words}
 
 -- a command of the stream, other than its end, has this code
 abbrev pub belongs : Stream → ℕ → Bool

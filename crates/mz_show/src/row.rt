@@ -1,15 +1,14 @@
 // The lines of the row that a statement takes.
-ghost use Rattle.std.specs.Prelude.{◌≡◌, ◌<◌, ◌++◌, IfOk, OnOk, string_bytes};
+ghost use Rattle.std.specs.Prelude.{◌≡◌, ◌<◌, ◌++◌, OnOk};
 ghost use Rattle.mz_layout_tables.specs.Tables.{term_count, thm_count};
 ghost use Rattle.mz_layout_tables.specs.Heads.{next_row, row_count};
 ghost use Rattle.mz_show.specs.Statements.{has_streams, heading, kind_name, row_number, row_text, term_lines, thm_lines, unify_at, word_lines};
 
 use crate::place::Place;
-use crate::words;
+use crate::words::{put_number, put_param, put_result};
 use mz_cmd::{Mem, StatementCode};
 use mz_layout_tables::Mmb;
 use mz_logic_theory::Terms;
-use std::alloc::Global;
 
 /// Whether the statement has a unify stream and a body with commands.
 #[tactic(auto, using(mz_layout_tables::proofs::TableLists::row_facts))]
@@ -41,19 +40,12 @@ pub fn unify_at(mmb: &Mmb, place: Place, code: StatementCode) -> u32
 }
 
 /// Appends the line of the statement's kind and row, and those of the row's words.
-pub fn list_row(
-    alloc: Global,
-    mmb: &Mmb,
-    place: Place,
-    code: StatementCode,
-    text: &mut Vec<u8>,
-) -> Result<(), Mem>
+pub fn list_row(mmb: &Mmb, place: Place, code: StatementCode, text: &mut Vec<u8>) -> Result<(), Mem>
     requires { next_row place.rows code < row_count mmb.now code }
     ensures { OnOk result (text.new.items ≡ text.old.items ++ row_text mmb.now place code) }
 {
-    let heading = heading(alloc, mmb, place, code)?;
-    text.extend_from_slice(heading.as_bytes())?;
-    list_words(alloc, mmb, place, code, text)
+    put_heading(mmb, place, code, text)?;
+    list_words(mmb, place, code, text)
 }
 
 /// The name of the statement's kind.
@@ -93,62 +85,53 @@ fn row_number(mmb: &Mmb, place: Place, code: StatementCode) -> u32
     }
 }
 
-/// The line of the statement's kind and row.
-fn heading(alloc: Global, mmb: &Mmb, place: Place, code: StatementCode) -> Result<String, Mem>
+/// Appends the line of the statement's kind and row.
+fn put_heading(mmb: &Mmb, place: Place, code: StatementCode, text: &mut Vec<u8>) -> Result<(), Mem>
     requires { next_row place.rows code < row_count mmb.now code }
-    ensures { IfOk result (λ line. string_bytes line ≡ heading mmb.now place code) }
+    ensures { OnOk result (text.new.items ≡ text.old.items ++ heading mmb.now place code) }
 {
-    let kind = kind_name(mmb, place, code);
-    let row = place.rows.next(code);
-    let number = row_number(mmb, place, code);
-    format!(in alloc; "{kind} {row} {number}\n")
+    text.extend_from_slice(kind_name(mmb, place, code).as_bytes())?;
+    put_number(place.rows.next(code), text)?;
+    put_number(row_number(mmb, place, code), text)?;
+    text.extend_from_slice(b"\n")
 }
 
 /// Appends the lines of the row's words.
-fn list_words(
-    alloc: Global,
-    mmb: &Mmb,
-    place: Place,
-    code: StatementCode,
-    text: &mut Vec<u8>,
-) -> Result<(), Mem>
+fn list_words(mmb: &Mmb, place: Place, code: StatementCode, text: &mut Vec<u8>) -> Result<(), Mem>
     requires { next_row place.rows code < row_count mmb.now code }
     ensures { OnOk result (text.new.items ≡ text.old.items ++ word_lines mmb.now place code) }
 {
     match code {
         StatementCode::Sort => Ok(()),
         StatementCode::Term | StatementCode::LocalDefinition => {
-            list_term(alloc, mmb, place.rows.terms, text)
+            list_term(mmb, place.rows.terms, text)
         }
         StatementCode::Axiom | StatementCode::Theorem | StatementCode::LocalTheorem => {
-            list_thm(alloc, mmb, place.rows.thms, text)
+            list_thm(mmb, place.rows.thms, text)
         }
     }
 }
 
 /// Appends the lines of a term's parameters and of its result.
 #[tactic(auto, using(mz_layout_tables::proofs::TableLists::row_facts))]
-fn list_term(alloc: Global, mmb: &Mmb, t: u32, text: &mut Vec<u8>) -> Result<(), Mem>
+fn list_term(mmb: &Mmb, t: u32, text: &mut Vec<u8>) -> Result<(), Mem>
     requires { t < term_count mmb.now }
     ensures { OnOk result (text.new.items ≡ text.old.items ++ term_lines mmb.now t) }
 {
     for i in 0..mmb.arity(t) {
-        let line = words::param_line(alloc, mmb.param(t, i))?;
-        text.extend_from_slice(line.as_bytes())?;
+        put_param(mmb.param(t, i), text)?;
     }
-    let line = words::result_line(alloc, mmb.result(t))?;
-    text.extend_from_slice(line.as_bytes())
+    put_result(mmb.result(t), text)
 }
 
 /// Appends the lines of the parameters of an axiom or a theorem.
 #[tactic(auto, using(mz_layout_tables::proofs::TableLists::row_facts))]
-fn list_thm(alloc: Global, mmb: &Mmb, thm: u32, text: &mut Vec<u8>) -> Result<(), Mem>
+fn list_thm(mmb: &Mmb, thm: u32, text: &mut Vec<u8>) -> Result<(), Mem>
     requires { thm < thm_count mmb.now }
     ensures { OnOk result (text.new.items ≡ text.old.items ++ thm_lines mmb.now thm) }
 {
     for i in 0..mmb.thm_arity(thm) {
-        let line = words::param_line(alloc, mmb.thm_param(thm, i))?;
-        text.extend_from_slice(line.as_bytes())?;
+        put_param(mmb.thm_param(thm, i), text)?;
     }
     Ok(())
 }

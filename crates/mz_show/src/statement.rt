@@ -11,7 +11,6 @@ use crate::stop::Stop;
 use crate::stream::{Stream, end_stands, leads_to, list_commands};
 use mz_cmd::{K, Refusal};
 use mz_layout_tables::{Head, HeadOrEnd, Mmb, head_at};
-use std::alloc::Global;
 
 /// What stands at a place of the list of statements.
 #[derive(Clone, Copy)]
@@ -25,25 +24,25 @@ pub enum Next {
 }
 
 /// What stands at a place of the list. A statement's lines are appended to the text.
-pub fn list_next(alloc: Global, mmb: &Mmb, place: Place, text: &mut Vec<u8>) -> Next
+pub fn list_next(mmb: &Mmb, place: Place, text: &mut Vec<u8>) -> Next
     requires { IsWithin mmb.now place }
     ensures { IsNext mmb.now place text.old.items text.new.items result }
 {
     match head_at(mmb, place.rows, place.at) {
-        Ok(HeadOrEnd::Statement(head)) => list_head(alloc, mmb, place, head, text),
+        Ok(HeadOrEnd::Statement(head)) => list_head(mmb, place, head, text),
         Ok(HeadOrEnd::End) => Next::End,
         Err((at, rule)) => Next::Refused(place.refusal(at, rule)),
     }
 }
 
 /// A statement of which the first command is read.
-fn list_head(alloc: Global, mmb: &Mmb, place: Place, head: Head, text: &mut Vec<u8>) -> Next
+fn list_head(mmb: &Mmb, place: Place, head: Head, text: &mut Vec<u8>) -> Next
     requires within { IsWithin mmb.now place }
     requires stands { IsNextHead mmb.now place.rows place.at head }
     requires holds { AllHold (place_checks mmb.now place) }
     ensures { IsNext mmb.now place text.old.items text.new.items result }
 {
-    match list_statement(alloc, mmb, place, head, text) {
+    match list_statement(mmb, place, head, text) {
         Ok(()) => Next::Statement(place.after(head.code, head.next)),
         Err(Stop::Refused(refusal)) => Next::Refused(refusal),
         Err(Stop::Mem) => Next::Mem,
@@ -51,29 +50,17 @@ fn list_head(alloc: Global, mmb: &Mmb, place: Place, head: Head, text: &mut Vec<
 }
 
 /// Appends the lines of a statement of which nothing fails.
-fn list_statement(
-    alloc: Global,
-    mmb: &Mmb,
-    place: Place,
-    head: Head,
-    text: &mut Vec<u8>,
-) -> Result<(), Stop>
+fn list_statement(mmb: &Mmb, place: Place, head: Head, text: &mut Vec<u8>) -> Result<(), Stop>
     requires stands { IsNextHead mmb.now place.rows place.at head }
     requires holds { AllHold (place_checks mmb.now place) }
     ensures { TellsStatement mmb.now place head text.old.items text.new.items result }
 {
-    list_row(alloc, mmb, place, head.code, text)?;
-    list_streams(alloc, mmb, place, head, text)
+    list_row(mmb, place, head.code, text)?;
+    list_streams(mmb, place, head, text)
 }
 
 /// Appends the lines of a statement's unify stream and body, where it has them.
-fn list_streams(
-    alloc: Global,
-    mmb: &Mmb,
-    place: Place,
-    head: Head,
-    text: &mut Vec<u8>,
-) -> Result<(), Stop>
+fn list_streams(mmb: &Mmb, place: Place, head: Head, text: &mut Vec<u8>) -> Result<(), Stop>
     requires { IsNextHead mmb.now place.rows place.at head }
     ensures { TellsStreams mmb.now place head text.old.items text.new.items result }
 {
@@ -82,13 +69,13 @@ fn list_streams(
     }
     let file = mmb.file();
     let unify_from = unify_at(mmb, place, head.code);
-    let unify_end = list_commands(alloc, Stream::Unify, file, unify_from, text)?;
+    let unify_end = list_commands(Stream::Unify, file, unify_from, text)?;
     if !end_stands(file, unify_end) {
         return Err(Stop::Refused(place.refusal(unify_end, K::Command)));
     }
     text.extend_from_slice(b" u end\n")?;
     let statement = &file[..head.next as usize];
-    let body_end = list_commands(alloc, Stream::Proof, statement, head.body, text)?;
+    let body_end = list_commands(Stream::Proof, statement, head.body, text)?;
     if !end_stands(statement, body_end) {
         return Err(Stop::Refused(place.refusal(body_end, K::Command)));
     }

@@ -1,11 +1,10 @@
 // The commands of a unify stream or a body.
-ghost use Rattle.std.specs.Prelude.{◌≡◌, ◌≤◌, ◌<◌, ◌^◌, ◌↔◌, length, IsTrue, IfOk, MatchOption, string_bytes};
+ghost use Rattle.std.specs.Prelude.{◌≡◌, ◌≤◌, ◌<◌, ◌^◌, ◌↔◌, ◌++◌, length, IsTrue, IfOk, if◌then◌else◌};
 ghost use Rattle.mz_show.specs.Streams.{EndStands, LeadsTo, belongs, command_line};
 ghost use Rattle.mz_show.specs.Answers.{AppendsRun};
 
-use crate::words::{proof_words, unify_words};
+use crate::words::{put_proof_line, put_unify_line};
 use mz_cmd::{Cmd, END, Mem, ProofCode, UnifyCode, cmd_at};
-use std::alloc::Global;
 
 /// What commands are read as.
 #[derive(Clone, Copy)]
@@ -19,7 +18,6 @@ pub enum Stream {
 /// Appends the lines of the commands from a place on, up to the first place where none of the
 /// stream stands, and gives that place.
 pub fn list_commands(
-    alloc: Global,
     stream: Stream,
     bytes: &[u8],
     from: u32,
@@ -35,34 +33,33 @@ pub fn list_commands(
         let Ok(cmd) = cmd_at(bytes, at) else {
             return Ok(at);
         };
-        let Some(line) = line_of(alloc, stream, cmd)? else {
+        if !put_command(stream, cmd, text)? {
             return Ok(at);
-        };
-        text.extend_from_slice(line.as_bytes())?;
+        }
         at += u32::from(cmd.len);
     }
 }
 
-/// The line of a command, where it is one of the stream.
-fn line_of(alloc: Global, stream: Stream, cmd: Cmd) -> Result<Option<String>, Mem>
-    ensures { IfOk result (λ found. MatchOption found (IsTrue (belongs stream cmd.code) → ⊥) (λ line. IsTrue (belongs stream cmd.code) × (string_bytes line ≡ command_line stream cmd))) }
+/// Appends the line of a command, where it is one of the stream; or says that it isn't.
+fn put_command(stream: Stream, cmd: Cmd, text: &mut Vec<u8>) -> Result<bool, Mem>
+    ensures found { IfOk result (λ found. found ≡ belongs stream cmd.code) }
+    ensures appended { IfOk result (λ found. text.new.items ≡ (if found then text.old.items ++ command_line stream cmd else text.old.items)) }
 {
     match stream {
         Stream::Unify => {
             let Ok(code) = UnifyCode::try_from(cmd.code) else {
-                return Ok(None);
+                return Ok(false);
             };
-            let words = unify_words(alloc, code, cmd.value)?;
-            Ok(Some(format!(in alloc; " u {words}\n")?))
+            put_unify_line(code, cmd.value, text)?;
         }
         Stream::Proof => {
             let Ok(code) = ProofCode::try_from(cmd.code) else {
-                return Ok(None);
+                return Ok(false);
             };
-            let words = proof_words(alloc, code, cmd.value)?;
-            Ok(Some(format!(in alloc; " p {words}\n")?))
+            put_proof_line(code, cmd.value, text)?;
         }
     }
+    Ok(true)
 }
 
 /// Whether END stands at a place.

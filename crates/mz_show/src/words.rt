@@ -1,32 +1,45 @@
 // The tokens of a listing's lines.
-ghost use Rattle.std.specs.Prelude.{◌≡◌, IsTrue, IfOk, string_bytes};
-ghost use Rattle.mz_show.specs.Words.{command_words, param_line, proof_has_number, proof_name, result_line, unify_has_number, unify_name, word_text};
+ghost use Rattle.std.specs.Prelude.{◌≡◌, ◌++◌, OnOk, codes, decimal};
+ghost use Rattle.mz_show.specs.Tokens.{command_words, param_line, proof_has_number, proof_name, result_line, unify_has_number, unify_name, word_text};
 
+use itoa::Buffer;
 use mz_cmd::{Mem, ProofCode, UnifyCode};
 use mz_logic_theory::Word;
-use std::alloc::Global;
 
-/// A type word's sixteen hexadecimal digits, the most significant first.
-fn word_text(alloc: Global, word: Word) -> Result<String, Mem>
-    ensures { IfOk result (λ text. string_bytes text ≡ word_text word) }
+/// Appends a type word's sixteen hexadecimal digits, the most significant first.
+fn put_word(word: Word, text: &mut Vec<u8>) -> Result<(), Mem>
+    ensures { OnOk result (text.new.items ≡ text.old.items ++ word_text word) }
 {
-    hex::encode(alloc, word.0.to_be_bytes())
+    let mut digits = [0; 16];
+    hex::encode_to_slice(word.0.to_be_bytes(), &mut digits).unwrap();
+    text.extend_from_slice(&digits)
 }
 
-/// A parameter's line.
-pub fn param_line(alloc: Global, word: Word) -> Result<String, Mem>
-    ensures { IfOk result (λ line. string_bytes line ≡ param_line word) }
+/// Appends a parameter's line.
+pub fn put_param(word: Word, text: &mut Vec<u8>) -> Result<(), Mem>
+    ensures { OnOk result (text.new.items ≡ text.old.items ++ param_line word) }
 {
-    let digits = word_text(alloc, word)?;
-    format!(in alloc; " param {digits}\n")
+    text.extend_from_slice(b" param ")?;
+    put_word(word, text)?;
+    text.extend_from_slice(b"\n")
 }
 
-/// A result's line.
-pub fn result_line(alloc: Global, word: Word) -> Result<String, Mem>
-    ensures { IfOk result (λ line. string_bytes line ≡ result_line word) }
+/// Appends a result's line.
+pub fn put_result(word: Word, text: &mut Vec<u8>) -> Result<(), Mem>
+    ensures { OnOk result (text.new.items ≡ text.old.items ++ result_line word) }
 {
-    let digits = word_text(alloc, word)?;
-    format!(in alloc; " result {digits}\n")
+    text.extend_from_slice(b" result ")?;
+    put_word(word, text)?;
+    text.extend_from_slice(b"\n")
+}
+
+/// Appends a space and a number.
+pub fn put_number(number: u32, text: &mut Vec<u8>) -> Result<(), Mem>
+    ensures { OnOk result (text.new.items ≡ text.old.items ++ (codes " " ++ decimal number)) }
+{
+    let mut buffer = Buffer::new();
+    text.extend_from_slice(b" ")?;
+    text.extend_from_slice(buffer.format(number).as_bytes())
 }
 
 /// The name of a unify stream's command.
@@ -83,28 +96,32 @@ fn proof_has_number(code: ProofCode) -> bool
     )
 }
 
-/// A command, with its number where that is listed.
-fn command_words(alloc: Global, has_number: bool, name: &str, value: u32) -> Result<String, Mem>
-    ensures { IfOk result (λ words. string_bytes words ≡ command_words has_number name.now value) }
+/// Appends a command, with its number where that is listed.
+fn put_words(has_number: bool, name: &str, value: u32, text: &mut Vec<u8>) -> Result<(), Mem>
+    ensures { OnOk result (text.new.items ≡ text.old.items ++ command_words has_number name.now value) }
 {
+    text.extend_from_slice(name.as_bytes())?;
     if has_number {
-        format!(in alloc; "{name} {value}")
-    } else {
-        format!(in alloc; "{name}")
+        put_number(value, text)?;
     }
+    Ok(())
 }
 
-/// A unify stream's command.
-pub fn unify_words(alloc: Global, code: UnifyCode, value: u32) -> Result<String, Mem>
-    ensures { IfOk result (λ words. string_bytes words ≡ command_words (unify_has_number code) (unify_name code) value) }
+/// Appends the line of a unify stream's command.
+pub fn put_unify_line(code: UnifyCode, value: u32, text: &mut Vec<u8>) -> Result<(), Mem>
+    ensures { OnOk result (text.new.items ≡ text.old.items ++ (codes " u " ++ command_words (unify_has_number code) (unify_name code) value ++ codes "\n")) }
 {
     let has_number = !matches!(code, UnifyCode::Hyp);
-    command_words(alloc, has_number, unify_name(code), value)
+    text.extend_from_slice(b" u ")?;
+    put_words(has_number, unify_name(code), value, text)?;
+    text.extend_from_slice(b"\n")
 }
 
-/// A body's command.
-pub fn proof_words(alloc: Global, code: ProofCode, value: u32) -> Result<String, Mem>
-    ensures { IfOk result (λ words. string_bytes words ≡ command_words (proof_has_number code) (proof_name code) value) }
+/// Appends the line of a body's command.
+pub fn put_proof_line(code: ProofCode, value: u32, text: &mut Vec<u8>) -> Result<(), Mem>
+    ensures { OnOk result (text.new.items ≡ text.old.items ++ (codes " p " ++ command_words (proof_has_number code) (proof_name code) value ++ codes "\n")) }
 {
-    command_words(alloc, proof_has_number(code), proof_name(code), value)
+    text.extend_from_slice(b" p ")?;
+    put_words(proof_has_number(code), proof_name(code), value, text)?;
+    text.extend_from_slice(b"\n")
 }

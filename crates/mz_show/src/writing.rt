@@ -71,9 +71,10 @@ fn list_statements<O: Sink>(alloc: Global, mmb: &Mmb, out: &mut O) -> Shown
             thms: 0,
         },
     };
+    let mut text = Vec::new(alloc);
     'statements: loop {
-        let mut text = Vec::new(alloc);
-        match list_next(alloc, mmb, place, &mut text) {
+        text.clear();
+        match list_next(mmb, place, &mut text) {
             Next::Statement(after) => {
                 let Ok(()) = write_whole(out, &text) else {
                     return Shown::Fault;

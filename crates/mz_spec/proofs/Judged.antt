@@ -58,11 +58,11 @@ terms-few (sort_decl m ∷ ds) = omega (arith, terms-few ds)
 terms-few (term_decl d ∷ ds) = omega (arith, terms-few ds)
 terms-few (assertion_decl a ∷ ds) = omega (arith, terms-few ds)
 
-pub few-sorts : (σ : State) → IsKept σ → length σ.marks + 1 < 2 ^ 32 → length σ.sort_names < 2 ^ 32
-few-sorts σ kept few = let a = kept.sorts in let b = kept.marks in omega (arith, a, b, sorts-few σ.env, few)
+pub few-sorts : (σ : State) → IsKept σ → length σ.spans + 1 < 2 ^ 32 → length σ.sort_names < 2 ^ 32
+few-sorts σ kept few = let a = kept.sorts in let b = kept.spans in omega (arith, a, b, sorts-few σ.env, few)
 
-pub few-terms : (σ : State) → IsKept σ → length σ.marks + 1 < 2 ^ 32 → length σ.term_names < 2 ^ 32
-few-terms σ kept few = let a = kept.terms in let b = kept.marks in omega (arith, a, b, terms-few σ.env, few)
+pub few-terms : (σ : State) → IsKept σ → length σ.spans + 1 < 2 ^ 32 → length σ.term_names < 2 ^ 32
+few-terms σ kept few = let a = kept.terms in let b = kept.spans in omega (arith, a, b, terms-few σ.env, few)
 
 pub few-params : (s : Statement) (p : Parts) → IsSpelled s → AreParts p (view s).variables (view s).types (view s).result → length p.params.items + length p.dummies.items < 2 ^ 32
 few-params s p spelled parts =

@@ -8,7 +8,7 @@ use Rattle.mz_math_theory.specs.declared.notation.Notation.{Notation}
 use Rattle.mz_math_theory.specs.Forms.{AddsNotation, AddsDelimiters}
 use Rattle.mz_math_theory.specs.Notation.{Table, begins_with_slot, with_infix, with_leading, with_name, TermName}
 use Rattle.mz_spec_rules.specs.Entries.{names_alone}
-use Rattle.mz_spec_theory.specs.State.{State, mark_at, with_table, with_term}
+use Rattle.mz_spec_theory.specs.State.{State, span_at, with_table, with_term}
 use Rattle.mz_spec_theory.specs.declared.spec.NameSpan.{NameSpan}
 
 pub names-many : (ns : List TermName) → length (names_alone ns) ≡ length ns
@@ -18,18 +18,18 @@ names-more : (ns : List TermName) (n : TermName) → names_alone (ns ++ n ∷ []
 names-more ns n = map-append (λ (m : TermName). m.name) ns (n ∷ [])
 
 -- the state with one more term
-pub term-pushed : (σ : State) (place : ℕ) (l : Lexeme) (d : Declaration) (number : ℕ) (u : Table) (env : List Declaration) (marks : List NameSpan)
+pub term-pushed : (σ : State) (place : ℕ) (l : Lexeme) (d : Declaration) (number : ℕ) (u : Table) (env : List Declaration) (spans : List NameSpan)
     → σ.term_names ≡ names_alone σ.table.names → number ≡ length σ.term_names → u ≡ with_name σ.table (record { name = l.text; term = number })
-    → env ≡ σ.env ++ d ∷ [] → marks ≡ σ.marks ++ mark_at place l ∷ []
-    → record σ { term_names = names_alone u.names; env = env; marks = marks; table = u } ≡ with_term σ place l d
-term-pushed σ place l d number u env marks alone numbered is declared marked =
-    let make : List (List ℕ) → Table → List Declaration → List NameSpan → State = λ ws v ds ms. record σ { term_names = ws; env = ds; marks = ms; table = v } in
+    → env ≡ σ.env ++ d ∷ [] → spans ≡ σ.spans ++ span_at place l ∷ []
+    → record σ { term_names = names_alone u.names; env = env; spans = spans; table = u } ≡ with_term σ place l d
+term-pushed σ place l d number u env spans alone numbered is declared marked =
+    let make : List (List ℕ) → Table → List Declaration → List NameSpan → State = λ ws v ds ms. record σ { term_names = ws; env = ds; spans = ms; table = v } in
     let name : ℕ → TermName = λ k. record { name = l.text; term = k } in
     let texts : names_alone (σ.table.names ++ name number ∷ []) ≡ σ.term_names ++ l.text ∷ [] = names-more σ.table.names (name number) ∙ ap (λ ws. ws ++ l.text ∷ []) (sym alone) in
-    ap (λ (v : Table). make (names_alone v.names) v env marks) is
-    ∙ ap (λ ws. make ws (with_name σ.table (name number)) env marks) texts
-    ∙ ap (λ k. make (σ.term_names ++ l.text ∷ []) (with_name σ.table (name k)) env marks) numbered
-    ∙ ap (λ ds. make (σ.term_names ++ l.text ∷ []) (with_name σ.table (name (length σ.term_names))) ds marks) declared
+    ap (λ (v : Table). make (names_alone v.names) v env spans) is
+    ∙ ap (λ ws. make ws (with_name σ.table (name number)) env spans) texts
+    ∙ ap (λ k. make (σ.term_names ++ l.text ∷ []) (with_name σ.table (name k)) env spans) numbered
+    ∙ ap (λ ds. make (σ.term_names ++ l.text ∷ []) (with_name σ.table (name (length σ.term_names))) ds spans) declared
     ∙ ap (λ ms. make (σ.term_names ++ l.text ∷ []) (with_name σ.table (name (length σ.term_names))) (σ.env ++ d ∷ []) ms) marked
 
 -- the state with another table, which has the names of terms

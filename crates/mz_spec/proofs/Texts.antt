@@ -15,7 +15,7 @@ use Rattle.mz_spec_theory.specs.Reading.{place_of_first, IsRead, StopsFrom, OnFa
 use Rattle.mz_spec.specs.Answers.{IsAnswer, halted}
 use Rattle.mz_spec_theory.specs.SpecCode.{EndsSmall}
 use Rattle.mz_spec_theory.specs.Kept.{AreOfText, IsSpelled, bytes_of}
-use Rattle.mz_spec_theory.specs.State.{State, nothing, entries_of, mark_at}
+use Rattle.mz_spec_theory.specs.State.{State, nothing, entries_of, span_at}
 use Rattle.mz_spec_theory.specs.View.{view}
 use Rattle.mz_spec_theory.specs.Declaring.{After}
 use Rattle.mz_spec_theory.specs.Spec.{Stand, SpecMakes, SpecFault, IsGood, Fails}
@@ -73,7 +73,7 @@ stand-next text count at σ τ read (ls, ss, lexes, stand, many) (front, lexes_f
   length-append ss (statement read.statement ∷ []) ∙ ap (λ n. n + 1) many,
 )
 
-pub spec-made : (text : List ℕ) (count at : ℕ) (σ : State) → StandTo text count at σ → IsBlank text at (length text) → SpecMakes text (entries_of σ.env σ.marks)
+pub spec-made : (text : List ℕ) (count at : ℕ) (σ : State) → StandTo text count at σ → IsBlank text at (length text) → SpecMakes text (entries_of σ.env σ.spans)
 spec-made text count at σ (ls, ss, lexes, stand, many) end = (ls, ss, σ, ended text 0 at ls None lexes end, stand, refl)
 
 pub spec-stops : (text : List ℕ) (count at : ℕ) (σ : State) (fault : Fault) → StandTo text count at σ → StopsFrom text at fault
@@ -161,15 +161,15 @@ read-two text from read (front, lexes, spells, _) =
     omega (arith, lexemes-long text from read.end front lexes, signs-long (statement_signs s) front spells, signs-two s)
 
 -- a statement adds one span at most
-pub after-marks : (σ : State) (place : ℕ) (s : Statement) (τ : State) → After σ place s τ → length τ.marks ≤ length σ.marks + 1
-after-marks σ place (sort_statement m n) τ (d, is, same) = let e = ap (λ x. length x.marks) same in omega (arith, e, length-append σ.marks (mark_at place n ∷ []))
-after-marks σ place (term_statement h ts t) τ (d, is, same) = let e = ap (λ x. length x.marks) same in omega (arith, e, length-append σ.marks (mark_at place h.name ∷ []))
-after-marks σ place (assert_statement k h ps c) τ (d, is, same) = let e = ap (λ x. length x.marks) same in omega (arith, e, length-append σ.marks (mark_at place h.name ∷ []))
-after-marks σ place (definition_statement h t b) τ (d, is, same) = let e = ap (λ x. length x.marks) same in omega (arith, e, length-append σ.marks (mark_at place h.name ∷ []))
-after-marks σ place (operator_statement f n c l) τ (u, is, same) = let e = ap (λ x. length x.marks) same in omega (arith, e)
-after-marks σ place (coercion_statement n from to) τ (u, is, same) = let e = ap (λ x. length x.marks) same in omega (arith, e)
-after-marks σ place (delimiter_statement left right) τ (u, is, same) = let e = ap (λ x. length x.marks) same in omega (arith, e)
-after-marks σ place (notation_statement h t ls l tail) τ (u, is, same) = let e = ap (λ x. length x.marks) same in omega (arith, e)
+pub after-spans : (σ : State) (place : ℕ) (s : Statement) (τ : State) → After σ place s τ → length τ.spans ≤ length σ.spans + 1
+after-spans σ place (sort_statement m n) τ (d, is, same) = let e = ap (λ x. length x.spans) same in omega (arith, e, length-append σ.spans (span_at place n ∷ []))
+after-spans σ place (term_statement h ts t) τ (d, is, same) = let e = ap (λ x. length x.spans) same in omega (arith, e, length-append σ.spans (span_at place h.name ∷ []))
+after-spans σ place (assert_statement k h ps c) τ (d, is, same) = let e = ap (λ x. length x.spans) same in omega (arith, e, length-append σ.spans (span_at place h.name ∷ []))
+after-spans σ place (definition_statement h t b) τ (d, is, same) = let e = ap (λ x. length x.spans) same in omega (arith, e, length-append σ.spans (span_at place h.name ∷ []))
+after-spans σ place (operator_statement f n c l) τ (u, is, same) = let e = ap (λ x. length x.spans) same in omega (arith, e)
+after-spans σ place (coercion_statement n from to) τ (u, is, same) = let e = ap (λ x. length x.spans) same in omega (arith, e)
+after-spans σ place (delimiter_statement left right) τ (u, is, same) = let e = ap (λ x. length x.spans) same in omega (arith, e)
+after-spans σ place (notation_statement h t ls l tail) τ (u, is, same) = let e = ap (λ x. length x.spans) same in omega (arith, e)
 
 -- ---- what comes of a fault of a statement, or of running out of memory
 

@@ -53,7 +53,7 @@ fn mods(modifiers: Modifiers) -> SortMods
     )
 }
 
-fn mark_of(name: Lexeme<'_>, place: u32) -> NameSpan
+fn span_of(name: Lexeme<'_>, place: u32) -> NameSpan
     ensures { result ≡ record { from = name.entry.from; to = name.entry.to; place = place } }
 {
     NameSpan {
@@ -90,14 +90,14 @@ pub fn add_sort<'a>(
     name: Lexeme<'a>,
 ) -> Result<(), Halt>
     requires kept { IsKept (state_lem state.old) }
-    requires few { length state.old.marks.items + 1 < 2 ^ 32 }
+    requires few { length state.old.spans.items + 1 < 2 ^ 32 }
     ensures judged { JudgesStatement result (state_lem state.old) place (sort_statement (modifiers_lem modifiers) (lexeme name.entry)) }
     ensures after { OnOk result (After (state_lem state.old) place (sort_statement (modifiers_lem modifiers) (lexeme name.entry)) (state_lem state.new)) }
 {
     check_new(&state.sort_names, name)?;
     state.sort_names.push(name.bytes)?;
     state.env.push_decl(Decl::Sort(mods(modifiers)))?;
-    state.marks.push(mark_of(name, place))?;
+    state.spans.push(span_of(name, place))?;
     Ok(())
 }
 
@@ -111,7 +111,7 @@ fn push_term<'a>(
     term: TermDecl,
 ) -> Result<(), Halt>
     requires kept { IsKept (state_lem state.old) }
-    requires few { length state.old.marks.items + 1 < 2 ^ 32 }
+    requires few { length state.old.spans.items + 1 < 2 ^ 32 }
     requires new { IsNew (state_lem state.old).term_names name.bytes.now }
     requires name { IsTrue (is_name name.bytes.now) }
     requires legal { IsLegalDecl state.old.env (term_of_lem term) }
@@ -126,7 +126,7 @@ fn push_term<'a>(
     else {
         return Err(Halt::Mem);
     };
-    state.marks.push(mark_of(name, place))?;
+    state.spans.push(span_of(name, place))?;
     Ok(())
 }
 
@@ -138,7 +138,7 @@ fn term_of<'a>(
     term: &TermText<'a>,
 ) -> Result<TermDecl, Halt>
     requires kept { IsKept (state_lem state.now) }
-    requires few { length state.now.marks.items + 1 < 2 ^ 32 }
+    requires few { length state.now.spans.items + 1 < 2 ^ 32 }
     requires spelled { IsSpelled (term_lem term.now) }
     ensures judged { JudgesStatement result (state_lem state.now) place (term_lem term.now) }
     ensures declares { IfOk result (λ d. Declares (state_lem state.now) (term_lem term.now) (term_of_lem d)) }
@@ -157,7 +157,7 @@ fn term_with<'a>(
     parts: &Parts<'_, 'a>,
 ) -> Result<TermDecl, Halt>
     requires kept { IsKept (state_lem state.now) }
-    requires few { length state.now.marks.items + 1 < 2 ^ 32 }
+    requires few { length state.now.spans.items + 1 < 2 ^ 32 }
     requires spelled { IsSpelled (term_lem term.now) }
     requires new { AllHold (new_name (state_lem state.now).term_names (lexeme term.now.head.name)) }
     requires parts { AreParts parts.now (view (term_lem term.now)).variables (view (term_lem term.now)).types (view (term_lem term.now)).result }
@@ -178,7 +178,7 @@ fn term_over<'a>(
     parts: &Parts<'_, 'a>,
 ) -> Result<TermDecl, Halt>
     requires kept { IsKept (state_lem state.now) }
-    requires few { length state.now.marks.items + 1 < 2 ^ 32 }
+    requires few { length state.now.spans.items + 1 < 2 ^ 32 }
     requires spelled { IsSpelled (term_lem term.now) }
     requires new { AllHold (new_name (state_lem state.now).term_names (lexeme term.now.head.name)) }
     requires index { MatchOption index.now ⊤ (IsIndexOf (map variable parts.now.params.items)) }
@@ -202,7 +202,7 @@ pub fn add_term<'a>(
     term: &TermText<'a>,
 ) -> Result<(), Halt>
     requires kept { IsKept (state_lem state.old) }
-    requires few { length state.old.marks.items + 1 < 2 ^ 32 }
+    requires few { length state.old.spans.items + 1 < 2 ^ 32 }
     requires spelled { IsSpelled (term_lem term.now) }
     ensures judged { JudgesStatement result (state_lem state.old) place (term_lem term.now) }
     ensures after { OnOk result (After (state_lem state.old) place (term_lem term.now) (state_lem state.new)) }
@@ -225,7 +225,7 @@ fn form_of<'a>(
     body: Option<Lexeme<'a>>,
 ) -> Result<TermForm, Halt>
     requires kept { IsKept (state_lem state.now) }
-    requires few { length state.now.marks.items + 1 < 2 ^ 32 }
+    requires few { length state.now.spans.items + 1 < 2 ^ 32 }
     requires index { MatchOption index.now ⊤ (IsIndexOf (map variable parts.now.params.items)) }
     requires room { length parts.now.params.items + length parts.now.dummies.items < 2 ^ 32 }
     requires names { AreVariables (map variable_bytes (map variable parts.now.params.items) ++ map variable_bytes (map variable parts.now.dummies.items)) }
@@ -254,7 +254,7 @@ fn body_of<'a>(
     math: Lexeme<'a>,
 ) -> Result<TermForm, Halt>
     requires kept { IsKept (state_lem state.now) }
-    requires few { length state.now.marks.items + 1 < 2 ^ 32 }
+    requires few { length state.now.spans.items + 1 < 2 ^ 32 }
     requires index { MatchOption index.now ⊤ (IsIndexOf (map variable parts.now.params.items)) }
     requires room { length parts.now.params.items + length parts.now.dummies.items < 2 ^ 32 }
     requires names { AreVariables (map variable_bytes (map variable parts.now.params.items) ++ map variable_bytes (map variable parts.now.dummies.items)) }
@@ -282,7 +282,7 @@ fn body_in<'a>(
     math: Lexeme<'a>,
 ) -> Result<TermForm, Halt>
     requires kept { IsKept (state_lem state.now) }
-    requires few { length state.now.marks.items + 1 < 2 ^ 32 }
+    requires few { length state.now.spans.items + 1 < 2 ^ 32 }
     requires index { MatchOption index.now ⊤ (IsIndexOf (map variable parts.now.params.items)) }
     requires room { length parts.now.params.items + length parts.now.dummies.items < 2 ^ 32 }
     requires names { AreVariables (map variable_bytes (map variable parts.now.params.items) ++ map variable_bytes (map variable parts.now.dummies.items)) }
@@ -315,7 +315,7 @@ fn definition_of<'a>(
     definition: &DefinitionText<'a>,
 ) -> Result<TermDecl, Halt>
     requires kept { IsKept (state_lem state.now) }
-    requires few { length state.now.marks.items + 1 < 2 ^ 32 }
+    requires few { length state.now.spans.items + 1 < 2 ^ 32 }
     requires spelled { IsSpelled (definition_lem definition.now) }
     ensures judged { JudgesStatement result (state_lem state.now) place (definition_lem definition.now) }
     ensures declares { IfOk result (λ d. Declares (state_lem state.now) (definition_lem definition.now) (term_of_lem d)) }
@@ -334,7 +334,7 @@ fn definition_with<'a>(
     parts: &Parts<'_, 'a>,
 ) -> Result<TermDecl, Halt>
     requires kept { IsKept (state_lem state.now) }
-    requires few { length state.now.marks.items + 1 < 2 ^ 32 }
+    requires few { length state.now.spans.items + 1 < 2 ^ 32 }
     requires spelled { IsSpelled (definition_lem definition.now) }
     requires new { AllHold (new_name (state_lem state.now).term_names (lexeme definition.now.head.name)) }
     requires parts { AreParts parts.now (view (definition_lem definition.now)).variables (view (definition_lem definition.now)).types (view (definition_lem definition.now)).result }
@@ -355,7 +355,7 @@ fn definition_over<'a>(
     parts: &Parts<'_, 'a>,
 ) -> Result<TermDecl, Halt>
     requires kept { IsKept (state_lem state.now) }
-    requires few { length state.now.marks.items + 1 < 2 ^ 32 }
+    requires few { length state.now.spans.items + 1 < 2 ^ 32 }
     requires spelled { IsSpelled (definition_lem definition.now) }
     requires new { AllHold (new_name (state_lem state.now).term_names (lexeme definition.now.head.name)) }
     requires index { MatchOption index.now ⊤ (IsIndexOf (map variable parts.now.params.items)) }
@@ -390,7 +390,7 @@ pub fn add_definition<'a>(
     definition: &DefinitionText<'a>,
 ) -> Result<(), Halt>
     requires kept { IsKept (state_lem state.old) }
-    requires few { length state.old.marks.items + 1 < 2 ^ 32 }
+    requires few { length state.old.spans.items + 1 < 2 ^ 32 }
     requires spelled { IsSpelled (definition_lem definition.now) }
     ensures judged { JudgesStatement result (state_lem state.old) place (definition_lem definition.now) }
     ensures after { OnOk result (After (state_lem state.old) place (definition_lem definition.now) (state_lem state.new)) }
@@ -410,7 +410,7 @@ fn claims_of<'a>(
     assertion: &AssertText<'a>,
 ) -> Result<(Hyps, Expr), Halt>
     requires kept { IsKept (state_lem state.now) }
-    requires few { length state.now.marks.items + 1 < 2 ^ 32 }
+    requires few { length state.now.spans.items + 1 < 2 ^ 32 }
     requires index { MatchOption index.now ⊤ (IsIndexOf (map variable parts.now.params.items)) }
     requires room { length parts.now.params.items + length parts.now.dummies.items < 2 ^ 32 }
     requires names { AreVariables (map variable_bytes (map variable parts.now.params.items) ++ map variable_bytes (map variable parts.now.dummies.items)) }
@@ -459,7 +459,7 @@ fn assertion_of<'a>(
     assertion: &AssertText<'a>,
 ) -> Result<ThmDecl, Halt>
     requires kept { IsKept (state_lem state.now) }
-    requires few { length state.now.marks.items + 1 < 2 ^ 32 }
+    requires few { length state.now.spans.items + 1 < 2 ^ 32 }
     requires spelled { IsSpelled (assertion_lem assertion.now) }
     ensures judged { JudgesStatement result (state_lem state.now) place (assertion_lem assertion.now) }
     ensures declares { IfOk result (λ d. Declares (state_lem state.now) (assertion_lem assertion.now) (assertion_of_lem d)) }
@@ -478,7 +478,7 @@ fn assertion_with<'a>(
     parts: &Parts<'_, 'a>,
 ) -> Result<ThmDecl, Halt>
     requires kept { IsKept (state_lem state.now) }
-    requires few { length state.now.marks.items + 1 < 2 ^ 32 }
+    requires few { length state.now.spans.items + 1 < 2 ^ 32 }
     requires spelled { IsSpelled (assertion_lem assertion.now) }
     requires new { AllHold (new_name (state_lem state.now).assertion_names (lexeme assertion.now.head.name)) }
     requires parts { AreParts parts.now (view (assertion_lem assertion.now)).variables (view (assertion_lem assertion.now)).types (view (assertion_lem assertion.now)).result }
@@ -499,7 +499,7 @@ fn assertion_over<'a>(
     parts: &Parts<'_, 'a>,
 ) -> Result<ThmDecl, Halt>
     requires kept { IsKept (state_lem state.now) }
-    requires few { length state.now.marks.items + 1 < 2 ^ 32 }
+    requires few { length state.now.spans.items + 1 < 2 ^ 32 }
     requires spelled { IsSpelled (assertion_lem assertion.now) }
     requires new { AllHold (new_name (state_lem state.now).assertion_names (lexeme assertion.now.head.name)) }
     requires index { MatchOption index.now ⊤ (IsIndexOf (map variable parts.now.params.items)) }
@@ -526,7 +526,7 @@ pub fn add_assertion<'a>(
     assertion: &AssertText<'a>,
 ) -> Result<(), Halt>
     requires kept { IsKept (state_lem state.old) }
-    requires few { length state.old.marks.items + 1 < 2 ^ 32 }
+    requires few { length state.old.spans.items + 1 < 2 ^ 32 }
     requires spelled { IsSpelled (assertion_lem assertion.now) }
     ensures judged { JudgesStatement result (state_lem state.old) place (assertion_lem assertion.now) }
     ensures after { OnOk result (After (state_lem state.old) place (assertion_lem assertion.now) (state_lem state.new)) }
@@ -534,6 +534,6 @@ pub fn add_assertion<'a>(
     let decl = assertion_of(state, alloc, place, assertion)?;
     state.env.push_decl(Decl::Thm(decl))?;
     state.assertion_names.push(assertion.head.name.bytes)?;
-    state.marks.push(mark_of(assertion.head.name, place))?;
+    state.spans.push(span_of(assertion.head.name, place))?;
     Ok(())
 }

@@ -35,7 +35,7 @@ fn note_operator<'a>(
     level: Option<u32>,
 ) -> Result<(), NoteFault>
     requires kept { IsKept (state_lem state.old) }
-    requires few { length state.old.marks.items + 1 < 2 ^ 32 }
+    requires few { length state.old.spans.items + 1 < 2 ^ 32 }
     requires level { level ≡ level_of_lem (level_lem operator.level) }
     ensures answer { IsAnswer result (notation_checks (state_lem state.old).table (MakesNotation (state_lem state.old) (operator_lem operator.entry))) }
     ensures after { OnOk result (After (state_lem state.old) 0 (operator_lem operator.entry) (state_lem state.new)) }
@@ -62,7 +62,7 @@ pub fn add_operator<'a>(
     operator: OperatorText<'a>,
 ) -> Result<(), Halt>
     requires kept { IsKept (state_lem state.old) }
-    requires few { length state.old.marks.items + 1 < 2 ^ 32 }
+    requires few { length state.old.spans.items + 1 < 2 ^ 32 }
     requires spelled { IsSpelled (operator_lem operator) }
     ensures judged { JudgesStatement result (state_lem state.old) place (operator_lem operator.entry) }
     ensures after { OnOk result (After (state_lem state.old) place (operator_lem operator.entry) (state_lem state.new)) }
@@ -84,7 +84,7 @@ pub fn add_coercion<'a>(
     coercion: CoercionText<'a>,
 ) -> Result<(), Halt>
     requires kept { IsKept (state_lem state.old) }
-    requires few { length state.old.marks.items + 1 < 2 ^ 32 }
+    requires few { length state.old.spans.items + 1 < 2 ^ 32 }
     ensures judged { JudgesStatement result (state_lem state.old) place (coercion_lem coercion.entry) }
     ensures after { OnOk result (After (state_lem state.old) place (coercion_lem coercion.entry) (state_lem state.new)) }
 {
@@ -109,7 +109,7 @@ pub fn add_delimiter<'a>(
     delimiter: DelimiterText<'a>,
 ) -> Result<(), Halt>
     requires kept { IsKept (state_lem state.old) }
-    requires few { length state.old.marks.items + 1 < 2 ^ 32 }
+    requires few { length state.old.spans.items + 1 < 2 ^ 32 }
     ensures judged { JudgesStatement result (state_lem state.old) place (delimiter_lem delimiter.entry) }
     ensures after { OnOk result (After (state_lem state.old) place (delimiter_lem delimiter.entry) (state_lem state.new)) }
 {
@@ -134,7 +134,7 @@ fn note_general<'a>(
     tail: Option<Tail>,
 ) -> Result<(), NoteFault>
     requires kept { IsKept (state_lem state.old) }
-    requires few { length state.old.marks.items + 1 < 2 ^ 32 }
+    requires few { length state.old.spans.items + 1 < 2 ^ 32 }
     requires spelled { IsSpelled (notation_lem notation.now) }
     requires parts { AreParts parts.now (view (notation_lem notation.now)).variables (view (notation_lem notation.now)).types (view (notation_lem notation.now)).result }
     requires index { MatchOption index.now ⊤ (IsIndexOf (map variable parts.now.params.items)) }
@@ -170,7 +170,7 @@ pub fn add_notation<'a>(
     notation: &NotationText<'a>,
 ) -> Result<(), Halt>
     requires kept { IsKept (state_lem state.old) }
-    requires few { length state.old.marks.items + 1 < 2 ^ 32 }
+    requires few { length state.old.spans.items + 1 < 2 ^ 32 }
     requires spelled { IsSpelled (notation_lem notation.now) }
     ensures judged { JudgesStatement result (state_lem state.old) place (notation_lem notation.now) }
     ensures after { OnOk result (After (state_lem state.old) place (notation_lem notation.now) (state_lem state.new)) }
@@ -192,7 +192,7 @@ fn notation_with<'a>(
     tail: Option<Tail>,
 ) -> Result<(), Halt>
     requires kept { IsKept (state_lem state.old) }
-    requires few { length state.old.marks.items + 1 < 2 ^ 32 }
+    requires few { length state.old.spans.items + 1 < 2 ^ 32 }
     requires spelled { IsSpelled (notation_lem notation.now) }
     requires levels { AllHold (each_in_order is_level (literal_levels (map literal_lem notation.now.literals.items ++ literal_lem notation.now.last ∷ []))) }
     requires tail_level { AllHold (each_in_order is_level (tail_levels (option_map tail_lem notation.now.tail))) }
@@ -218,7 +218,7 @@ fn notation_over<'a>(
     tail: Option<Tail>,
 ) -> Result<(), Halt>
     requires kept { IsKept (state_lem state.old) }
-    requires few { length state.old.marks.items + 1 < 2 ^ 32 }
+    requires few { length state.old.spans.items + 1 < 2 ^ 32 }
     requires spelled { IsSpelled (notation_lem notation.now) }
     requires levels { AllHold (each_in_order is_level (literal_levels (map literal_lem notation.now.literals.items ++ literal_lem notation.now.last ∷ []))) }
     requires tail_level { AllHold (each_in_order is_level (tail_levels (option_map tail_lem notation.now.tail))) }

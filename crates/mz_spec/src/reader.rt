@@ -31,9 +31,9 @@ pub fn read_spec(alloc: Global, hashing: Hashing, text: &[u8]) -> SpecRead
 {
     let mut state = State::new(alloc, hashing);
     let read = read_into(alloc, text, &mut state);
-    let (env, marks) = state.into_parts();
+    let (env, spans) = state.into_parts();
     match read {
-        Ok(()) => SpecRead::Spec(Spec::new(env, marks)),
+        Ok(()) => SpecRead::Spec(Spec::new(env, spans)),
         Err((statement, halt)) => halted(statement, halt),
     }
 }
@@ -46,9 +46,9 @@ pub fn read_spec(alloc: Global, hashing: Hashing, text: &[u8]) -> SpecRead
 fn read_into<'a>(alloc: Global, text: &'a [u8], state: &mut State<'a>) -> Result<(), (u32, Halt)>
     requires small { length text.now < 2 ^ 32 }
     requires empty { state_lem state.old ≡ nothing }
-    ensures made { OnOk result (SpecMakes text.now (entries_of state.new.env state.new.marks.items)) }
+    ensures made { OnOk result (SpecMakes text.now (entries_of state.new.env state.new.spans.items)) }
     ensures kept { OnOk result (IsKept (state_lem state.new)) }
-    ensures few { OnOk result (length state.new.marks.items < 2 ^ 32) }
+    ensures few { OnOk result (length state.new.spans.items < 2 ^ 32) }
     ensures stops { IfErr result (λ at. IsAnswer text.now (halted_lem at.0 at.1)) }
 {
     let mut at = 0;

@@ -24,7 +24,7 @@ pub fn add<'a>(
     statement: SyntaxStatement<'a>,
 ) -> Result<(), Halt>
     requires kept { IsKept (state_lem state.old) }
-    requires few { length state.old.marks.items + 1 < 2 ^ 32 }
+    requires few { length state.old.spans.items + 1 < 2 ^ 32 }
     requires spelled { IsSpelled (statement_lem statement) }
     ensures judged { JudgesStatement result (state_lem state.old) place (statement_lem statement.entry) }
     ensures after { OnOk result (After (state_lem state.old) place (statement_lem statement.entry) (state_lem state.new)) }
@@ -40,7 +40,7 @@ fn add_read<'a>(
     statement: &SyntaxStatement<'a>,
 ) -> Result<(), Halt>
     requires kept { IsKept (state_lem state.old) }
-    requires few { length state.old.marks.items + 1 < 2 ^ 32 }
+    requires few { length state.old.spans.items + 1 < 2 ^ 32 }
     requires spelled { IsSpelled (statement_lem statement.now) }
     ensures judged { JudgesStatement result (state_lem state.old) place (statement_lem statement.now) }
     ensures after { OnOk result (After (state_lem state.old) place (statement_lem statement.now) (state_lem state.new)) }

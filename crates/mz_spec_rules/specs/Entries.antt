@@ -10,4 +10,4 @@ names_alone ns = map (λ n. n.name) ns
 
 -- terms have their names in the table
 abbrev pub state : StateRead → State
-state s = record { sort_names = s.sort_names; term_names = names_alone s.notations.names; assertion_names = s.assertion_names; env = s.env; marks = s.marks.items; table = s.notations }
+state s = record { sort_names = s.sort_names; term_names = names_alone s.notations.names; assertion_names = s.assertion_names; env = s.env; spans = s.spans.items; table = s.notations }

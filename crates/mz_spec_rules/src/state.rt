@@ -19,7 +19,7 @@ pub struct State<'a> {
     pub sort_names: NameMap<'a>,
     pub assertion_names: NameMap<'a>,
     pub env: Env,
-    pub marks: Vec<NameSpan>,
+    pub spans: Vec<NameSpan>,
     pub notations: Notations,
 }
 
@@ -33,7 +33,7 @@ impl<'a> State<'a> {
             sort_names: NameMap::new(alloc, hashing),
             assertion_names: NameMap::new(alloc, hashing),
             env: Env::new(alloc),
-            marks: Vec::new(alloc),
+            spans: Vec::new(alloc),
             notations: Notations::with_hashing(alloc, hashing),
         }
     }
@@ -41,8 +41,8 @@ impl<'a> State<'a> {
     /// The declarations and their name spans.
     pub fn into_parts(self) -> (Env, Vec<NameSpan>)
         ensures env { result.0 ≡ self.entry.env }
-        ensures marks { result.1.items ≡ self.entry.marks.items }
+        ensures spans { result.1.items ≡ self.entry.spans.items }
     {
-        (self.env, self.marks)
+        (self.env, self.spans)
     }
 }

@@ -29,7 +29,7 @@ use Rattle.mz_spec_theory.specs.Statement.{TypeText, Head, LiteralText, constant
 use Rattle.mz_base.specs.Names.{IsNew}
 use Rattle.mz_base.proofs.Offered.{new-first}
 use Rattle.mz_spec_theory.specs.View.{view}
-use Rattle.mz_spec_theory.specs.State.{State, nothing, with_sort, with_term, with_assertion, with_table, scope_of, mark_at, term_number}
+use Rattle.mz_spec_theory.specs.State.{State, nothing, with_sort, with_term, with_assertion, with_table, scope_of, span_at, term_number}
 use Rattle.mz_spec_theory.specs.Forms.{IsLiteral, AreLiterals, ArePartsOf, MakesNotation, coercion_of, level_of}
 use Rattle.mz_spec_theory.specs.Formulas.{inner}
 use Rattle.mz_spec_theory.specs.Declaring.{After}
@@ -67,7 +67,7 @@ kept-sort : (σ : State) (place : ℕ) (n : Lexeme) (d : Declaration) → IsKept
 kept-sort σ place n d kept legal one none = record {
   sorts = let a = length_push σ.sort_names n.text in let b = ap length (sorts-append σ.env (d ∷ [])) in let c = length-append (sorts σ.env) (sorts (d ∷ [])) in let k = kept.sorts in omega (arith, a, b, c, k, one);
   terms = let b = ap length (signatures-append σ.env (d ∷ [])) in let c = length-append (signatures σ.env) (signatures (d ∷ [])) in let k = kept.terms in omega (arith, b, c, k, none);
-  marks = let a = length-append σ.marks (mark_at place n ∷ []) in let b = length_push σ.env d in let k = kept.marks in omega (arith, a, b, k);
+  spans = let a = length-append σ.spans (span_at place n ∷ []) in let b = length_push σ.env d in let k = kept.spans in omega (arith, a, b, k);
   legal = legal_push σ.env d kept.legal legal;
   table = kept.table;
   names = kept.names;
@@ -78,7 +78,7 @@ kept-assertion : (σ : State) (place : ℕ) (n : Lexeme) (d : Declaration) → I
 kept-assertion σ place n d kept legal none also = record {
   sorts = let b = ap length (sorts-append σ.env (d ∷ [])) in let c = length-append (sorts σ.env) (sorts (d ∷ [])) in let k = kept.sorts in omega (arith, b, c, k, none);
   terms = let b = ap length (signatures-append σ.env (d ∷ [])) in let c = length-append (signatures σ.env) (signatures (d ∷ [])) in let k = kept.terms in omega (arith, b, c, k, also);
-  marks = let a = length-append σ.marks (mark_at place n ∷ []) in let b = length_push σ.env d in let k = kept.marks in omega (arith, a, b, k);
+  spans = let a = length-append σ.spans (span_at place n ∷ []) in let b = length_push σ.env d in let k = kept.spans in omega (arith, a, b, k);
   legal = legal_push σ.env d kept.legal legal;
   table = kept.table;
   names = kept.names;
@@ -90,7 +90,7 @@ kept-term : (σ : State) (place : ℕ) (n : Lexeme) (d : Declaration) → IsKept
 kept-term σ place n d kept legal named new none one = record {
   sorts = let b = ap length (sorts-append σ.env (d ∷ [])) in let c = length-append (sorts σ.env) (sorts (d ∷ [])) in let k = kept.sorts in omega (arith, b, c, k, none);
   terms = let a = length_push σ.term_names n.text in let b = ap length (signatures-append σ.env (d ∷ [])) in let c = length-append (signatures σ.env) (signatures (d ∷ [])) in let k = kept.terms in omega (arith, a, b, c, k, one);
-  marks = let a = length-append σ.marks (mark_at place n ∷ []) in let b = length_push σ.env d in let k = kept.marks in omega (arith, a, b, k);
+  spans = let a = length-append σ.spans (span_at place n ∷ []) in let b = length_push σ.env d in let k = kept.spans in omega (arith, a, b, k);
   legal = legal_push σ.env d kept.legal legal;
   table = name-is σ.table (record { name = n.text; term = length σ.term_names }) kept.table named (λ m has same. numbered-new 0 σ.term_names n.text new m (subst (λ xs. Contains xs m) kept.names has) same);
   names = ap (λ xs. xs ++ record { name = n.text; term = length σ.term_names } ∷ []) kept.names
@@ -102,7 +102,7 @@ kept-term σ place n d kept legal named new none one = record {
 
 kept-table : (σ : State) (t : Table) → IsKept σ → IsTable t → t.names ≡ σ.table.names → ((c : Coercion) → Contains t.coercions c → IsCoercion (signatures σ.env) c) → IsKept (with_table σ t)
 kept-table σ t kept is names typed =
-    record { sorts = kept.sorts; terms = kept.terms; marks = kept.marks; legal = kept.legal; table = is; names = names ∙ kept.names; coercions = typed }
+    record { sorts = kept.sorts; terms = kept.terms; spans = kept.spans; legal = kept.legal; table = is; names = names ∙ kept.names; coercions = typed }
 
 notation-names : (t : Table) (k : Notation) → ((with_notation t k).names ≡ t.names) × ((with_notation t k).coercions ≡ t.coercions)
 notation-names t k = go (begins_with_slot k.elements)
@@ -231,4 +231,4 @@ module _ (σ : State) (place : ℕ) (kept : IsKept σ) where
   kept-after s τ spelled good after = kept-written s τ (spelled-written s spelled) good after
 
 pub kept-nothing : IsKept nothing
-kept-nothing = record { sorts = refl; terms = refl; marks = refl; legal = tt; table = empty-is; names = refl; coercions = λ c has. absurd (let below = has.1 in omega (arith, below)) }
+kept-nothing = record { sorts = refl; terms = refl; spans = refl; legal = tt; table = empty-is; names = refl; coercions = λ c has. absurd (let below = has.1 in omega (arith, below)) }

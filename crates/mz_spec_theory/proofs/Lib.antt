@@ -20,5 +20,5 @@ pub mod FreeDecided
 pub mod RulesDecided
 pub mod FormsDecided
 pub mod SomeSpec
-pub mod Marked
+pub mod NameSpans
 pub mod Offered

@@ -6,7 +6,7 @@ pub use Rattle.mz_spec_theory.proofs.Keeping.{general-other, kept-after, kept-no
 pub use Rattle.mz_spec_theory.proofs.Leading.{leads-append}
 pub use Rattle.mz_spec_theory.proofs.Legal.{declared-legal}
 pub use Rattle.mz_spec_theory.proofs.Loops.{assoc, fails-front, item-is, item-step, items-end, judges-behind, mem-after, mem-before, mem-decided, rows-fail, rows-step, test-in, test-out}
-pub use Rattle.mz_spec_theory.proofs.Marked.{entries-decls, entries-marks}
+pub use Rattle.mz_spec_theory.proofs.NameSpans.{entries-decls, entries-spans}
 pub use Rattle.mz_spec_theory.proofs.Naming.{IsNamed, IsOfKind, body-small, every-front, every-join, parts-few, stated-small, variables-named}
 pub use Rattle.mz_spec_theory.proofs.OneAnswer.{fault-or-blank, lexemes-long, one-fault as one-fault-OneAnswer, one-read, read-or-blank, read-or-fault, signs-long, takes-bytes}
 pub use Rattle.mz_spec_theory.proofs.OneSpec.{declares-legally, lexes-kinds, not-both, one-fault, one-reading, stand-kept}

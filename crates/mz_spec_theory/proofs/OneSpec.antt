@@ -22,7 +22,7 @@ use Rattle.mz_spec_theory.specs.Declaring.{After}
 use Rattle.mz_spec_theory.specs.Kept.{IsKept}
 use Rattle.mz_spec_theory.specs.Spec.{Stand, Breaks, Fails, IsGood}
 use Rattle.mz_spec_theory.specs.Laws.{OneReading, OneFault, NotBoth, DeclaresLegally}
-use Rattle.mz_spec_theory.proofs.Marked.{entries-decls}
+use Rattle.mz_spec_theory.proofs.NameSpans.{entries-decls}
 use Rattle.mz_spec_theory.proofs.Naming.{IsOfKind, IsWritten, every-front}
 use Rattle.mz_spec_theory.proofs.Tokens.{tokens-one}
 use Rattle.mz_spec_theory.proofs.Keeping.{kept-written, kept-nothing}
@@ -147,7 +147,7 @@ stand-kept σ τ (s ∷ ss) ls rest kept kinds (front, back, μ, is, spells, goo
 pub one-reading : OneReading
 one-reading text entries others (ls, ss, σ, lexes, stand, is) (ms, rs, τ, lexes_m, stand_m, is_m) =
     let same = (one-lexing text 0 ls ms None None lexes lexes_m).0 in
-    is ∙ ap (λ x. entries_of x.env x.marks) (stand-one nothing σ τ ss rs ls kept-nothing (lexes-kinds text 0 ls None lexes) stand (subst (λ xs. Stand nothing rs xs τ []) (sym same) stand_m)) ∙ sym is_m
+    is ∙ ap (λ x. entries_of x.env x.spans) (stand-one nothing σ τ ss rs ls kept-nothing (lexes-kinds text 0 ls None lexes) stand (subst (λ xs. Stand nothing rs xs τ []) (sym same) stand_m)) ∙ sym is_m
 
 pub one-fault : OneFault
 one-fault text a b (ls, e, ss, σ, rest, lexes, stand, count, there) (ms, f, rs, τ, left, lexes_m, stand_m, count_m, there_m) =
@@ -169,4 +169,4 @@ not-both text entries refusal (ls, ss, σ, lexes, stand, is) (ms, f, rs, τ, lef
 pub declares-legally : DeclaresLegally
 declares-legally text ds (entries, (ls, ss, σ, lexes, stand, is), same) =
     let kept = stand-kept nothing σ ss ls [] kept-nothing (lexes-kinds text 0 ls None lexes) stand in
-    subst IsLegalEnv (sym (same ∙ ap env_of is ∙ entries-decls σ.env σ.marks kept.marks)) kept.legal
+    subst IsLegalEnv (sym (same ∙ ap env_of is ∙ entries-decls σ.env σ.spans kept.spans)) kept.legal

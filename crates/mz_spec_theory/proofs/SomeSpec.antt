@@ -253,7 +253,7 @@ one-of-both text = go (some-lexing text 0 (omega arith))
   where
     by : (ls : List Lexeme) (e : Option LexFault) → LexesFrom text 0 ls e → Outcome (length text) e no_state ls
         → ((entries : List Entry) × SpecMakes text entries) ⊎ ((refusal : SpecRefusal) × SpecFault text refusal)
-    by ls e lexes (inl (ss, σ, stand, ends)) = inl (entries_of σ.env σ.marks, (ls, ss, σ, subst (LexesFrom text 0 ls) ends lexes, stand, refl))
+    by ls e lexes (inl (ss, σ, stand, ends)) = inl (entries_of σ.env σ.spans, (ls, ss, σ, subst (LexesFrom text 0 ls) ends lexes, stand, refl))
     by ls e lexes (inr (ss, σ, rest, f, stand, there)) =
         inr (record { statement = length ss + 1; at = f.at; rule = f.rule }, (ls, e, ss, σ, rest, lexes, stand, refl, there))
 

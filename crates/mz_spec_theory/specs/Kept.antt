@@ -23,7 +23,7 @@ numbered i (n ∷ ns) = record { name = n; term = i } ∷ numbered (i + 1) ns
 pub record IsKept (σ : State) : Type 0 where
   pub sorts : length σ.sort_names ≡ length (sorts σ.env)
   pub terms : length σ.term_names ≡ length (signatures σ.env)
-  pub marks : length σ.marks ≡ length σ.env
+  pub spans : length σ.spans ≡ length σ.env
   pub legal : IsLegalEnv σ.env
   pub table : IsTable σ.table
   pub names : σ.table.names ≡ numbered 0 σ.term_names

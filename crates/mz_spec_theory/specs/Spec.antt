@@ -36,7 +36,7 @@ Stand σ (s ∷ ss) ls τ rest = (front : List Lexeme) × (back : List Lexeme) �
 
 -- the text is a specification with these declarations, name spans and places
 abbrev pub SpecMakes : List ℕ → List Entry → Type 0
-SpecMakes text entries = (ls : List Lexeme) × (ss : List Statement) × (σ : State) × Lexes text ls × Stand nothing ss ls σ [] × (entries ≡ entries_of σ.env σ.marks)
+SpecMakes text entries = (ls : List Lexeme) × (ss : List Statement) × (σ : State) × Lexes text ls × Stand nothing ss ls σ [] × (entries ≡ entries_of σ.env σ.spans)
 
 -- what the text declares
 abbrev pub SpecOf : List ℕ → List Declaration → Type 0

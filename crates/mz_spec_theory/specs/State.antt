@@ -51,11 +51,11 @@ pub record State : Type 0 where
   pub term_names : List (List ℕ)
   pub assertion_names : List (List ℕ)
   pub env : List Declaration
-  pub marks : List NameSpan
+  pub spans : List NameSpan
   pub table : Table
 
 abbrev pub nothing : State
-nothing = record { sort_names = []; term_names = []; assertion_names = []; env = []; marks = []; table = empty_table }
+nothing = record { sort_names = []; term_names = []; assertion_names = []; env = []; spans = []; table = empty_table }
 
 abbrev pub names_in : State → Space → List (List ℕ)
 names_in σ sorts = σ.sort_names
@@ -64,23 +64,23 @@ names_in σ assertions = σ.assertion_names
 
 -- ---- one more declaration, by its name, of the statement at a place
 
-abbrev pub mark_at : ℕ → Lexeme → NameSpan
-mark_at place name = record { from = name.from; to = name.to; place = place }
+abbrev pub span_at : ℕ → Lexeme → NameSpan
+span_at place name = record { from = name.from; to = name.to; place = place }
 
 abbrev pub with_sort : State → ℕ → Lexeme → Declaration → State
-with_sort σ place name d = record σ { sort_names = σ.sort_names ++ name.text ∷ []; env = σ.env ++ d ∷ []; marks = σ.marks ++ mark_at place name ∷ [] }
+with_sort σ place name d = record σ { sort_names = σ.sort_names ++ name.text ∷ []; env = σ.env ++ d ∷ []; spans = σ.spans ++ span_at place name ∷ [] }
 
 -- a term can be named in math strings from then on
 abbrev pub with_term : State → ℕ → Lexeme → Declaration → State
 with_term σ place name d = record σ {
   term_names = σ.term_names ++ name.text ∷ [];
   env = σ.env ++ d ∷ [];
-  marks = σ.marks ++ mark_at place name ∷ [];
+  spans = σ.spans ++ span_at place name ∷ [];
   table = with_name σ.table (record { name = name.text; term = length σ.term_names });
 }
 
 abbrev pub with_assertion : State → ℕ → Lexeme → Declaration → State
-with_assertion σ place name d = record σ { assertion_names = σ.assertion_names ++ name.text ∷ []; env = σ.env ++ d ∷ []; marks = σ.marks ++ mark_at place name ∷ [] }
+with_assertion σ place name d = record σ { assertion_names = σ.assertion_names ++ name.text ∷ []; env = σ.env ++ d ∷ []; spans = σ.spans ++ span_at place name ∷ [] }
 
 abbrev pub with_table : State → Table → State
 with_table σ t = record σ { table = t }

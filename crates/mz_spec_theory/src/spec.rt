@@ -14,7 +14,7 @@ pub struct NameSpan {
 #[derive(Drop)]
 pub struct Spec {
     env: Env,
-    marks: Vec<NameSpan>,
+    spans: Vec<NameSpan>,
 }
 
 impl Model for Spec {
@@ -26,9 +26,9 @@ impl Model for Spec {
 
     ghost coded = { coded_list entry_code };
 
-    ghost view = { λ a. entries_of a.env a.marks.items };
+    ghost view = { λ a. entries_of a.env a.spans.items };
 
-    ghost invariant = { λ a. (length a.marks.items ≡ length a.env) × (length a.marks.items < 2 ^ 32) };
+    ghost invariant = { λ a. (length a.spans.items ≡ length a.env) × (length a.spans.items < 2 ^ 32) };
 }
 
 impl Spec {
@@ -37,19 +37,19 @@ impl Spec {
     ghost use Rattle.mz_spec_theory.specs.State.{entries_of};
 
     /// These declarations, each with its name span.
-    pub fn new(env: Env, marks: Vec<NameSpan>) -> Spec
-        requires each { length marks.items ≡ length env }
-        requires few { length marks.items < 2 ^ 32 }
-        ensures { result ≡ entries_of env marks.items }
+    pub fn new(env: Env, spans: Vec<NameSpan>) -> Spec
+        requires each { length spans.items ≡ length env }
+        requires few { length spans.items < 2 ^ 32 }
+        ensures { result ≡ entries_of env spans.items }
     {
-        Spec { env, marks }
+        Spec { env, spans }
     }
 
     /// How many declarations there are.
     pub fn len(&self) -> u32
         ensures { result ≡ length self.now }
     {
-        self.marks.len() as u32
+        self.spans.len() as u32
     }
 
     /// The i-th declaration, from 0.
@@ -68,8 +68,8 @@ impl Spec {
         requires { i < length self.now }
         ensures { option_map (λ e. (e.from, e.to)) (slice_get self.now i) ≡ Some result }
     {
-        let mark = self.marks[i as usize];
-        (mark.from, mark.to)
+        let span = self.spans[i as usize];
+        (span.from, span.to)
     }
 
     /// The first byte of its statement.
@@ -77,6 +77,6 @@ impl Spec {
         requires { i < length self.now }
         ensures { option_map (λ e. e.place) (slice_get self.now i) ≡ Some result }
     {
-        self.marks[i as usize].place
+        self.spans[i as usize].place
     }
 }

@@ -14,7 +14,7 @@ use Rattle.mz_logic_theory.specs.declared.word.Word.{Word}
 use Rattle.mz_logic_theory.specs.declared.binder.Binder.{Binder}
 use Rattle.mz_logic_theory.proofs.Offered.{one_at}
 use Rattle.mz_store.specs.Bits.{Tells, bound_vars}
-use Rattle.mz_store.specs.Sharing.{IsTold}
+use Rattle.mz_store.specs.Sharing.{DependsOn}
 use Rattle.mz_store.specs.declared.item.DepsMode.{DepsMode}
 use Rattle.mz_store.proofs.Gathering.{Gathers, gather-step, gather-end, tells-same}
 use Rattle.mz_store.proofs.Params.{many, binder-at, operand-none, operand-zero, operand-split, operand-here, operand-later, tells-bound}
@@ -49,7 +49,7 @@ tells-chosen places word part false S is tells k = (
 -- one place more, of a bound parameter
 pub take-place : (ctx : List Binder) (es : Trees) (mode : DepsMode) (sigs : List Signature) (params : List Binder) → Fits sigs ctx es params
     → (i : ℕ) (places rest : List ℕ) (left half word kept part : ℕ) → IsBoundAt params i → places ≡ i ∷ rest → half ≡ left / 2
-    → Tells (bound_vars ctx) kept (IsTold mode sigs ctx (operand es i))
+    → Tells (bound_vars ctx) kept (DependsOn mode sigs ctx (operand es i))
     → part ≡ (if left % 2 == 1 then kept else 0)
     → (P : ℕ → Type 0) → Gathers (bound_vars ctx) word P (At es params left places)
     → Gathers (bound_vars ctx) (bit_or word part) P (At es params half rest)

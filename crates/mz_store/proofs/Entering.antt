@@ -12,7 +12,7 @@ use Rattle.mz_logic_theory.specs.Variables.{InV}
 use Rattle.mz_logic_theory.specs.declared.binder.Binder.{Binder}
 use Rattle.mz_logic_theory.proofs.Offered.{one_at, Extends, extends_append, extends_itself, sort_extends, split_at, DepsInside, place_to}
 use Rattle.mz_store.specs.Bits.{Tells, HasAt, bound_vars}
-use Rattle.mz_store.specs.Sharing.{Shared, Sharing, entry_of, IsOver, IsRight, IsTold}
+use Rattle.mz_store.specs.Sharing.{Shared, Sharing, entry_of, IsOver, IsRight, DependsOn}
 use Rattle.mz_store.specs.Nodes.{Made, variable, entered, binder_after, IsVariableWord}
 use Rattle.mz_store.specs.declared.item.DepsMode.{DepsMode}
 use Rattle.mz_store.specs.declared.item.DepsMode.TheVariants as of
@@ -31,14 +31,14 @@ pub tells-longer : (mode : DepsMode) (sigs : List Signature) (ctx ctx' : List Bi
 tells-longer mode sigs ctx ctx' l (new, is, past) inside e (sorted, tells) =
     (sort_extends sigs sigs ctx ctx' (extends_itself sigs) l e.tree e.sort sorted, λ k. (to k, from k))
   where
-    to : (k : ℕ) → bit_at e.deps k ≡ 1 → HasAt (bound_vars ctx') (IsTold mode sigs ctx' e.tree) k
+    to : (k : ℕ) → bit_at e.deps k ≡ 1 → HasAt (bound_vars ctx') (DependsOn mode sigs ctx' e.tree) k
     to k bit = (let (x, at, told) = (tells k).0 bit in
         (x, ap (λ (ps : List ℕ). slice_get ps k) is ∙ extends_append (bound_vars ctx) new k x at, told-extends mode sigs ctx ctx' l e.tree x told))
 
-    from : (k : ℕ) → HasAt (bound_vars ctx') (IsTold mode sigs ctx' e.tree) k → bit_at e.deps k ≡ 1
+    from : (k : ℕ) → HasAt (bound_vars ctx') (DependsOn mode sigs ctx' e.tree) k → bit_at e.deps k ≡ 1
     from k (x, at, told) = go (split_at (bound_vars ctx) new k x (sym (ap (λ (ps : List ℕ). slice_get ps k) is) ∙ at))
       where
-        told_before : IsTold mode sigs ctx e.tree x
+        told_before : DependsOn mode sigs ctx e.tree x
         told_before = told-back mode sigs ctx ctx' l e.tree e.sort x sorted told
 
         go : (slice_get (bound_vars ctx) k ≡ Some x) ⊎ ((j : ℕ) × (k ≡ length (bound_vars ctx) + j) × (slice_get new j ≡ Some x)) → bit_at e.deps k ≡ 1
@@ -52,7 +52,7 @@ tells-longer mode sigs ctx ctx' l (new, is, past) inside e (sorted, tells) =
 -- ---- the variable itself
 
 pub told-of-var : (mode : DepsMode) (sigs : List Signature) (ctx : List Binder) (places : List ℕ) (word y : ℕ)
-    → Tells places word (λ x. InV ctx x (var y)) → Tells places word (IsTold mode sigs ctx (var y))
+    → Tells places word (λ x. InV ctx x (var y)) → Tells places word (DependsOn mode sigs ctx (var y))
 told-of-var of.All sigs ctx places word y tells = tells
 told-of-var of.Free sigs ctx places word y tells = tells
 

@@ -9,7 +9,7 @@ use Rattle.mz_logic_theory.specs.declared.word.Word.{Word}
 use Rattle.mz_logic_theory.specs.declared.binder.Binder.{Binder}
 use Rattle.mz_logic_theory.proofs.Offered.{one_at}
 use Rattle.mz_store.specs.Bits.{Tells, bound_vars}
-use Rattle.mz_store.specs.Sharing.{IsTold, CanTake}
+use Rattle.mz_store.specs.Sharing.{DependsOn, CanTake}
 use Rattle.mz_store.specs.declared.item.DepsMode.TheVariants as of
 use Rattle.mz_store.proofs.Gathering.{Gathers, gather-first, gather-step, gather-skip, gather-end, tells-same, tells-without}
 use Rattle.mz_store.proofs.OverTerms.{signature-at}
@@ -83,7 +83,7 @@ pub free-end : (terms : List TermWords) (ctx : List Binder) (es : Trees) (t i wo
     → many es ≤ i → length (term_at terms t).params ≤ i
     → Gathers (bound_vars ctx) word (FreeFrom (signatures_of terms) ctx es (term_at terms t).params 0) (FreeFrom (signatures_of terms) ctx es (term_at terms t).params i)
     → Tells (bound_vars ctx) named (Named es (term_at terms t).params i (word_deps (term_at terms t).result))
-    → Tells (bound_vars ctx) (bit_or word named) (IsTold of.Free (signatures_of terms) ctx (app t es))
+    → Tells (bound_vars ctx) (bit_or word named) (DependsOn of.Free (signatures_of terms) ctx (app t es))
 free-end terms ctx es t i word named (there, fits) past all so-far tells =
     tells-same (bound_vars ctx) (bit_or word named) (Free sigs ctx es ws i bits) (λ x. InFV sigs ctx x (app t es)) to from
     (gather-end (bound_vars ctx) (bit_or word named) (Free sigs ctx es ws i bits) (λ x. ⊥)

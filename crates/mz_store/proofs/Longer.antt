@@ -7,7 +7,7 @@ use Rattle.mz_logic_theory.specs.Sorts.{HasSort, Fits}
 use Rattle.mz_logic_theory.specs.Variables.{InV, InSomeV, InFV, InSomeFV}
 use Rattle.mz_logic_theory.specs.declared.binder.Binder.{Binder}
 use Rattle.mz_logic_theory.proofs.Offered.{Extends, in_v_extends, in_v_back, range_of_sort, DepsInside, free_below}
-use Rattle.mz_store.specs.Sharing.{IsTold}
+use Rattle.mz_store.specs.Sharing.{DependsOn}
 use Rattle.mz_store.specs.declared.item.DepsMode.{DepsMode}
 use Rattle.mz_store.specs.declared.item.DepsMode.TheVariants as of
 
@@ -49,14 +49,14 @@ mutual
   some-v-below ctx inside x (more e es) (inl h) = v-below ctx inside x e h
   some-v-below ctx inside x (more e es) (inr h) = some-v-below ctx inside x es h
 
-pub told-extends : (mode : DepsMode) (sigs : List Signature) (ctx ctx' : List Binder) → Extends ctx ctx' → (e : Tree) (x : ℕ) → IsTold mode sigs ctx e x → IsTold mode sigs ctx' e x
+pub told-extends : (mode : DepsMode) (sigs : List Signature) (ctx ctx' : List Binder) → Extends ctx ctx' → (e : Tree) (x : ℕ) → DependsOn mode sigs ctx e x → DependsOn mode sigs ctx' e x
 told-extends of.All sigs ctx ctx' l e x h = in_v_extends ctx ctx' l x e h
 told-extends of.Free sigs ctx ctx' l e x h = fv-extends sigs ctx ctx' l x e h
 
-pub told-back : (mode : DepsMode) (sigs : List Signature) (ctx ctx' : List Binder) → Extends ctx ctx' → (e : Tree) (s x : ℕ) → HasSort sigs ctx e s → IsTold mode sigs ctx' e x → IsTold mode sigs ctx e x
+pub told-back : (mode : DepsMode) (sigs : List Signature) (ctx ctx' : List Binder) → Extends ctx ctx' → (e : Tree) (s x : ℕ) → HasSort sigs ctx e s → DependsOn mode sigs ctx' e x → DependsOn mode sigs ctx e x
 told-back of.All sigs ctx ctx' l e s x sorted h = in_v_back sigs ctx ctx' l x e s sorted h
 told-back of.Free sigs ctx ctx' l e s x sorted h = fv-back sigs ctx ctx' l x e s sorted h
 
-pub told-below : (mode : DepsMode) (sigs : List Signature) (ctx : List Binder) → DepsInside ctx → (e : Tree) (s x : ℕ) → HasSort sigs ctx e s → IsTold mode sigs ctx e x → x < length ctx
+pub told-below : (mode : DepsMode) (sigs : List Signature) (ctx : List Binder) → DepsInside ctx → (e : Tree) (s x : ℕ) → HasSort sigs ctx e s → DependsOn mode sigs ctx e x → x < length ctx
 told-below of.All sigs ctx inside e s x sorted h = v-below ctx inside x e h
 told-below of.Free sigs ctx inside e s x sorted h = free_below sigs ctx inside x e (range_of_sort sigs ctx e s sorted) h

@@ -11,7 +11,7 @@ use Rattle.mz_logic_theory.specs.Variables.{IsBoundAt}
 use Rattle.mz_logic_theory.specs.declared.binder.Binder.{Binder}
 use Rattle.mz_logic_theory.proofs.Offered.{one_at}
 use Rattle.mz_store.specs.Bits.{Tells, bound_from, bound_vars}
-use Rattle.mz_store.specs.Sharing.{Shared, tree_of, deps_of, IsTold}
+use Rattle.mz_store.specs.Sharing.{Shared, tree_of, deps_of, DependsOn}
 use Rattle.mz_store.specs.Laws.{OldIdsKeepTrees, OldListsKeepTrees, WordsMeet}
 use Rattle.mz_store.specs.declared.item.DepsMode.{DepsMode}
 use Rattle.mz_store.specs.declared.item.DepsMode.TheVariants as of
@@ -40,19 +40,19 @@ bound-has i (c ∷ bs) (suc y) b at bd = later c.bound (bound-has (suc i) bs y b
     later true (k, h) = (suc k, h ∙ ap Some (omega arith))
     later false (k, h) = (k, h ∙ ap Some (omega arith))
 
-told-is : (mode : DepsMode) (sigs : List Signature) (ctx : List Binder) (x y : ℕ) → IsBoundAt ctx x → IsTold mode sigs ctx (var x) y → y ≡ x
+told-is : (mode : DepsMode) (sigs : List Signature) (ctx : List Binder) (x y : ℕ) → IsBoundAt ctx x → DependsOn mode sigs ctx (var x) y → y ≡ x
 told-is of.All sigs ctx x y bd (c, at, inl (_, same)) = same
 told-is of.All sigs ctx x y (b, at', bound) (c, at, inr (regular, _)) = absurd (let e : true ≡ false = sym bound ∙ ap (λ (d : Binder). d.bound) (one_at at' at) ∙ regular in cc)
 told-is of.Free sigs ctx x y bd (c, at, inl (_, same)) = same
 told-is of.Free sigs ctx x y (b, at', bound) (c, at, inr (regular, _)) = absurd (let e : true ≡ false = sym bound ∙ ap (λ (d : Binder). d.bound) (one_at at' at) ∙ regular in cc)
 
-told-itself : (mode : DepsMode) (sigs : List Signature) (ctx : List Binder) (x : ℕ) → IsBoundAt ctx x → IsTold mode sigs ctx (var x) x
+told-itself : (mode : DepsMode) (sigs : List Signature) (ctx : List Binder) (x : ℕ) → IsBoundAt ctx x → DependsOn mode sigs ctx (var x) x
 told-itself of.All sigs ctx x (b, at, bound) = (b, at, inl (bound, refl))
 told-itself of.Free sigs ctx x (b, at, bound) = (b, at, inl (bound, refl))
 
 -- the word of a bound variable is its own bit
 own-bit : (mode : DepsMode) (sigs : List Signature) (ctx : List Binder) (word x k : ℕ) → IsBoundAt ctx x → slice_get (bound_vars ctx) k ≡ Some x
-    → Tells (bound_vars ctx) word (IsTold mode sigs ctx (var x)) → word ≡ 2 ^ k
+    → Tells (bound_vars ctx) word (DependsOn mode sigs ctx (var x)) → word ≡ 2 ^ k
 own-bit mode sigs ctx word x k bd at-k tells = same_from_bits word (2 ^ k) each
   where
     each : (m : ℕ) → bit_at word m ≡ bit_at (2 ^ k) m
@@ -69,23 +69,23 @@ own-bit mode sigs ctx word x k bd at-k tells = same_from_bits word (2 ^ k) each
         ]
 
 -- a bound variable's word meets an expression's exactly where the variable is among those that words name of the expression
-pub bits-meet : (mode : DepsMode) (sigs : List Signature) (ctx : List Binder) (e : Tree) (v w x : ℕ) → IsBoundAt ctx x → Tells (bound_vars ctx) v (IsTold mode sigs ctx (var x)) → Tells (bound_vars ctx) w (IsTold mode sigs ctx e)
-    → (bit_and w v ≡ 0 → ⊥) ↔ IsTold mode sigs ctx e x
+pub bits-meet : (mode : DepsMode) (sigs : List Signature) (ctx : List Binder) (e : Tree) (v w x : ℕ) → IsBoundAt ctx x → Tells (bound_vars ctx) v (DependsOn mode sigs ctx (var x)) → Tells (bound_vars ctx) w (DependsOn mode sigs ctx e)
+    → (bit_and w v ≡ 0 → ⊥) ↔ DependsOn mode sigs ctx e x
 bits-meet mode sigs ctx e v w x bd own all = (let (b, at, bound) = bd in let (k, at-k) = bound-has 0 ctx x b at bound in go k (at-k ∙ ap Some (omega arith)))
   where
-    go : (k : ℕ) → slice_get (bound_vars ctx) k ≡ Some x → (bit_and w v ≡ 0 → ⊥) ↔ IsTold mode sigs ctx e x
+    go : (k : ℕ) → slice_get (bound_vars ctx) k ≡ Some x → (bit_and w v ≡ 0 → ⊥) ↔ DependsOn mode sigs ctx e x
     go k at-k = (to, from)
       where
         both : bit_and w v ≡ bit_at w k * 2 ^ k
         both = ap (bit_and w) (own-bit mode sigs ctx v x k bd at-k own) ∙ and_pow w k
 
-        to : (bit_and w v ≡ 0 → ⊥) → IsTold mode sigs ctx e x
+        to : (bit_and w v ≡ 0 → ⊥) → DependsOn mode sigs ctx e x
         to some = elim (zero-or-one w k) [
           | inl off ↦ absurd (some (both ∙ ap (λ n. n * 2 ^ k) off ∙ omega arith))
-          | inr on ↦ (let (y, at-y, told) = (all k).0 on in subst (IsTold mode sigs ctx e) (one_at at-y at-k) told)
+          | inr on ↦ (let (y, at-y, told) = (all k).0 on in subst (DependsOn mode sigs ctx e) (one_at at-y at-k) told)
         ]
 
-        from : IsTold mode sigs ctx e x → bit_and w v ≡ 0 → ⊥
+        from : DependsOn mode sigs ctx e x → bit_and w v ≡ 0 → ⊥
         from told nothing-shared = (
             let on : bit_at w k ≡ 1 = (all k).1 (x, at-k, told) in
             let power : bit_at w k * 2 ^ k ≡ 2 ^ k = ap (λ n. n * 2 ^ k) on ∙ omega arith in
@@ -96,4 +96,4 @@ bits-meet mode sigs ctx e v w x bd own all = (let (b, at, bound) = bd in let (k,
 pub words-meet : WordsMeet
 words-meet sigs s over i j x in-i in-j is bd =
     bits-meet s.mode sigs s.context (tree_of s j) (deps_of s i) (deps_of s j) x bd
-    (subst (λ e. Tells (bound_vars s.context) (deps_of s i) (IsTold s.mode sigs s.context e)) is (over i in-i).1) (over j in-j).1
+    (subst (λ e. Tells (bound_vars s.context) (deps_of s i) (DependsOn s.mode sigs s.context e)) is (over i in-i).1) (over j in-j).1

@@ -3,7 +3,7 @@ use Rattle.std.proofs.Common.{ℕ, zero, suc, ◌≡◌, ◌<◌, List, [], ◌�
 use Rattle.mz_logic_theory.specs.Tree.{app}
 use Rattle.mz_logic_theory.specs.Words.{TermWords, term_at, word_sort, signature_of, signatures_of}
 use Rattle.mz_store.specs.Bits.{Tells, bound_vars}
-use Rattle.mz_store.specs.Sharing.{Sharing, entry_of, trees_of, IsOver, IsRight, IsTold, CanTake}
+use Rattle.mz_store.specs.Sharing.{Sharing, entry_of, trees_of, IsOver, IsRight, DependsOn, CanTake}
 use Rattle.mz_store.specs.Nodes.{Made, application, entered}
 use Rattle.mz_store.specs.declared.item.Id.{Id}
 use Rattle.mz_store.proofs.Growing.{entered-begins, entry-kept, entry-new, in-cases}
@@ -15,7 +15,7 @@ signature-at (d ∷ ds) (suc t) less = signature-at ds t (omega arith)
 
 pub over-term : (terms : List TermWords) (s : Sharing) (t : ℕ) (is : List Id) (sort deps : ℕ)
     → IsOver (signatures_of terms) s → CanTake terms s.context t (trees_of s is) → sort ≡ word_sort (term_at terms t).result
-    → Tells (bound_vars s.context) deps (IsTold s.mode (signatures_of terms) s.context (app t (trees_of s is)))
+    → Tells (bound_vars s.context) deps (DependsOn s.mode (signatures_of terms) s.context (app t (trees_of s is)))
     → IsOver (signatures_of terms) (entered s (record { sort = sort; deps = deps; form = application t is }))
 over-term terms s t is sort deps over (there, fits) sort-is tells i in_i = elim (in-cases s n i in_i) [
   | inl before ↦ subst (IsRight s.mode (signatures_of terms) s.context) (sym (entry-kept s (entered s n) (entered-begins s n) i before)) (over i before)

@@ -13,7 +13,7 @@ use Rattle.mz_logic_theory.specs.declared.word.Word.{Word}
 use Rattle.mz_logic_theory.specs.declared.binder.Binder.{Binder}
 use Rattle.mz_logic_theory.proofs.Offered.{one_at}
 use Rattle.mz_store.specs.Bits.{Tells}
-use Rattle.mz_store.specs.Sharing.{Sharing, tree_of, trees_of, IsIn, AreIn, IsTold}
+use Rattle.mz_store.specs.Sharing.{Sharing, tree_of, trees_of, IsIn, AreIn, DependsOn}
 use Rattle.mz_store.specs.declared.item.DepsMode.{DepsMode}
 use Rattle.mz_store.specs.declared.item.DepsMode.TheVariants as of
 use Rattle.mz_store.specs.declared.item.Id.{Id}
@@ -125,25 +125,25 @@ operand-later params es i js x (j, has, bd, is) = (j, contains_tail i j js has, 
 
 -- the word of a bound variable names the variable itself
 pub tells-bound : (mode : DepsMode) (sigs : List Signature) (ctx params : List Binder) (places : List ℕ) (word : ℕ) (es : Trees) (i : ℕ) (e : Tree)
-    → IsBoundAt params i → operand es i ≡ e → IsBoundVar ctx e → Tells places word (IsTold mode sigs ctx e) → Tells places word (λ x. IsBoundAt params i × (operand es i ≡ var x))
+    → IsBoundAt params i → operand es i ≡ e → IsBoundVar ctx e → Tells places word (DependsOn mode sigs ctx e) → Tells places word (λ x. IsBoundAt params i × (operand es i ≡ var x))
 tells-bound mode sigs ctx params places word es i e bd is (y, b, e-is, at, bound) tells =
-    tells-same places word (IsTold mode sigs ctx e) (λ x. IsBoundAt params i × (operand es i ≡ var x)) to from tells
+    tells-same places word (DependsOn mode sigs ctx e) (λ x. IsBoundAt params i × (operand es i ≡ var x)) to from tells
   where
-    told : (m : DepsMode) (x : ℕ) → IsTold m sigs ctx (var y) x → x ≡ y
+    told : (m : DepsMode) (x : ℕ) → DependsOn m sigs ctx (var y) x → x ≡ y
     told of.All x (c, at', inl (_, same)) = same
     told of.All x (c, at', inr (regular, _)) = absurd (let e1 : true ≡ false = sym bound ∙ ap (λ (d : Binder). d.bound) (one_at at at') ∙ regular in cc)
     told of.Free x (c, at', inl (_, same)) = same
     told of.Free x (c, at', inr (regular, _)) = absurd (let e1 : true ≡ false = sym bound ∙ ap (λ (d : Binder). d.bound) (one_at at at') ∙ regular in cc)
 
-    back : (m : DepsMode) (x : ℕ) → x ≡ y → IsTold m sigs ctx (var y) x
+    back : (m : DepsMode) (x : ℕ) → x ≡ y → DependsOn m sigs ctx (var y) x
     back of.All x same = (b, at, inl (bound, same))
     back of.Free x same = (b, at, inl (bound, same))
 
-    to : (x : ℕ) → IsTold mode sigs ctx e x → IsBoundAt params i × (operand es i ≡ var x)
-    to x t = (bd, is ∙ e-is ∙ ap var (sym (told mode x (subst (λ f. IsTold mode sigs ctx f x) e-is t))))
+    to : (x : ℕ) → DependsOn mode sigs ctx e x → IsBoundAt params i × (operand es i ≡ var x)
+    to x t = (bd, is ∙ e-is ∙ ap var (sym (told mode x (subst (λ f. DependsOn mode sigs ctx f x) e-is t))))
 
-    from : (x : ℕ) → IsBoundAt params i × (operand es i ≡ var x) → IsTold mode sigs ctx e x
-    from x (_, same) = subst (λ f. IsTold mode sigs ctx f x) (sym e-is) (back mode x (place x y (sym same ∙ is ∙ e-is)))
+    from : (x : ℕ) → IsBoundAt params i × (operand es i ≡ var x) → DependsOn mode sigs ctx e x
+    from x (_, same) = subst (λ f. DependsOn mode sigs ctx f x) (sym e-is) (back mode x (place x y (sym same ∙ is ∙ e-is)))
       where
         place : (a b : ℕ) → var a ≡ var b → a ≡ b
         place a b eq = cc

@@ -3,7 +3,7 @@ use Rattle.std.proofs.Common.{ℕ, ◌≡◌, ◌+◌, List, [], ◌∷◌, leng
 use Rattle.mz_logic_theory.specs.Tree.{app}
 use Rattle.mz_logic_theory.specs.Words.{TermWords, term_at, word_sort, signatures_of}
 use Rattle.mz_store.specs.Bits.{Tells, bound_vars}
-use Rattle.mz_store.specs.Sharing.{Sharing, Shared, AreIn, Holds, KeepsIds, trees_of, IsOver, IsTold, CanTake}
+use Rattle.mz_store.specs.Sharing.{Sharing, Shared, AreIn, Holds, KeepsIds, trees_of, IsOver, DependsOn, CanTake}
 use Rattle.mz_store.specs.Nodes.{Made, all_made, application, entered}
 use Rattle.mz_store.specs.Hashes.{hash_of}
 use Rattle.mz_store.specs.Chains.{IsChain, IsLast, IsNode}
@@ -53,7 +53,7 @@ placed-new factor terms e e' newest v t is earlier id keeps view (deps, tells, o
       place ∙ sym keeps.0.many ∙ ap (λ s. length s.entries) view,
       subst (IsOver (signatures_of terms)) (sym now-is)
           (over-term terms v t is (word_sort (term_at terms t).result) deps over fit refl
-          (subst (λ s. Tells (bound_vars s.context) deps (IsTold s.mode (signatures_of terms) s.context (app t (trees_of s is)))) view tells)),
+          (subst (λ s. Tells (bound_vars s.context) deps (DependsOn s.mode (signatures_of terms) s.context (app t (trees_of s is)))) view tells)),
     )
   where
     now-is : shared_by e' ≡ entered v (record { sort = word_sort (term_at terms t).result; deps = deps; form = application t is })

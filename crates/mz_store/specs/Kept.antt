@@ -5,7 +5,7 @@ use Rattle.mz_logic_theory.specs.Legality.{Each}
 use Rattle.mz_logic_theory.specs.Words.{TermWords, term_at, word_sort, signatures_of}
 use Rattle.mz_logic_theory.specs.declared.binder.Binder.{Binder}
 use Rattle.mz_store.specs.Bits.{Tells, bound_vars}
-use Rattle.mz_store.specs.Sharing.{Sharing, IsIn, AreIn, IsTold, tree_of, trees_of, sort_of, deps_of}
+use Rattle.mz_store.specs.Sharing.{Sharing, IsIn, AreIn, DependsOn, tree_of, trees_of, sort_of, deps_of}
 use Rattle.mz_store.specs.Nodes.{MadeOf, Made, variable, application, made_of, all_made, sharing_of}
 use Rattle.mz_store.specs.Chains.{IsLast, IsLinked}
 use Rattle.mz_store.specs.declared.item.Id.{Id}
@@ -51,7 +51,7 @@ AreKept e = IsKept (shared_by e) e.bound_count e.operands.items e.nodes.items
 
 -- e' has the term t over these expressions as its last one, and its word names its variables
 abbrev pub IsAdded : List TermWords → Expressions → ℕ → List Id → Option Id → Expressions → Type 0
-IsAdded terms e t is earlier e' = (deps : ℕ) × Tells (bound_vars (shared_by e).context) deps (IsTold (shared_by e).mode (signatures_of terms) (shared_by e).context (app t (trees_of (shared_by e) is)))
+IsAdded terms e t is earlier e' = (deps : ℕ) × Tells (bound_vars (shared_by e).context) deps (DependsOn (shared_by e).mode (signatures_of terms) (shared_by e).context (app t (trees_of (shared_by e) is)))
     × (e'.operands.items ≡ e.operands.items ++ is)
     × (e'.nodes.items ≡ e.nodes.items ++ record {
       sort = word_sort (term_at terms t).result;

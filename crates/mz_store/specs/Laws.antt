@@ -3,7 +3,7 @@ use Rattle.std.specs.Prelude.{ℕ, ◌≡◌, ◌↔◌, List, bit_and}
 use Rattle.mz_logic_theory.specs.Tree.{var}
 use Rattle.mz_logic_theory.specs.Signature.{Signature}
 use Rattle.mz_logic_theory.specs.Variables.{IsBoundAt}
-use Rattle.mz_store.specs.Sharing.{Sharing, tree_of, trees_of, deps_of, IsIn, AreIn, IsOver, IsTold, KeepsIds}
+use Rattle.mz_store.specs.Sharing.{Sharing, tree_of, trees_of, deps_of, IsIn, AreIn, IsOver, DependsOn, KeepsIds}
 use Rattle.mz_store.specs.declared.item.Id.{Id}
 
 -- where a store keeps its ids, old ids keep their trees
@@ -17,4 +17,4 @@ OldListsKeepTrees = (s s' : Sharing) → KeepsIds s s' → (is : List Id) → Ar
 -- name of the expression
 abbrev pub WordsMeet : Type 0
 WordsMeet = (sigs : List Signature) (s : Sharing) → IsOver sigs s → (i j x : ℕ) → IsIn s i → IsIn s j → tree_of s i ≡ var x → IsBoundAt s.context x
-    → (bit_and (deps_of s j) (deps_of s i) ≡ 0 → ⊥) ↔ IsTold s.mode sigs s.context (tree_of s j) x
+    → (bit_and (deps_of s j) (deps_of s i) ≡ 0 → ⊥) ↔ DependsOn s.mode sigs s.context (tree_of s j) x

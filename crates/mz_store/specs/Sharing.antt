@@ -65,13 +65,13 @@ operands_of (var x) = none
 operands_of (app t es) = es
 
 -- the variables that a store's words name: all, or the free ones
-abbrev pub IsTold : DepsMode → List Signature → List Binder → Tree → ℕ → Type 0
-IsTold of.All sigs ctx e x = InV ctx x e
-IsTold of.Free sigs ctx e x = InFV sigs ctx x e
+abbrev pub DependsOn : DepsMode → List Signature → List Binder → Tree → ℕ → Type 0
+DependsOn of.All sigs ctx e x = InV ctx x e
+DependsOn of.Free sigs ctx e x = InFV sigs ctx x e
 
 -- the tree has this sort, and the word names its variables
 abbrev pub IsRight : DepsMode → List Signature → List Binder → Shared → Type 0
-IsRight mode sigs ctx e = HasSort sigs ctx e.tree e.sort × Tells (bound_vars ctx) e.deps (IsTold mode sigs ctx e.tree)
+IsRight mode sigs ctx e = HasSort sigs ctx e.tree e.sort × Tells (bound_vars ctx) e.deps (DependsOn mode sigs ctx e.tree)
 
 -- a store over the terms of these signatures: what is kept with each expression is right
 abbrev pub IsOver : List Signature → Sharing → Type 0

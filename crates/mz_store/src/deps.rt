@@ -7,7 +7,7 @@ ghost use Rattle.mz_logic_theory.specs.Variables.{InSomeV, IsBoundAt, IsOperandA
 ghost use Rattle.mz_logic_theory.specs.Words.{signatures_of, places_set};
 ghost use Rattle.mz_logic_theory.specs.declared.binder.Binder.{Binder};
 ghost use Rattle.mz_store.specs.Bits.{Tells, bound_vars};
-ghost use Rattle.mz_store.specs.Sharing.{IsIn, AreIn, deps_of, trees_of, IsOver, IsTold, CanTake};
+ghost use Rattle.mz_store.specs.Sharing.{IsIn, AreIn, deps_of, trees_of, IsOver, DependsOn, CanTake};
 ghost use Rattle.mz_store.specs.Kept.{shared_by, AreKept};
 ghost use Rattle.mz_store.specs.declared.item.DepsMode.TheVariants.{All, Free};
 
@@ -33,7 +33,7 @@ pub fn deps_of_term<T: Terms>(
     requires over { IsOver (signatures_of (T.all_terms terms.now)) (shared_by store.now) }
     requires ids { AreIn (shared_by store.now) args.now }
     requires fit { CanTake (T.all_terms terms.now) (shared_by store.now).context t (trees_of (shared_by store.now) args.now) }
-    ensures { IfOk result (λ word. Tells (bound_vars (shared_by store.now).context) word (IsTold (shared_by store.now).mode (signatures_of (T.all_terms terms.now)) (shared_by store.now).context (app t (trees_of (shared_by store.now) args.now)))) }
+    ensures { IfOk result (λ word. Tells (bound_vars (shared_by store.now).context) word (DependsOn (shared_by store.now).mode (signatures_of (T.all_terms terms.now)) (shared_by store.now).context (app t (trees_of (shared_by store.now) args.now)))) }
 {
     match store.mode {
         DepsMode::All => Ok(all_deps(store, args)),
@@ -70,7 +70,7 @@ fn free_deps<T: Terms>(
     requires over { IsOver (signatures_of (T.all_terms terms.now)) (shared_by store.now) }
     requires ids { AreIn (shared_by store.now) args.now }
     requires fit { CanTake (T.all_terms terms.now) (shared_by store.now).context t (trees_of (shared_by store.now) args.now) }
-    ensures { IfOk result (λ word. Tells (bound_vars (shared_by store.now).context) word (IsTold Free (signatures_of (T.all_terms terms.now)) (shared_by store.now).context (app t (trees_of (shared_by store.now) args.now)))) }
+    ensures { IfOk result (λ word. Tells (bound_vars (shared_by store.now).context) word (DependsOn Free (signatures_of (T.all_terms terms.now)) (shared_by store.now).context (app t (trees_of (shared_by store.now) args.now)))) }
 {
     // the places of the bound parameters so far: only they can bind
     let mut bound = Vec::new(alloc);

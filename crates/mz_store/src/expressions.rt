@@ -5,7 +5,7 @@ ghost use Rattle.mz_store.specs.declared.item.Id.{Id};
 ghost use Rattle.mz_logic_theory.specs.Signature.{Signature};
 ghost use Rattle.mz_logic_theory.specs.Words.{signatures_of};
 ghost use Rattle.mz_store.specs.Bits.{Tells, bound_vars};
-ghost use Rattle.mz_store.specs.Sharing.{IsIn, AreIn, tree_of, trees_of, deps_of, IsOver, IsTold, CanTake};
+ghost use Rattle.mz_store.specs.Sharing.{IsIn, AreIn, tree_of, trees_of, deps_of, IsOver, DependsOn, CanTake};
 ghost use Rattle.mz_store.specs.Kept.{shared_by, AreKept, IsAdded, HasMore};
 
 use crate::deps::deps_of_term;
@@ -31,7 +31,7 @@ impl Expressions {
         requires kept { AreKept self.now }
         requires inside { IsIn (shared_by self.now) id.0 }
         ensures kept { result ≡ deps_of (shared_by self.now) id.0 }
-        ensures variables { (sigs : List Signature) → IsOver sigs (shared_by self.now) → Tells (bound_vars (shared_by self.now).context) result (IsTold (shared_by self.now).mode sigs (shared_by self.now).context (tree_of (shared_by self.now) id.0)) }
+        ensures variables { (sigs : List Signature) → IsOver sigs (shared_by self.now) → Tells (bound_vars (shared_by self.now).context) result (DependsOn (shared_by self.now).mode sigs (shared_by self.now).context (tree_of (shared_by self.now) id.0)) }
     {
         self.nodes[id.0 as usize].deps
     }

@@ -5,7 +5,7 @@ ghost use Rattle.mz_logic_theory.specs.Signature.{Signature};
 ghost use Rattle.mz_logic_theory.specs.Tree.{var, app};
 ghost use Rattle.mz_logic_theory.specs.Words.{BitsRight, BitsRightAfter, binders_of, signatures_of};
 ghost use Rattle.mz_store.specs.Bits.{Tells, bound_vars};
-ghost use Rattle.mz_store.specs.Sharing.{IsIn, AreIn, Holds, tree_of, trees_of, sort_of, deps_of, head_of, operands_of, IsOver, IsTold, CanTake, KeepsIds, IsEmpty, dummy_binder};
+ghost use Rattle.mz_store.specs.Sharing.{IsIn, AreIn, Holds, tree_of, trees_of, sort_of, deps_of, head_of, operands_of, IsOver, DependsOn, CanTake, KeepsIds, IsEmpty, dummy_binder};
 ghost use Rattle.mz_store.specs.Nodes.{IsVariableWord, variable, variable_node, entered, entered_all};
 ghost use Rattle.mz_store.specs.Placed.{IsPlaced};
 
@@ -263,7 +263,7 @@ impl Store {
     pub fn deps(&self, id: Id) -> u64
         requires { IsIn self.now id.0 }
         ensures kept { result ≡ deps_of self.now id.0 }
-        ensures variables { (sigs : List Signature) → IsOver sigs self.now → Tells (bound_vars self.now.context) result (IsTold self.now.mode sigs self.now.context (tree_of self.now id.0)) }
+        ensures variables { (sigs : List Signature) → IsOver sigs self.now → Tells (bound_vars self.now.context) result (DependsOn self.now.mode sigs self.now.context (tree_of self.now id.0)) }
     {
         self.expressions.deps(id)
     }

@@ -9,7 +9,7 @@ use Rattle.mz_match.specs.Drafts.{IsDraft, verdict_of}
 use Rattle.mz_binary_theory.specs.Standards.{draft_standard}
 use Rattle.mz_match_theory.specs.Verdict.{AcceptsWithBy, FirstRefusalBy, line_of}
 use Rattle.mz_tool_verify.specs.Verify.{IsRefutedBy}
-use Rattle.mz_tool.specs.Draft.{IsDraftTold}
+use Rattle.mz_tool.specs.Draft.{IsDraftPrinted}
 
 accepted-apart : (d : Draft) → ((counts : Counts) (gaps : List ℕ) → d ≡ drafts.Accepted counts gaps → ⊥) → (counts : Counts) → verdict_of d ≡ verdicts.Accepted counts → ⊥
 accepted-apart (drafts.Accepted counts gaps) other counts' is = other counts gaps refl
@@ -35,8 +35,8 @@ module _ (spec bin : List ℕ) where
   draft-refuted drafts.Mem text is other some line = absurd (some refl)
 
   pub draft-not_told : (d : Draft) → ((counts : Counts) (gaps : List ℕ) → d ≡ drafts.Accepted counts gaps → ⊥) → (d ≡ drafts.Mem → ⊥)
-      → ((counts : Counts) → AcceptsWithBy draft_standard spec bin counts → (verdict_of d ≡ verdicts.Accepted counts) ⊎ (verdict_of d ≡ verdicts.Mem)) → (text : List ℕ) → IsDraftTold spec bin text → ⊥
-  draft-not_told d other some accepted text (counts, places, (accepts, is, lists), lines) = elim (accepted counts (accepts, is)) [
+      → ((counts : Counts) → AcceptsWithBy draft_standard spec bin counts → (verdict_of d ≡ verdicts.Accepted counts) ⊎ (verdict_of d ≡ verdicts.Mem)) → (text : List ℕ) → IsDraftPrinted spec bin text → ⊥
+  draft-not_told d other some accepted text (counts, places, (accepts, is, lists), sound, lines) = elim (accepted counts (accepts, is)) [
     | inl e ↦ accepted-apart d other counts e
     | inr e ↦ memory-apart d some e
   ]

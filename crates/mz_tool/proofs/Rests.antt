@@ -5,11 +5,11 @@ use Rattle.mz_match_theory.specs.declared.verdict.Verdict.{Verdict}
 use Rattle.mz_match_theory.specs.Verdict.{AcceptsWith, FirstRefusal, counts_of}
 use Rattle.mz_axioms.specs.Lists.{TheoremSupport, AreSupports}
 use Rattle.mz_tool_verify.specs.Verify.{IsRefuted}
-use Rattle.mz_tool.specs.Axioms.{AreAxiomsTold}
+use Rattle.mz_tool.specs.Axioms.{AreAxiomsPrinted}
 
 module _ (spec bin : List ℕ) (not_both : (spec bin : List ℕ) (counts : Counts) (verdict : Verdict) → AcceptsWith spec bin counts → FirstRefusal spec bin verdict → ⊥) where
   pub supports-alone : (supports : List TheoremSupport) → AreSupports spec bin supports → (line : List ℕ) → IsRefuted spec bin line → ⊥
   supports-alone supports are line (verdict, first, same) = not_both spec bin (counts_of are.accepts.declared) verdict (are.accepts, refl) first
 
-  pub refusal-alone : (verdict : Verdict) → FirstRefusal spec bin verdict → (text : List ℕ) → AreAxiomsTold spec bin text → ⊥
+  pub refusal-alone : (verdict : Verdict) → FirstRefusal spec bin verdict → (text : List ℕ) → AreAxiomsPrinted spec bin text → ⊥
   refusal-alone verdict first text (supports, are, is) = not_both spec bin (counts_of are.accepts.declared) verdict (are.accepts, refl) first

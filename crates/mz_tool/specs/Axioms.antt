@@ -8,8 +8,8 @@ use Rattle.mz_tool_verify.specs.Verify.{IsRefuted, IsProvedSpec}
 
 -- yes: the binary is accepted against the specification, and these are the lines of its theorems, each with the axioms on
 -- which it rests
-abbrev pub AreAxiomsTold : List ℕ → List ℕ → List ℕ → Type 0
-AreAxiomsTold spec bin text = (supports : List TheoremSupport) × AreSupports spec bin supports × IsTextOf spec supports text
+abbrev pub AreAxiomsPrinted : List ℕ → List ℕ → List ℕ → Type 0
+AreAxiomsPrinted spec bin text = (supports : List TheoremSupport) × AreSupports spec bin supports × IsTextOf spec supports text
 
 -- No, and what a yes promises, are those of `verify`.
 abbrev pub axioms_says : (spec_name bin_name : List ℕ) → Said
@@ -19,7 +19,7 @@ axioms_says spec_name bin_name = record {
   reads = spec_name ∷ bin_name ∷ [];
   puts = None;
   promise = λ file. IsProvedSpec file spec_name;
-  yes = λ contents put text. OfTwo (λ spec bin. (put ≡ None) × AreAxiomsTold spec bin text) contents;
+  yes = λ contents put text. OfTwo (λ spec bin. (put ≡ None) × AreAxiomsPrinted spec bin text) contents;
   no = λ contents text. OfTwo (λ spec bin. IsRefuted spec bin text) contents;
   sound = λ contents. OfTwo IsSound contents;
   begun = λ contents text. ⊥;

@@ -8,7 +8,7 @@ use Rattle.mz_emit_accepted_theory.specs.Lines.{refusal_line, limit_line}
 use Rattle.mz_emit_accepted_theory.specs.Compiling.{CompilesTo}
 use Rattle.mz_prefix_theory.specs.Wording.{Unwritten, local_in, long_in, too_long, longest, IsWordedAs, IsUnwritten}
 use Rattle.mz_prefix_theory.specs.AgreeLaws.{DeclaresText}
-use Rattle.mz_prefix.specs.Told.{specified_line, local_line, long_line}
+use Rattle.mz_prefix.specs.Printed.{specified_line, local_line, long_line}
 use Rattle.mz_tool_engine.specs.Said.{Said, OfOne}
 
 -- yes: the bytes, which are put, are the specification of the text's public statements

@@ -4,7 +4,7 @@ ghost use Rattle.mz_match_theory.specs.Verdict.{IsSound};
 ghost use Rattle.mz_axioms.specs.Reading.{IsAxiomsRead};
 ghost use Rattle.mz_tool_engine.specs.Outcomes.{IfYes, IfNo, OnYes, OnNo};
 ghost use Rattle.mz_tool_verify.specs.Verify.{IsRefuted};
-ghost use Rattle.mz_tool.specs.Axioms.{AreAxiomsTold};
+ghost use Rattle.mz_tool.specs.Axioms.{AreAxiomsPrinted};
 
 use mz_axioms::{AxiomsRead, axioms_of, axioms_text};
 use mz_cmd::Steps;
@@ -53,10 +53,10 @@ impl<'a> Command for AxiomsCommand<'a> {
 pub fn axioms(alloc: Global, seed: Seed, spec: &[u8], bin: &[u8]) -> Outcome
     requires spec { length spec.now < 2 ^ 32 }
     requires bin { length bin.now < 2 ^ 32 }
-    ensures yes { IfYes result (λ put text. (put ≡ None) × AreAxiomsTold spec.now bin.now text) }
+    ensures yes { IfYes result (λ put text. (put ≡ None) × AreAxiomsPrinted spec.now bin.now text) }
     ensures no { IfNo result (λ text. IsRefuted spec.now bin.now text) }
     ensures sound { OnYes result (IsSound spec.now bin.now) }
-    ensures only_yes { (text : List ℕ) → AreAxiomsTold spec.now bin.now text → OnNo result ⊥ }
+    ensures only_yes { (text : List ℕ) → AreAxiomsPrinted spec.now bin.now text → OnNo result ⊥ }
     ensures only_no { (text : List ℕ) → IsRefuted spec.now bin.now text → OnYes result ⊥ }
 {
     each_pair_has_one_verdict();

@@ -5,7 +5,7 @@ ghost use Rattle.mz_tool_engine.specs.Answering.{IsShort};
 ghost use Rattle.mz_tool_engine.specs.Outcomes.{IfYes, IfNo, OnYes, OnNo};
 ghost use Rattle.mz_tool.specs.Compile.{IsAnsweredOnce, IsCompiledTo, IsNotCompiled};
 
-use mz_base::{Hashing, Mode};
+use mz_base::Mode;
 use mz_emit::{
     compilable_texts_have_files, compilation_is_decided, compile_bytes, compiled_line,
     texts_have_one_file,
@@ -60,7 +60,7 @@ pub fn compile(alloc: Global, seed: Seed, text: &[u8], mode: Mode) -> Outcome
     ensures only_no { (line : List ℕ) → IsNotCompiled (gaps_of mode) text.now line → OnYes result ⊥ }
 {
     compilation_is_decided();
-    let compiled = compile_bytes(alloc, Hashing::from(seed), text, mode);
+    let compiled = compile_bytes(alloc, seed, text, mode);
     if let Compiled::Mem = compiled {
         return Outcome::Mem;
     }

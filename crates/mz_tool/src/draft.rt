@@ -7,7 +7,7 @@ ghost use Rattle.mz_match.specs.Drafts.{IsDraft, IsDraftSound, IsDraftSoundIfAcc
 ghost use Rattle.mz_match_theory.specs.Verdict.{AcceptsWithBy, FirstRefusalBy};
 ghost use Rattle.mz_tool_engine.specs.Outcomes.{IfYes, IfNo, OnYes, OnNo};
 ghost use Rattle.mz_tool_verify.specs.Verify.{IsRefutedBy};
-ghost use Rattle.mz_tool.specs.Draft.{IsDraftTold};
+ghost use Rattle.mz_tool.specs.Draft.{IsDraftPrinted};
 
 use mz_axioms::gaps_text;
 use mz_cmd::Steps;
@@ -57,10 +57,10 @@ impl<'a> Command for DraftCommand<'a> {
 pub fn draft(alloc: Global, seed: Seed, spec: &[u8], bin: &[u8]) -> Outcome
     requires spec { length spec.now < 2 ^ 32 }
     requires bin { length bin.now < 2 ^ 32 }
-    ensures yes { IfYes result (λ put text. (put ≡ None) × IsDraftTold spec.now bin.now text) }
+    ensures yes { IfYes result (λ put text. (put ≡ None) × IsDraftPrinted spec.now bin.now text) }
     ensures no { IfNo result (λ text. IsRefutedBy draft_standard spec.now bin.now text) }
     ensures sound { OnYes result (IsDraftSound spec.now bin.now) }
-    ensures only_yes { (text : List ℕ) → IsDraftTold spec.now bin.now text → OnNo result ⊥ }
+    ensures only_yes { (text : List ℕ) → IsDraftPrinted spec.now bin.now text → OnNo result ⊥ }
     ensures only_no { (text : List ℕ) → IsRefutedBy draft_standard spec.now bin.now text → OnYes result ⊥ }
 {
     match counted_draft::<Brand>(alloc, seed, Blank::new(1), spec, bin) {

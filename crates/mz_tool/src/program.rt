@@ -15,8 +15,7 @@ use mz_store::Seed;
 use mz_tool_engine::{Program, Status};
 use std::alloc::Global;
 
-/// The program `mz`, with the seed with which the terms of a binary's bodies are numbered, and names are hashed. No answer
-/// depends on it.
+/// The program `mz`, with the seed by which terms and names are looked up. No answer but out of memory depends on it.
 #[derive(Clone, Copy)]
 pub struct Mz {
     pub seed: Seed,
@@ -47,8 +46,8 @@ impl<'a> Program<'a> for Mz {
 
 /// Does what the arguments ask for, with the folder's files, and writes the answer to `out`.
 ///
-/// Out of memory may come in place of any answer but `Usage`. The terms of a binary's bodies are numbered, and names
-/// are hashed, with the seed, on which no answer depends.
+/// Out of memory may come in place of any answer but `Usage`. No other answer depends on the seed, by which terms and
+/// names are looked up.
 pub fn run<F: Folder, O: Sink>(
     alloc: Global,
     seed: Seed,
@@ -85,8 +84,9 @@ pub fn run<F: Folder, O: Sink>(
         → F.faults folder.new ≡ F.faults folder.old }
     ensures only_room { F.is_clear folder.old → EachAsked said_of (map string_bytes words.now) (λ said. (name : List ℕ) → said.puts ≡ Some name → HasRoom (F.rooms folder.old) name longest)
         → F.put_faults folder.new ≡ F.put_faults folder.old }
-    ensures only_full { F.told → O.is_clear out.old → EachAsked said_of (map string_bytes words.now) (λ said. (put : Option (List ℕ)) (text : List ℕ)
-        → IsAnswerOver (F.file folder.old) said put text → length text ≤ O.room out.old) → O.faults out.new ≡ O.faults out.old }
+    ensures only_full { (file : Files) → Since (F.calls folder.old) (F.calls folder.new) (Gives file) → O.is_clear out.old
+        → EachAsked said_of (map string_bytes words.now) (λ said. (put : Option (List ℕ)) (text : List ℕ) → IsAnswerOver file said put text → length text ≤ O.room out.old)
+        → O.faults out.new ≡ O.faults out.old }
 {
     mz_tool_engine::run(alloc, &Mz { seed }, words, folder, out)
 }

@@ -1,11 +1,12 @@
 -- How a run ends, put together of its parts.
-use Rattle.std.proofs.Common.{◌≡◌, ◌≤◌, ◌++◌, ◌∙◌, ◌⊎◌, [], ◌∷◌, ℕ, suc, List, Option, Some, None, Ok, true, false, length, refl, sym, ap, subst, inl, inr}
+use Rattle.std.proofs.Common.{◌≡◌, ◌≤◌, ◌++◌, ◌∙◌, ◌⊎◌, [], ◌∷◌, ℕ, suc, List, Option, Some, None, Ok, true, false, length, refl, sym, ap, append_assoc, subst, inl, inr}
 use Rattle.std.proofs.lemmas.List.{append-nil}
 use Rattle.std.proofs.lemmas.Option.{none-some}
-use Rattle.mz_io.specs.Calls.{Call, puts, Grows, AreAnswered, IsWritten, IsCut, Hold}
+use Rattle.mz_io.specs.Calls.{Call, puts, Grows, Since, IsWritten, IsCut, Hold}
 use Rattle.mz_io.proofs.Offered.{grows-both, written-both, written-none, cut-after}
 use Rattle.mz_tool_engine.specs.Said.{Said, Files}
-use Rattle.mz_tool_engine.proofs.Telling.{read-told}
+use Rattle.mz_tool_engine.specs.Given.{Gives}
+use Rattle.mz_tool_engine.proofs.Given.{gives-part, read-holds}
 use Rattle.mz_tool_engine.specs.Run.{AreRead, AreReadAndPut, AreReadNotPut, IsPutting, Affirms, Refuses, IsAnswer, IsRunOf}
 use Rattle.mz_tool_engine.specs.Answering.{IsWritingAnswer, IsAnswering, Answers, IfLeft, IsShort}
 use Rattle.mz_tool_engine.specs.Inputs.{bytes_of}
@@ -74,13 +75,14 @@ module _ (limit : ℕ) (said : Said) (contents : List (List ℕ)) (front text sl
       subst (λ s. IsRunOf limit said s calls (first ++ second)) (sym is)
       (contents, None, front ++ text, inr (refl, refuses), read-and_nothing_put said.reads contents said.puts calls read, cut-text front text slice first second same w cut)
 
--- what is answered over the bytes that were read fits, where all that may be answered over the files does
-pub fits-read : (file : Files) (left now : List ℕ) (old later : List Call) (said : Said) (names contents : List (List ℕ)) (room : ℕ) → names ≡ said.reads →
-    Grows old later (AreRead names contents) → Grows old later (λ calls. AreAnswered file left calls now) →
+-- what is answered over the bytes that were read fits, where all that may be answered over the files that the calls gave does
+pub fits-given : (file : Files) (old now later more : List Call) (said : Said) (names contents : List (List ℕ)) (room : ℕ) → names ≡ said.reads →
+    Grows old now (AreRead names contents) → later ≡ now ++ more → Since old later (Gives file) →
     ((contents : List (List ℕ)) (put : Option (List ℕ)) (text : List ℕ) → Hold file said.reads contents → IsAnswer said contents put text → length text ≤ room) →
     (put : Option (List ℕ)) (text : List ℕ) → IsAnswer said contents put text → length text ≤ room
-fits-read file left now old later said names contents room e log answered fits put text answer =
-    fits contents put text (subst (λ ns. Hold file ns contents) e (read-told file left now old later names contents log answered)) answer
+fits-given file old now later more said names contents room e (reads, from, read) is gives fits put text answer =
+    let all : later ≡ old ++ (reads ++ more) = is ∙ ap (λ front. front ++ more) from ∙ append_assoc old reads more in
+    fits contents put text (subst (λ ns. Hold file ns contents) e (read-holds file names contents reads (gives-part file [] reads more (reads ++ more) refl (gives (reads ++ more) all)) read)) answer
 
 -- ---- what a command answers
 

@@ -1,15 +1,15 @@
 -- What a folder that tells its files, and a sink that tells what was written, say of the calls on them.
-use Rattle.std.proofs.Common.{◌≡◌, ◌<◌, ◌++◌, ◌∙◌, ◌⊎◌, [], ◌∷◌, ℕ, Bool, true, false, List, Option, Some, None, Result, Ok, Err, OnOk, is_ok, refl, sym, ap, subst, inl, inr, append_assoc}
+use Rattle.std.proofs.Common.{◌≡◌, ◌≤◌, ◌<◌, ◌++◌, ◌∙◌, ◌⊎◌, [], ◌∷◌, ℕ, Bool, true, false, List, Option, Some, None, Result, Ok, Err, OnOk, is_ok, refl, sym, ap, subst, inl, inr, append_assoc, length, arith}
 use Rattle.std.specs.Prelude.{⊤}
 use Rattle.std.proofs.lemmas.List.{append-nil, append_cancel_left}
-use Rattle.mz_io.specs.Calls.{Call, starts, pulls, pull_fails, puts, writes, write_fails, pulls_of, bytes_of, taken, Grows, Since, AreAnswered, IsBegun, IsRead, Hold}
+use Rattle.mz_io.specs.Calls.{Call, starts, pulls, pull_fails, puts, writes, write_fails, pulls_of, bytes_of, taken, Grows, Since, AreAnswered, IsBegun, IsRead}
 use Rattle.mz_io.specs.Outside.{SameFiles, SameOthers}
+use Rattle.mz_io.specs.Read.{IsLonger}
 use Rattle.mz_io.proofs.Offered.{taken-append}
 use Rattle.mz_tool_engine.specs.Said.{Files}
 use Rattle.mz_tool_engine.specs.Given.{Gives, Leaves, Tells, puts_among}
-use Rattle.mz_tool_engine.specs.Run.{AreRead, IsPutting}
+use Rattle.mz_tool_engine.specs.Run.{IsPutting}
 use Rattle.mz_tool_engine.proofs.Among.{puts-append}
-use Rattle.mz_tool_engine.proofs.Given.{read-holds}
 
 -- ---- calls that are answered from files, and puts behind them
 
@@ -153,12 +153,14 @@ reads-give : (f : Files) (left now : List ℕ) (reads : List Call) → AreAnswer
 reads-give f left now reads a =
     answers-give f left reads (subst (λ (cs : List Call). Answers f left cs) (append-nil reads) (then-puts f left reads [] now a tt))
 
--- what was read whole is what the files hold
-pub read-told : (f : Files) (left now : List ℕ) (old later : List Call) (names contents : List (List ℕ)) → Grows old later (AreRead names contents) →
-    Grows old later (λ calls. AreAnswered f left calls now) → Hold f names contents
-read-told f left now old later names contents (reads, is, read) (calls, on, a) =
+-- a file that was read whole, within the limit, isn't longer
+pub read-within : (f : Files) (left now : List ℕ) (old later : List Call) (name bytes : List ℕ) (limit : ℕ) → Grows old later (IsRead name bytes) →
+    Grows old later (λ calls. AreAnswered f left calls now) → length bytes ≤ limit → IsLonger limit (f name) → ⊥
+read-within f left now old later name bytes limit (reads, is, read) (calls, on, a) within longer =
     let same : calls ≡ reads = append_cancel_left old calls reads (sym on ∙ is) in
-    read-holds f names contents reads (reads-give f left now reads (subst (λ (cs : List Call). AreAnswered f left cs now) same a)) read
+    let given = reads-give f left now reads (subst (λ (cs : List Call). AreAnswered f left cs now) same a) in
+    let held : f name ≡ Some bytes = given.whole name bytes [] reads [] (sym (append-nil reads)) read in
+    let more : limit < length bytes = subst (IsLonger limit) held longer in omega (arith, more, within)
 
 -- where files were read
 pub reads-tell : (f g : Files) (left now : List ℕ) (old later : List Call) → Grows old later (λ calls. AreAnswered f left calls now) → SameFiles f g → Since old later (Tells f g)

@@ -15,12 +15,12 @@ number_of statuses.OutFault = 6
 number_of statuses.TooLong = 7
 
 -- the name on standard error, where the answer is neither yes nor no
-abbrev pub told_name : Status → Option (List ℕ)
-told_name statuses.Done = None
-told_name statuses.Refused = None
-told_name statuses.Usage = Some (codes "Usage")
-told_name statuses.ReadFault = Some (codes "ReadFault")
-told_name statuses.Memory = Some (codes "Memory")
-told_name statuses.WriteFault = Some (codes "WriteFault")
-told_name statuses.OutFault = Some (codes "OutFault")
-told_name statuses.TooLong = Some (codes "TooLong")
+abbrev pub printed_name : Status → Option (List ℕ)
+printed_name statuses.Done = None
+printed_name statuses.Refused = None
+printed_name statuses.Usage = Some (codes "Usage")
+printed_name statuses.ReadFault = Some (codes "ReadFault")
+printed_name statuses.Memory = Some (codes "Memory")
+printed_name statuses.WriteFault = Some (codes "WriteFault")
+printed_name statuses.OutFault = Some (codes "OutFault")
+printed_name statuses.TooLong = Some (codes "TooLong")

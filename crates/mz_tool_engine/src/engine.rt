@@ -4,8 +4,9 @@ ghost use Rattle.mz_io.specs.Calls.{Call, Grows, Since, Hold};
 ghost use Rattle.mz_io.specs.Outside.{HasRoom, Rose};
 ghost use Rattle.mz_tool_engine.specs.Answering.{IsWritingAnswer};
 ghost use Rattle.mz_tool_engine.specs.Files.{AreThere, BeginsLonger};
-ghost use Rattle.mz_tool_engine.specs.Given.{Tells};
+ghost use Rattle.mz_tool_engine.specs.Given.{Gives, Tells};
 ghost use Rattle.mz_tool_engine.specs.Run.{IsRunOf, IsAnswer, longest};
+ghost use Rattle.mz_tool_engine.specs.Said.{Files};
 
 use crate::command::Command;
 use crate::inputs::ReadAll;
@@ -48,7 +49,8 @@ pub fn answer<C: Command, F: Folder, O: Sink>(
     ensures unread { F.is_clear folder.old → BeginsLonger limit (F.file folder.old) (C.says command.now).reads → F.faults folder.new ≡ F.faults folder.old }
     ensures only_room { F.is_clear folder.old → ((name : List ℕ) → (C.says command.now).puts ≡ Some name → HasRoom (F.rooms folder.old) name longest)
         → F.put_faults folder.new ≡ F.put_faults folder.old }
-    ensures only_full { F.told → O.is_clear out.old → ((contents : List (List ℕ)) (put : Option (List ℕ)) (text : List ℕ) → Hold (F.file folder.old) (C.says command.now).reads contents
+    ensures only_full { (file : Files) → Since (F.calls folder.old) (F.calls folder.new) (Gives file) → O.is_clear out.old
+        → ((contents : List (List ℕ)) (put : Option (List ℕ)) (text : List ℕ) → Hold file (C.says command.now).reads contents
         → IsAnswer (C.says command.now) contents put text → length text ≤ O.room out.old) → O.faults out.new ≡ O.faults out.old }
 {
     let contents = match command.inputs().read(alloc, limit, folder) {

@@ -82,8 +82,9 @@ pub fn run<'a, P: Program<'a>, F: Folder, O: Sink>(
         → F.faults folder.new ≡ F.faults folder.old }
     ensures only_room { F.is_clear folder.old → EachAsked P.said_of (map string_bytes words.now) (λ said. (name : List ℕ) → said.puts ≡ Some name → HasRoom (F.rooms folder.old) name longest)
         → F.put_faults folder.new ≡ F.put_faults folder.old }
-    ensures only_full { F.told → O.is_clear out.old → EachAsked P.said_of (map string_bytes words.now) (λ said. (put : Option (List ℕ)) (text : List ℕ)
-        → IsAnswerOver (F.file folder.old) said put text → length text ≤ O.room out.old) → O.faults out.new ≡ O.faults out.old }
+    ensures only_full { (file : Files) → Since (F.calls folder.old) (F.calls folder.new) (Gives file) → O.is_clear out.old
+        → EachAsked P.said_of (map string_bytes words.now) (λ said. (put : Option (List ℕ)) (text : List ℕ) → IsAnswerOver file said put text → length text ≤ O.room out.old)
+        → O.faults out.new ≡ O.faults out.old }
 {
     program.keeps_its_promises();
     match program.read(words) {

@@ -1,6 +1,6 @@
 // How a run of the program ends.
 ghost use Rattle.std.specs.Prelude.{◌≡◌, option_map};
-ghost use Rattle.mz_tool_engine.specs.Ending.{number_of, told_name};
+ghost use Rattle.mz_tool_engine.specs.Ending.{number_of, printed_name};
 
 /// The bytes of the longest file that is read.
 pub const LONGEST: u64 = 4_294_967_295;
@@ -45,7 +45,7 @@ impl Status {
 
     /// What is printed on standard error, where anything is.
     pub fn name(self) -> Option<&'static str>
-        ensures { option_map (λ name. name.now) result ≡ told_name self }
+        ensures { option_map (λ name. name.now) result ≡ printed_name self }
     {
         match self {
             Status::Done | Status::Refused => None,

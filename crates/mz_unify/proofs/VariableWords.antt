@@ -11,7 +11,7 @@ use Rattle.mz_logic_theory.specs.Variables.{InV}
 use Rattle.mz_logic_theory.specs.declared.binder.Binder.{Binder}
 use Rattle.mz_store.specs.Bits.{HasAt, Tells, bound_vars}
 use Rattle.mz_logic_theory.specs.Signature.{Signature}
-use Rattle.mz_store.specs.Sharing.{Sharing, tree_of, IsTold}
+use Rattle.mz_store.specs.Sharing.{Sharing, tree_of, DependsOn}
 use Rattle.mz_store.specs.declared.item.Id.{Id}
 use Rattle.mz_store.specs.declared.item.DepsMode.{DepsMode}
 use Rattle.mz_store.specs.declared.item.DepsMode.TheVariants as of
@@ -72,7 +72,7 @@ tells-any-push ctx v w es e p q =
 
 -- ---- what a store's words name
 
-told-by : (mode : DepsMode) (sigs : List Signature) (ctx : List Binder) (word : ℕ) (e : Tree) → (mode ≡ of.All) ⊎ IsVariable e → Tells (bound_vars ctx) word (IsTold mode sigs ctx e) → Tells (bound_vars ctx) word (λ x. InV ctx x e)
+told-by : (mode : DepsMode) (sigs : List Signature) (ctx : List Binder) (word : ℕ) (e : Tree) → (mode ≡ of.All) ⊎ IsVariable e → Tells (bound_vars ctx) word (DependsOn mode sigs ctx e) → Tells (bound_vars ctx) word (λ x. InV ctx x e)
 told-by of.All sigs ctx word e h tells = tells
 told-by of.Free sigs ctx word e (inl all) tells = absurd cc
 told-by of.Free sigs ctx word (var y) (inr h) tells = tells
@@ -83,16 +83,16 @@ variable-at s [] k i h at = absurd cc
 variable-at s (j ∷ js) zero i h at = let is : j ≡ i = cc in rw (← is) h.0
 variable-at s (j ∷ js) (suc k) i h at = variable-at s js k i h.1 at
 
-pub tells-one : (s : Sharing) (sigs : List Signature) (i : Id) (word : ℕ) → (s.mode ≡ of.All) ⊎ IsVariable (tree_of s i.0) → Tells (bound_vars s.context) word (IsTold s.mode sigs s.context (tree_of s i.0)) → Tells (bound_vars s.context) word (λ x. InV s.context x (tree_of s i.0))
+pub tells-one : (s : Sharing) (sigs : List Signature) (i : Id) (word : ℕ) → (s.mode ≡ of.All) ⊎ IsVariable (tree_of s i.0) → Tells (bound_vars s.context) word (DependsOn s.mode sigs s.context (tree_of s i.0)) → Tells (bound_vars s.context) word (λ x. InV s.context x (tree_of s i.0))
 tells-one s sigs i word h tells = told-by s.mode sigs s.context word (tree_of s i.0) h tells
 
-pub tells-at : (s : Sharing) (sigs : List Signature) (is : List Id) (k : ℕ) (i : Id) (word : ℕ) → TellsAllOf s is → slice_get is k ≡ Some i → Tells (bound_vars s.context) word (IsTold s.mode sigs s.context (tree_of s i.0)) → Tells (bound_vars s.context) word (λ x. InV s.context x (tree_of s i.0))
+pub tells-at : (s : Sharing) (sigs : List Signature) (is : List Id) (k : ℕ) (i : Id) (word : ℕ) → TellsAllOf s is → slice_get is k ≡ Some i → Tells (bound_vars s.context) word (DependsOn s.mode sigs s.context (tree_of s i.0)) → Tells (bound_vars s.context) word (λ x. InV s.context x (tree_of s i.0))
 tells-at s sigs is k i word (inl all) at tells = tells-one s sigs i word (inl all) tells
 tells-at s sigs is k i word (inr vs) at tells = tells-one s sigs i word (inr (variable-at s is k i vs at)) tells
 
 -- one more of the expressions is reported
 pub tells-next : (s : Sharing) (sigs : List Signature) (is : List Id) (k : ℕ) (i : Id) (v w : ℕ) → TellsAllOf s is → slice_get is k ≡ Some i
-    → TellsAny s.context v (trees_at s (take k is)) → Tells (bound_vars s.context) w (IsTold s.mode sigs s.context (tree_of s i.0)) → TellsAny s.context (bit_or v w) (trees_at s (take (k + 1) is))
+    → TellsAny s.context v (trees_at s (take k is)) → Tells (bound_vars s.context) w (DependsOn s.mode sigs s.context (tree_of s i.0)) → TellsAny s.context (bit_or v w) (trees_at s (take (k + 1) is))
 tells-next s sigs is k i v w all at p q =
     rw (add-one k, take-next is k i at, trees-append s (take k is) (i ∷ [])) (tells-any-push s.context v w (trees_at s (take k is)) (tree_of s i.0) p (tells-at s sigs is k i w all at q))
   where
@@ -105,7 +105,7 @@ tells-next s sigs is k i v w all at p q =
 
 -- a variable that is fresh is one, whose word names all its variables
 pub tells-bound : (s : Sharing) (sigs : List Signature) (es : List Tree) (sort : ℕ) (i : Id) (word : ℕ) → is_fresh strict sigs s.context sort (tree_of s i.0) es ≡ true
-    → Tells (bound_vars s.context) word (IsTold s.mode sigs s.context (tree_of s i.0)) → Tells (bound_vars s.context) word (λ x. InV s.context x (tree_of s i.0))
+    → Tells (bound_vars s.context) word (DependsOn s.mode sigs s.context (tree_of s i.0)) → Tells (bound_vars s.context) word (λ x. InV s.context x (tree_of s i.0))
 tells-bound s sigs es sort i word fresh tells = tells-one s sigs i word (inr (is-variable (tree_of s i.0) fresh)) tells
   where
     is-variable : (e : Tree) → is_fresh strict sigs s.context sort e es ≡ true → IsVariable e
@@ -197,7 +197,7 @@ module _ (s : Sharing) (sigs : List Signature) (es : List Tree) (i : Id) (sort :
       rw (is-bound s.context (tree_of s i.0) (x, b, is, at, bound), its, differ) refl
 
   pub fresh-word : (n word apart : ℕ) → IsBoundVar s.context (tree_of s i.0) → HasSort sigs s.context (tree_of s i.0) n → eqb n sort ≡ true
-      → Tells (bound_vars s.context) word (IsTold s.mode sigs s.context (tree_of s i.0)) → TellsAny s.context apart es
+      → Tells (bound_vars s.context) word (DependsOn s.mode sigs s.context (tree_of s i.0)) → TellsAny s.context apart es
       → eqb (bit_and word apart) 0 ≡ is_fresh strict sigs s.context sort (tree_of s i.0) es
   fresh-word n word apart (x, b, is, at, bound) sorted same own told =
       let its : sort_of sigs s.context (tree_of s i.0) ≡ n = ap (sort_of sigs s.context) is ∙ sort-is sigs s.context x n (subst (λ (e : Tree). HasSort sigs s.context e n) is sorted) in

@@ -44,7 +44,9 @@ pub(crate) fn build(
     if t >= earlier.terms() {
         return Err(Stop::Rule(K::TermIndex));
     }
-    pop_operands(store, earlier.arity_of(Row::Term(t)), stack, operands)?;
+    if let Err(stop) = pop_operands(store, earlier.arity_of(Row::Term(t)), stack, operands) {
+        return Err(stop);
+    }
     if let Err(rule) = check_operands(earlier, Row::Term(t), store, operands) {
         return Err(Stop::Rule(rule));
     }
@@ -107,8 +109,7 @@ fn take_citation(
     requires over { IsOver (signatures_of earlier.now) store.now }
     requires mode { store.now.mode ≡ All }
     requires stack { AreItemsIn store.now stack.old.items }
-    ensures there { OnOk result (t < earlier.now.rows.thms) }
-    ensures ids { IfOk result (λ target. IsIn store.now target.0 × AreIn store.now spare.new.operands.items × AreItemsIn store.now stack.new.items) }
+    ensures ids { IfOk result (λ target. IsIn store.now target.0 × AreIn store.now spare.new.operands.items × AreItemsIn store.now stack.new.items × (t < earlier.now.rows.thms)) }
     ensures taken { (st : State Tree) → st.ctx ≡ store.now.context → st.stack ≡ items_at store.now stack.old.items → Gives (citation strict (tables_of earlier.now) t st) result (λ target. matching_at store.now Use (drop (thm_row earlier.now.file t).stream_at earlier.now.file) spare.new.operands.items target stack.new.items) }
 {
     if t >= earlier.thms() {
@@ -122,14 +123,13 @@ fn take_citation(
         Ok(target) => target,
         Err(rule) => return Err(Stop::Rule(rule)),
     };
-    pop_operands(store, arity, stack, &mut spare.operands)?;
-    check_cited(
-        earlier,
-        Row::Thm(t),
-        store,
-        &spare.operands,
-        &mut spare.bound,
-    )?;
+    if let Err(stop) = pop_operands(store, arity, stack, &mut spare.operands) {
+        return Err(stop);
+    }
+    let row = Row::Thm(t);
+    if let Err(stop) = check_cited(earlier, row, store, &spare.operands, &mut spare.bound) {
+        return Err(stop);
+    }
     if !are_apart(earlier, Row::Thm(t), store, &spare.operands, &spare.bound) {
         return Err(Stop::Rule(K::Disjoint));
     }

@@ -1,11 +1,12 @@
-use Rattle.std.proofs.Common.{List, length, sym, ap, subst, arith}
-use Rattle.mz_mmu_theory.specs.Statements.{Statement}
+use Rattle.std.proofs.Common.{length, sym, ap, subst, arith, ◌∙◌}
+use Rattle.mz_layout_tables.specs.Normal.{file_of}
+use Rattle.mz_layout_tables.specs.Standing.{Fit}
 use Rattle.mz_mmu_theory.specs.Meaning.{LegalAsStated}
-use Rattle.mz_type.specs.StatedView.{AreRead, statements_of}
+use Rattle.mz_type.specs.StatedView.{AreRead}
 use Rattle.mz_mmu_theory.specs.Weight.{IsWithinLimits}
 use Rattle.mz_type.proofs.Offered.{statements_many}
-use Rattle.mz_emit_accepted_theory.specs.Compiling.{IsBinaryOf}
-use Rattle.mz_emit.specs.Emitting.{IsLegalWith}
+use Rattle.mz_emit_accepted_theory.specs.CompiledFile.{compiled_parts}
+use Rattle.mz_emit.proofs.Existing.{fits, has_binary}
 use Rattle.mz_emit.proofs.Looping.{own_mode}
 use Rattle.mz_emit.proofs.compile.emit.Goals as goal
 
@@ -26,16 +27,15 @@ emit_all-requires-clause-within c = subst IsWithinLimits (sym c.into_parts-env.e
 
 pub finish-requires : goal.finish-requires
 finish-requires c =
-    let is = sym c.into_parts-env.ensures.statements in
     let gaps = c.args.text.gaps in
-    let legal = subst (LegalAsStated gaps) is c.len-count.ensures.legal in
-    let own = subst (IsLegalWith gaps) is (own_mode gaps c.args.text.statements c.len-count.ensures.read c.len-count.ensures.legal) in
-    (gaps, statements_of c.into_parts-env.result.0 c.into_parts-env.result.1.items, c.in_ok-emitter.ensures gaps own, legal, subst IsWithinLimits is c.requires)
+    let ss = c.args.text.statements in
+    let read = c.len-count.ensures.read in
+    let fit = fits c.words_are_read_back.ensures.fit c.words_are_read_back.ensures.results_fit c.stated_proofs_are_sound.ensures c.statements_can_be_words.ensures
+    gaps ss read c.requires gaps (own_mode gaps ss read c.len-count.ensures.legal) in
+    subst Fit (sym (c.in_ok-emitter.ensures.written ∙ ap compiled_parts c.into_parts-env.ensures.statements)) fit
 
 pub returns : goal.returns
 returns c = λ gaps legal.
-    let ss = statements_of c.into_parts-env.result.0 c.into_parts-env.result.1.items in
-    let is = c.into_parts-env.ensures.statements in
-    let own = subst (IsLegalWith gaps) (sym is) legal in
-    subst (λ (ts : List Statement). IsBinaryOf gaps ts c.in_ok-bytes.bytes.items) is
-    (c.in_ok-bytes.ensures gaps ss (c.in_ok-emitter.ensures gaps own) own.0 (subst IsWithinLimits (sym is) c.requires))
+    let written = c.in_ok-emitter.ensures.written ∙ ap compiled_parts c.into_parts-env.ensures.statements in
+    has_binary c.words_are_read_back.ensures.fit c.words_are_read_back.ensures.results_fit c.stated_proofs_are_sound.ensures c.statements_can_be_words.ensures
+    c.args.text.gaps c.args.text.statements c.len-count.ensures.read c.requires gaps legal c.in_ok-bytes.bytes.items (c.in_ok-bytes.ensures ∙ ap file_of written)

@@ -1,11 +1,10 @@
 use Rattle.std.proofs.Common.{List, length, reverse, take, sym, ap, subst, arith}
 use Rattle.mz_logic_theory.specs.DeclView.{declaration}
-use Rattle.mz_mmu_theory.specs.Statements.{Statement}
 use Rattle.mz_type.specs.StatedView.{statements_of}
 use Rattle.mz_type.specs.declared.typed.Beside.{Beside}
 use Rattle.mz_type.proofs.Offered.{taken, fewer, turned}
-use Rattle.mz_emit.specs.Emitting.{IsNext}
-use Rattle.mz_emit.proofs.Looping.{own_mode, next_there, emitted_all, AreLeft, within, is_there, others_left, written_more, is_declared, all_taken}
+use Rattle.mz_emit.specs.Emitting.{MayFollow}
+use Rattle.mz_emit.proofs.Looping.{own_mode, all_follow, emitted_all, AreLeft, within, is_there, others_left, written_more, is_declared, all_taken}
 use Rattle.mz_emit.proofs.compile.emit_all.Goals as goal
 
 pub loop-beside-init : goal.loop-beside-init
@@ -18,7 +17,7 @@ loop-beside-init c =
         many = omega (arith, c.requires.many, many);
         are = ap (statements_of c.args.env.now) back;
       };
-      written = λ gaps legal. c.new-emitter.ensures gaps;
+      written = c.new-emitter.ensures;
     }
 
 pub loop-beside-smaller : goal.loop-beside-smaller
@@ -44,10 +43,9 @@ statement-requires c =
     let d = declaration c.in-Some-get.decl.now in
     let left = subst (λ (bs : List Beside). AreLeft ss env bs at.place) (taken at.besides.items new b c.in-Some.ensures) at.invariant.left in
     let there = sym c.in-Some-get.ensures in
-    let own = own_mode mode ss c.requires.legal.1 c.requires.legal.2 in
-    let next = next_there c.statements_can_be_words.ensures mode ss c.requires.legal.1 c.requires.within mode own at.place at.emitter
-    (within ss env b (reverse new) at.place left d there) (at.invariant.written mode own) in
-    (mode, take at.place ss, subst (λ (s : Statement). IsNext mode (take at.place ss) s at.emitter) (is_there ss env b (reverse new) at.place left d there) next)
+    let below = within ss env b (reverse new) at.place left d there in
+    let follows = all_follow c.statements_can_be_words.ensures mode ss c.requires.legal.1 c.requires.within mode (own_mode mode ss c.requires.legal.1 c.requires.legal.2) at.place below in
+    (mode, take at.place ss, record { before = at.invariant.written; follows = subst (MayFollow mode (take at.place ss)) (is_there ss env b (reverse new) at.place left d there) follows })
 
 pub overflow_add-place : goal.overflow_add-place
 overflow_add-place c =
@@ -68,8 +66,7 @@ loop-beside-preserved c =
     let there = sym c.in-Some-get.ensures in
     record {
       left = others_left ss env b rest at.place left d there;
-      written = written_more c.statements_can_be_words.ensures c.requires.legal.0 ss c.requires.legal.1 c.requires.within env b rest at.place left d there at.emitter c.statement.new.self
-          c.in_ok-statement.ensures at.invariant.written;
+      written = written_more ss env b rest at.place left d there at.emitter c.statement.new.self c.in_ok-statement.ensures at.invariant.written;
     }
 
 pub loop-beside-preserved-in_ok-statement : goal.loop-beside-preserved-in_ok-statement
@@ -84,14 +81,13 @@ loop-beside-preserved-in_ok-statement c =
     let there = sym c.in-Some-get.ensures in
     record {
       left = others_left ss env b rest at.place left d there;
-      written = written_more c.statements_can_be_words.ensures c.requires.legal.0 ss c.requires.legal.1 c.requires.within env b rest at.place left d there at.emitter c.statement.new.self
-          c.in_ok-statement.ensures at.invariant.written;
+      written = written_more ss env b rest at.place left d there at.emitter c.statement.new.self c.in_ok-statement.ensures at.invariant.written;
     }
 
 pub returns : goal.returns
-returns c = λ gaps legal.
+returns c =
     let env = c.args.env.now in
     let ss = statements_of env c.args.besides.items in
     let at = c.loop-beside in
     let left = subst (λ (bs : List Beside). AreLeft ss env bs at.place) (ap reverse c.in_default.ensures) at.invariant.left in
-    emitted_all gaps ss at.place at.emitter (all_taken ss env at.place left) (at.invariant.written gaps legal)
+    emitted_all ss at.place at.emitter (all_taken ss env at.place left) at.invariant.written

@@ -1,13 +1,13 @@
-use Rattle.std.proofs.Common.{Bool, length, reverse, take}
+use Rattle.std.proofs.Common.{length, reverse, take}
 use Rattle.mz_type.specs.StatedView.{statements_of}
-use Rattle.mz_emit.specs.Emitting.{IsLegalWith, HasEmitted}
+use Rattle.mz_emit.specs.Emitting.{HasEmitted}
 use Rattle.mz_emit.proofs.Looping.{AreLeft}
 use Rattle.mz_emit.proofs.compile.emit_all.Given as goal
 
 abbrev pub invariant-loop-beside : goal.invariant-loop-beside
 invariant-loop-beside l = record {
   left : AreLeft (statements_of l.fn.env l.fn.besides.items) l.fn.env (reverse l.besides.items) l.place;
-  written : (gaps : Bool) → IsLegalWith gaps (statements_of l.fn.env l.fn.besides.items) → HasEmitted gaps (take l.place (statements_of l.fn.env l.fn.besides.items)) l.emitter;
+  written : HasEmitted (take l.place (statements_of l.fn.env l.fn.besides.items)) l.emitter;
 }
 
 abbrev pub decreases-loop-beside : goal.decreases-loop-beside

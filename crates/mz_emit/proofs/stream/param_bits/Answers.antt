@@ -1,6 +1,6 @@
 use Rattle.std.proofs.Common.{ℕ, subst, sym, arith, not-suc-le-zero}
 use Rattle.mz_store.specs.Bits.{Tells, bound_vars}
-use Rattle.mz_store.specs.Sharing.{IsIn, IsTold, tree_of}
+use Rattle.mz_store.specs.Sharing.{IsIn, DependsOn, tree_of}
 use Rattle.mz_emit.proofs.Starting.{bits_done, bits_more, param_word}
 use Rattle.mz_emit.proofs.Telling.{tells_none}
 use Rattle.mz_emit.proofs.stream.param_bits.Goals as goal
@@ -14,7 +14,7 @@ deps-met-requires c = subst (IsIn c.args.store.now) (sym c.from.ensures) (c.requ
 pub loop-i-preserved : goal.loop-i-preserved
 loop-i-preserved c = λ ps ds st many. bits_more c.args.store.now.context c.loop-i.i c.loop-i.met c.deps-met.result (c.loop-i.invariant ps ds st many)
     (param_word ps ds c.args.store.now st c.loop-i.i c.deps-met.result (let lt = c.loop-i-test.true in omega (arith, lt, many))
-    (λ sigs over. subst (λ (x : ℕ). Tells (bound_vars c.args.store.now.context) c.deps-met.result (IsTold c.args.store.now.mode sigs c.args.store.now.context (tree_of c.args.store.now x))) c.from.ensures (c.deps-met.ensures.variables sigs over)))
+    (λ sigs over. subst (λ (x : ℕ). Tells (bound_vars c.args.store.now.context) c.deps-met.result (DependsOn c.args.store.now.mode sigs c.args.store.now.context (tree_of c.args.store.now x))) c.from.ensures (c.deps-met.ensures.variables sigs over)))
 
 pub returns : goal.returns
 returns c = λ ps ds st many. bits_done ps ds c.args.store.now st c.args.params c.loop-i.i c.loop-i.met many (let le = c.loop-i-test.false in let end = c.loop-i.auto.i-end in omega (arith, le, end)) (c.loop-i.invariant ps ds st many)

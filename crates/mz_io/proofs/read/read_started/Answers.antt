@@ -1,4 +1,4 @@
-use Rattle.std.proofs.Common.{rules, ◌≡◌, ◌++◌, ◌<◌, ◌∷◌, [], true, refl, inr, ◌∙◌, ap, sym, append_assoc, arith, length, take, ℕ, List}
+use Rattle.std.proofs.Common.{rules, ◌≡◌, ◌++◌, ◌<◌, ◌∷◌, [], true, refl, inr, arith, length, take, ℕ, List}
 use Rattle.std.proofs.lemmas.List.{length-append}
 use Rattle.mz_io.specs.Calls.{starts, pulls, pull_fails, IsBegun, IsUnread, IsRead, IsOver}
 use Rattle.mz_io.proofs.Logs.{grows-on, begun-more}
@@ -43,9 +43,6 @@ pulls-preserved g c =
     let kept : c.extend_from_slice.new.self.items ≡ c.pulls.bytes.items ++ piece = search rules in (
       record {
         within = search rules;
-        whole = λ told.
-            c.pulls.invariant.0.whole told ∙ ap (λ rest. c.pulls.bytes.items ++ rest) (c.in-Ok.ensures.bytes told).0
-            ∙ sym (append_assoc c.pulls.bytes.items piece (g.F.Folder.left c.pull.new.self)) ∙ ap (λ bytes. bytes ++ g.F.Folder.left c.pull.new.self) (sym kept);
         files = search rules;
         later = search rules;
         put_faults_same = search rules;

@@ -1,6 +1,6 @@
 use Rattle.std.proofs.Common.{subst}
 use Rattle.mz_store.specs.Bits.{Tells, bound_vars}
-use Rattle.mz_store.specs.Sharing.{IsTold, sort_of, tree_of}
+use Rattle.mz_store.specs.Sharing.{DependsOn, sort_of, tree_of}
 use Rattle.mz_machine_env.specs.Before.{signatures_of}
 use Rattle.mz_machine_env.proofs.Offered.{free-test}
 use Rattle.mz_machine.proofs.end.are_free_within.Goals as goal
@@ -14,4 +14,4 @@ returns c =
     let (dummies, is, all) = c.requires.context in
     rw (c.deps.ensures, c.requires.word)
     (free-test E c.args.row s.context dummies (tree_of s i) (sort_of s i) c.deps-told.result row.3 is all (c.requires.over i c.requires.target).0
-    (subst (λ m. Tells (bound_vars s.context) c.deps-told.result (IsTold m (signatures_of E) s.context (tree_of s i))) c.requires.mode (c.deps-told.ensures.variables _ c.requires.over)))
+    (subst (λ m. Tells (bound_vars s.context) c.deps-told.result (DependsOn m (signatures_of E) s.context (tree_of s i))) c.requires.mode (c.deps-told.ensures.variables _ c.requires.over)))

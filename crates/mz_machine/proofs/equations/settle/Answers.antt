@@ -1,7 +1,7 @@
 use Rattle.std.proofs.Common.{◌<◌, ◌≤◌, ◌∙◌, List, ◌∷◌, length, sym, ap, subst, arith, inl, inr}
 use Rattle.std.specs.Prelude.{reverse}
 use Rattle.mz_logic_theory.specs.Tree.{Tree}
-use Rattle.mz_unify_theory.specs.Profile.{Item as Told}
+use Rattle.mz_unify_theory.specs.Profile.{Item as UnifyItem}
 use Rattle.mz_unify.specs.Stored.{items_at, item_at}
 use Rattle.mz_unify.proofs.Offered.{items-push}
 use Rattle.mz_machine.specs.OpenEquations.{AreOpen, AreSettled, IsInHand, whole_stack}
@@ -46,7 +46,7 @@ returns-in-Ok c =
     let settled = now-settled s e (reverse c.pop.new.self.items) xs stand low (item_at s c.side_in_hand-item.result) c.side_in_hand-item.ensures.barrier c.side_in_hand-item.ensures.side (reverse c.if-next-many.equations.items) follows in
     let put = ap (items_at s) c.in-Ok.ensures.items ∙ items-push s c.args.stack.now.items c.side_in_hand-item.result in (
       put_in s c.args.stack.now.items c.push.new.self.items c.side_in_hand-item.result c.in-Ok.ensures.items c.side_in_hand-item.ensures.ids c.requires.stack,
-      subst (λ (ys : List (Told Tree)). AreSettled s (reverse c.if-next-many.equations.items) ys) (sym put) settled.0,
+      subst (λ (ys : List (UnifyItem Tree)). AreSettled s (reverse c.if-next-many.equations.items) ys) (sym put) settled.0,
       ap (whole_stack s (reverse c.if-next-many.equations.items)) put ∙ settled.1 ∙ ap (λ (fs : List Equation). whole_stack s fs xs) (sym first),
     )
 

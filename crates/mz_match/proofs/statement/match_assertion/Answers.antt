@@ -4,7 +4,7 @@ use Rattle.mz_cmd.specs.Codes.{statement_byte}
 use Rattle.mz_logic_theory.specs.Declaration.{Declaration}
 use Rattle.mz_logic_theory.specs.DeclView.{assertion_of, assertion_view, is_axiom}
 use Rattle.mz_spec_proved_theory.specs.Match.{match_checks}
-use Rattle.mz_match_rows.specs.TellsRow.{IsRowOf}
+use Rattle.mz_match_rows.specs.ReportedRow.{IsRowOf}
 use Rattle.mz_match_rows.proofs.Offered.{exact-no, assertion-kind-differs, assertion-judged, thm-row}
 use Rattle.mz_match.proofs.statement.match_assertion.Goals as goal
 

@@ -1,7 +1,7 @@
 use Rattle.std.proofs.Common.{◌≤◌, ◌∙◌, ℕ, reverse, length, refl, sym, subst, inl, inr}
 use Rattle.mz_logic_theory.specs.Tree.{listed}
 use Rattle.mz_layout_tables.specs.Tables.{thm_row}
-use Rattle.mz_match_rows.specs.TellsRow.{SaysClaims}
+use Rattle.mz_match_rows.specs.ReportedRow.{SaysClaims}
 use Rattle.mz_match_rows.proofs.Offered.{claims-plain, turned-twice, exact-no, exact-yes}
 use Rattle.mz_match.proofs.statement.match_claims.Goals as goal
 

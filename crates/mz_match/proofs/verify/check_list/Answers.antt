@@ -8,7 +8,7 @@ use Rattle.mz_binary.specs.Judging.{Passes}
 use Rattle.mz_binary.specs.Progress.{most_left}
 use Rattle.mz_logic_theory.specs.Declaration.{Declaration}
 use Rattle.mz_logic_theory.specs.LegalLists.{Statement}
-use Rattle.mz_match.specs.Told.{IsMatched}
+use Rattle.mz_match.specs.Reported.{IsMatched}
 use Rattle.mz_binary.proofs.Offered.{most-of-file}
 use Rattle.mz_match_theory.specs.declared.verdict.Verdict.{Verdict}
 use Rattle.mz_match_theory.specs.declared.verdict.Verdict.TheVariants as verdicts

@@ -5,7 +5,7 @@ use Rattle.mz_binary_theory.specs.FileRun.{file_steps}
 use Rattle.mz_binary.specs.Progress.{steps_left, most_left}
 use Rattle.mz_spec_theory.specs.State.{env_of}
 use Rattle.mz_match.specs.Drafts.{ListsGapsOf}
-use Rattle.mz_match.specs.Told.{IsMatched}
+use Rattle.mz_match.specs.Reported.{IsMatched}
 use Rattle.mz_match.proofs.verify.check_list.Given as goal
 use Rattle.mz_binary_theory.specs.Standards.{lets_gaps}
 

@@ -11,7 +11,7 @@ pub returns-in_default-clause-only_full : goal.returns-in_default-clause-only_fu
 returns-in_default-clause-only_full g c =
     let n = c.in-Statement.ensures in
     let piece : c.deref.result.now ≡ statement_text c.args.mmb.now c.statements.place n.0 =
-    c.deref.ensures.value ∙ n.3 ∙ ap (λ front. front ++ statement_text c.args.mmb.now c.statements.place n.0) c.new-text.ensures.items in
+    c.deref.ensures.value ∙ n.3 ∙ ap (λ front. front ++ statement_text c.args.mmb.now c.statements.place n.0) c.clear.ensures.items in
     let f = front-one_more c.args.mmb.now c.proof_at.ensures.binary.layout c.statements.invariant.statements c.statements.place n.0 c.statements.invariant.chain n.1 n.2 in
     λ clear fits.
     let room = has-room c.args.mmb.now c.proof_at.ensures.binary.layout (chain_text c.args.mmb.now (first_place c.args.mmb.now) c.statements.invariant.statements)
@@ -52,7 +52,7 @@ pub statements-preserved : goal.statements-preserved
 statements-preserved g c =
     let n = c.in-Statement.ensures in
     let piece : c.deref.result.now ≡ statement_text c.args.mmb.now c.statements.place n.0 =
-    c.deref.ensures.value ∙ n.3 ∙ ap (λ front. front ++ statement_text c.args.mmb.now c.statements.place n.0) c.new-text.ensures.items in
+    c.deref.ensures.value ∙ n.3 ∙ ap (λ front. front ++ statement_text c.args.mmb.now c.statements.place n.0) c.clear.ensures.items in
     progress-more c.args.mmb.now c.proof_at.ensures.binary.layout _ (g.O.Sink.is_clear c.statements.out) _
     (g.O.Sink.room c.args.out.now) (g.O.Sink.room c.statements.out) (g.O.Sink.room c.write_whole.new.out) (g.O.Sink.faults c.args.out.now) (g.O.Sink.faults c.statements.out) (g.O.Sink.faults c.write_whole.new.out)
     (g.O.Sink.calls c.args.out.now) (g.O.Sink.calls c.statements.out) (g.O.Sink.calls c.write_whole.new.out)
@@ -76,7 +76,7 @@ pub returns-in_default-clause-log : goal.returns-in_default-clause-log
 returns-in_default-clause-log g c =
     let n = c.in-Statement.ensures in
     let piece : c.deref.result.now ≡ statement_text c.args.mmb.now c.statements.place n.0 =
-    c.deref.ensures.value ∙ n.3 ∙ ap (λ front. front ++ statement_text c.args.mmb.now c.statements.place n.0) c.new-text.ensures.items in
+    c.deref.ensures.value ∙ n.3 ∙ ap (λ front. front ++ statement_text c.args.mmb.now c.statements.place n.0) c.clear.ensures.items in
     let f = front-one_more c.args.mmb.now c.proof_at.ensures.binary.layout c.statements.invariant.statements c.statements.place n.0 c.statements.invariant.chain n.1 n.2 in
     let cut = cut-short c.args.mmb.now c.proof_at.ensures.binary.layout (chain_text c.args.mmb.now (first_place c.args.mmb.now) c.statements.invariant.statements) (statement_text c.args.mmb.now c.statements.place n.0)
     (g.O.Sink.calls c.args.out.now) (g.O.Sink.calls c.statements.out) (g.O.Sink.calls c.write_whole.new.out) f c.statements.invariant.log

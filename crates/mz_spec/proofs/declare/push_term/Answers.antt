@@ -22,4 +22,4 @@ returns-clause-with c =
     let σ = state c.args.state.now in
     term-pushed σ c.args.place (lexeme c.args.name) (term_of c.args.term) c.name_count-number.result c.add_term_name.new.self c.push_decl.new.self c.push.new.self.items
     refl (c.name_count-number.ensures ∙ sym (names-many σ.table.names)) c.in-Ok.ensures.ok c.in_ok-push_decl.ensures.ok
-    (c.in_ok-push.ensures.items ∙ ap (λ m. σ.marks ++ m ∷ []) c.mark_of.ensures)
+    (c.in_ok-push.ensures.items ∙ ap (λ m. σ.spans ++ m ∷ []) c.span_of.ensures)

@@ -9,7 +9,7 @@ invariant-statements l = record {
   within : l.at ≤ length l.text;
   some : 1 ≤ l.statement;
   few : 2 * l.statement ≤ l.at + 2;
-  marks : length l.state.marks.items + 1 ≤ l.statement;
+  spans : length l.state.spans.items + 1 ≤ l.statement;
   kept : IsKept (state l.state);
   stand : StandTo l.text (l.statement - 1) l.at (state l.state);
 }

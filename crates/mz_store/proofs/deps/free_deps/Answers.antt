@@ -2,7 +2,7 @@ use Rattle.std.proofs.Common.{◌≡◌, ◌<◌, ◌≤◌, ◌+◌, ◌++◌, 
 use Rattle.mz_logic_theory.specs.Words.{signatures_of, term_at, word_deps, bound_places, binders_of}
 use Rattle.mz_logic_theory.specs.Tree.{operand}
 use Rattle.mz_store.specs.Bits.{Tells, bound_vars}
-use Rattle.mz_store.specs.Sharing.{trees_of, IsTold}
+use Rattle.mz_store.specs.Sharing.{trees_of, DependsOn}
 use Rattle.mz_store.specs.Kept.{shared_by}
 use Rattle.mz_store.proofs.Growing.{mode-shared}
 use Rattle.mz_store.proofs.Params.{many, in-at, operand-at, many-operands}
@@ -61,8 +61,8 @@ loop-i-preserved g c =
                 ∙ sym (places-next ws c.loop-i.i (c.loop-i.i + 1) c.param-param.result false c.param-param.ensures (add-one c.loop-i.i) regular),
             rw w.word-is (free-take (signatures_of terms) s.context es ws c.loop-i.i (c.loop-i.i + 1) c.loop-i.word w.deps.result w.named.result _ c.param-param.result c.param-param.ensures inside (add-one c.loop-i.i) regular
                 w.deps.type_inv w.named.type_inv
-                (subst (λ m. Tells (bound_vars s.context) w.deps.result (IsTold m (signatures_of terms) s.context (operand es c.loop-i.i))) (mode-shared c.args.store.now ∙ c.requires.mode)
-                (subst (λ e. Tells (bound_vars s.context) w.deps.result (IsTold s.mode (signatures_of terms) s.context e)) (sym (operand-at s is c.loop-i.i there)) (w.deps.ensures.variables (signatures_of terms) c.requires.over)))
+                (subst (λ m. Tells (bound_vars s.context) w.deps.result (DependsOn m (signatures_of terms) s.context (operand es c.loop-i.i))) (mode-shared c.args.store.now ∙ c.requires.mode)
+                (subst (λ e. Tells (bound_vars s.context) w.deps.result (DependsOn s.mode (signatures_of terms) s.context e)) (sym (operand-at s is c.loop-i.i there)) (w.deps.ensures.variables (signatures_of terms) c.requires.over)))
                 (names-told s.context es ws w.deref.result.now (bound_places 0 (take c.loop-i.i ws)) w.deps-else-bound.result (word_deps c.param-param.result) w.named.result
                 (w.deref.ensures.value ∙ c.loop-i.invariant.0) w.deps-else-bound.ensures
                 (w.named.ensures (signatures_of terms) (binders_of ws) c.requires.over c.requires.fit.1

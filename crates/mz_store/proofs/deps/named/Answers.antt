@@ -1,7 +1,7 @@
 use Rattle.std.proofs.Common.{◌<◌, ◌+◌, Contains, get_or, length, drop, refl, arith, sym, subst}
 use Rattle.std.proofs.lemmas.List.{drop_all, drop_more, get_or_default}
 use Rattle.mz_store.specs.Bits.{Tells, bound_vars}
-use Rattle.mz_store.specs.Sharing.{deps_of, trees_of, IsTold}
+use Rattle.mz_store.specs.Sharing.{deps_of, trees_of, DependsOn}
 use Rattle.mz_store.specs.Kept.{shared_by}
 use Rattle.mz_store.proofs.BoundOperands.{take-place, bits-over, places-over}
 use Rattle.mz_store.proofs.Params.{nothing, in-at, operand-at}
@@ -27,7 +27,7 @@ loop-place-preserved c sigs params over fits bound =
     let inside = c.requires.within _ has in
     let place = get_or c.args.places.now c.loop-place.place-index 0 in
     let arg = (get_or c.args.args.now place nothing).0 in
-    let tells = subst (λ e. Tells (bound_vars (shared_by c.args.store.now).context) (deps_of (shared_by c.args.store.now) arg) (IsTold (shared_by c.args.store.now).mode sigs (shared_by c.args.store.now).context e)) (sym (operand-at (shared_by c.args.store.now) c.args.args.now place inside)) (over arg (in-at (shared_by c.args.store.now) c.args.args.now place c.requires.ids inside)).1 in
+    let tells = subst (λ e. Tells (bound_vars (shared_by c.args.store.now).context) (deps_of (shared_by c.args.store.now) arg) (DependsOn (shared_by c.args.store.now).mode sigs (shared_by c.args.store.now).context e)) (sym (operand-at (shared_by c.args.store.now) c.args.args.now place inside)) (over arg (in-at (shared_by c.args.store.now) c.args.args.now place c.requires.ids inside)).1 in
     take-place (shared_by c.args.store.now).context (trees_of (shared_by c.args.store.now) c.args.args.now) (shared_by c.args.store.now).mode sigs params fits place (drop c.loop-place.place-index c.args.places.now)
     (drop (c.loop-place.place-index + 1) c.args.places.now) c.loop-place.left _ c.loop-place.word (deps_of (shared_by c.args.store.now) arg) c.chosen-word.result (bound _ has)
     (drop_more c.args.places.now c.loop-place.place-index 0 here) refl tells c.chosen-word.ensures _

@@ -1,9 +1,10 @@
-use Rattle.std.proofs.Common.{◌≤◌, ◌++◌, ◌∙◌, None, length, ap, sym, subst, append_assoc, is_ok}
+use Rattle.std.proofs.Common.{◌≤◌, ◌++◌, ◌∙◌, [], None, length, ap, sym, subst, append_assoc, is_ok}
+use Rattle.std.proofs.lemmas.List.{append-nil}
 use Rattle.mz_tool_engine.specs.Inputs.{names_of, name_of, contents_of, bytes_of}
 use Rattle.mz_tool_engine.specs.Run.{AreRead}
 use Rattle.mz_tool_engine.specs.declared.outcome.Outcome.TheVariants as outcomes
 use Rattle.mz_tool_engine.specs.declared.status.Status.TheVariants as statuses
-use Rattle.mz_tool_engine.proofs.Endings.{read-and_nothing_put, read-and_put, read-not_put, ends-in_yes, ends-in_no, fits-read, answer-same, left-same, then-quiet}
+use Rattle.mz_tool_engine.proofs.Endings.{read-and_nothing_put, read-and_put, read-not_put, ends-in_yes, ends-in_no, fits-given, answer-same, left-same, then-quiet}
 use Rattle.mz_tool_engine.proofs.Faults.{ends-otherwise, ends-in_fault, done-fault, refused-fault, done-read, refused-read, fault-read, done-write, refused-write, fault-write}
 use Rattle.mz_tool_engine.proofs.Telling.{reads-tell, put-tells}
 use Rattle.mz_tool_engine.proofs.engine.answer.Goals as goal
@@ -18,9 +19,9 @@ returns-in_default-clause-log g c =
     (reads.0, writes.0, reads.1, writes.1, (contents, None, writes.2.0, writes.2.1, read-and_nothing_put said.reads contents said.puts reads.0 read, writes.2.2))
 
 pub returns-in_default-clause-only_full : goal.returns-in_default-clause-only_full
-returns-in_default-clause-only_full g c = λ told clear fits.
-    c.answer.ensures.only_full clear (fits-read (g.F.Folder.file c.args.folder.now) (g.F.Folder.left c.args.folder.now) (g.F.Folder.left c.read.new.folder) _ _ (g.C.Command.says c.args.command.now)
-    (names_of c.inputs.result) (contents_of c.in-Contents.contents) (g.O.Sink.room c.args.out.now) c.inputs.ensures c.in-Contents.ensures.log (c.read.ensures.answered told) fits)
+returns-in_default-clause-only_full g c = λ file gives clear fits.
+    c.answer.ensures.only_full clear (fits-given file _ _ _ [] (g.C.Command.says c.args.command.now)
+    (names_of c.inputs.result) (contents_of c.in-Contents.contents) (g.O.Sink.room c.args.out.now) c.inputs.ensures c.in-Contents.ensures.log (sym (append-nil (g.F.Folder.calls c.read.new.folder))) gives fits)
 
 pub returns-in_default-put_file-clause-log : goal.returns-in_default-put_file-clause-log
 returns-in_default-put_file-clause-log g c =
@@ -72,30 +73,30 @@ returns-in-No-clause-log g c =
     )
 
 pub returns-in_default-put_file-clause-only_full : goal.returns-in_default-put_file-clause-only_full
-returns-in_default-put_file-clause-only_full g c = λ told clear fits.
-    c.in-Ok.ensures.only_full clear (fits-read (g.F.Folder.file c.args.folder.now) (g.F.Folder.left c.args.folder.now) (g.F.Folder.left c.read.new.folder) _ _ (g.C.Command.says c.args.command.now)
-    (names_of c.inputs.result) (contents_of c.in-Contents.contents) (g.O.Sink.room c.args.out.now) c.inputs.ensures c.in-Contents.ensures.log (c.read.ensures.answered told) fits)
+returns-in_default-put_file-clause-only_full g c = λ file gives clear fits.
+    c.in-Ok.ensures.only_full clear (fits-given file _ _ _ c.in_default-put_file.ensures.log.0 (g.C.Command.says c.args.command.now)
+    (names_of c.inputs.result) (contents_of c.in-Contents.contents) (g.O.Sink.room c.args.out.now) c.inputs.ensures c.in-Contents.ensures.log c.in_default-put_file.ensures.log.1 gives fits)
 
 pub returns-in-Yes-clause-only_full : goal.returns-in-Yes-clause-only_full
-returns-in-Yes-clause-only_full g c = λ told clear fits.
-    let here = fits-read (g.F.Folder.file c.args.folder.now) (g.F.Folder.left c.args.folder.now) (g.F.Folder.left c.read.new.folder) _ _ (g.C.Command.says c.args.command.now)
-    (names_of c.inputs.result) (contents_of c.in-Contents.contents) (g.O.Sink.room c.args.out.now) c.inputs.ensures c.in-Contents.ensures.log (c.read.ensures.answered told) fits in
+returns-in-Yes-clause-only_full g c = λ file gives clear fits.
+    let here = fits-given file _ _ _ c.in-Ok-put_file.ensures.log.0 (g.C.Command.says c.args.command.now)
+    (names_of c.inputs.result) (contents_of c.in-Contents.contents) (g.O.Sink.room c.args.out.now) c.inputs.ensures c.in-Contents.ensures.log c.in-Ok-put_file.ensures.log.1 gives fits in
     let left = c.in-Ok.ensures.left clear here in
     let rest = left-same (λ text. length text ≤ g.O.Sink.room c.answer.new.out) c.in-Ok.outcome (outcomes.Yes c.in-Yes.put c.in-Yes.text) c.in-Yes.is left.1 in
     c.write_answer.ensures.only_full left.0 (subst (λ text. length text ≤ g.O.Sink.room c.answer.new.out) (sym c.deref.ensures.value) rest) ∙ c.in-Ok.ensures.only_full clear here
 
 pub returns-in-No-clause-only_full : goal.returns-in-No-clause-only_full
-returns-in-No-clause-only_full g c = λ told clear fits.
-    let here = fits-read (g.F.Folder.file c.args.folder.now) (g.F.Folder.left c.args.folder.now) (g.F.Folder.left c.read.new.folder) _ _ (g.C.Command.says c.args.command.now)
-    (names_of c.inputs.result) (contents_of c.in-Contents.contents) (g.O.Sink.room c.args.out.now) c.inputs.ensures c.in-Contents.ensures.log (c.read.ensures.answered told) fits in
+returns-in-No-clause-only_full g c = λ file gives clear fits.
+    let here = fits-given file _ _ _ [] (g.C.Command.says c.args.command.now)
+    (names_of c.inputs.result) (contents_of c.in-Contents.contents) (g.O.Sink.room c.args.out.now) c.inputs.ensures c.in-Contents.ensures.log (sym (append-nil (g.F.Folder.calls c.read.new.folder))) gives fits in
     let left = c.in-Ok.ensures.left clear here in
     let rest = left-same (λ text. length text ≤ g.O.Sink.room c.answer.new.out) c.in-Ok.outcome (outcomes.No c.in-No.text) c.in-No.is left.1 in
     c.write_answer-in-No.ensures.only_full left.0 (subst (λ text. length text ≤ g.O.Sink.room c.answer.new.out) (sym c.deref-in-No.ensures.value) rest) ∙ c.in-Ok.ensures.only_full clear here
 
 pub returns-clause-only_full : goal.returns-clause-only_full
-returns-clause-only_full g c = λ told clear fits.
-    c.answer.ensures.only_full clear (fits-read (g.F.Folder.file c.args.folder.now) (g.F.Folder.left c.args.folder.now) (g.F.Folder.left c.read.new.folder) _ _ (g.C.Command.says c.args.command.now)
-    (names_of c.inputs.result) (contents_of c.in-Contents.contents) (g.O.Sink.room c.args.out.now) c.inputs.ensures c.in-Contents.ensures.log (c.read.ensures.answered told) fits)
+returns-clause-only_full g c = λ file gives clear fits.
+    c.answer.ensures.only_full clear (fits-given file _ _ _ [] (g.C.Command.says c.args.command.now)
+    (names_of c.inputs.result) (contents_of c.in-Contents.contents) (g.O.Sink.room c.args.out.now) c.inputs.ensures c.in-Contents.ensures.log (sym (append-nil (g.F.Folder.calls c.read.new.folder))) gives fits)
 
 pub returns-in-TooLong-clause-files : goal.returns-in-TooLong-clause-files
 returns-in-TooLong-clause-files g c = λ told.

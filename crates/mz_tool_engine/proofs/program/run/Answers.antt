@@ -84,6 +84,6 @@ returns-in-Some-clause-only_room g c =
 pub returns-in-Some-clause-only_full : goal.returns-in-Some-clause-only_full
 returns-in-Some-clause-only_full g c =
     let same : IsSaidOf (g.P.Asked.Command.says c.in-Some.command) (g.P.Program.said_of (g.P.Program.request c.in-Some.command)) = search rules in
-    λ told clear fits.
-    c.answer.ensures.only_full told clear (λ contents put text hold answer. fits (g.P.Program.request c.in-Some.command) c.in-Some.ensures.asked put text
-    (contents, subst (λ (names : List (List ℕ)). Hold (g.F.Folder.file c.args.folder.now) names contents) same.reads hold, same.answer contents put text answer))
+    λ file gives clear fits.
+    c.answer.ensures.only_full file gives clear (λ contents put text hold answer. fits (g.P.Program.request c.in-Some.command) c.in-Some.ensures.asked put text
+    (contents, subst (λ (names : List (List ℕ)). Hold file names contents) same.reads hold, same.answer contents put text answer))

@@ -1,6 +1,6 @@
 use Rattle.std.proofs.Common.{◌≡◌, ◌+◌, ◌-◌, ◌*◌, ◌∙◌, ℕ, List, length, refl, sym, ap, subst, arith}
 use Rattle.mz_cmd.specs.Codes.{statement_byte}
-use Rattle.mz_binary_theory.specs.declared.statement.Statement.{Statement as Told}
+use Rattle.mz_binary_theory.specs.declared.statement.Statement.{Statement as Reported}
 use Rattle.mz_binary.specs.Progress.{Progress, IsReached, marks_past, most_left}
 use Rattle.mz_layout_tables.specs.Heads.{next_row, rows_after}
 use Rattle.mz_binary_theory.proofs.Offered.{head-at}
@@ -16,10 +16,10 @@ use Rattle.mz_binary.proofs.checker.Checker.past.Goals as goal
 abbrev after_of : (g : Over) → goal.After-after g → Progress
 after_of g c = record { standard = g.B.Bodies.STANDARD; file = c.self.inside.mmb.now; at = c.args.head.next; passed = c.self.inside.passed + 1; rows = c.after.result; marks = c.mark.new.marks.items }
 
-abbrev told_of : (g : Over) → goal.After-after g → Told
-told_of g c = record { number = c.self.inside.passed + 1; at = c.self.inside.at; kind = c.kind_of.result; row = c.next.result; local = c.is_local.result; gap = c.args.gap }
+abbrev reported_of : (g : Over) → goal.After-after g → Reported
+reported_of g c = record { number = c.self.inside.passed + 1; at = c.self.inside.at; kind = c.kind_of.result; row = c.next.result; local = c.is_local.result; gap = c.args.gap }
 
-past-of : (g : Over) (c : goal.After-after g) → IsPast c.args.self (after_of g c) (told_of g c) c.args.head
+past-of : (g : Over) (c : goal.After-after g) → IsPast c.args.self (after_of g c) (reported_of g c) c.args.head
 past-of g c = record {
   same_file = ap (λ (q : Progress). q.file) c.self.view_is;
   same_standard = ap (λ (q : Progress). q.standard) c.self.view_is;
@@ -37,18 +37,18 @@ past-of g c = record {
 
 pub invariant_of-after : goal.invariant_of-after
 invariant_of-after g c =
-    reached c.args.self (after_of g c) (told_of g c) c.args.head (past-of g c) c.requires.head c.requires.at c.requires.runs (subst IsReached c.self.view_is c.self.invariant)
+    reached c.args.self (after_of g c) (reported_of g c) c.args.head (past-of g c) c.requires.head c.requires.at c.requires.runs (subst IsReached c.self.view_is c.self.invariant)
 
 pub returns-clause-next : goal.returns-clause-next
-returns-clause-next g c = λ ss env before. passes c.args.self (after_of g c) (told_of g c) c.args.head (past-of g c) c.requires.head c.requires.at c.requires.runs ss env before
+returns-clause-next g c = λ ss env before. passes c.args.self (after_of g c) (reported_of g c) c.args.head (past-of g c) c.requires.head c.requires.at c.requires.runs ss env before
 
 pub returns-clause-left : goal.returns-clause-left
 returns-clause-left g c =
     let r : IsReached c.args.self = subst IsReached c.self.view_is c.self.invariant in
     let past = past-of g c in
-    let on = further c.args.self (after_of g c) (told_of g c) c.args.head past c.requires.head c.requires.at c.requires.runs r in
+    let on = further c.args.self (after_of g c) (reported_of g c) c.args.head past c.requires.head c.requires.at c.requires.runs r in
     left-past c.args.self (after_of g c) c.args.head.next _ c.requires.runs
-    (taken-past c.args.self (after_of g c) (told_of g c) c.args.head past c.requires.head c.requires.at c.requires.runs r) refl past.same_file past.same_standard on.0 on.1
+    (taken-past c.args.self (after_of g c) (reported_of g c) c.args.head past c.requires.head c.requires.at c.requires.runs r) refl past.same_file past.same_standard on.0 on.1
 
 pub returns-clause-most : goal.returns-clause-most
 returns-clause-most g c = λ old new few.

@@ -1,4 +1,4 @@
-use Rattle.std.proofs.Common.{◌≡◌, ◌≤◌, ◌+◌, ◌*◌, ◌∙◌, ◌++◌, List, length, sym, subst, ap, arith}
+use Rattle.std.proofs.Common.{◌≤◌, ◌+◌, ◌∙◌, ◌++◌, List, length, sym, subst, ap, arith}
 use Rattle.mz_logic_theory.specs.Declaration.{signatures}
 use Rattle.mz_logic_theory.specs.DeclView.{assertion_view}
 use Rattle.mz_logic_theory.specs.Signature.{Signature}
@@ -9,15 +9,14 @@ use Rattle.mz_logic_theory.specs.declared.binder.Binder.{Binder}
 use Rattle.mz_logic_theory.specs.declared.word.Word.{Word}
 use Rattle.mz_store.specs.Bits.{bound_vars}
 use Rattle.mz_store.specs.Sharing.{tree_of, trees_of}
-use Rattle.mz_store.specs.declared.item.Id.{Id}
 use Rattle.mz_unify_theory.specs.Sorted.{Sorted}
 use Rattle.mz_machine_env.proofs.Offered.{binders_many}
 use Rattle.mz_type_rules.specs.Answers.{stated}
 use Rattle.mz_emit_theory.specs.InReach.{AreSorted}
 use Rattle.mz_emit_bodies.specs.Variables.{IsShared}
-use Rattle.mz_emit.specs.Emitting.{MakesBody, body_weight}
+use Rattle.mz_emit_theory.specs.StreamWriting.{assertion_written, stream_of}
 use Rattle.mz_emit_accepted_theory.specs.CompiledFile.{assertion_body_of}
-use Rattle.mz_emit.proofs.Speaking.{few_bound, has_params, dummies_behind, few_words, held_after, conclusion_sorted, hyps_sorted, conclusion_reach, hyps_reach, hyps_provable, sound_there, assertion_says}
+use Rattle.mz_emit.proofs.Speaking.{few_bound, has_params, dummies_behind, few_words, held_after, conclusion_sorted, hyps_sorted, conclusion_reach, hyps_reach, hyps_provable, sound_there}
 use Rattle.mz_emit.proofs.emitter.Emitter.asserted.Goals as goal
 
 pub overflow_cast-params : goal.overflow_cast-params
@@ -99,21 +98,30 @@ assertion_body-requires-clause-room c =
     let hyps = ap (trees_of c.hyp_ids.new.self.store) c.deref-3.ensures.value ∙ c.in_ok-hyps.ensures.trees in
     omega (arith, many, ap size conclusion, ap trees_size hyps, c.requires.room)
 
-pub returns : goal.returns
-returns c = λ gaps by.
-    let is = c.in_ok-hyps.ensures.grows.0 ∙ c.in_ok-conclusion.ensures.grows.0 ∙ c.in_ok-shared.ensures.context ∙ ap (λ (ws : List Word). binders_of ws ++ c.args.dummies.now) c.deref.ensures.value ∙ ap (λ ps. ps ++ c.args.dummies.now) c.requires.params in
+pub returns-clause-stream : goal.returns-clause-stream
+returns-clause-stream c =
+    let is = c.in_ok-hyps.ensures.grows.0 ∙ c.in_ok-conclusion.ensures.grows.0 ∙ c.in_ok-shared.ensures.context
+    ∙ ap (λ (ws : List Word). binders_of ws ++ c.args.dummies.now) c.deref.ensures.value ∙ ap (λ ps. ps ++ c.args.dummies.now) c.requires.params in
     let many = sym (ap length c.requires.params) ∙ binders_many c.args.words.now.params.items ∙ ap length (sym c.as_slice.ensures.value) in
-    let conclusion = held_after c.id.new.self.store c.hyp_ids.new.self.store c.in_ok-conclusion.conclusion.0 (tree c.args.thm.now.conclusion) c.in_ok-hyps.ensures.grows c.in_ok-conclusion.ensures.holds in
-    let hyps2 = ap (trees_of c.hyp_ids.new.self.store) c.deref-2.ensures.value ∙ c.in_ok-hyps.ensures.trees in
-    let same : c.deref-3.result.now ≡ c.deref-2.result.now = c.deref-3.ensures.value ∙ sym c.deref-2.ensures.value in
-    let stream = c.in_ok-stream.ensures (assertion_view c.args.thm.now).params c.args.dummies.now is many in
-    let hyps3 = ap (trees_of c.hyp_ids.new.self.store) c.deref-3.ensures.value ∙ c.in_ok-hyps.ensures.trees in
-    let sound = sound_there c.args.self.now.env (assertion_view c.args.thm.now) c.args.dummies.now c.requires.can gaps (stated c.args.proof) c.hyp_ids.new.self.store.context (trees_of c.hyp_ids.new.self.store c.deref-3.result.now) is hyps3 by in
-    let body = c.in_ok-body.ensures.body gaps sound (assertion_view c.args.thm.now).params c.args.dummies.now is many in
-    assertion_says c.args.self.now.env (assertion_view c.args.thm.now) c.args.dummies.now c.requires.can gaps (stated c.args.proof) (tree_of c.hyp_ids.new.self.store c.in_ok-conclusion.conclusion.0) (trees_of c.hyp_ids.new.self.store c.deref-2.result.now)
-    c.in_ok-stream.stream.items c.in_ok-body.body.items by conclusion hyps2 stream
-    (subst (λ (ids : List Id). MakesBody gaps c.args.self.now.env (stated c.args.proof) (assertion_view c.args.thm.now).params c.args.dummies.now (tree_of c.hyp_ids.new.self.store c.in_ok-conclusion.conclusion.0) (listed (trees_of c.hyp_ids.new.self.store ids)) c.in_ok-body.body.items) same body)
-    (subst (λ (ids : List Id). length c.in_ok-body.body.items
-    ≤ 6 * (trees_size (trees_of c.hyp_ids.new.self.store ids) + size (tree_of c.hyp_ids.new.self.store c.in_ok-conclusion.conclusion.0) + body_weight c.args.self.now.env (stated c.args.proof)) + 1) same c.in_ok-body.ensures.short)
-    (subst (λ (ids : List Id). c.in_ok-body.body.items ≡ assertion_body_of c.args.self.now.env (assertion_view c.args.thm.now).params c.args.dummies.now (listed (trees_of c.hyp_ids.new.self.store ids)) (tree_of c.hyp_ids.new.self.store c.in_ok-conclusion.conclusion.0) (stated c.args.proof)) same
-    (c.in_ok-body.ensures.written (assertion_view c.args.thm.now).params c.args.dummies.now is many))
+    let conclusion = held_after c.id.new.self.store c.hyp_ids.new.self.store c.in_ok-conclusion.conclusion.0 (tree c.args.thm.now.conclusion)
+    c.in_ok-hyps.ensures.grows c.in_ok-conclusion.ensures.holds in
+    let hyps = ap (trees_of c.hyp_ids.new.self.store) c.deref-2.ensures.value ∙ c.in_ok-hyps.ensures.trees in
+    let params = (assertion_view c.args.thm.now).params in
+    c.in_ok-stream.ensures params c.args.dummies.now is many
+    ∙ ap (λ hs. stream_of (assertion_written params hs (tree_of c.hyp_ids.new.self.store c.in_ok-conclusion.conclusion.0)).commands) hyps
+    ∙ ap (λ e. stream_of (assertion_written params (assertion_view c.args.thm.now).hyps e).commands) conclusion
+
+pub returns-clause-body : goal.returns-clause-body
+returns-clause-body c =
+    let is = c.in_ok-hyps.ensures.grows.0 ∙ c.in_ok-conclusion.ensures.grows.0 ∙ c.in_ok-shared.ensures.context
+    ∙ ap (λ (ws : List Word). binders_of ws ++ c.args.dummies.now) c.deref.ensures.value ∙ ap (λ ps. ps ++ c.args.dummies.now) c.requires.params in
+    let many = sym (ap length c.requires.params) ∙ binders_many c.args.words.now.params.items ∙ ap length (sym c.as_slice.ensures.value) in
+    let conclusion = held_after c.id.new.self.store c.hyp_ids.new.self.store c.in_ok-conclusion.conclusion.0 (tree c.args.thm.now.conclusion)
+    c.in_ok-hyps.ensures.grows c.in_ok-conclusion.ensures.holds in
+    let hyps = ap (trees_of c.hyp_ids.new.self.store) c.deref-3.ensures.value ∙ c.in_ok-hyps.ensures.trees in
+    let env = c.args.self.now.env in
+    let params = (assertion_view c.args.thm.now).params in
+    let dummies = c.args.dummies.now in
+    c.in_ok-body.ensures params dummies is many
+    ∙ ap (λ hs. assertion_body_of env params dummies (listed hs) (tree_of c.hyp_ids.new.self.store c.in_ok-conclusion.conclusion.0) (stated c.args.proof)) hyps
+    ∙ ap (λ e. assertion_body_of env params dummies (listed (assertion_view c.args.thm.now).hyps) e (stated c.args.proof)) conclusion

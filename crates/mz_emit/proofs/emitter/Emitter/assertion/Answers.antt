@@ -1,4 +1,4 @@
-use Rattle.std.proofs.Common.{rules, ◌≤◌, ◌∙◌, List, length, sym, subst, ap, arith}
+use Rattle.std.proofs.Common.{◌≤◌, ◌∙◌, List, length, sym, subst, ap, arith}
 use Rattle.mz_logic_theory.specs.declared.binder.Binder.{Binder}
 use Rattle.mz_emit.proofs.Speaking.{few_words}
 use Rattle.mz_emit.proofs.emitter.Emitter.assertion.Goals as goal
@@ -9,6 +9,3 @@ add_thm-requires c =
     let few = few_words c.in_ok-words.words.params.items (subst (λ (ps : List Binder). length ps ≤ 65535) (sym is) c.requires.can.ready.few_params) in
     let many = ap length c.deref.ensures.value in
     omega (arith, few, many)
-
-pub returns-clause-written : goal.returns-clause-written
-returns-clause-written c = (c.in_ok-emitted.emitted.stream.items, c.in_ok-emitted.emitted.body.items, search rules, search rules)

@@ -1,13 +1,12 @@
 use Rattle.std.proofs.Common.{◌≤◌, ◌++◌, ◌+◌, ◌∙◌, List, length, sym, subst, ap, arith}
 use Rattle.mz_logic_theory.specs.Tree.{size}
-use Rattle.mz_logic_theory.specs.View.{tree}
 use Rattle.mz_logic_theory.specs.Words.{binders_of}
 use Rattle.mz_logic_theory.specs.declared.word.Word.{Word}
 use Rattle.mz_store.specs.Bits.{bound_vars}
-use Rattle.mz_store.specs.Sharing.{tree_of}
 use Rattle.mz_machine_env.proofs.Offered.{binders_many}
 use Rattle.mz_emit_bodies.specs.Variables.{IsShared}
-use Rattle.mz_emit.proofs.Speaking.{few_bound, has_params, dummies_behind, few_words, definition_says}
+use Rattle.mz_emit_accepted_theory.specs.CompiledFile.{definition_stream_of, definition_body_of}
+use Rattle.mz_emit.proofs.Speaking.{few_bound, has_params, dummies_behind, few_words}
 use Rattle.mz_emit.proofs.emitter.Emitter.defined.Goals as goal
 
 pub overflow_cast-params : goal.overflow_cast-params
@@ -48,13 +47,16 @@ definition_body-requires-clause-room c =
     let many = binders_many c.args.words.now.params.items ∙ ap length (sym c.as_slice.ensures.value) in
     omega (arith, many, ap size c.in_ok-id.ensures.holds.1, c.requires.can.room)
 
-pub returns : goal.returns
-returns c =
+pub returns-clause-stream : goal.returns-clause-stream
+returns-clause-stream c =
     let is = c.in_ok-id.ensures.grows.0 ∙ c.in_ok-shared.ensures.context ∙ ap (λ (ws : List Word). binders_of ws ++ c.args.dummies.now) c.deref.ensures.value in
     let many = binders_many c.args.words.now.params.items ∙ ap length (sym c.as_slice.ensures.value) in
-    let stream = c.in_ok-stream.ensures in
-    let body = c.in_ok-body.ensures.body in
-    definition_says c.args.self.now.env (binders_of c.args.words.now.params.items) c.args.dummies.now (tree c.args.body.now) (tree_of c.id.new.self.store c.in_ok-id.id.0)
-    c.in_ok-stream.stream.items c.in_ok-body.body.items c.requires.can c.in_ok-id.ensures.holds.1
-    (stream (binders_of c.args.words.now.params.items) c.args.dummies.now is many) (λ gaps. body gaps (binders_of c.args.words.now.params.items) c.args.dummies.now is many) c.in_ok-body.ensures.short
-    (c.in_ok-body.ensures.written (binders_of c.args.words.now.params.items) c.args.dummies.now is many)
+    let params = binders_of c.args.words.now.params.items in
+    c.in_ok-stream.ensures params c.args.dummies.now is many ∙ ap (definition_stream_of params c.args.dummies.now) c.in_ok-id.ensures.holds.1
+
+pub returns-clause-body : goal.returns-clause-body
+returns-clause-body c =
+    let is = c.in_ok-id.ensures.grows.0 ∙ c.in_ok-shared.ensures.context ∙ ap (λ (ws : List Word). binders_of ws ++ c.args.dummies.now) c.deref.ensures.value in
+    let many = binders_many c.args.words.now.params.items ∙ ap length (sym c.as_slice.ensures.value) in
+    let params = binders_of c.args.words.now.params.items in
+    c.in_ok-body.ensures.written params c.args.dummies.now is many ∙ ap (definition_body_of params c.args.dummies.now) c.in_ok-id.ensures.holds.1

@@ -1,11 +1,11 @@
-use Rattle.mz_emit.proofs.Finished.{few_sorts, short, is_binary}
+use Rattle.std.proofs.Common.{arith}
 use Rattle.mz_emit.proofs.emitter.Emitter.finish.Goals as goal
 
 pub finish-requires-clause-short : goal.finish-requires-clause-short
-finish-requires-clause-short c = let (gaps, ss, h, legal, within) = c.requires in rw c.into_writer-writer.ensures (short gaps ss c.args.self.writer h.rows.written legal within)
+finish-requires-clause-short c = rw c.into_writer-writer.ensures (let short = c.requires.short in omega (arith, short))
 
 pub finish-requires-clause-sorts : goal.finish-requires-clause-sorts
-finish-requires-clause-sorts c = let (gaps, ss, h, legal, within) = c.requires in rw c.into_writer-writer.ensures (few_sorts gaps ss c.args.self.writer h.rows.written legal within)
+finish-requires-clause-sorts c = rw c.into_writer-writer.ensures c.requires.few_sorts
 
 pub returns : goal.returns
-returns c = λ gaps ss h legal within. is_binary gaps ss c.args.self.writer h.rows.written legal within c.in_ok-bytes.bytes.items (rw c.into_writer-writer.ensures at c.in_ok-bytes.ensures.written) (rw c.into_writer-writer.ensures at c.finish.ensures.fit)
+returns c = rw c.into_writer-writer.ensures at c.in_ok-bytes.ensures.written

@@ -1,13 +1,12 @@
-use Rattle.std.proofs.Common.{List, ap, sym, subst, ◌∙◌, ◌++◌, ◌∷◌, [], length, arith}
+use Rattle.std.proofs.Common.{List, refl, ap, sym, subst, ◌∙◌, ◌++◌, ◌∷◌, [], length, arith}
 use Rattle.mz_logic_theory.specs.DeclView.{declaration}
 use Rattle.mz_logic_theory.specs.Declaration.{Declaration}
 use Rattle.mz_logic_theory.specs.Legality.{IsLegalDecl}
 use Rattle.mz_type.specs.StatedView.{with_decl}
 use Rattle.mz_type.specs.TypedText.{declared}
-use Rattle.mz_emit.specs.Emitting.{HasRows}
 use Rattle.mz_emit.specs.declared.emitter.Emitter.{Emitter}
 use Rattle.mz_emit.proofs.Saying.{few_declared}
-use Rattle.mz_emit.proofs.Looping.{emitted_next}
+use Rattle.mz_emit.proofs.Rows.{emitted_next}
 use Rattle.mz_emit.proofs.emitter.Emitter.statement.Goals as goal
 
 pub push_decl-requires-clause-legal : goal.push_decl-requires-clause-legal
@@ -25,15 +24,9 @@ push_decl-requires-clause-room c =
     omega (arith, many, few, light)
 
 pub returns : goal.returns
-returns c = λ gaps earlier next.
+returns c = λ earlier before.
     let s = with_decl (declaration c.args.decl.now) c.args.beside.now in
-    let added = c.in_ok-push_decl.ensures.ok ∙ ap (λ (ds : List Declaration). ds ++ declaration c.in_ok-decl.decl ∷ []) (c.in_ok-write.ensures.env ∙ next.before.env)
-    ∙ ap (λ d. declared earlier ++ d ∷ []) c.in_ok-decl.ensures in
-    let e : Emitter = record { alloc = c.write.new.self.alloc; env = c.push_decl.new.self; table = c.write.new.self.table; writer = c.write.new.self.writer } in
-    let written = c.in_ok-write.ensures.rows gaps earlier next in
-    let rows : HasRows gaps (earlier ++ s ∷ []) e = record {
-      written = written.written;
-      sorts_are = written.sorts_are;
-      terms_are = written.terms_are;
-    } in
-    emitted_next gaps earlier s e rows added
+    let added = c.in_ok-push_decl.ensures.ok ∙ ap (λ (ds : List Declaration). ds ++ declaration c.in_ok-decl.decl ∷ []) c.in_ok-write.ensures.env
+    ∙ ap (λ d. c.args.self.now.env ++ d ∷ []) c.in_ok-decl.ensures in
+    let e : Emitter = record { alloc = c.write.new.self.alloc; seed = c.write.new.self.seed; env = c.push_decl.new.self; table = c.write.new.self.table; writer = c.write.new.self.writer } in
+    emitted_next earlier s c.args.self.now c.write.new.self e before c.in_ok-write.ensures.writes refl refl added

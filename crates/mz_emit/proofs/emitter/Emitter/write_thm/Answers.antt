@@ -1,15 +1,20 @@
-use Rattle.std.proofs.Common.{List, refl, ap, sym, subst, ◌∙◌}
-use Rattle.std.specs.Prelude.{Option}
+use Rattle.std.proofs.Common.{ℕ, List, Option, map, refl, ap, sym, subst, ◌∙◌, append-nil}
 use Rattle.mz_logic_theory.specs.DeclView.{assertion_of, assertion_view}
 use Rattle.mz_logic_theory.specs.Declaration.{Declaration, signatures}
 use Rattle.mz_logic_theory.specs.Legality.{IsLegalEnv}
+use Rattle.mz_logic_theory.specs.Tree.{listed}
+use Rattle.mz_logic_theory.specs.Words.{signatures_of}
 use Rattle.mz_logic_theory.specs.declared.binder.Binder.{Binder}
+use Rattle.mz_emit_bodies.specs.Rows.{words_of_row}
+use Rattle.mz_emit_bodies.specs.declared.table.TermTable.{TermTable}
+use Rattle.mz_layout_tables.specs.Normal.{Parts}
 use Rattle.mz_mmu_theory.specs.Proof.{Proof}
 use Rattle.mz_type_rules.specs.Answers.{stated}
 use Rattle.mz_type.specs.StatedView.{with_decl}
 use Rattle.mz_type.specs.TypedText.{declared}
-use Rattle.mz_emit.specs.Emitting.{CanBeAsserted, SaysAssertion}
-use Rattle.mz_emit.proofs.Rows.{proved_here, assertion_rows, room_here}
+use Rattle.mz_emit.specs.Emitting.{CanBeAsserted, table_of}
+use Rattle.mz_emit_accepted_theory.specs.CompiledFile.{with_thm, thm_row, assertion_code, assertion_stream_of, assertion_body_of}
+use Rattle.mz_emit.proofs.Rows.{proved_here, room_here}
 use Rattle.mz_emit.proofs.Saying.{thm_words, assertion_can}
 use Rattle.mz_emit.proofs.emitter.Emitter.write_thm.Goals as goal
 
@@ -22,7 +27,7 @@ pub assertion-requires-clause-legal : goal.assertion-requires-clause-legal
 assertion-requires-clause-legal c = subst IsLegalEnv (sym c.requires.2.before.env) c.requires.2.follows.legal_env
 
 pub assertion-requires-clause-table : goal.assertion-requires-clause-table
-assertion-requires-clause-table c = c.requires.2.before.rows.terms_are ∙ ap signatures (sym c.requires.2.before.env)
+assertion-requires-clause-table c = c.requires.2.before.terms_are ∙ ap signatures (sym c.requires.2.before.env)
 
 pub assertion-requires-clause-can : goal.assertion-requires-clause-can
 assertion-requires-clause-can c =
@@ -38,18 +43,19 @@ assertion-requires-clause-proved c = (
       c.as_slice.result.now (sym c.as_slice.ensures) (stated c.proof.result) (sym c.proof.ensures),
 )
 
-pub returns-clause-rows : goal.returns-clause-rows
-returns-clause-rows c = λ gaps earlier next.
-    let s = with_decl (assertion_of c.args.thm.now) c.args.beside.now in
-    let dummies = sym c.as_slice.ensures in
-    let proof = sym c.proof.ensures in
-    let (stream, bytes, says, writer) = c.in_ok-assertion.ensures.written in
-    let by = proved_here gaps earlier s c.args.self.now next c.stated_proofs_are_sound.ensures (assertion_view c.args.thm.now) refl c.as_slice.result.now dummies (stated c.proof.result) proof in
-    let said = subst (λ (env : List Declaration). SaysAssertion gaps env (assertion_view c.args.thm.now) c.as_slice.result.now (stated c.proof.result) stream bytes) next.before.env (says gaps by) in
-    let with_dummies = subst (λ (ds : List Binder). SaysAssertion gaps (declared earlier) (assertion_view c.args.thm.now) ds (stated c.proof.result) stream bytes) (sym dummies) said in
-    let with_proof = subst (λ (q : Option Proof). SaysAssertion gaps (declared earlier) (assertion_view c.args.thm.now) s.dummies q stream bytes) (sym proof) with_dummies in
-    assertion_rows gaps earlier s next.follows c.args.self.now c.assertion.new.self next.before.rows (assertion_view c.args.thm.now)
-    c.assertion_code-code.result stream bytes refl c.assertion_code-code.ensures.code with_proof writer c.in_ok-assertion.ensures.table
+pub returns-clause-writes : goal.returns-clause-writes
+returns-clause-writes c =
+    let a = assertion_view c.args.thm.now in
+    let env = c.args.self.now.env in
+    let written : ℕ → List Binder → Option Proof → Parts
+    = λ code dummies q. with_thm c.args.self.now.writer (thm_row a (assertion_stream_of a)) (record { code = code; body = assertion_body_of env a.params dummies (listed a.hyps) a.conclusion q }) in
+    record {
+      writer = c.in_ok-assertion.ensures.writer ∙ ap (λ code. written code c.as_slice.result.now (stated c.proof.result)) c.assertion_code-code.ensures.code
+          ∙ ap (λ (ds : List Binder). written (assertion_code a.is_axiom c.args.beside.now.is_local) ds (stated c.proof.result)) c.as_slice.ensures
+          ∙ ap (written (assertion_code a.is_axiom c.args.beside.now.is_local) c.args.beside.now.dummies) c.proof.ensures;
+      more_sorts = ap (λ (t : TermTable). t.sorts.items) c.in_ok-assertion.ensures.table ∙ sym (append-nil c.args.self.now.table.sorts.items);
+      more_terms = ap (λ (t : TermTable). signatures_of (map words_of_row t.terms.items)) c.in_ok-assertion.ensures.table ∙ sym (append-nil (table_of c.args.self.now));
+    }
 
 pub assertion-requires-clause-room : goal.assertion-requires-clause-room
 assertion-requires-clause-room c =

@@ -100,3 +100,6 @@ unify_in-requires-clause-hyps g c = c.in-Ok.ensures.ids.2
 
 pub unify_in-requires-clause-stream : goal.unify_in-requires-clause-stream
 unify_in-requires-clause-stream g c = c.stream_of_thm-stream.ensures.fits
+
+pub stream_of_thm-stream-requires : goal.stream_of_thm-stream-requires
+stream_of_thm-stream-requires g c = c.in-Ok.ensures.ids.3

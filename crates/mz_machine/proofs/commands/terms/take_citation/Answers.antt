@@ -1,5 +1,4 @@
 use Rattle.std.proofs.Common.{◌≡◌, ◌∙◌, Err, Ok, List, true, false, length, sym, subst, arith}
-use Rattle.std.proofs.lemmas.Result.{err_from_is_err_and}
 use Rattle.mz_logic_theory.specs.Words.{binders_of}
 use Rattle.mz_layout_tables.specs.Tables.{thm_row}
 use Rattle.mz_store.specs.declared.item.Id.{Id}
@@ -27,46 +26,32 @@ returns-in-Err-clause-taken c st ctx is =
     cites-other strict (λ es. es) map-same c.args.earlier.now c.args.t st (items_at c.args.store.now c.args.stack.now.items) (length c.args.stack.now.items) c.arity_of-arity.result (items-many c.args.store.now c.args.stack.now.items) (omega (arith, c.thms.ensures.rows, c.if-t-thms.false)) c.arity_of-arity.ensures is
     (omega (arith, c.len.ensures, c.args.stack.now.ok.0, c.if-len-arity.false)) c.in-Err.rule c.in-Err.ensures.taken
 
-pub returns-in_err-pop_operands-clause-taken : goal.returns-in_err-pop_operands-clause-taken
-returns-in_err-pop_operands-clause-taken c st ctx is =
-    let p = err_from_is_err_and c.from_residual.result c.from_residual.ensures.1 in
-    rw (p.1, p.2) (stops-as c.in_err-pop_operands.field-0.0 _ (λ k. citation strict (tables_of c.args.earlier.now) c.args.t st ≡ Err k)
+pub returns-in-Err-pop_operands-clause-taken : goal.returns-in-Err-pop_operands-clause-taken
+returns-in-Err-pop_operands-clause-taken c st ctx is =
+    stops-as c.in-Err-pop_operands.stop _ (λ k. citation strict (tables_of c.args.earlier.now) c.args.t st ≡ Err k)
     (λ k h. cites-without strict (λ es. es) map-same c.args.earlier.now c.args.t st (items_at c.args.store.now c.args.stack.now.items) (length c.args.stack.now.items) c.arity_of-arity.result (items-many c.args.store.now c.args.stack.now.items) (omega (arith, c.thms.ensures.rows, c.if-t-thms.false)) c.arity_of-arity.ensures is
-    (omega (arith, c.len.ensures, c.args.stack.now.ok.0, c.if-len-arity.false)) _ _ c.in-Ok.ensures.taken k h) c.in_err-pop_operands.ensures.taken)
+    (omega (arith, c.len.ensures, c.args.stack.now.ok.0, c.if-len-arity.false)) _ _ c.in-Ok.ensures.taken k h) c.in-Err-pop_operands.ensures.taken
 
-pub returns-in_err-check_cited-clause-taken : goal.returns-in_err-check_cited-clause-taken
-returns-in_err-check_cited-clause-taken c st ctx is =
-    let p = err_from_is_err_and c.from_residual-in_err-check_cited.result c.from_residual-in_err-check_cited.ensures.1 in
-    rw (p.1, p.2) (stops-as c.in_err-check_cited.field-0.0 _ (λ k. citation strict (tables_of c.args.earlier.now) c.args.t st ≡ Err k)
+pub returns-in-Err-check_cited-clause-taken : goal.returns-in-Err-check_cited-clause-taken
+returns-in-Err-check_cited-clause-taken c st ctx is =
+    stops-as c.in-Err-check_cited.stop _ (λ k. citation strict (tables_of c.args.earlier.now) c.args.t st ≡ Err k)
     (λ k h. cites-unfit strict (λ es. es) map-same c.args.earlier.now c.args.t st (items_at c.args.store.now c.args.stack.now.items) (length c.args.stack.now.items) c.arity_of-arity.result (items-many c.args.store.now c.args.stack.now.items) (omega (arith, c.thms.ensures.rows, c.if-t-thms.false)) c.arity_of-arity.ensures is
-    (omega (arith, c.len.ensures, c.args.stack.now.ok.0, c.if-len-arity.false)) _ _ c.in-Ok.ensures.taken _ _ c.in_ok-pop_operands.ensures.taken c.args.store.now.context ctx k
-    (subst (λ (ids : List Id). operands_fit (signatures_of c.args.earlier.now) c.args.store.now.context (trees_at c.args.store.now ids) (binders_of (thm_row c.args.earlier.now.file c.args.t).params) ≡ Err k) c.deref.ensures.value h)) c.in_err-check_cited.ensures.fit)
+    (omega (arith, c.len.ensures, c.args.stack.now.ok.0, c.if-len-arity.false)) _ _ c.in-Ok.ensures.taken _ _ c.in_default.ensures.taken c.args.store.now.context ctx k
+    (subst (λ (ids : List Id). operands_fit (signatures_of c.args.earlier.now) c.args.store.now.context (trees_at c.args.store.now ids) (binders_of (thm_row c.args.earlier.now.file c.args.t).params) ≡ Err k) c.deref.ensures.value h)) c.in-Err-check_cited.ensures.fit
 
 pub returns-then-not-are_apart-clause-taken : goal.returns-then-not-are_apart-clause-taken
 returns-then-not-are_apart-clause-taken c st ctx is =
     cites-meeting strict (λ es. es) map-same c.args.earlier.now c.args.t st (items_at c.args.store.now c.args.stack.now.items) (length c.args.stack.now.items) c.arity_of-arity.result (items-many c.args.store.now c.args.stack.now.items) (omega (arith, c.thms.ensures.rows, c.if-t-thms.false)) c.arity_of-arity.ensures is
-    (omega (arith, c.len.ensures, c.args.stack.now.ok.0, c.if-len-arity.false)) _ _ c.in-Ok.ensures.taken _ _ c.in_ok-pop_operands.ensures.taken c.args.store.now.context ctx
-    (subst (λ (ids : List Id). operands_fit (signatures_of c.args.earlier.now) c.args.store.now.context (trees_at c.args.store.now ids) (binders_of (thm_row c.args.earlier.now.file c.args.t).params) ≡ Ok tt) c.deref.ensures.value c.in_ok-check_cited.ensures.fit)
+    (omega (arith, c.len.ensures, c.args.stack.now.ok.0, c.if-len-arity.false)) _ _ c.in-Ok.ensures.taken _ _ c.in_default.ensures.taken c.args.store.now.context ctx
+    (subst (λ (ids : List Id). operands_fit (signatures_of c.args.earlier.now) c.args.store.now.context (trees_at c.args.store.now ids) (binders_of (thm_row c.args.earlier.now.file c.args.t).params) ≡ Ok tt) c.deref.ensures.value c.in_default-check_cited.ensures.fit)
     (subst (λ (ids : List Id). are_apart c.args.store.now.context (trees_at c.args.store.now ids) (binders_of (thm_row c.args.earlier.now.file c.args.t).params) ≡ false) c.deref-2.ensures.value (sym c.are_apart.ensures ∙ c.if-not-are_apart.true))
 
 pub returns-clause-taken : goal.returns-clause-taken
 returns-clause-taken c st ctx is =
     cites-so strict (λ es. es) map-same c.args.earlier.now c.args.t st (items_at c.args.store.now c.args.stack.now.items) (length c.args.stack.now.items) c.arity_of-arity.result (items-many c.args.store.now c.args.stack.now.items) (omega (arith, c.thms.ensures.rows, c.if-t-thms.false)) c.arity_of-arity.ensures is
-    (omega (arith, c.len.ensures, c.args.stack.now.ok.0, c.if-len-arity.false)) _ _ c.in-Ok.ensures.taken _ _ c.in_ok-pop_operands.ensures.taken c.args.store.now.context ctx
-    (subst (λ (ids : List Id). operands_fit (signatures_of c.args.earlier.now) c.args.store.now.context (trees_at c.args.store.now ids) (binders_of (thm_row c.args.earlier.now.file c.args.t).params) ≡ Ok tt) c.deref.ensures.value c.in_ok-check_cited.ensures.fit)
+    (omega (arith, c.len.ensures, c.args.stack.now.ok.0, c.if-len-arity.false)) _ _ c.in-Ok.ensures.taken _ _ c.in_default.ensures.taken c.args.store.now.context ctx
+    (subst (λ (ids : List Id). operands_fit (signatures_of c.args.earlier.now) c.args.store.now.context (trees_at c.args.store.now ids) (binders_of (thm_row c.args.earlier.now.file c.args.t).params) ≡ Ok tt) c.deref.ensures.value c.in_default-check_cited.ensures.fit)
     (subst (λ (ids : List Id). are_apart c.args.store.now.context (trees_at c.args.store.now ids) (binders_of (thm_row c.args.earlier.now.file c.args.t).params) ≡ true) c.deref-2.ensures.value (sym c.are_apart.ensures ∙ c.if-not-are_apart.false))
-
-pub returns-in_err-pop_operands-clause-there : goal.returns-in_err-pop_operands-clause-there
-returns-in_err-pop_operands-clause-there c = rw (err_from_is_err_and c.from_residual.result c.from_residual.ensures.1).1 tt
-
-pub returns-in_err-pop_operands-clause-ids : goal.returns-in_err-pop_operands-clause-ids
-returns-in_err-pop_operands-clause-ids c = rw (err_from_is_err_and c.from_residual.result c.from_residual.ensures.1).1 tt
-
-pub returns-in_err-check_cited-clause-there : goal.returns-in_err-check_cited-clause-there
-returns-in_err-check_cited-clause-there c = rw (err_from_is_err_and c.from_residual-in_err-check_cited.result c.from_residual-in_err-check_cited.ensures.1).1 tt
-
-pub returns-in_err-check_cited-clause-ids : goal.returns-in_err-check_cited-clause-ids
-returns-in_err-check_cited-clause-ids c = rw (err_from_is_err_and c.from_residual-in_err-check_cited.result c.from_residual-in_err-check_cited.ensures.1).1 tt
 
 -- ---- what the calls ask
 
@@ -86,4 +71,4 @@ pub are_apart-requires-clause-mode : goal.are_apart-requires-clause-mode
 are_apart-requires-clause-mode c = c.requires.mode
 
 pub returns-clause-ids : goal.returns-clause-ids
-returns-clause-ids c = (c.in-Ok.ensures.ids.0, c.in_ok-pop_operands.ensures.ids.0, c.in_ok-pop_operands.ensures.ids.1)
+returns-clause-ids c = (c.in-Ok.ensures.ids.0, c.in_default.ensures.ids.0, c.in_default.ensures.ids.1, omega (arith, c.thms.ensures.rows, c.if-t-thms.false))

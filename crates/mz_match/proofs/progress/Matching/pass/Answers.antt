@@ -5,7 +5,7 @@ use Rattle.mz_spec_theory.specs.State.{env_of}
 use Rattle.mz_match.specs.declared.progress.Matching.{Matching}
 use Rattle.mz_match_theory.specs.declared.verdict.Verdict.TheVariants as verdicts
 use Rattle.mz_spec_proved_theory.specs.Match.{partner_checks, partner_of}
-use Rattle.mz_match.specs.Told.{IsTold}
+use Rattle.mz_match.specs.Reported.{IsReported}
 use Rattle.mz_match_theory.specs.Verdict.{IsVerdictBy}
 use Rattle.mz_logic_theory.specs.Declaration.{terms}
 use Rattle.mz_match_rows.proofs.Offered.{exact-no}
@@ -24,8 +24,8 @@ pub returns-in-Err-clause-stops : goal.returns-in-Err-clause-stops
 returns-in-Err-clause-stops c = λ p after ss env same matched passes text makes.
     let self = c.args.self.now in
     let ds = env_of c.args.spec.now in
-    let here : IsTold p.standard c.args.mmb.now self.publics c.args.told.now ss env passes.statement after.at =
-    subst (λ f. IsTold p.standard f self.publics c.args.told.now ss env passes.statement after.at) same (told-next p ds self ss env after c.args.told.now matched passes) in
+    let here : IsReported p.standard c.args.mmb.now self.publics c.args.told.now ss env passes.statement after.at =
+    subst (λ f. IsReported p.standard f self.publics c.args.told.now ss env passes.statement after.at) same (told-next p ds self ss env after c.args.told.now matched passes) in
     let fails : FailsFirst (partner_checks (drop self.done ds) (partner_of ss passes.statement)) c.in-Err.rule = c.in-Err.ensures p.standard ss env passes.statement after.at here in
     subst (λ f. IsVerdictBy p.standard text f (verdicts.Match (self.done + 1) c.args.told.now.number c.in-Err.rule)) same
     (differs-here text c.args.spec.now p self ss env after c.args.told.now c.in-Err.rule makes matched passes c.if-not-told.true fails)
@@ -43,8 +43,8 @@ returns-clause-passed c = λ p after ss env same matched passes.
     let self = c.args.self.now in
     let told = c.args.told.now in
     let later : Matching = record { done = c.if-not-told.self.done; passed = told.number; publics = c.if-not-told.self.publics } in
-    let here : IsTold p.standard c.args.mmb.now self.publics told ss env passes.statement after.at =
-    subst (λ f. IsTold p.standard f self.publics told ss env passes.statement after.at) same (told-next p ds self ss env after told matched passes) in
+    let here : IsReported p.standard c.args.mmb.now self.publics told ss env passes.statement after.at =
+    subst (λ f. IsReported p.standard f self.publics told ss env passes.statement after.at) same (told-next p ds self ss env after told matched passes) in
     elim c.if-not-told.branch [
       | then-not-told+in_default+then-has_kind+in-Ok w ↦ (
           matched-public p ds self ss env after told matched passes later refl (sym passes.tells.mark ∙ w.if-not-told.true) (w.in_default.ensures p.standard ss env passes.statement after.at here)

@@ -3,7 +3,7 @@ use Rattle.mz_base_theory.proofs.Offered.{appended}
 use Rattle.mz_logic_theory.specs.View.{tree}
 use Rattle.mz_logic_theory.proofs.Offered.{expr-read, exprs_of, length-exprs, trees-exprs}
 use Rattle.mz_prefix_theory.specs.Lines.{hyps_words}
-use Rattle.mz_prefix_theory.specs.Words.{written}
+use Rattle.mz_prefix_theory.specs.Tokens.{written}
 use Rattle.mz_prefix_theory.specs.Declared.{formula_of, formulas_of}
 use Rattle.mz_prefix.specs.Names.{spoken}
 use Rattle.mz_prefix.proofs.Parts.{hyp-is, hyp_text, hyps-cut, hyps_text, part-added, parts-end}

@@ -1,17 +1,17 @@
 use Rattle.std.proofs.Common.{◌<◌, ◌∙◌, sym, ap, subst, length, slice_get, option_map, refl}
 use Rattle.std.proofs.lemmas.Option.{slice_get_read}
-use Rattle.mz_spec_theory.proofs.Marked.{entry-mark, mark-within}
+use Rattle.mz_spec_theory.proofs.NameSpans.{entry-span, span-within}
 use Rattle.mz_spec_theory.proofs.spec.Spec.place.Goals as goal
 
 pub index-requires : goal.index-requires
 index-requires c =
-    let marks = c.self.inside.marks in
-    subst (λ n. c.args.i < n) (sym marks.ok.0) (mark-within c.self.inside.env marks.items c.args.i c.self.invariant.0 (subst (λ es. c.args.i < length es) (sym c.self.view_is) c.requires))
+    let spans = c.self.inside.spans in
+    subst (λ n. c.args.i < n) (sym spans.ok.0) (span-within c.self.inside.env spans.items c.args.i c.self.invariant.0 (subst (λ es. c.args.i < length es) (sym c.self.view_is) c.requires))
 
 pub returns : goal.returns
 returns c =
-    let marks = c.self.inside.marks in
-    let within = mark-within c.self.inside.env marks.items c.args.i c.self.invariant.0 (subst (λ es. c.args.i < length es) (sym c.self.view_is) c.requires) in
+    let spans = c.self.inside.spans in
+    let within = span-within c.self.inside.env spans.items c.args.i c.self.invariant.0 (subst (λ es. c.args.i < length es) (sym c.self.view_is) c.requires) in
     ap (λ es. option_map (λ e. e.place) (slice_get es c.args.i)) (sym c.self.view_is)
-    ∙ entry-mark (λ e. e.place) (λ m. m.place) (λ _ _. refl) c.self.inside.env marks.items c.args.i c.self.invariant.0
-    ∙ ap (option_map (λ m. m.place)) (slice_get_read marks.items _ c.args.i c.index.result.now refl within c.index.ensures)
+    ∙ entry-span (λ e. e.place) (λ m. m.place) (λ _ _. refl) c.self.inside.env spans.items c.args.i c.self.invariant.0
+    ∙ ap (option_map (λ m. m.place)) (slice_get_read spans.items _ c.args.i c.index.result.now refl within c.index.ensures)

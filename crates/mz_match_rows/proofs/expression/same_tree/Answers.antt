@@ -1,0 +1,18 @@
+use Rattle.std.proofs.Common.{arith}
+use Rattle.mz_logic_theory.specs.View.{tree}
+use Rattle.mz_match_rows.specs.Beside.{beside}
+use Rattle.mz_spec_proved_theory.proofs.Offered.{says-nothing}
+use Rattle.mz_match_rows.proofs.PlainTrees.{said-below, plain-answer}
+use Rattle.mz_match_rows.proofs.expression.same_tree.Goals as goal
+
+pub same_at-requires : goal.same_at-requires
+same_at-requires c = let (m, f, to, plain, said) = c.requires in (m, f, to, plain.stream, said)
+
+pub returns : goal.returns
+returns c = λ m f to plain said.
+    let pairs = c.no_pairs-pairs in
+    let few = plain.stream.marks.few in
+    plain-answer (beside c.args.sides.now m) pairs.result c.same_at.new.pairs (tree c.args.expr.now) f c.same_at.result to c.is_some.result plain.none_beside
+    (says-nothing pairs.result pairs.ensures.none_yet) (omega (arith, few, pairs.ensures.many))
+    (said-below c.args.sides.now.mmb.now c.args.sides.now.params c.args.sides.now.start m plain.stream.marks plain.no_dummies c.args.from.at c.args.from.dummies f to.at to.dummies said)
+    c.is_some.ensures (c.same_at.ensures m f to plain.stream said)
