@@ -4,7 +4,9 @@ import sys
 
 from running import instructions, timed
 
+# Those that stand for a library, and the others that take more than is aimed at.
 SHAPES = ("publics", "mixed", "late", "defs", "formulas", "notations")
+OTHERS = ("terms", "locals", "deep", "again", "convs", "widebound", "variables", "marks", "chains", "nots", "rights", "defdeps", "prefixwide", "defwide", "delimiters", "coercions", "coercefan", "sharing")
 SETTINGS = {
     "As it is": "",
     "Blocks from 16 KB apart": "glibc.malloc.mmap_threshold=16384",

@@ -156,9 +156,9 @@ ODD = 0x9e3779b97f4a7c15
 WORD = (1 << 64) - 1
 
 
-def printed(number):
-    """An expression's print as the store makes it with the compiler's seed."""
-    product = ((0x243f6a8885a308d3 ^ number) & WORD) * (ODD ^ 16)
+def in_table(hash_of_term):
+    """The hash in the table, of a term's hash, where the seed is the fixed one (`Seed::FIXED`)."""
+    product = ((0x243f6a8885a308d3 ^ hash_of_term) & WORD) * (ODD ^ 16)
     folded = (product & WORD) ^ (product >> 64)
     return (folded ^ (folded >> 32)) & 0xffffffff
 
@@ -169,12 +169,12 @@ def mixed(before, number):
 
 
 def colliding(many):
-    """Pairs of variables for which prints of `f` of them end alike, and how many variables there are."""
+    """Pairs of variables for which the hashes of `f` of them end alike, and how many variables there are."""
     bits = max(1, (many // 9).bit_length())
     variables = int((many << bits) ** 0.5) + 1
     found = []
     for left in range(variables):
-        found += [(left, right) for right in range(variables) if printed(mixed(mixed(0, left), right)) & (1 << bits) - 1 == 0]
+        found += [(left, right) for right in range(variables) if in_table(mixed(mixed(0, left), right)) & (1 << bits) - 1 == 0]
         if len(found) >= many:
             break
     return found, variables
@@ -182,7 +182,8 @@ def colliding(many):
 
 @text
 def text_collide(size):
-    """expressions whose prints fell into one group of a store's table that has a fixed seed: look-ups along the group"""
+    """expressions whose hashes fall into one group of a store's table where its seed is the fixed one, and `compile` draws one: look-ups
+    of terms"""
     found, variables = colliding(size // 40)
     cite = lambda k: "(ap (x0 (f x%d x%d)) " % found[k]
     proof = in_lets([("l%d" % run[0], "".join(map(cite, run)), ")" * len(run)) for run in parted(len(found))], "h")
