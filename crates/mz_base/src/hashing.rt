@@ -4,7 +4,8 @@ use std::hash::{BuildHasher, FoldHasher, Hasher};
 /// Makes the hashers of maps by names. Each begins with what a seed left, which the program draws by
 /// chance, so that who makes a file doesn't know which names share their hash, which take long to be
 /// distinguished (`FoldHasher` isn't cryptographic; of an identifier no eight bytes are its
-/// multiplier, which would make it forget the seed). No answer depends on it.
+/// multiplier, which would make it forget the seed). No answer but out of
+/// memory depends on it.
 #[derive(Clone, Copy)]
 pub struct Hashing {
     initial: FoldHasher,

@@ -191,7 +191,7 @@ const PARAMS: [Word; 5] = [
 ];
 
 /// What is built over them: a term with two operands, its sort, all its variables and the free ones.
-const BUILT: &[(u32, u64, u64, u32, u64, u64, &str)] = &[
+const BUILT: &[(u32, u32, u32, u32, u64, u64, &str)] = &[
     (IM, 2, 3, 0, 3, 3, "5: im p q"),
     (ALL, 0, 2, 0, 1, 0, "6: all x p, whose x is not free"),
     (ALL, 1, 2, 0, 3, 1, "7: all y p"),
@@ -232,7 +232,7 @@ fn check_entered(rt: &impl Abort, bench: &Bench<Sample>) {
             deps: *deps,
             head: None,
         };
-        let id = Id(i as u64);
+        let id = Id::at(i).expect(rt, "an id");
         expect_told(rt, bench, id, told, what);
         expect_operands(rt, bench, id, &[], what);
     }
@@ -252,7 +252,7 @@ fn check_built(rt: &impl Abort, bench: &Bench<Sample>, mode: DepsMode, many: usi
             },
             head: Some(*term),
         };
-        let id = Id(5 + i as u64);
+        let id = Id::at(5 + i).expect(rt, "an id");
         expect_told(rt, bench, id, told, what);
         expect_operands(rt, bench, id, &[Id(*a), Id(*b)], what);
     }
@@ -294,12 +294,14 @@ fn build_all(rt: &impl Abort, alloc: Global, mode: DepsMode) {
     begin(rt, &mut bench, mode);
     for (i, (term, a, b, _, _, _, what)) in BUILT.iter().enumerate() {
         let first = build(rt, &mut bench, mode, i, *term, &[Id(*a), Id(*b)]);
-        expect_part(rt, first == Id(5 + i as u64), "the id", what);
+        let id = Id::at(5 + i).expect(rt, "an id");
+        expect_part(rt, first == id, "the id", what);
         check_built(rt, &bench, mode, i.saturating_add(1));
     }
     for (i, (term, a, b, _, _, _, what)) in BUILT.iter().enumerate() {
         let again = build(rt, &mut bench, mode, BUILT.len(), *term, &[Id(*a), Id(*b)]);
-        expect_part(rt, again == Id(5 + i as u64), "again", what);
+        let id = Id::at(5 + i).expect(rt, "an id");
+        expect_part(rt, again == id, "again", what);
     }
     check_built(rt, &bench, mode, BUILT.len());
 }
@@ -374,7 +376,7 @@ fn different_trees(rt: HostRuntime) {
 }
 
 /// Adds the dummy of this number to a store with two bound variables and an expression over five.
-fn expect_dummy(rt: &impl Abort, bench: &mut Bench<Sample>, i: u64)
+fn expect_dummy(rt: &impl Abort, bench: &mut Bench<Sample>, i: u32)
     requires { i < 53 }
 {
     let told = Told {

@@ -276,7 +276,7 @@ type Row<Wanted> = (
     &'static str,
 );
 
-const DONE: &[Row<(u32, &'static [u64])>] = &[
+const DONE: &[Row<(u32, &'static [u32])>] = &[
     (
         UnifyMode::Use,
         &[0x30, 0x32, 0x72, 1, 0],
@@ -660,7 +660,7 @@ const REFUSED: &[Row<(u32, K)>] = &[
     ),
 ];
 
-fn are_numbered(ids: &[Id], numbers: &[u64]) -> bool {
+fn are_numbered(ids: &[Id], numbers: &[u32]) -> bool {
     ids.iter().map(|id| id.0).eq(numbers.iter().copied())
 }
 
@@ -672,7 +672,7 @@ fn check_done<T: Terms>(
     rt: &impl Abort,
     alloc: Global,
     terms: &T,
-    rows: &[Row<(u32, &'static [u64])>],
+    rows: &[Row<(u32, &'static [u32])>],
 ) {
     let mut store = Store::new(alloc);
     let ids = build(alloc, terms, &mut store).expect(rt, "memory");

@@ -59,7 +59,7 @@ fn param_bits(store: &Store, params: u32) -> u64
 {
     let mut met = 0;
     for i in 0..params {
-        met |= store.deps(Id(u64::from(i)));
+        met |= store.deps(Id(i));
     }
     met
 }

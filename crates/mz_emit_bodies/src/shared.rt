@@ -38,7 +38,8 @@ fn first_ids(alloc: Global, many: usize) -> Result<Vec<Id>, Mem>
 {
     let mut ids = Vec::new(alloc);
     for i in 0..many {
-        ids.push(Id(i as u64))?;
+        let id = Id::at(i)?;
+        ids.push(id)?;
     }
     Ok(ids)
 }

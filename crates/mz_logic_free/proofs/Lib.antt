@@ -1,3 +1,4 @@
 mod Walking
+mod Knowing
 mod Sharing
 pub mod Offered

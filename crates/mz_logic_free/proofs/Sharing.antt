@@ -24,6 +24,14 @@ HasAny P ps = (x : ℕ) × P x × Contains ps x
 abbrev pub IsOther : List ℕ → List ℕ → ℕ → Type 0
 IsOther xs own x = Contains xs x × (Contains own x → ⊥)
 
+-- one that is at one of the places and isn't its own
+abbrev pub IsAtOther : List ℕ → List ℕ → ℕ → Type 0
+IsAtOther ps own x = (Contains own x → ⊥) × Contains ps x
+
+-- one of the variables is at one of the places, whichever of both are gone through
+pub turned-round : (xs own ps : List ℕ) (b : Bool) → IsTrue b ↔ HasAny (IsAtOther ps own) xs → IsTrue b ↔ HasAny (IsOther xs own) ps
+turned-round xs own ps b (to, from) = (λ is. (let (x, other, has) = to is in (x, (has, other.0), other.1)), λ (x, has, at). from (x, (has.1, at), has.0))
+
 -- where there are none, none is in them
 pub none-has : (xs : List ℕ) (x : ℕ) → length xs ≡ 0 → Contains xs x → ⊥
 none-has xs x empty (k, below, _) = absurd (let e : k < length xs = below in omega (arith, e, empty))

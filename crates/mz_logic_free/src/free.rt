@@ -1,11 +1,12 @@
 // The free variables of an expression, in one walk over it.
-ghost use Rattle.std.specs.Prelude.{◌≡◌, ◌↔◌, ◌⊎◌, ◌<◌, ◌++◌, ℕ, List, true, IsTrue, IfOk, OnOk, All, Contains, MatchOption, false, length};
+ghost use Rattle.std.specs.Prelude.{◌≡◌, ◌↔◌, ◌⊎◌, ◌<◌, ◌++◌, ℕ, List, true, IsTrue, IfOk, OnOk, All, Contains, MatchOption, [], false, length, take};
 ghost use Rattle.mz_logic_theory.specs.Declaration.{signatures};
 ghost use Rattle.mz_logic_theory.specs.Legality.{InRange, AllInRange};
 ghost use Rattle.mz_logic_theory.specs.Sorts.{HasSort};
 ghost use Rattle.mz_logic_theory.specs.Tree.{listed, operand, var};
 ghost use Rattle.mz_logic_theory.specs.Variables.{InV, InFV, InSomeFV, IsBoundAt, IsFreeOperand, IsOperandAt};
 ghost use Rattle.mz_logic_theory.specs.View.{tree};
+ghost use Rattle.mz_logic_free.specs.Known.{AreKnown, BindsAnew, LearntMore};
 
 use crate::variables::VariableSet;
 use mz_logic_theory::{Binder, Context, Deps, Env, Expr, Exprs, is_bound_at};
@@ -26,30 +27,57 @@ pub fn free_vars_are_among(
     requires { (s : ℕ) × HasSort (signatures env.now) ctx.now (tree expr.now) s }
     ensures { IfOk result (λ are. IsTrue are ↔ ((x : ℕ) → InFV (signatures env.now) ctx.now x (tree expr.now) → Contains places.now x)) }
 {
-    let mut covered = VariableSet::of(alloc, places)?;
+    let mut covered = Covered::of(alloc, places)?;
     covers(env, ctx, expr, &mut covered)
 }
 
+/// The variables that are covered, and of the regular ones those that were looked at: all on which these
+/// depend is covered.
+#[derive(Drop)]
+struct Covered {
+    variables: VariableSet,
+    known: VariableSet,
+}
+
+impl Covered {
+    /// The variables at these places.
+    fn of(alloc: Global, places: &Deps) -> Result<Covered, AllocError>
+        ensures variables { IfOk result (λ covered. (x : ℕ) → Contains covered.variables x ↔ Contains places.now x) }
+        ensures known { IfOk result (λ covered. covered.known ≡ []) }
+    {
+        Ok(Covered {
+            variables: VariableSet::of(alloc, places)?,
+            known: VariableSet::new(alloc),
+        })
+    }
+
+    /// Keeps the first ones.
+    fn truncate(&mut self, variables: usize, known: usize)
+        ensures variables { self.new.variables ≡ take variables self.old.variables }
+        ensures known { self.new.known ≡ take known self.old.known }
+    {
+        self.variables.truncate(variables);
+        self.known.truncate(known);
+    }
+}
+
 /// Whether all free variables of the expression are covered. Where they are, the same ones are covered
-/// afterwards.
+/// afterwards, and more may be known.
 #[cycle(covers)]
-fn covers(
-    env: &Env,
-    ctx: &Context,
-    expr: &Expr,
-    covered: &mut VariableSet,
-) -> Result<bool, AllocError>
-    requires { InRange (signatures env.now) (length ctx.now) (tree expr.now) }
-    ensures answer { IfOk result (λ b. IsTrue b ↔ ((x : ℕ) → InFV (signatures env.now) ctx.now x (tree expr.now) → Contains covered.old x)) }
-    ensures same { IfOk result (λ b. b ≡ true → covered.new ≡ covered.old) }
+fn covers(env: &Env, ctx: &Context, expr: &Expr, covered: &mut Covered) -> Result<bool, AllocError>
+    requires there { InRange (signatures env.now) (length ctx.now) (tree expr.now) }
+    requires known { AreKnown ctx.now covered.old.variables covered.old.known }
+    ensures answer { IfOk result (λ b. IsTrue b ↔ ((x : ℕ) → InFV (signatures env.now) ctx.now x (tree expr.now) → Contains covered.old.variables x)) }
+    ensures same { IfOk result (λ b. b ≡ true → covered.new.variables ≡ covered.old.variables) }
+    ensures known { IfOk result (λ b. b ≡ true → LearntMore ctx.now covered.old.variables covered.old.known covered.new.known) }
 {
     match expr {
-        Expr::Var(y) => Ok(covers_variable(ctx, *y, covered)),
+        Expr::Var(y) => covers_variable(ctx, *y, covered),
         Expr::App(t, es) => match env.term(*t) {
             None => unreachable!(),
             Some(term) => {
                 let params = term.params.as_slice();
-                if !covers_bound_operands(params, es, &term.result.deps, covered) {
+                if !covers_bound_operands(params, es, &term.result.deps, &covered.variables) {
                     return Ok(false);
                 }
                 covers_operands(env, ctx, es, params, covered)
@@ -58,70 +86,109 @@ fn covers(
     }
 }
 
-/// Whether all free variables of the operands are covered but for those that their parameters bind.
+/// Whether all free variables of the operands are covered but for those that their parameters bind. What a
+/// parameter binds is covered while its operand is looked at, and for the next ones that bind the same.
 #[cycle(covers)]
 fn covers_operands(
     env: &Env,
     ctx: &Context,
     es: &Exprs,
     params: &[Binder],
-    covered: &mut VariableSet,
+    covered: &mut Covered,
 ) -> Result<bool, AllocError>
     requires there { AllInRange (signatures env.now) (length ctx.now) es.now }
     requires many { length (listed es.now) ≡ length params.now }
-    ensures answer { IfOk result (λ b. IsTrue b ↔ ((x : ℕ) → InSomeFV (signatures env.now) ctx.now x params.now es.now params.now es.now → Contains covered.old x)) }
-    ensures same { IfOk result (λ b. b ≡ true → covered.new ≡ covered.old) }
+    requires known { AreKnown ctx.now covered.old.variables covered.old.known }
+    ensures answer { IfOk result (λ b. IsTrue b ↔ ((x : ℕ) → InSomeFV (signatures env.now) ctx.now x params.now es.now params.now es.now → Contains covered.old.variables x)) }
+    ensures same { IfOk result (λ b. b ≡ true → covered.new.variables ≡ covered.old.variables) }
+    ensures known { IfOk result (λ b. b ≡ true → LearntMore ctx.now covered.old.variables covered.old.known covered.new.known) }
 {
+    let outside = covered.variables.len();
+    let mut known = covered.known.len();
+    let mut bound: &[u32] = &[];
     let items = es.as_slice();
     for i in 0..items.len() {
-        let holds = covers_operand(env, ctx, es, params, &params[i], &items[i], covered)?;
-        if !holds {
-            return Ok(false);
+        let param = &params[i];
+        let operand = &items[i];
+        if !param.bound {
+            bind(params, es, bound, &param.deps, outside, known, covered)?;
+            bound = param.deps.as_slice();
+            let holds = covers(env, ctx, operand, covered)?;
+            if !holds {
+                return Ok(false);
+            }
+            known = known_outside(bound, known, &covered.known);
         }
     }
+    covered.truncate(outside, known);
     Ok(true)
 }
 
-/// The same of the operand of one parameter: what this one binds is covered while it is looked at.
-#[cycle(covers)]
-fn covers_operand(
-    env: &Env,
-    ctx: &Context,
-    es: &Exprs,
+/// Covers the operands of the bound parameters at these places in place of those of others, unless they
+/// are the same.
+fn bind(
     params: &[Binder],
-    param: &Binder,
-    operand: &Expr,
-    covered: &mut VariableSet,
-) -> Result<bool, AllocError>
-    requires { InRange (signatures env.now) (length ctx.now) (tree operand.now) }
-    ensures answer { IfOk result (λ b. IsTrue b ↔ ((x : ℕ) → IsFreeOperand (signatures env.now) ctx.now x params.now es.now param.now (tree operand.now) → Contains covered.old x)) }
-    ensures same { IfOk result (λ b. b ≡ true → covered.new ≡ covered.old) }
+    es: &Exprs,
+    before: &[u32],
+    places: &Deps,
+    outside: usize,
+    known: usize,
+    covered: &mut Covered,
+) -> Result<(), AllocError>
+    ensures { OnOk result (((before.now ≡ places.now) × (covered.new.variables ≡ covered.old.variables) × (covered.new.known ≡ covered.old.known))
+        ⊎ BindsAnew params.now es.now places.now (take outside covered.old.variables) (take known covered.old.known) covered.new.variables covered.new.known) }
 {
-    if param.bound {
-        return Ok(true);
+    if before == places.as_slice() {
+        return Ok(());
     }
-    let before = covered.len();
-    add_bound_operands(params, es, &param.deps, covered)?;
-    let holds = covers(env, ctx, operand, covered)?;
-    if !holds {
-        return Ok(false);
+    covered.truncate(outside, known);
+    add_bound_operands(params, es, places, &mut covered.variables)?;
+    Ok(())
+}
+
+/// How many variables are known without what is bound at these places.
+fn known_outside(bound: &[u32], before: usize, known: &VariableSet) -> usize
+    ensures { ((bound.now ≡ []) × (result ≡ length known.now)) ⊎ (result ≡ before) }
+{
+    if bound.is_empty() {
+        known.len()
+    } else {
+        before
     }
-    covered.truncate(before);
-    Ok(true)
 }
 
 /// Whether the variable is covered, or all that it depends on, where it is a regular one.
-fn covers_variable(ctx: &Context, y: u32, covered: &VariableSet) -> bool
-    requires { y < length ctx.now }
-    ensures { IsTrue result ↔ ((x : ℕ) → InV ctx.now x (var y) → Contains covered.now x) }
+fn covers_variable(ctx: &Context, y: u32, covered: &mut Covered) -> Result<bool, AllocError>
+    requires there { y < length ctx.now }
+    requires known { AreKnown ctx.now covered.old.variables covered.old.known }
+    ensures answer { IfOk result (λ b. IsTrue b ↔ ((x : ℕ) → InV ctx.now x (var y) → Contains covered.old.variables x)) }
+    ensures same { covered.new.variables ≡ covered.old.variables }
+    ensures known { IfOk result (λ b. b ≡ true → LearntMore ctx.now covered.old.variables covered.old.known covered.new.known) }
 {
     match ctx.get(y) {
         None => unreachable!(),
-        Some(binder) => covers_binder(binder, y, covered),
+        Some(binder) => {
+            if is_quick(binder) {
+                return Ok(covers_binder(binder, y, &covered.variables));
+            }
+            if covered.known.has(y) {
+                return Ok(true);
+            }
+            let holds = covers_binder(binder, y, &covered.variables);
+            if holds {
+                covered.known.add(y)?;
+            }
+            Ok(holds)
+        }
     }
 }
 
-/// The same of a variable with this binder.
+/// Whether to look at what the variable depends on takes no longer than to remember it.
+fn is_quick(binder: &Binder) -> bool {
+    binder.bound || binder.deps.as_slice().len() < 8
+}
+
+/// Whether a variable with this binder is covered, or all that it depends on.
 fn covers_binder(binder: &Binder, y: u32, covered: &VariableSet) -> bool
     ensures { IsTrue result ↔ ((x : ℕ) → (((binder.now.bound ≡ true) × (x ≡ y)) ⊎ ((binder.now.bound ≡ false) × Contains binder.now.deps x)) → Contains covered.now x) }
 {

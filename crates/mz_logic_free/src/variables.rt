@@ -62,6 +62,13 @@ impl VariableSet {
         self.places.contains(&x)
     }
 
+    /// The variables in order.
+    pub(crate) fn as_slice(&self) -> &[u32]
+        ensures { result.now ≡ self.now }
+    {
+        self.places.as_slice()
+    }
+
     /// Adds a variable, if it isn't one of them.
     ///
     /// # Errors

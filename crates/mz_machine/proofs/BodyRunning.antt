@@ -1,13 +1,16 @@
 -- The loop over a body: what the machine keeps, and how many steps it counts at the most.
 use Rattle.std.specs.Prelude.{◌↔◌}
-use Rattle.std.proofs.Common.{◌≡◌, ◌≤◌, ◌<◌, ◌+◌, ℕ, true, List, length, Result, Ok, Err, refl, sym, ◌∙◌, subst, arith}
+use Rattle.std.proofs.Common.{◌≡◌, ◌≤◌, ◌<◌, ◌+◌, ℕ, suc, true, List, length, drop, Result, Ok, Err, refl, sym, ◌∙◌, subst, arith}
+use Rattle.std.proofs.lemmas.List.{drop-drop}
+use Rattle.mz_cmd.specs.Reading.{first_command}
 use Rattle.mz_cmd.specs.declared.rule.K.{K}
 use Rattle.mz_logic_theory.specs.Tree.{Tree}
 use Rattle.mz_machine_theory.specs.MachineState.{State}
 use Rattle.mz_machine_theory.specs.ProofMachine.{proof_end}
 use Rattle.mz_unify_theory.specs.Profile.{plain}
 use Rattle.mz_machine_theory.specs.Sound.{HasGap}
-use Rattle.mz_machine.specs.BodyAnswers.{IfRan, IsBodyRun, UnlessMem as UnlessBodyMem}
+use Rattle.mz_machine.specs.BodyAnswers.{IsBodyRun, UnlessMem as UnlessBodyMem}
+use Rattle.mz_machine.specs.Rooms.{HasCommands, OneACommand}
 use Rattle.mz_machine.specs.declared.body.BodyChecked.{BodyChecked}
 use Rattle.mz_machine.specs.declared.body.BodyChecked.TheVariants as checked
 use Rattle.mz_machine.specs.Steps.{Underway, tables_for, heading_for, row_of, steps_for, end_steps}
@@ -86,22 +89,34 @@ stop-counts u v place later steps all c after Mem same is many then = tt
 
 -- ---- the store
 
--- a command of at least a byte makes at most one expression
-pub more-nodes : (first nodes later at len : ℕ) → nodes ≤ first + at → later ≤ nodes + 1 → 1 ≤ len → later ≤ first + (at + len)
-more-nodes first nodes later at len most more one = omega (arith, most, more, one)
+pub fewer : (first few many : ℕ) (bytes : List ℕ) → few ≤ many → OneACommand first bytes many → OneACommand first bytes few
+fewer first few many bytes le (n, has, most) = (n, has, omega (arith, le, most))
 
--- what follows where a body ran
-pub then-ran : (r : BodyChecked) (P Q : Type 0) → (P → Q) → IfRan r P → IfRan r Q
-then-ran (checked.Good end) P Q then p = then p
-then-ran (checked.Refused at d) P Q then p = tt
-then-ran checked.Mem P Q then p = tt
+-- with one more for each of some commands behind a place there still is at most one a command
+abbrev pub OneSoFar : (first : ℕ) (bytes : List ℕ) (at many : ℕ) → Type 0
+OneSoFar first bytes at many = (n : ℕ) → HasCommands n (drop at bytes) → OneACommand first bytes (many + n)
 
--- what holds of the store at the END, and nothing where a command is stopped
-pub end-nodes : (place : ℕ) (f : Finished) (P : Type 0) → P → IfRan (ended_at place f) P
-end-nodes place (finished.Body end) P p = p
-end-nodes place (finished.Refused d) P p = tt
-end-nodes place finished.Mem P p = tt
+pub none-so-far : (first : ℕ) (bytes : List ℕ) → OneSoFar first bytes 0 first
+none-so-far first bytes n has = (n, has, omega arith)
 
-pub stop-nodes : (place : ℕ) (stop : Stop) (P : Type 0) → IfRan (stopped_at place stop) P
-stop-nodes place (Rule d) P = tt
-stop-nodes place Mem P = tt
+-- the command at the place makes at most one
+pub one-so-far : (first : ℕ) (bytes : List ℕ) (at many later : ℕ) (c : Cmd) → first_command (drop at bytes) ≡ Ok c → (c.code ≡ 0 → ⊥) → later ≤ many + 1 → OneSoFar first bytes at many → OneSoFar first bytes (at + c.len) later
+one-so-far first bytes at many later c read other more so n has =
+    fewer first (later + n) (many + suc n) bytes (omega (arith, more)) (so (suc n) (c, read, other, subst (HasCommands n) (sym (drop-drop c.len at bytes)) has))
+
+pub one-last : (first : ℕ) (bytes : List ℕ) (at many later : ℕ) (c : Cmd) → first_command (drop at bytes) ≡ Ok c → (c.code ≡ 0 → ⊥) → later ≤ many + 1 → OneSoFar first bytes at many → OneACommand first bytes later
+one-last first bytes at many later c read other more so = fewer first later (many + 1) bytes more (so 1 (c, read, other, tt))
+
+pub none-last : (first : ℕ) (bytes : List ℕ) (at many : ℕ) → OneSoFar first bytes at many → OneACommand first bytes many
+none-last first bytes at many so = fewer first many (many + 0) bytes (omega arith) (so 0 tt)
+
+-- what holds whatever is answered
+pub whatever : (r : BodyChecked) (P : Type 0) → P → UnlessBodyMem r P
+whatever (checked.Good end) P p = p
+whatever (checked.Refused at d) P p = p
+whatever checked.Mem P p = tt
+
+pub then-whatever : (r : BodyChecked) (P Q : Type 0) → (P → Q) → UnlessBodyMem r P → UnlessBodyMem r Q
+then-whatever (checked.Good end) P Q then p = then p
+then-whatever (checked.Refused at d) P Q then p = then p
+then-whatever checked.Mem P Q then p = tt

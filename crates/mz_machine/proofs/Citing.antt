@@ -21,11 +21,11 @@ items-many s xs = length-map (reverse xs) (item_at s) ∙ length-reverse xs
 
 -- ---- the run
 
-module _ (b : Before) (s : Sharing) (st : State Tree) (same : st.ctx ≡ s.context) (t : ℕ) (stream : List ℕ) (is : stream ≡ drop (thm_row b.file t).stream_at b.file) (ops : List Id) (target : Id) (xs : List Kept) where
+module _ (b : Before) (s : Sharing) (st : State Tree) (same : st.ctx ≡ s.context) (t : ℕ) (stream : List ℕ) (is : stream ≡ drop (thm_row b.file t).stream_at b.file) (ops lent : List Id) (are : lent ≡ ops) (target : Id) (xs : List Kept) where
   pub cited-run : unify strict (signatures_of b) st.ctx (matching_at s Use (drop (thm_row b.file t).stream_at b.file) ops target xs)
-      ≡ unify strict (signatures_by (words_before b)) s.context (matching_at s Use stream ops target xs)
-  cited-run = rw (same, is, signatures-before b) refl
+      ≡ unify strict (signatures_by (words_before b)) s.context (matching_at s Use stream lent target xs)
+  cited-run = rw (same, is, are, signatures-before b) refl
 
   pub cited-count : unify_steps strict (signatures_of b) st.ctx (matching_at s Use (drop (thm_row b.file t).stream_at b.file) ops target xs)
-      ≡ unify_steps strict (signatures_by (words_before b)) s.context (matching_at s Use stream ops target xs)
-  cited-count = rw (same, is, signatures-before b) refl
+      ≡ unify_steps strict (signatures_by (words_before b)) s.context (matching_at s Use stream lent target xs)
+  cited-count = rw (same, is, are, signatures-before b) refl

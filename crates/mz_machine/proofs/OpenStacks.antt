@@ -1,79 +1,78 @@
 -- The stack for which the written items and the open equations stand.
 use Rattle.std.proofs.Common.{◌≡◌, ◌≤◌, ◌<◌, ◌+◌, ◌-◌, ◌⊎◌, inl, inr, ℕ, suc, Bool, true, false, List, [], ◌∷◌, ◌++◌, length, take, drop, Option, Some, None, refl, sym, ap, subst, ◌∙◌, arith, length-append, slice_get, add-one, min}
-use Rattle.std.specs.Prelude.{nat_lt, reverse, option_to_list}
+use Rattle.std.specs.Prelude.{nat_lt, reverse, option_to_list, map}
+use Rattle.std.specs.Option.{option_map}
+use Rattle.std.proofs.lemmas.Option.{slice_get-map}
 use Rattle.std.proofs.lemmas.List.{take_at, drop_at, length-map, reverse-append, length-drop, take-append-drop}
 use Rattle.std.proofs.lemmas.Bool.{ltb-true, ltb-false}
 use Rattle.mz_base_theory.proofs.Offered.{drop-past}
-use Rattle.mz_logic_theory.specs.Tree.{Tree, listed}
-use Rattle.mz_store.specs.Sharing.{Sharing, tree_of, trees_of, operands_of, IsIn, KeepsIds}
 use Rattle.mz_store.specs.declared.item.Id.{Id}
 use Rattle.mz_unify_theory.specs.Profile.{Item, obligation}
-use Rattle.mz_unify.proofs.Offered.{still-in, tree-at}
 use Rattle.mz_machine_env.proofs.Offered.{next-at}
 use Rattle.mz_machine_theory.specs.ProofMachine.{sides}
-use Rattle.mz_machine.specs.OpenEquations.{IsBarrier, IsBarred, operands_at, to_come, after, above, below, whole_stack, many_at, IsOpen, AreOpen, IsInHand, AreSettled, many_to_come}
+use Rattle.mz_machine.specs.OpenEquations.{IsBarrier, IsBarred, Expressions, to_come, after, above, below, whole_stack, many_at, IsOpen, AreOpen, IsInHand, AreSettled, many_to_come}
 use Rattle.mz_machine.specs.declared.equations.Equation.{Equation}
-use Rattle.mz_machine.proofs.TermResults.{tree-kept}
 use Rattle.mz_machine.proofs.ConversionRows.{no-right}
-use Rattle.mz_machine.proofs.Converting.{operand-trees}
+use Rattle.mz_machine.proofs.Barred.{still-barred}
 use Rattle.mz_machine.proofs.BarredRows.{on-barrier}
-
-pub operands-many : (s : Sharing) (args : List Id) (i : Id) → trees_of s args ≡ operands_of (tree_of s i.0) → length (operands_at s i) ≡ length args
-operands-many s args i are = ap length (sym (operand-trees s args (tree_of s i.0) are)) ∙ length-map args (λ (j : Id). tree_of s j.0)
 
 -- ---- two parts of a list
 
 length-less : {A : Type 0} (xs ys : List A) (n : ℕ) → length ys ≡ n → length (xs ++ ys) - n ≡ length xs
 length-less xs ys n is = omega (arith, length-append xs ys, is)
 
-pub above-is : (xs ys : List (Item Tree)) (n : ℕ) → length ys ≡ n → above (xs ++ ys) n ≡ xs
+pub above-is : {T : Type 0} (xs ys : List (Item T)) (n : ℕ) → length ys ≡ n → above (xs ++ ys) n ≡ xs
 above-is xs ys n is = ap (λ k. take k (xs ++ ys)) (length-less xs ys n is) ∙ take_at xs ys (length xs) refl
 
-pub below-is : (xs ys : List (Item Tree)) (n : ℕ) → length ys ≡ n → below (xs ++ ys) n ≡ ys
+pub below-is : {T : Type 0} (xs ys : List (Item T)) (n : ℕ) → length ys ≡ n → below (xs ++ ys) n ≡ ys
 below-is xs ys n is = ap (λ k. drop k (xs ++ ys)) (length-less xs ys n is) ∙ drop_at xs ys (length xs) refl
 
-pub below-many : (xs : List (Item Tree)) (n : ℕ) → n ≤ length xs → length (below xs n) ≡ n
+pub below-many : {T : Type 0} (xs : List (Item T)) (n : ℕ) → n ≤ length xs → length (below xs n) ≡ n
 below-many xs n le = omega (arith, length-drop (length xs - n) xs, le)
 
--- ---- a longer store
+-- ---- more ids
 
-module _ (s s' : Sharing) (keeps : KeepsIds s s') where
-  operands-kept : (i : Id) → IsIn s i.0 → operands_at s' i ≡ operands_at s i
-  operands-kept i inside = ap (λ (e : Tree). listed (operands_of e)) (tree-kept s s' keeps i.0 inside)
+-- those that are there stay, with their operands
+abbrev pub AreKept : {T : Type 0} → Expressions T → Expressions T → Type 0
+AreKept s s' = (i : Id) → s.is_in i.0 → s'.is_in i.0 × (s'.operands i ≡ s.operands i)
 
-  pub to-come-kept : (e : Equation) → IsOpen s e → (xs : List (Item Tree)) → to_come s' e xs ≡ to_come s e xs
-  to-come-kept e is xs = rw (operands-kept e.left is.left_in, operands-kept e.right is.right_in) refl
+pub the-same : {T : Type 0} (s : Expressions T) → AreKept s s
+the-same s i inside = (inside, refl)
+
+module _ {T : Type 0} (s s' : Expressions T) (keeps : AreKept s s') where
+  pub to-come-kept : (e : Equation) → IsOpen s e → (xs : List (Item T)) → to_come s' e xs ≡ to_come s e xs
+  to-come-kept e is xs = rw ((keeps e.left is.left_in).1, (keeps e.right is.right_in).1) refl
 
   pub open-kept : (e : Equation) → IsOpen s e → IsOpen s' e
   open-kept e is = record {
-    left_in = still-in s s' keeps e.left.0 is.left_in;
-    right_in = still-in s s' keeps e.right.0 is.right_in;
-    more = rw (operands-kept e.left is.left_in, operands-kept e.right is.right_in) is.more;
+    left_in = (keeps e.left is.left_in).0;
+    right_in = (keeps e.right is.right_in).0;
+    more = rw ((keeps e.left is.left_in).1, (keeps e.right is.right_in).1) is.more;
   }
 
-  pub all-kept : (es : List Equation) (xs : List (Item Tree)) → AreOpen s es xs → AreOpen s' es xs
+  pub all-kept : (es : List Equation) (xs : List (Item T)) → AreOpen s es xs → AreOpen s' es xs
   all-kept [] xs stand = tt
   all-kept (e ∷ es) xs (is, le, barred, rest) = (open-kept e is, le, barred, all-kept es (below xs e.height) rest)
 
-  pub whole-kept : (es : List Equation) (xs : List (Item Tree)) → AreOpen s es xs → whole_stack s' es xs ≡ whole_stack s es xs
+  pub whole-kept : (es : List Equation) (xs : List (Item T)) → AreOpen s es xs → whole_stack s' es xs ≡ whole_stack s es xs
   whole-kept [] xs stand = refl
   whole-kept (e ∷ es) xs (is, le, barred, rest) =
       ap (λ ys. above xs e.height ++ ys) (to-come-kept e is (whole_stack s' es (below xs e.height)) ∙ ap (to_come s e) (whole-kept es (below xs e.height) rest))
 
 -- ---- one item more
 
-module _ (s : Sharing) (x : Item Tree) where
-  above-more : (xs : List (Item Tree)) (n : ℕ) → n ≤ length xs → above (x ∷ xs) n ≡ x ∷ above xs n
+module _ {T : Type 0} (s : Expressions T) (x : Item T) where
+  above-more : (xs : List (Item T)) (n : ℕ) → n ≤ length xs → above (x ∷ xs) n ≡ x ∷ above xs n
   above-more xs n le = let one : suc (length xs) - n ≡ suc (length xs - n) = omega (arith, le) in ap (λ k. take k (x ∷ xs)) one
 
-  below-more : (xs : List (Item Tree)) (n : ℕ) → n ≤ length xs → below (x ∷ xs) n ≡ below xs n
+  below-more : (xs : List (Item T)) (n : ℕ) → n ≤ length xs → below (x ∷ xs) n ≡ below xs n
   below-more xs n le = let one : suc (length xs) - n ≡ suc (length xs - n) = omega (arith, le) in ap (λ k. drop k (x ∷ xs)) one
 
-  pub whole-more : (es : List Equation) (xs : List (Item Tree)) → AreOpen s es xs → whole_stack s es (x ∷ xs) ≡ x ∷ whole_stack s es xs
+  pub whole-more : (es : List Equation) (xs : List (Item T)) → AreOpen s es xs → whole_stack s es (x ∷ xs) ≡ x ∷ whole_stack s es xs
   whole-more [] xs stand = refl
   whole-more (e ∷ es) xs (is, le, barred, rest) = rw (above-more xs e.height le, below-more xs e.height le) refl
 
-  pub all-more : IsBarrier x → (es : List Equation) (xs : List (Item Tree)) → AreOpen s es xs → AreOpen s es (x ∷ xs)
+  pub all-more : IsBarrier x → (es : List Equation) (xs : List (Item T)) → AreOpen s es xs → AreOpen s es (x ∷ xs)
   all-more is [] xs stand = tt
   all-more is (e ∷ es) xs (at, le, barred, rest) = (
     at,
@@ -82,12 +81,23 @@ module _ (s : Sharing) (x : Item Tree) where
     subst (AreOpen s es) (sym (below-more xs e.height le)) rest,
   )
 
+  -- one less, where it was in hand
+  pub all-less : (es : List Equation) (xs : List (Item T)) → AreSettled s es (x ∷ xs) → AreOpen s es xs
+  all-less [] xs settled = tt
+  all-less (e ∷ es) xs ((at, le, barred, rest), less) =
+      let fits : e.height ≤ length xs = omega (arith, less) in (
+        at,
+        fits,
+        still-barred x (above xs e.height) (subst IsBarred (above-more xs e.height fits) barred),
+        subst (AreOpen s es) (below-more xs e.height fits) rest,
+      )
+
 -- ---- nothing above
 
-above-none : (xs : List (Item Tree)) (n : ℕ) → length xs ≡ n → above xs n ≡ []
+above-none : {T : Type 0} (xs : List (Item T)) (n : ℕ) → length xs ≡ n → above xs n ≡ []
 above-none xs n is = let none : length xs - n ≡ 0 = omega (arith, is) in ap (λ k. take k xs) none
 
-below-all : (xs : List (Item Tree)) (n : ℕ) → length xs ≡ n → below xs n ≡ xs
+below-all : {T : Type 0} (xs : List (Item T)) (n : ℕ) → length xs ≡ n → below xs n ≡ xs
 below-all xs n is = let none : length xs - n ≡ 0 = omega (arith, is) in ap (λ k. drop k xs) none
 
 -- ---- sides
@@ -95,22 +105,27 @@ below-all xs n is = let none : length xs - n ≡ 0 = omega (arith, is) in ap (λ
 no-left : {T : Type 0} (es fs : List T) (n : ℕ) (xs : List (Item T)) → length es ≤ n → sides (drop n es) (drop n fs) xs ≡ xs
 no-left es fs n xs le = rw (drop-past es n le) refl
 
-pub no-more : (s : Sharing) (l r : Id) (n : ℕ) (xs : List (Item Tree)) → many_at s l r ≤ n → sides (drop n (operands_at s l)) (drop n (operands_at s r)) xs ≡ xs
-no-more s l r n xs none = go (nat_lt n (length (operands_at s l))) refl
+pub none-to-come : {T : Type 0} (s : Expressions T) (l r : Id) (n : ℕ) (xs : List (Item T)) → many_at s l r ≤ n → sides (drop n (s.operands l)) (drop n (s.operands r)) xs ≡ xs
+none-to-come s l r n xs none = go (nat_lt n (length (s.operands l))) refl
   where
-    go : (a : Bool) → nat_lt n (length (operands_at s l)) ≡ a → sides (drop n (operands_at s l)) (drop n (operands_at s r)) xs ≡ xs
-    go false is = no-left (operands_at s l) (operands_at s r) n xs (ltb-false n (length (operands_at s l)) is)
+    go : (a : Bool) → nat_lt n (length (s.operands l)) ≡ a → sides (drop n (s.operands l)) (drop n (s.operands r)) xs ≡ xs
+    go false is = no-left (s.operands l) (s.operands r) n xs (ltb-false n (length (s.operands l)) is)
     go true is =
-        let few : length (operands_at s r) ≤ n = omega (arith, none, ltb-true n (length (operands_at s l)) is) in
-        ap (λ fs. sides (drop n (operands_at s l)) fs xs) (drop-past (operands_at s r) n few) ∙ no-right (drop n (operands_at s l)) xs
+        let few : length (s.operands r) ≤ n = omega (arith, none, ltb-true n (length (s.operands l)) is) in
+        ap (λ fs. sides (drop n (s.operands l)) fs xs) (drop-past (s.operands r) n few) ∙ no-right (drop n (s.operands l)) xs
 
 -- the next one
-pub next-come : (s : Sharing) (e : Equation) (lefts rights : List Id) (l r : Id) → trees_of s lefts ≡ operands_of (tree_of s e.left.0) → trees_of s rights ≡ operands_of (tree_of s e.right.0)
-    → slice_get lefts e.next ≡ Some l → slice_get rights e.next ≡ Some r → (xs : List (Item Tree)) → to_come s e xs ≡ obligation (tree_of s l.0) (tree_of s r.0) ∷ to_come s (after e) xs
-next-come s e lefts rights l r are bre at bt xs =
-    let left = ap (λ (ts : List Tree). slice_get ts e.next) (sym (operand-trees s lefts (tree_of s e.left.0) are)) ∙ tree-at s lefts e.next l at in
-    let right = ap (λ (ts : List Tree). slice_get ts e.next) (sym (operand-trees s rights (tree_of s e.right.0) bre)) ∙ tree-at s rights e.next r bt in
-    rw (next-at (operands_at s e.left) e.next (tree_of s l.0) left, next-at (operands_at s e.right) e.next (tree_of s r.0) right, add-one) refl
+module _ {T : Type 0} (s : Expressions T) (f : Id → T) where
+  pub operands-many : (args : List Id) (i : Id) → s.operands i ≡ map f args → length (s.operands i) ≡ length args
+  operands-many args i are = ap length are ∙ length-map args f
+
+  at-place : (args : List Id) (es : List T) (n : ℕ) (i : Id) → es ≡ map f args → slice_get args n ≡ Some i → slice_get es n ≡ Some (f i)
+  at-place args es n i are at = ap (λ (fs : List T). slice_get fs n) are ∙ slice_get-map f args n ∙ ap (option_map f) at
+
+  pub next-come : (e : Equation) (lefts rights : List Id) (l r : Id) → s.operands e.left ≡ map f lefts → s.operands e.right ≡ map f rights
+      → slice_get lefts e.next ≡ Some l → slice_get rights e.next ≡ Some r → (xs : List (Item T)) → to_come s e xs ≡ obligation (f l) (f r) ∷ to_come s (after e) xs
+  next-come e lefts rights l r are bre at bt xs =
+      rw (next-at (s.operands e.left) e.next (f l) (at-place lefts (s.operands e.left) e.next l are at), next-at (s.operands e.right) e.next (f r) (at-place rights (s.operands e.right) e.next r bre bt), add-one) refl
 
 -- how many
 sides-many : {T : Type 0} (es fs : List T) → length (sides es fs []) ≡ min (length es) (length fs)
@@ -118,18 +133,18 @@ sides-many [] fs = omega arith
 sides-many (e ∷ es) [] = omega arith
 sides-many (e ∷ es) (f ∷ fs) = let rest : length (sides es fs []) ≡ min (length es) (length fs) = sides-many es fs in omega (arith, rest)
 
-pub come-many : (s : Sharing) (e : Equation) → many_at s e.left e.right - e.next ≡ length (to_come s e [])
+pub come-many : {T : Type 0} (s : Expressions T) (e : Equation) → many_at s e.left e.right - e.next ≡ length (to_come s e [])
 come-many s e =
-    omega (arith, sides-many (drop e.next (operands_at s e.left)) (drop e.next (operands_at s e.right)), length-drop e.next (operands_at s e.left), length-drop e.next (operands_at s e.right))
+    omega (arith, sides-many (drop e.next (s.operands e.left)) (drop e.next (s.operands e.right)), length-drop e.next (s.operands e.left), length-drop e.next (s.operands e.right))
 
 -- those of the next equation, and of the others
-pub reach-next : (s : Sharing) (es : List Equation) (i : ℕ) (e : Equation) (n : ℕ) → slice_get es i ≡ Some e → n ≡ length (to_come s e []) → many_to_come s (drop i es) ≡ n + many_to_come s (drop (suc i) es)
+pub reach-next : {T : Type 0} (s : Expressions T) (es : List Equation) (i : ℕ) (e : Equation) (n : ℕ) → slice_get es i ≡ Some e → n ≡ length (to_come s e []) → many_to_come s (drop i es) ≡ n + many_to_come s (drop (suc i) es)
 reach-next s es i e n at is = ap (many_to_come s) (next-at es i e at) ∙ ap (λ m. m + many_to_come s (drop (suc i) es)) (sym is)
 
-module _ (s : Sharing) where
+module _ {T : Type 0} (s : Expressions T) where
   -- ---- what begins
 
-  pub begun-stand : (e : Equation) (es : List Equation) (xs : List (Item Tree)) → e.height ≡ length xs → IsOpen s e → AreOpen s es xs → AreOpen s (e ∷ es) xs
+  pub begun-stand : (e : Equation) (es : List Equation) (xs : List (Item T)) → e.height ≡ length xs → IsOpen s e → AreOpen s es xs → AreOpen s (e ∷ es) xs
   begun-stand e es xs height is stand = (
     is,
     omega (arith, height),
@@ -137,12 +152,12 @@ module _ (s : Sharing) where
     subst (AreOpen s es) (sym (below-all xs e.height (sym height))) stand,
   )
 
-  pub begun-whole : (e : Equation) (es : List Equation) (xs : List (Item Tree)) → e.height ≡ length xs → whole_stack s (e ∷ es) xs ≡ to_come s e (whole_stack s es xs)
+  pub begun-whole : (e : Equation) (es : List Equation) (xs : List (Item T)) → e.height ≡ length xs → whole_stack s (e ∷ es) xs ≡ to_come s e (whole_stack s es xs)
   begun-whole e es xs height = rw (above-none xs e.height (sym height), below-all xs e.height (sym height)) refl
 
   -- ---- the next obligation
 
-  module _ (e : Equation) (es : List Equation) (xs : List (Item Tree)) (stand : AreOpen s (e ∷ es) xs) (low : length xs ≤ e.height) where
+  module _ (e : Equation) (es : List Equation) (xs : List (Item T)) (stand : AreOpen s (e ∷ es) xs) (low : length xs ≤ e.height) where
     height-is : length xs ≡ e.height
     height-is = omega (arith, low, stand.1)
 
@@ -152,7 +167,7 @@ module _ (s : Sharing) where
     whole-is : whole_stack s (e ∷ es) xs ≡ to_come s e (whole_stack s es xs)
     whole-is = begun-whole e es xs (sym height-is)
 
-    module _ (x : Item Tree) (barrier : IsBarrier x) (next : (ys : List (Item Tree)) → to_come s e ys ≡ x ∷ to_come s (after e) ys) where
+    module _ (x : Item T) (barrier : IsBarrier x) (next : (ys : List (Item T)) → to_come s e ys ≡ x ∷ to_come s (after e) ys) where
       pub more-settled : e.next + 1 < many_at s e.left e.right → AreSettled s (after e ∷ es) (x ∷ xs)
       more-settled more = (
         (
@@ -179,7 +194,7 @@ module _ (s : Sharing) where
       pub last-whole : many_at s e.left e.right ≤ e.next + 1 → whole_stack s es (x ∷ xs) ≡ whole_stack s (e ∷ es) xs
       last-whole none =
           whole-more s x es xs rest-stand
-          ∙ sym (whole-is ∙ next (whole_stack s es xs) ∙ ap (λ ys. x ∷ ys) (no-more s e.left e.right (e.next + 1) (whole_stack s es xs) none))
+          ∙ sym (whole-is ∙ next (whole_stack s es xs) ∙ ap (λ ys. x ∷ ys) (none-to-come s e.left e.right (e.next + 1) (whole_stack s es xs) none))
 
 -- ---- so many there are
 
@@ -191,12 +206,12 @@ sides-add (e ∷ es) (f ∷ fs) xs = let rest : length (sides es fs xs) ≡ leng
 pub sides-long : {T : Type 0} (es fs : List T) (xs : List (Item T)) → length xs ≤ length (sides es fs xs)
 sides-long es fs xs = omega (arith, sides-add es fs xs)
 
-pub whole-long : (s : Sharing) (es : List Equation) (xs : List (Item Tree)) → length xs ≤ length (whole_stack s es xs)
+pub whole-long : {T : Type 0} (s : Expressions T) (es : List Equation) (xs : List (Item T)) → length xs ≤ length (whole_stack s es xs)
 whole-long s [] xs = omega arith
 whole-long s (e ∷ es) xs =
     let n : ℕ = length xs - e.height in
     let rest : length (below xs e.height) ≤ length (whole_stack s es (below xs e.height)) = whole-long s es (below xs e.height) in
-    let come = sides-long (drop e.next (operands_at s e.left)) (drop e.next (operands_at s e.right)) (whole_stack s es (below xs e.height)) in
+    let come = sides-long (drop e.next (s.operands e.left)) (drop e.next (s.operands e.right)) (whole_stack s es (below xs e.height)) in
     omega (arith, rest, come, length-append (above xs e.height) (to_come s e (whole_stack s es (below xs e.height))), ap length (take-append-drop n xs), length-append (above xs e.height) (below xs e.height))
 
 -- ---- lists of the code
@@ -216,10 +231,10 @@ popped-back old new r e is some = is ∙ ap (λ (o : Option Equation). new ++ op
 pub popped-none : (old new : List Equation) (r : Option Equation) → old ≡ new ++ option_to_list r → r ≡ None → (new ≡ []) → reverse old ≡ []
 popped-none old new r is none empty = ap (λ (es : List Equation). reverse es) (is ∙ ap (λ (o : Option Equation). new ++ option_to_list o) none ∙ ap (λ (es : List Equation). es ++ []) empty)
 
-pub first-open : (s : Sharing) (old new : List Equation) (r : Option Equation) (e : Equation) (xs : List (Item Tree)) → old ≡ new ++ option_to_list r → r ≡ Some e → AreOpen s (reverse old) xs → IsOpen s e
+pub first-open : {T : Type 0} (s : Expressions T) (old new : List Equation) (r : Option Equation) (e : Equation) (xs : List (Item T)) → old ≡ new ++ option_to_list r → r ≡ Some e → AreOpen s (reverse old) xs → IsOpen s e
 first-open s old new r e xs is some stand = (subst (λ (fs : List Equation). AreOpen s fs xs) (popped-first old new r e is some) stand).0
 
-module _ (s : Sharing) (old new : List Equation) (xs : List (Item Tree)) where
+module _ {T : Type 0} (s : Expressions T) (old new : List Equation) (xs : List (Item T)) where
   -- where there is none
   pub none-settled : (popped : Option Equation) → old ≡ new ++ option_to_list popped → popped ≡ None → length new ≡ 0 → AreSettled s (reverse new) xs × (whole_stack s (reverse new) xs ≡ whole_stack s (reverse old) xs)
   none-settled popped is none empty =
@@ -243,11 +258,11 @@ module _ (s : Sharing) (old new : List Equation) (xs : List (Item Tree)) where
       )
 
 -- what stands behind the next obligation
-abbrev pub FollowsBy : Sharing → Equation → List Equation → List Equation → Type 0
+abbrev pub FollowsBy : {T : Type 0} → Expressions T → Equation → List Equation → List Equation → Type 0
 FollowsBy s e es fs = ((fs ≡ after e ∷ es) × (e.next + 1 < many_at s e.left e.right)) ⊎ ((fs ≡ es) × (many_at s e.left e.right ≤ e.next + 1))
 
-pub now-settled : (s : Sharing) (e : Equation) (es : List Equation) (xs : List (Item Tree)) → AreOpen s (e ∷ es) xs → length xs ≤ e.height → (x : Item Tree) → IsBarrier x
-    → ((ys : List (Item Tree)) → to_come s e ys ≡ x ∷ to_come s (after e) ys) → (fs : List Equation) → FollowsBy s e es fs → AreSettled s fs (x ∷ xs) × (whole_stack s fs (x ∷ xs) ≡ whole_stack s (e ∷ es) xs)
+pub now-settled : {T : Type 0} (s : Expressions T) (e : Equation) (es : List Equation) (xs : List (Item T)) → AreOpen s (e ∷ es) xs → length xs ≤ e.height → (x : Item T) → IsBarrier x
+    → ((ys : List (Item T)) → to_come s e ys ≡ x ∷ to_come s (after e) ys) → (fs : List Equation) → FollowsBy s e es fs → AreSettled s fs (x ∷ xs) × (whole_stack s fs (x ∷ xs) ≡ whole_stack s (e ∷ es) xs)
 now-settled s e es xs stand low x barrier next fs (inl (are, more)) = (
   subst (λ (gs : List Equation). AreSettled s gs (x ∷ xs)) (sym are) (more-settled s e es xs stand low x barrier next more),
   ap (λ (gs : List Equation). whole_stack s gs (x ∷ xs)) are ∙ more-whole s e es xs stand low x barrier next,

@@ -52,16 +52,16 @@ no-stream b t below has = ap stream_of (term-before b t below) ∙ rw has refl
 
 -- ---- the run
 
-module _ (b : Before) (s : Sharing) (ctx : List Binder) (same : ctx ≡ s.context) (t : ℕ) (target : Id) (ops : List Id) where
+module _ (b : Before) (s : Sharing) (ctx : List Binder) (same : ctx ≡ s.context) (t : ℕ) (target : Id) (es : List Tree) where
   abbrev pub unfolded : Matching Tree
-  unfolded = record { mode = in_definition; stream = drop (term_row b.file t).stream_at b.file; operands = trees_at s ops; target = tree_of s target.0; items = [] }
+  unfolded = record { mode = in_definition; stream = drop (term_row b.file t).stream_at b.file; operands = es; target = tree_of s target.0; items = [] }
 
-  module _ (stream : List ℕ) (none : List Kept) (is : stream ≡ drop (term_row b.file t).stream_at b.file) (empty : none ≡ []) where
+  module _ (stream : List ℕ) (ops : List Id) (none : List Kept) (is : stream ≡ drop (term_row b.file t).stream_at b.file) (are : trees_at s ops ≡ es) (empty : none ≡ []) where
     pub same-run : unify strict (signatures_of b) ctx unfolded ≡ unify strict (signatures_by (words_before b)) s.context (matching_at s Body stream ops target none)
-    same-run = rw (same, is, empty, signatures-before b) refl
+    same-run = rw (same, is, ← are, empty, signatures-before b) refl
 
     pub same-count : unify_steps strict (signatures_by (words_before b)) s.context (matching_at s Body stream ops target none) ≡ unify_steps strict (signatures_of b) ctx unfolded
-    same-count = rw (same, is, empty, signatures-before b) refl
+    same-count = rw (same, is, ← are, empty, signatures-before b) refl
 
 -- ---- counting
 

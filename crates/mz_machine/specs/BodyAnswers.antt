@@ -24,9 +24,3 @@ abbrev pub UnlessMem : BodyChecked → Type 0 → Type 0
 UnlessMem (Good end) P = P
 UnlessMem (Refused at rule) P = P
 UnlessMem Mem P = ⊤
-
--- it ran to its END, and this holds; or it didn't
-abbrev pub IfRan : BodyChecked → Type 0 → Type 0
-IfRan (Good end) P = P
-IfRan (Refused at rule) P = ⊤
-IfRan Mem P = ⊤

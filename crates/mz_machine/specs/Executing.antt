@@ -11,7 +11,7 @@ use Rattle.mz_unify.specs.declared.stop.Stop.{Stop}
 use Rattle.mz_unify.specs.declared.stop.Stop.TheVariants.{Rule, Mem}
 use Rattle.mz_machine_theory.specs.MachineState.{State}
 use Rattle.mz_machine.specs.OverStore.{Grows, UnlessMem}
-use Rattle.mz_machine.specs.OpenEquations.{AreSettled, IsOpenedBy, opened_state, whole_state}
+use Rattle.mz_machine.specs.OpenEquations.{stored, AreSettled, IsOpenedBy, opened_state, whole_state}
 use Rattle.mz_machine.specs.declared.equations.Equation.{Equation}
 
 -- the store is over these signatures, and has what the items name
@@ -53,7 +53,7 @@ pub record Proceeds (sigs : List Signature) (row : ℕ → Result (State Tree) K
   pub heap_in : AreItemsIn s' heap'
   pub stack_in : AreItemsIn s' stack'
   pub hyps_in : AreHyps s' hyps'
-  pub settled : AreSettled s' (reverse equations') (items_at s' stack')
+  pub settled : AreSettled (stored s') (reverse equations') (items_at s' stack')
   pub row_is : (at : ℕ) → row at ≡ Ok (whole_state s' heap' equations' stack' hyps')
 
 -- so many steps are counted, but where memory runs out; never more than these

@@ -55,50 +55,57 @@ asked_by tables code.Thm t = many_of_thm (slice_get tables.thms t)
 asked_by tables code.ThmSave t = many_of_thm (slice_get tables.thms t)
 asked_by tables c t = 0
 
+-- ---- what ids stand for: those that are there, and the operands of each
+
+pub record Expressions (T : Type 0) : Type 1 where
+  pub is_in : ℕ → Type 0
+  pub operands : Id → List T
+
+-- the ids of a store
+abbrev pub stored : Sharing → Expressions Tree
+stored s = record { is_in = λ i. IsIn s i; operands = λ i. listed (operands_of (tree_of s i.0)) }
+
 -- ---- the stack for which the items that are written out stand, and the equations, the last one first
 
-abbrev pub operands_at : Sharing → Id → List Tree
-operands_at s i = listed (operands_of (tree_of s i.0))
-
 -- the obligations still to come of an equation, on these items
-abbrev pub to_come : Sharing → Equation → List (Item Tree) → List (Item Tree)
-to_come s e xs = sides (drop e.next (operands_at s e.left)) (drop e.next (operands_at s e.right)) xs
+abbrev pub to_come : {T : Type 0} → Expressions T → Equation → List (Item T) → List (Item T)
+to_come s e xs = sides (drop e.next (s.operands e.left)) (drop e.next (s.operands e.right)) xs
 
 -- the equation with one obligation less
 abbrev pub after : Equation → Equation
 after e = record e { next = e.next + 1 }
 
 -- the items above so many, and these
-abbrev pub above : List (Item Tree) → ℕ → List (Item Tree)
+abbrev pub above : {T : Type 0} → List (Item T) → ℕ → List (Item T)
 above xs n = take (length xs - n) xs
 
-abbrev pub below : List (Item Tree) → ℕ → List (Item Tree)
+abbrev pub below : {T : Type 0} → List (Item T) → ℕ → List (Item T)
 below xs n = drop (length xs - n) xs
 
-abbrev pub whole_stack : Sharing → List Equation → List (Item Tree) → List (Item Tree)
+abbrev pub whole_stack : {T : Type 0} → Expressions T → List Equation → List (Item T) → List (Item T)
 whole_stack s [] xs = xs
 whole_stack s (e ∷ es) xs = above xs e.height ++ to_come s e (whole_stack s es (below xs e.height))
 
 -- and the state
 abbrev pub whole_state : Sharing → (heap : List Kept) → (equations : List Equation) → (stack : List Kept) → (hyps : List Id) → State Tree
-whole_state s heap equations stack hyps = with_stack (state_at s heap stack hyps) (whole_stack s (reverse equations) (items_at s stack))
+whole_state s heap equations stack hyps = with_stack (state_at s heap stack hyps) (whole_stack (stored s) (reverse equations) (items_at s stack))
 
 -- so many obligations are between the operands of two expressions
-abbrev pub many_at : Sharing → Id → Id → ℕ
-many_at s l r = min (length (operands_at s l)) (length (operands_at s r))
+abbrev pub many_at : {T : Type 0} → Expressions T → Id → Id → ℕ
+many_at s l r = min (length (s.operands l)) (length (s.operands r))
 
--- an obligation at least is still to come, between expressions of the store
-pub record IsOpen (s : Sharing) (e : Equation) : Type 0 where
-  pub left_in : IsIn s e.left.0
-  pub right_in : IsIn s e.right.0
+-- an obligation at least is still to come, between expressions that are there
+pub record IsOpen {T : Type 0} (s : Expressions T) (e : Equation) : Type 0 where
+  pub left_in : s.is_in e.left.0
+  pub right_in : s.is_in e.right.0
   pub more : e.next < many_at s e.left e.right
 
 -- the same of each of them
-abbrev pub AllOpen : Sharing → List Equation → Type 0
+abbrev pub AllOpen : {T : Type 0} → Expressions T → List Equation → Type 0
 AllOpen s es = (i : ℕ) (e : Equation) → slice_get es i ≡ Some e → IsOpen s e
 
 -- each stands in the stack, and what is written out above it ends with a barrier
-abbrev pub AreOpen : Sharing → List Equation → List (Item Tree) → Type 0
+abbrev pub AreOpen : {T : Type 0} → Expressions T → List Equation → List (Item T) → Type 0
 AreOpen s [] xs = ⊤
 AreOpen s (e ∷ es) xs = IsOpen s e × (e.height ≤ length xs) × IsBarred (above xs e.height) × AreOpen s es (below xs e.height)
 
@@ -108,18 +115,18 @@ IsInHand [] n = ⊤
 IsInHand (e ∷ es) n = e.height < n
 
 -- between two commands
-abbrev pub AreSettled : Sharing → List Equation → List (Item Tree) → Type 0
+abbrev pub AreSettled : {T : Type 0} → Expressions T → List Equation → List (Item T) → Type 0
 AreSettled s es xs = AreOpen s es xs × IsInHand es (length xs)
 
 -- ---- what Cong opens
 
 -- the stack with the obligations of what was opened
-abbrev pub opened_on : Sharing → Option (Id × Id) → List (Item Tree) → List (Item Tree)
+abbrev pub opened_on : {T : Type 0} → Expressions T → Option (Id × Id) → List (Item T) → List (Item T)
 opened_on s None xs = xs
-opened_on s (Some e) xs = sides (operands_at s e.0) (operands_at s e.1) xs
+opened_on s (Some e) xs = sides (s.operands e.0) (s.operands e.1) xs
 
 abbrev pub opened_state : Sharing → (heap : List Kept) → Option (Id × Id) → (stack : List Kept) → (hyps : List Id) → State Tree
-opened_state s heap opened stack hyps = with_stack (state_at s heap stack hyps) (opened_on s opened (items_at s stack))
+opened_state s heap opened stack hyps = with_stack (state_at s heap stack hyps) (opened_on (stored s) opened (items_at s stack))
 
 -- what was opened stood on top as an obligation, between expressions of the store
 abbrev pub IsOpenedBy : Sharing → Option (Id × Id) → (before after : List Kept) → Type 0
@@ -127,21 +134,29 @@ IsOpenedBy s None before after = ⊤
 IsOpenedBy s (Some e) before after = IsIn s e.0.0 × IsIn s e.1.0 × (before ≡ after ++ Obligation e.0 e.1 ∷ [])
 
 -- so many obligations of these equations are still to come
-abbrev pub many_to_come : Sharing → List Equation → ℕ
+abbrev pub many_to_come : {T : Type 0} → Expressions T → List Equation → ℕ
 many_to_come s [] = 0
 many_to_come s (e ∷ es) = length (to_come s e []) + many_to_come s es
 
 -- ---- a command that asks for more items than are written out
 
+-- it does, and where so many are still to come: the item in hand is no expression, or there aren't so many with those
+abbrev pub IsLacking : (asked written coming : ℕ) → K → Type 0
+IsLacking asked written coming rule = (written < asked) × (((rule ≡ k.Kind) × (asked ≤ written + coming)) ⊎ ((rule ≡ k.Underflow) × (written + coming < asked)))
+
+-- where obligations are still to come it doesn't
+abbrev pub AsksNoMore : List Equation → (asked written : ℕ) → Type 0
+AsksNoMore [] asked written = ⊤
+AsksNoMore (e ∷ es) asked written = asked ≤ written
+
 abbrev pub asks : Kind → Cmd → ProofCode → Type 0
 asks kind c k = body_command strict kind c.code c.value ≡ Some (proves k c.value)
 
--- it stands in the body and asks for more: the item in hand is no expression, or there aren't so many with those to come
-pub record IsLack (tables : RowsBefore) (kind : Kind) (c : Cmd) (s : Sharing) (written : ℕ) (es : List Equation) (rule : K) : Type 0 where
+-- it stands in the body and asks for more
+pub record IsLack {T : Type 0} (tables : RowsBefore) (kind : Kind) (c : Cmd) (s : Expressions T) (written : ℕ) (es : List Equation) (rule : K) : Type 0 where
   pub code : ProofCode
   pub here : asks kind c code
-  pub more : written < asked_by tables code c.value
-  pub told : ((rule ≡ k.Kind) × (asked_by tables code c.value ≤ written + many_to_come s es)) ⊎ ((rule ≡ k.Underflow) × (written + many_to_come s es < asked_by tables code c.value))
+  pub lacking : IsLacking (asked_by tables code c.value) written (many_to_come s es) rule
 
 -- where obligations are still to come it asks for no more
 abbrev pub IsNoLack : RowsBefore → Kind → Cmd → ℕ → List Equation → Type 0

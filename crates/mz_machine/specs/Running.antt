@@ -8,7 +8,7 @@ use Rattle.mz_machine_env.specs.OwnRow.{byte_of}
 use Rattle.mz_machine_theory.specs.Headings.{heading_of}
 use Rattle.mz_machine_theory.specs.MachineState.{State}
 use Rattle.mz_machine.specs.OverStore.{IsUnderway}
-use Rattle.mz_machine.specs.OpenEquations.{AreSettled, whole_state}
+use Rattle.mz_machine.specs.OpenEquations.{stored, AreSettled, whole_state}
 use Rattle.mz_machine.specs.Steps.{Underway}
 use Rattle.mz_machine.specs.declared.machine.Setting.{Setting}
 use Rattle.mz_machine.specs.declared.machine.Parts.{Parts}
@@ -24,4 +24,4 @@ abbrev pub IsRunning : Setting → Parts → Type 0
 IsRunning t p =
     IsUnderway t.earlier.file (byte_of t.kind) t.row t.earlier.rows p.store p.heap.items p.stack.items p.hyps.items
     × (t.bound_params ≡ length (bound_vars (heading_of t.earlier.file (byte_of t.kind) t.row).params))
-    × AreSettled p.store (reverse p.equations.items) (items_at p.store p.stack.items)
+    × AreSettled (stored p.store) (reverse p.equations.items) (items_at p.store p.stack.items)

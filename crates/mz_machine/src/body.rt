@@ -8,8 +8,8 @@ ghost use Rattle.mz_layout_tables.specs.Heads.{body_bytes};
 ghost use Rattle.mz_machine_env.specs.OwnRow.{MayRun, byte_of};
 ghost use Rattle.mz_machine_theory.specs.Headings.{heading_of};
 ghost use Rattle.mz_machine_env.specs.Before.{tables_before};
-ghost use Rattle.mz_machine.specs.BodyAnswers.{IfRan, IsBodyRun, UnlessMem};
-ghost use Rattle.mz_machine.specs.Rooms.{HoldsAtMost};
+ghost use Rattle.mz_machine.specs.BodyAnswers.{IsBodyRun, UnlessMem};
+ghost use Rattle.mz_machine.specs.Rooms.{HoldsAtMost, OneACommand};
 ghost use Rattle.mz_machine.specs.Running.{IsRunning, machine_of};
 ghost use Rattle.mz_machine.specs.Stepping.{ended_at, stopped_at};
 
@@ -99,7 +99,9 @@ pub fn check_body<L: Ledger>(
     check_body_in(alloc, &mut room, mmb, mode, kind, row, before, body, steps)
 }
 
-/// Runs the body of a statement as `check_body` does, in room that earlier bodies may have left.
+/// Runs the body of a statement as `check_body` does, in room that earlier bodies may have left. Unless
+/// out of memory, the room keeps at most an expression for each parameter and for each command that
+/// comes before the END.
 pub fn check_body_in<L: Ledger>(
     alloc: Global,
     room: &mut Room,
@@ -117,7 +119,7 @@ pub fn check_body_in<L: Ledger>(
     ensures run { IsBodyRun (heading_of mmb.now (byte_of kind) row) (body_bytes mmb.now body.0 body.1) (body_run (plain (gaps_of mode)) (tables_before mmb.now before) (heading_of mmb.now (byte_of kind) row) body.0 (body_bytes mmb.now body.0 body.1)) result }
     ensures most { steps.new ≤ steps.old + (body.1 - body.0) * (length mmb.now + 1) }
     ensures steps { UnlessMem result (steps.new ≡ steps.old + body_steps (plain (gaps_of mode)) (tables_before mmb.now before) (heading_of mmb.now (byte_of kind) row) body.0 (body_bytes mmb.now body.0 body.1)) }
-    ensures nodes { IfRan result (HoldsAtMost (length (heading_of mmb.now (byte_of kind) row).params + length (body_bytes mmb.now body.0 body.1)) room.new) }
+    ensures nodes { UnlessMem result (HoldsAtMost (length (heading_of mmb.now (byte_of kind) row).params) (body_bytes mmb.now body.0 body.1) room.new) }
 {
     let Ok(mut desk) = room.take(alloc) else {
         return BodyChecked::Mem;
@@ -144,7 +146,7 @@ fn check_on<L: Ledger>(
     ensures run { IsBodyRun (heading_of mmb.now (byte_of kind) row) (body_bytes mmb.now body.0 body.1) (body_run (plain (gaps_of mode)) (tables_before mmb.now before) (heading_of mmb.now (byte_of kind) row) body.0 (body_bytes mmb.now body.0 body.1)) result }
     ensures most { steps.new ≤ steps.old + (body.1 - body.0) * (length mmb.now + 1) }
     ensures steps { UnlessMem result (steps.new ≡ steps.old + body_steps (plain (gaps_of mode)) (tables_before mmb.now before) (heading_of mmb.now (byte_of kind) row) body.0 (body_bytes mmb.now body.0 body.1)) }
-    ensures nodes { IfRan result (length desk.new.parts.store.entries ≤ length (heading_of mmb.now (byte_of kind) row).params + length (body_bytes mmb.now body.0 body.1)) }
+    ensures nodes { UnlessMem result (OneACommand (length (heading_of mmb.now (byte_of kind) row).params) (body_bytes mmb.now body.0 body.1) (length desk.new.parts.store.entries)) }
 {
     let Ok(setting) = Setting::begin(
         mmb,
@@ -176,7 +178,7 @@ fn run<L: Ledger>(
     ensures run { IsBodyRun (heading_for (machine_of setting.now parts.old)) bytes.now (body_from (plain (gaps_of setting.now.mode)) (tables_for (machine_of setting.now parts.old)) (heading_for (machine_of setting.now parts.old)) (length bytes.now) from bytes.now (machine_of setting.now parts.old).state) result }
     ensures steps { UnlessMem result (steps.new ≡ steps.old + body_steps_from (plain (gaps_of setting.now.mode)) (tables_for (machine_of setting.now parts.old)) (heading_for (machine_of setting.now parts.old)) (length bytes.now) from bytes.now (machine_of setting.now parts.old).state) }
     ensures most { steps.new ≤ steps.old + length bytes.now * (length setting.now.earlier.file + 1) }
-    ensures nodes { IfRan result (length parts.new.store.entries ≤ length parts.old.store.entries + length bytes.now) }
+    ensures nodes { UnlessMem result (OneACommand (length parts.old.store.entries) bytes.now (length parts.new.store.entries)) }
 {
     let mut at = 0;
     'commands: loop {

@@ -4,7 +4,7 @@ pub(crate) mod gaps;
 pub(crate) mod heap;
 pub(crate) mod terms;
 
-ghost use Rattle.std.specs.Prelude.{ℕ, ◌≡◌, ◌<◌, ◌+◌, ◌++◌, ◌∷◌, ◌^◌, ◌↔◌, ◌&&◌, [], ⊤, List, None, Some, Ok, Err, OnOk, IsTrue, MatchResult, length, vec_capacity};
+ghost use Rattle.std.specs.Prelude.{ℕ, ◌≡◌, ◌≤◌, ◌<◌, ◌+◌, ◌++◌, ◌∷◌, ◌^◌, ◌↔◌, ◌&&◌, [], ⊤, List, None, Some, Ok, Err, OnOk, IsTrue, MatchResult, length, vec_capacity};
 ghost use Rattle.mz_base.specs.Gaps.{gaps_of};
 ghost use Rattle.mz_store.specs.declared.item.Id.{Id};
 ghost use Rattle.mz_store.specs.declared.item.Item.TheVariants.{Proof};
@@ -50,6 +50,7 @@ fn make<L: Ledger>(
     requires mode { IsTrue (cites command) → store.old.mode ≡ All }
     ensures done { (hyps : List Id) → AreHyps store.old hyps → Executes (signatures_of earlier.now) (λ at. proof_step strict (tables_of earlier.now) at (code_of_making command) value (state_at store.old heap.old.items stack.old.items hyps)) ⊥ store.old store.new heap.new.items stack.old.items stack.new.items hyps (vec_capacity stack.old) (vec_capacity stack.new) (λ _. None) result }
     ensures steps { (hyps : List Id) → Counts result steps.old steps.new (row_steps strict (tables_of earlier.now) (code_of_making command) value (state_at store.old heap.old.items stack.old.items hyps)) (length earlier.now.file) }
+    ensures nodes { length store.new.entries ≤ length store.old.entries + 1 }
 {
     match command {
         Making::Term => match build(earlier, value, store, stack, &mut spare.operands) {
@@ -95,7 +96,8 @@ fn keep(
 ) -> Result<(), Stop>
     requires ready { IsReady (signatures_of earlier.now) store.old heap.old.items stack.old.items }
     requires hyps { AreHyps store.old hyps.old.items }
-    ensures { Executes (signatures_of earlier.now) (λ at. proof_step strict (tables_of earlier.now) at (code_of_keeping command) value (state_at store.old heap.old.items stack.old.items hyps.old.items)) (IsTrue (takes_none (code_of_keeping command) value (state_at store.old heap.old.items stack.old.items hyps.old.items))) store.old store.new heap.new.items stack.old.items stack.new.items hyps.new.items (vec_capacity stack.old) (vec_capacity stack.new) (λ _. None) result }
+    ensures done { Executes (signatures_of earlier.now) (λ at. proof_step strict (tables_of earlier.now) at (code_of_keeping command) value (state_at store.old heap.old.items stack.old.items hyps.old.items)) (IsTrue (takes_none (code_of_keeping command) value (state_at store.old heap.old.items stack.old.items hyps.old.items))) store.old store.new heap.new.items stack.old.items stack.new.items hyps.new.items (vec_capacity stack.old) (vec_capacity stack.new) (λ _. None) result }
+    ensures nodes { length store.new.entries ≤ length store.old.entries + 1 }
 {
     match command {
         Keeping::Ref => refer(store, value, heap, stack),
@@ -228,6 +230,7 @@ pub(crate) fn obey<L: Ledger>(
     requires hyps { AreHyps store.old hyps.old.items }
     ensures done { Executes (signatures_of earlier.now) (λ at. row_by (gaps_of mode) (tables_of earlier.now) at (state_at store.old heap.old.items stack.old.items hyps.old.items) (body_command (plain (gaps_of mode)) (kind_of kind) cmd.code cmd.value)) (TakesNone (state_at store.old heap.old.items stack.old.items hyps.old.items) (body_command (plain (gaps_of mode)) (kind_of kind) cmd.code cmd.value)) store.old store.new heap.new.items stack.old.items stack.new.items hyps.new.items (vec_capacity stack.old) (vec_capacity stack.new) (λ opened. opened) result }
     ensures steps { Counts result steps.old steps.new (steps_by (gaps_of mode) (tables_of earlier.now) (state_at store.old heap.old.items stack.old.items hyps.old.items) (body_command (plain (gaps_of mode)) (kind_of kind) cmd.code cmd.value)) (1 + length earlier.now.file) }
+    ensures nodes { length store.new.entries ≤ length store.old.entries + 1 }
 {
     steps.tick();
     let Some(command) = decoded(kind, cmd.code) else {

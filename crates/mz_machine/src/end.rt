@@ -23,7 +23,7 @@ use mz_cmd::{K, Steps};
 use mz_logic_theory::Word;
 use mz_machine_env::{BodyKind, Earlier, Spare, first_ids, own_arity, own_proofs, own_stream};
 use mz_store::{Id, Item, Store};
-use mz_unify::{Stop, UnifyMode, unify_in};
+use mz_unify::{Stop, UnifyMode, kept_apart, unify_in};
 use std::sync::ledger::Ledger;
 
 /// Ends the body of the next row of its kind: the stack is one item, for a theorem a proof and else
@@ -88,12 +88,16 @@ fn run_own<L: Ledger>(
     ensures most { steps.new ≤ steps.old + length stream.now }
 {
     let mode = mode_of(kind);
+    let operands: &[Id] = &spare.operands;
+    let apart = kept_apart(store, mode, operands);
     unify_in(
         earlier,
         stream,
         mode,
-        &mut spare.operands,
+        operands,
+        apart,
         target,
+        &mut spare.saved,
         &mut spare.targets,
         &mut spare.hyps,
         store,

@@ -5,7 +5,7 @@ ghost use Rattle.mz_logic_theory.specs.Tree.{Tree};
 ghost use Rattle.mz_unify_theory.specs.Profile.{Item as UnifyItem};
 ghost use Rattle.mz_unify.specs.Stored.{items_at, item_at, AreItemsIn, IsItemIn};
 ghost use Rattle.mz_machine.specs.Executing.{WantsUnless};
-ghost use Rattle.mz_machine.specs.OpenEquations.{IsBarrier, IsOpen, AllOpen, AreOpen, AreSettled, IsInHand, whole_stack, opened_on, to_come, after, many_at, many_to_come};
+ghost use Rattle.mz_machine.specs.OpenEquations.{stored, IsBarrier, IsOpen, AllOpen, AreOpen, AreSettled, IsInHand, whole_stack, opened_on, to_come, after, many_at, many_to_come};
 
 use mz_store::{Id, Item, Store};
 use mz_unify::{Stop, push};
@@ -13,11 +13,11 @@ use mz_unify::{Stop, push};
 /// Two applications of one term. The obligations between their operands from `next` on are still to come,
 /// on a stack of so many items.
 #[derive(Clone, Copy)]
-pub(crate) struct Equation {
-    pub(crate) height: usize,
-    pub(crate) left: Id,
-    pub(crate) right: Id,
-    pub(crate) next: usize,
+pub struct Equation {
+    pub height: usize,
+    pub left: Id,
+    pub right: Id,
+    pub next: usize,
 }
 
 /// Begins an equation, if one was opened, and writes out the obligation that is then in hand.
@@ -30,8 +30,8 @@ pub(crate) fn resume(
 ) -> Result<(), Stop>
     requires sides { IfSome opened (λ e. IsIn store.now e.0.0 × IsIn store.now e.1.0) }
     requires stack { AreItemsIn store.now stack.old.items }
-    requires standing { AreOpen store.now (reverse equations.old.items) (items_at store.now stack.old.items) }
-    ensures { MatchResult result (λ _. AreItemsIn store.now stack.new.items × AreSettled store.now (reverse equations.new.items) (items_at store.now stack.new.items) × (whole_stack store.now (reverse equations.new.items) (items_at store.now stack.new.items) ≡ opened_on store.now opened (whole_stack store.now (reverse equations.old.items) (items_at store.now stack.old.items)))) (WantsUnless ((opened ≡ None) × IsInHand (reverse equations.old.items) (vec_capacity stack.old))) }
+    requires standing { AreOpen (stored store.now) (reverse equations.old.items) (items_at store.now stack.old.items) }
+    ensures { MatchResult result (λ _. AreItemsIn store.now stack.new.items × AreSettled (stored store.now) (reverse equations.new.items) (items_at store.now stack.new.items) × (whole_stack (stored store.now) (reverse equations.new.items) (items_at store.now stack.new.items) ≡ opened_on (stored store.now) opened (whole_stack (stored store.now) (reverse equations.old.items) (items_at store.now stack.old.items)))) (WantsUnless ((opened ≡ None) × IsInHand (reverse equations.old.items) (vec_capacity stack.old))) }
 {
     match begin(store, stack, equations, opened) {
         Ok(()) => settle(store, stack, equations),
@@ -48,8 +48,8 @@ fn begin(
     opened: Option<(Id, Id)>,
 ) -> Result<(), Stop>
     requires sides { IfSome opened (λ e. IsIn store.now e.0.0 × IsIn store.now e.1.0) }
-    requires standing { AreOpen store.now (reverse equations.old.items) (items_at store.now stack.now) }
-    ensures { MatchResult result (λ _. AreOpen store.now (reverse equations.new.items) (items_at store.now stack.now) × (whole_stack store.now (reverse equations.new.items) (items_at store.now stack.now) ≡ opened_on store.now opened (whole_stack store.now (reverse equations.old.items) (items_at store.now stack.now))) × (opened ≡ None → equations.new.items ≡ equations.old.items)) (WantsUnless (opened ≡ None)) }
+    requires standing { AreOpen (stored store.now) (reverse equations.old.items) (items_at store.now stack.now) }
+    ensures { MatchResult result (λ _. AreOpen (stored store.now) (reverse equations.new.items) (items_at store.now stack.now) × (whole_stack (stored store.now) (reverse equations.new.items) (items_at store.now stack.now) ≡ opened_on (stored store.now) opened (whole_stack (stored store.now) (reverse equations.old.items) (items_at store.now stack.now))) × (opened ≡ None → equations.new.items ≡ equations.old.items)) (WantsUnless (opened ≡ None)) }
 {
     let Some((left, right)) = opened else {
         return Ok(());
@@ -72,8 +72,8 @@ fn begin(
 /// Writes out the next obligation of the last equation, where the one in hand is paid.
 fn settle(store: &Store, stack: &mut Vec<Item>, equations: &mut Vec<Equation>) -> Result<(), Stop>
     requires stack { AreItemsIn store.now stack.old.items }
-    requires standing { AreOpen store.now (reverse equations.old.items) (items_at store.now stack.old.items) }
-    ensures { MatchResult result (λ _. AreItemsIn store.now stack.new.items × AreSettled store.now (reverse equations.new.items) (items_at store.now stack.new.items) × (whole_stack store.now (reverse equations.new.items) (items_at store.now stack.new.items) ≡ whole_stack store.now (reverse equations.old.items) (items_at store.now stack.old.items))) (WantsUnless (IsInHand (reverse equations.old.items) (vec_capacity stack.old))) }
+    requires standing { AreOpen (stored store.now) (reverse equations.old.items) (items_at store.now stack.old.items) }
+    ensures { MatchResult result (λ _. AreItemsIn store.now stack.new.items × AreSettled (stored store.now) (reverse equations.new.items) (items_at store.now stack.new.items) × (whole_stack (stored store.now) (reverse equations.new.items) (items_at store.now stack.new.items) ≡ whole_stack (stored store.now) (reverse equations.old.items) (items_at store.now stack.old.items))) (WantsUnless (IsInHand (reverse equations.old.items) (vec_capacity stack.old))) }
 {
     let Some(equation) = equations.pop() else {
         return Ok(());
@@ -119,10 +119,10 @@ fn following(equation: Equation, next: usize) -> Equation
 
 /// The next obligation of an equation.
 fn side_in_hand(store: &Store, equation: Equation) -> Item
-    requires { IsOpen store.now equation }
+    requires { IsOpen (stored store.now) equation }
     ensures ids { IsItemIn store.now result }
     ensures barrier { IsBarrier (item_at store.now result) }
-    ensures side { (xs : List (UnifyItem Tree)) → to_come store.now equation xs ≡ item_at store.now result ∷ to_come store.now (after equation) xs }
+    ensures side { (xs : List (UnifyItem Tree)) → to_come (stored store.now) equation xs ≡ item_at store.now result ∷ to_come (stored store.now) (after equation) xs }
 {
     let left = id_at(store.args(equation.left), equation.next);
     let right = id_at(store.args(equation.right), equation.next);
@@ -141,7 +141,7 @@ fn id_at(ids: &[Id], place: usize) -> Id
 fn many_between(store: &Store, left: Id, right: Id) -> usize
     requires left { IsIn store.now left.0 }
     requires right { IsIn store.now right.0 }
-    ensures { result ≡ many_at store.now left right }
+    ensures { result ≡ many_at (stored store.now) left right }
 {
     let lefts = store.args(left).len();
     let rights = store.args(right).len();
@@ -150,8 +150,8 @@ fn many_between(store: &Store, left: Id, right: Id) -> usize
 
 /// Whether at least so many obligations are still to come.
 pub(crate) fn reach(store: &Store, equations: &[Equation], many: usize) -> bool
-    requires { AllOpen store.now equations.now }
-    ensures { IsTrue result ↔ (many ≤ many_to_come store.now equations.now) }
+    requires { AllOpen (stored store.now) equations.now }
+    ensures { IsTrue result ↔ (many ≤ many_to_come (stored store.now) equations.now) }
 {
     let mut short = many;
     'equations: for equation in equations {
@@ -166,8 +166,8 @@ pub(crate) fn reach(store: &Store, equations: &[Equation], many: usize) -> bool
 
 /// How many obligations of an equation are still to come.
 fn rest_of(store: &Store, equation: Equation) -> usize
-    requires { IsOpen store.now equation }
-    ensures { result ≡ length (to_come store.now equation []) }
+    requires { IsOpen (stored store.now) equation }
+    ensures { result ≡ length (to_come (stored store.now) equation []) }
 {
     many_between(store, equation.left, equation.right) - equation.next
 }

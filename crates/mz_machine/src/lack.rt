@@ -1,9 +1,10 @@
 //! Commands that ask for more items than are written out.
 ghost use Rattle.std.specs.Prelude.{◌≡◌, IfSome, IfNone, slice_get};
 ghost use Rattle.mz_machine_env.specs.Before.{tables_of};
+ghost use Rattle.mz_machine_env.specs.CommandCodes.{code_of_making};
 ghost use Rattle.mz_machine_env.specs.OwnRow.{kind_of};
 ghost use Rattle.mz_machine.specs.OverStore.{code_of};
-ghost use Rattle.mz_machine.specs.OpenEquations.{asked_by, many_of_term, many_of_thm, AllOpen, IsLack, IsNoLack};
+ghost use Rattle.mz_machine.specs.OpenEquations.{stored, asked_by, many_of_term, many_of_thm, AllOpen, IsLack, IsNoLack};
 
 use crate::command::{Command, decoded};
 use crate::equations::{Equation, reach};
@@ -25,8 +26,8 @@ pub(crate) fn lack(
     equations: &[Equation],
 ) -> Option<K>
     requires code { cmd.code ≡ 0 → ⊥ }
-    requires standing { AllOpen store.now equations.now }
-    ensures some { IfSome result (λ rule. IsLack (tables_of earlier.now) (kind_of kind) cmd store.now written equations.now rule) }
+    requires standing { AllOpen (stored store.now) equations.now }
+    ensures some { IfSome result (λ rule. IsLack (tables_of earlier.now) (kind_of kind) cmd (stored store.now) written equations.now rule) }
     ensures none { IfNone result (IsNoLack (tables_of earlier.now) (kind_of kind) cmd written equations.now) }
 {
     if equations.is_empty() {
@@ -45,8 +46,8 @@ fn lack_where_open(
     equations: &[Equation],
 ) -> Option<K>
     requires code { cmd.code ≡ 0 → ⊥ }
-    requires standing { AllOpen store.now equations.now }
-    ensures some { IfSome result (λ rule. IsLack (tables_of earlier.now) (kind_of kind) cmd store.now written equations.now rule) }
+    requires standing { AllOpen (stored store.now) equations.now }
+    ensures some { IfSome result (λ rule. IsLack (tables_of earlier.now) (kind_of kind) cmd (stored store.now) written equations.now rule) }
     ensures none { IfNone result (IsNoLack (tables_of earlier.now) (kind_of kind) cmd written equations.now) }
 {
     let Some(command) = decoded(kind, cmd.code) else {
@@ -68,9 +69,18 @@ fn asked_by(earlier: &Earlier, command: Command, value: u32) -> usize
     ensures { result ≡ asked_by (tables_of earlier.now) (code_of command) value }
 {
     match command {
-        Command::Makes(Making::Term | Making::TermSave) => asked_by_term(earlier, value),
-        Command::Makes(Making::Thm | Making::ThmSave) => asked_by_thm(earlier, value),
+        Command::Makes(making) => asked_by_making(earlier, making, value),
         Command::Keeps(_) | Command::Converts(_) => 0,
+    }
+}
+
+/// How many items a command that makes something asks for.
+pub fn asked_by_making(earlier: &Earlier, command: Making, value: u32) -> usize
+    ensures { result ≡ asked_by (tables_of earlier.now) (code_of_making command) value }
+{
+    match command {
+        Making::Term | Making::TermSave => asked_by_term(earlier, value),
+        Making::Thm | Making::ThmSave => asked_by_thm(earlier, value),
     }
 }
 

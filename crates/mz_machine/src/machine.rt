@@ -12,7 +12,7 @@ ghost use Rattle.mz_machine.specs.OverStore.{UnlessMem as OrMem};
 ghost use Rattle.mz_machine.specs.Executing.{AreHyps, Counts, IsReady, Proceeds, StopsAs};
 ghost use Rattle.mz_machine.specs.Steps.{heading_for, tables_for, steps_for, row_by, steps_by, end_steps, is_sorry, TakesNone};
 ghost use Rattle.mz_machine.specs.Stepping.{IsBegun, IsStepped, IsFinished, stepped_to, UnlessMem, UnlessEndMem};
-ghost use Rattle.mz_machine.specs.OpenEquations.{AreSettled, whole_state};
+ghost use Rattle.mz_machine.specs.OpenEquations.{stored, AreSettled, whole_state};
 ghost use Rattle.mz_machine.specs.Running.{IsRunning, machine_of};
 
 use crate::body::BodyEnd;
@@ -252,6 +252,7 @@ impl<'a> Setting<'a> {
         ensures row { (at : ℕ) → IsStepped (machine_of self.now parts.old) cmd at (stepped_to (machine_of self.now parts.new) result) }
         ensures steps { OrMem result (steps.new ≡ steps.old + steps_for (gaps_of self.now.mode) (tables_of self.now.earlier) (heading_for (machine_of self.now parts.old)) (machine_of self.now parts.old).state cmd) }
         ensures most { steps.new ≤ steps.old + (1 + length self.now.earlier.file) }
+        ensures nodes { length parts.new.store.entries ≤ length parts.old.store.entries + 1 }
     {
         parts.sorry = has_gap(parts.sorry, cmd.code);
         proceed(
@@ -319,10 +320,11 @@ fn proceed<L: Ledger>(
     requires code { cmd.code ≡ 0 → ⊥ }
     requires ready { IsReady (signatures_of earlier.now) store.old heap.old.items stack.old.items }
     requires told { store.old.mode ≡ mode_for (kind_of kind) }
-    requires settled { AreSettled store.old (reverse equations.old.items) (items_at store.old stack.old.items) }
+    requires settled { AreSettled (stored store.old) (reverse equations.old.items) (items_at store.old stack.old.items) }
     requires hyps { AreHyps store.old hyps.old.items }
     ensures done { MatchResult result (λ _. Proceeds (signatures_of earlier.now) (λ at. row_by (gaps_of mode) (tables_of earlier.now) at (whole_state store.old heap.old.items equations.old.items stack.old.items hyps.old.items) (body_command (plain (gaps_of mode)) (kind_of kind) cmd.code cmd.value)) store.old store.new heap.new.items equations.new.items stack.new.items hyps.new.items) (StopsAs (λ at. row_by (gaps_of mode) (tables_of earlier.now) at (whole_state store.old heap.old.items equations.old.items stack.old.items hyps.old.items) (body_command (plain (gaps_of mode)) (kind_of kind) cmd.code cmd.value)) (TakesNone (whole_state store.old heap.old.items equations.old.items stack.old.items hyps.old.items) (body_command (plain (gaps_of mode)) (kind_of kind) cmd.code cmd.value))) }
     ensures steps { Counts result steps.old steps.new (steps_by (gaps_of mode) (tables_of earlier.now) (whole_state store.old heap.old.items equations.old.items stack.old.items hyps.old.items) (body_command (plain (gaps_of mode)) (kind_of kind) cmd.code cmd.value)) (1 + length earlier.now.file) }
+    ensures nodes { length store.new.entries ≤ length store.old.entries + 1 }
 {
     if let Some(rule) = lack(earlier, kind, cmd, store, stack.len(), equations) {
         steps.tick();

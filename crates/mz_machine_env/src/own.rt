@@ -101,7 +101,8 @@ pub fn first_items(items: &mut Vec<Item>, count: usize) -> Result<(), AllocError
     items.clear();
     items.reserve(count)?;
     'ids: for i in 0..count {
-        items.push(Item::Expr(Id(i as u64)))?;
+        let id = Id::at(i)?;
+        items.push(Item::Expr(id))?;
     }
     Ok(())
 }
@@ -116,7 +117,7 @@ pub fn first_ids(ids: &mut Vec<Id>, count: u32) -> Result<(), AllocError>
 {
     ids.clear();
     'params: for i in 0..count {
-        ids.push(Id(u64::from(i)))?;
+        ids.push(Id(i))?;
     }
     Ok(())
 }

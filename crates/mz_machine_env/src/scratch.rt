@@ -6,8 +6,10 @@ use std::alloc::Global;
 /// Lists that a command fills and no other command reads: each begins with whatever they hold.
 #[derive(Drop)]
 pub struct Spare {
-    /// The operands of a row, which are the heap of its stream.
+    /// The operands of a row, with which the heap of its stream begins.
     pub operands: Vec<Id>,
+    /// What the stream adds to its heap.
+    pub saved: Vec<Id>,
     /// The places of the row's bound parameters.
     pub bound: Vec<u32>,
     /// The targets of the stream.
@@ -21,6 +23,7 @@ impl Spare {
     pub fn new(alloc: Global) -> Spare {
         Spare {
             operands: Vec::new(alloc),
+            saved: Vec::new(alloc),
             bound: Vec::new(alloc),
             targets: Vec::new(alloc),
             hyps: Vec::new(alloc),

@@ -6,7 +6,7 @@ use Rattle.mz_match_rows.specs.Streams.{step_at, makes_mark, dummies_in, mark_by
 use Rattle.mz_match_rows.specs.Marks.{AreKept}
 
 -- what holds of each element at its place, with one more at the end
-each-more : {A : Type 0} (P : ℕ → A → Type 0) (xs : List A) (x : A) → ((j : ℕ) (y : A) → slice_get xs j ≡ Some y → P j y) → P (length xs) x
+pub each-more : {A : Type 0} (P : ℕ → A → Type 0) (xs : List A) (x : A) → ((j : ℕ) (y : A) → slice_get xs j ≡ Some y → P j y) → P (length xs) x
     → (j : ℕ) (y : A) → slice_get (xs ++ x ∷ []) j ≡ Some y → P j y
 each-more P [] x each last zero y is = let same : x ≡ y = cc in subst (P 0) same last
 each-more P [] x each last (suc j) y is = absurd cc

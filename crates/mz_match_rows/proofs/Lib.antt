@@ -6,5 +6,6 @@ mod SameBodies
 mod Compared
 mod Steps
 mod KeptMarks
+mod Numbering
 pub mod RowPairs
 pub mod Offered

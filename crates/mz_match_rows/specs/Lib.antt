@@ -4,3 +4,4 @@ pub mod Marks
 pub mod Comparison
 pub mod Beside
 pub mod ReportedRow
+pub mod Numbers

@@ -10,8 +10,11 @@ ghost use Rattle.mz_spec_proved_theory.specs.AlphaTrees.{SameBody, SameTree, Sam
 ghost use Rattle.mz_spec_proved_theory.specs.Comparison.{all_none, all_compared, compared, dummy_compared, has_sort as sort_lem, is_taken as taken_lem, is_number as number_lem, paired};
 ghost use Rattle.mz_match_rows.specs.TermCodes.{makes_term as term_lem};
 ghost use Rattle.mz_match_rows.specs.Comparison.{Answers};
+ghost use Rattle.mz_match_rows.specs.Numbers.{AreRight};
 ghost use Rattle.mz_match_rows.specs.Beside.{AllSaidAt, at_start, HypsSaidAt, IsHypAt, IsPlainStream, IsStream, MadeAt, SaidAt, beside};
 
+use crate::by_number::same_from;
+use crate::formulas::Formulas;
 use crate::heap::place_of_mark;
 use crate::publics::Publics;
 use crate::stream::{Cursor, Step, next_hyp, step_at};
@@ -34,7 +37,7 @@ pub struct Sides<'a> {
 
 impl<'a> Sides<'a> {
     /// Where the stream makes the mark with this number, which is no parameter's.
-    fn place_of(&self, mark: u32) -> Option<Cursor>
+    pub(crate) fn place_of(&self, mark: u32) -> Option<Cursor>
         requires stream { (m : Marks) × IsStream self.now m }
         requires behind { self.now.params ≤ mark }
         ensures { (n : ℕ) (place : Cursor) → mark_from self.now.mmb.now n self.now.start 0 (mark - self.now.params) ≡ Some place → result ≡ Some place }
@@ -82,6 +85,7 @@ pub fn same_hyps(sides: &Sides, hyps: &Hyps) -> bool
     let mut at = sides.start;
     // no hypothesis stands at `left` yet, so nothing is known of it
     let mut known = Cursor { at, dummies: 0 };
+    let mut formulas = Formulas::new(*sides.places.allocator());
     'hyps: loop {
         let Some(next) = next_hyp(sides.mmb.file(), at) else {
             return left == 0;
@@ -90,7 +94,7 @@ pub fn same_hyps(sides: &Sides, hyps: &Hyps) -> bool
             return false;
         }
         let made = made_at(sides, next);
-        if !same_hyp(sides, hyps, left, known, made) {
+        if !same_hyp(sides, hyps, left, known, made, &mut formulas) {
             return false;
         }
         left -= 1;
@@ -121,19 +125,32 @@ fn made_at(sides: &Sides, at: u32) -> Cursor
 
 /// Whether the hypothesis before the i-th one is what the stream says from `made` on.
 ///
-/// The i-th one is what it says from `known` on: a formula that both share is compared once.
-fn same_hyp(sides: &Sides, hyps: &Hyps, i: usize, known: Cursor, made: Cursor) -> bool
+/// The i-th one is what it says from `known` on: a formula that both share is compared once with a
+/// place, and by its number with all others.
+fn same_hyp(
+    sides: &Sides,
+    hyps: &Hyps,
+    i: usize,
+    known: Cursor,
+    made: Cursor,
+    formulas: &mut Formulas,
+) -> bool
     requires some { 0 < i }
     requires there { i ≤ length (listed hyps.now) }
     requires known { IsHypAt sides.now hyps.now i known }
     requires said { (m : Marks) × (f : Tree) × (to : Cursor) × IsPlainStream sides.now m × SaidAt sides.now m made f to }
-    ensures { (e : Tree) (m : Marks) (f : Tree) (to : Cursor) → slice_get (listed hyps.now) (i - 1) ≡ Some e → IsPlainStream sides.now m → SaidAt sides.now m made f to
+    requires right { AreRight sides.now hyps.now i formulas.old }
+    ensures same { (e : Tree) (m : Marks) (f : Tree) (to : Cursor) → slice_get (listed hyps.now) (i - 1) ≡ Some e → IsPlainStream sides.now m → SaidAt sides.now m made f to
         → (IsTrue result ↔ SameTree sides.now.publics.now e f) }
+    ensures right { AreRight sides.now hyps.now (i - 1) formulas.new }
 {
     if is_known(hyps, i, known, made) {
         return true;
     }
-    same_tree(sides, hyps.at(i - 1), made)
+    let Some(number) = formulas.go_on(sides.publics, hyps, i) else {
+        return same_tree(sides, hyps.at(i - 1), made);
+    };
+    same_from(sides, &formulas.pieces, number, made.at, &mut formulas.said)
 }
 
 /// Whether the places are the same one, and the i-th hypothesis has the formula of the one before. No
@@ -294,7 +311,7 @@ fn is_dummy(sides: &Sides, x: u32, k: u32, step: Step, pairs: &mut [Option<u32>]
     pair(sides.dummies, pairs, k, step.value, x - sides.params)
 }
 
-fn makes_term(code: UnifyCode) -> bool
+pub fn makes_term(code: UnifyCode) -> bool
     ensures { result ≡ term_lem code }
 {
     matches!(code, UnifyCode::Term | UnifyCode::TermSave)
@@ -306,7 +323,7 @@ fn is_dummy_code(code: UnifyCode) -> bool
     matches!(code, UnifyCode::Dummy)
 }
 
-fn is_ref(code: UnifyCode) -> bool
+pub fn is_ref(code: UnifyCode) -> bool
     ensures { IsTrue result ↔ (code ≡ UnifyCode.Ref) }
 {
     matches!(code, UnifyCode::Ref)

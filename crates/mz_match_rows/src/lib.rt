@@ -3,9 +3,12 @@
 //! `specs/Comparison.antt` says what is compared, by `mz_spec_proved_theory` when the two agree.
 #![tactic(auto)]
 
+mod by_number;
 mod count;
 mod expression;
+mod formulas;
 mod heap;
+mod pieces;
 mod publics;
 mod signature;
 mod stream;

@@ -1,5 +1,5 @@
 // The expression that a tree of the notation grammar stands for.
-ghost use Rattle.std.specs.Prelude.{◌≡◌, ◌↔◌, [], ℕ, IsTrue, MatchOption, length};
+ghost use Rattle.std.specs.Prelude.{◌≡◌, ◌↔◌, [], ℕ, IfOk, IsTrue, MatchOption, length};
 ghost use Rattle.mz_logic_theory.specs.Declaration.{signatures};
 ghost use Rattle.mz_logic_theory.specs.Tree.{Tree, Trees, none, var};
 ghost use Rattle.mz_logic_theory.specs.View.{tree as tree_lem};
@@ -11,27 +11,37 @@ use crate::height::is_low;
 use mz_logic_theory::{Binder, Context, Env, Expr, Exprs, is_bound_var};
 use mz_math_coercions::{Coercions, distance, reaches, wrap};
 use mz_math_theory::{Added, Built};
-use std::alloc::Global;
+use std::alloc::{AllocError, Global};
 
 /// The sort of a tree whose operands can be wrapped to their parameters' sorts.
+///
+/// # Errors
+///
+/// Where there is no memory.
 #[cycle(sort_of)]
-pub fn sort_of(env: &Env, coercions: &Coercions, ctx: &Context<'_>, tree: &Expr) -> Option<u32>
+pub fn sort_of(
+    alloc: Global,
+    env: &Env,
+    coercions: &Coercions,
+    ctx: &Context<'_>,
+    tree: &Expr,
+) -> Result<Option<u32>, AllocError>
     requires { OnePath coercions.now }
-    ensures { MatchOption result ((e : Tree) (s : ℕ) → Coerced (signatures env.now) coercions.now ctx.now (tree_lem tree.now) e s → ⊥)
-        (λ s. (e : Tree) × Coerced (signatures env.now) coercions.now ctx.now (tree_lem tree.now) e s) }
+    ensures { IfOk result (λ found. MatchOption found ((e : Tree) (s : ℕ) → Coerced (signatures env.now) coercions.now ctx.now (tree_lem tree.now) e s → ⊥)
+        (λ s. (e : Tree) × Coerced (signatures env.now) coercions.now ctx.now (tree_lem tree.now) e s)) }
 {
     match tree {
         Expr::Var(x) => match ctx.get(*x) {
-            None => None,
-            Some(binder) => Some(binder.sort),
+            None => Ok(None),
+            Some(binder) => Ok(Some(binder.sort)),
         },
         Expr::App(t, operands) => match env.term(*t) {
-            None => None,
+            None => Ok(None),
             Some(term) => {
-                if all_fit(env, coercions, ctx, operands, term.params.as_slice()) {
-                    Some(term.result.sort)
+                if all_fit(alloc, env, coercions, ctx, operands, term.params.as_slice())? {
+                    Ok(Some(term.result.sort))
                 } else {
-                    None
+                    Ok(None)
                 }
             }
         },
@@ -39,45 +49,61 @@ pub fn sort_of(env: &Env, coercions: &Coercions, ctx: &Context<'_>, tree: &Expr)
 }
 
 /// Whether the operands can be wrapped to their parameters' sorts.
+///
+/// # Errors
+///
+/// Where there is no memory.
 #[cycle(sort_of)]
 fn all_fit(
+    alloc: Global,
     env: &Env,
     coercions: &Coercions,
     ctx: &Context<'_>,
     operands: &Exprs,
     params: &[Binder],
-) -> bool
+) -> Result<bool, AllocError>
     requires { OnePath coercions.now }
-    ensures { IsTrue result ↔ ((fs : Trees) × CoercedAll (signatures env.now) coercions.now ctx.now operands.now params.now fs) }
+    ensures { IfOk result (λ fit. IsTrue fit ↔ ((fs : Trees) × CoercedAll (signatures env.now) coercions.now ctx.now operands.now params.now fs)) }
 {
     let items = operands.as_slice();
     if items.len() != params.len() {
-        return false;
+        return Ok(false);
     }
     for i in 0..items.len() {
-        if !fits(env, coercions, ctx, &items[i], &params[i]) {
-            return false;
+        if !fits(alloc, env, coercions, ctx, &items[i], &params[i])? {
+            return Ok(false);
         }
     }
-    true
+    Ok(true)
 }
 
 /// Whether an operand can be wrapped to its parameter's sort.
+///
+/// # Errors
+///
+/// Where there is no memory.
 #[cycle(sort_of)]
-fn fits(env: &Env, coercions: &Coercions, ctx: &Context<'_>, operand: &Expr, param: &Binder) -> bool
+fn fits(
+    alloc: Global,
+    env: &Env,
+    coercions: &Coercions,
+    ctx: &Context<'_>,
+    operand: &Expr,
+    param: &Binder,
+) -> Result<bool, AllocError>
     requires { OnePath coercions.now }
-    ensures { IsTrue result ↔ ((f : Tree) × FitsParam (signatures env.now) coercions.now ctx.now (tree_lem operand.now) param.now f) }
+    ensures { IfOk result (λ fit. IsTrue fit ↔ ((f : Tree) × FitsParam (signatures env.now) coercions.now ctx.now (tree_lem operand.now) param.now f)) }
 {
-    let Some(sort) = sort_of(env, coercions, ctx, operand) else {
-        return false;
+    let Some(sort) = sort_of(alloc, env, coercions, ctx, operand)? else {
+        return Ok(false);
     };
     if !param.bound {
-        return reaches(coercions, sort, param.sort);
+        return reaches(alloc, coercions, sort, param.sort);
     }
     if sort != param.sort {
-        return false;
+        return Ok(false);
     }
-    is_bound_var(ctx, operand)
+    Ok(is_bound_var(ctx, operand))
 }
 
 /// The tree with its operands wrapped, where it is at most so high. Without coercions it is the tree
@@ -197,9 +223,10 @@ fn add_operand(
     ensures { IsAdded (signatures env.now) coercions.now ctx.now (tree_lem operand.now) param.now most all.old all.new result }
 {
     let sort = head_sort(env, coercions, ctx, operand);
-    let Some(many) = distance(coercions, sort, param.sort) else {
-        unreachable!()
+    let Ok(path) = distance(alloc, coercions, sort, param.sort) else {
+        return Added::Mem;
     };
+    let Some(many) = path else { unreachable!() };
     if many >= most {
         return Added::High;
     }

@@ -126,11 +126,17 @@ fn meaning_of(
     ensures { IsJudged (record { env = env.now; table = notations.now; scope = scope.now }) wanted (tree syntax) result }
 {
     let coercions = notations.coercions();
-    let Some(sort) = sort_of(env, coercions, ctx, &syntax) else {
+    let Ok(found) = sort_of(alloc, env, coercions, ctx, &syntax) else {
+        return Parsed::Mem;
+    };
+    let Some(sort) = found else {
         return refused(S::NoCoercion);
     };
     let goal = settled_sort(wanted, sort);
-    let Some(many) = distance(coercions, sort, goal) else {
+    let Ok(path) = distance(alloc, coercions, sort, goal) else {
+        return Parsed::Mem;
+    };
+    let Some(many) = path else {
         return refused(S::NoCoercion);
     };
     if many > MOST {

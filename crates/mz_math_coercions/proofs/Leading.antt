@@ -1,46 +1,68 @@
 -- What is kept for two sorts, and how it stays right with one more coercion.
-use Rattle.std.proofs.Common.{◌≡◌, ◌<◌, ◌≤◌, ◌+◌, ◌-◌, ◌↔◌, ◌⊎◌, ◌++◌, ◌∙◌, ℕ, List, [], ◌∷◌, length, Bool, true, false, Some, None, Option, slice_get, get_or, ap, sym, refl, subst, inl, inr, arith, Contains, length-append}
+use Rattle.std.proofs.Common.{◌≡◌, ◌<◌, ◌≤◌, ◌+◌, ◌-◌, ◌↔◌, ◌++◌, ◌∙◌, ℕ, List, [], ◌∷◌, length, Bool, true, false, Some, None, Option, slice_get, get_or, ap, sym, refl, subst, inl, inr, arith, Contains, length-append}
 use Rattle.std.specs.Prelude.{IsTrue, MatchOption}
 use Rattle.std.specs.Option.{is_some}
-use Rattle.std.proofs.lemmas.Bool.{true≢false}
-use Rattle.std.proofs.lemmas.Option.{get_or_from_slice_get, same_Some, none-some}
-use Rattle.std.proofs.lemmas.List.Elements.{Contains-push, Contains-push_cases, Contains-append_left}
-use Rattle.mz_base_theory.proofs.Offered.{slice_get-last, same-head, all_so_far_more, all-members, contains_at, AllSoFar}
+use Rattle.std.proofs.lemmas.Bool.{cases_order, true≢false}
+use Rattle.std.proofs.lemmas.Option.{get_or_from_slice_get, same_Some, none-some, slice_get_within}
+use Rattle.std.proofs.lemmas.List.{get_or_past}
+use Rattle.mz_base_theory.proofs.Offered.{contains_at, place-of, slice_get-append, slice_get-last, same-head}
 use Rattle.mz_logic_theory.specs.Tree.{Tree, app, none, more}
 use Rattle.mz_math_theory.specs.declared.coercion.Coercion.{Coercion}
-use Rattle.mz_math_theory.specs.declared.start.Start.{Start}
 use Rattle.mz_math_coercions.specs.declared.hops.FirstSteps.{FirstSteps}
 use Rattle.mz_math_theory.specs.Coercions.{IsPath, OnePath, Reaches, coercion_term, wrapped}
-use Rattle.mz_math_theory.specs.CoercionAnswers.{AreEnds, AreStarts, HasLength, HasPath, IsBefore, IsNext}
-use Rattle.mz_math_coercions.specs.Firsts.{first_of, AreForgotten, AreLed, AreMet, IsChanged, IsForgotten, IsOfStart, IsOfStarts, IsPut, IsSame}
-use Rattle.mz_math_coercions.specs.declared.sorts.Sorts.{Sorts}
-use Rattle.mz_math_coercions.specs.Sorts.{AreNoted}
-use Rattle.mz_math_theory.proofs.Offered.{path-join, path-more, clash-two, taken, no-return, last-end, contains-middle, never-reach, stays-one}
+use Rattle.mz_math_theory.specs.CoercionAnswers.{HasLength, HasPath, IsNext}
+use Rattle.mz_math_coercions.specs.Firsts.{first_of, AreLed, IsChanged, IsOfStart, IsOfStarts, IsPut}
+use Rattle.mz_math_coercions.specs.Graph.{all_turned}
+use Rattle.mz_math_coercions.specs.Groups.{AreGrouped}
+use Rattle.mz_math_coercions.specs.Kept.{AreKept}
+use Rattle.mz_math_coercions.specs.Reached.{AreReached, Has, IsStep}
+use Rattle.mz_math_theory.proofs.Offered.{contains-middle, path-join, path-more, never-reach, no-return, taken}
+use Rattle.mz_math_coercions.proofs.Clashes.{reached-back, step-back}
+use Rattle.mz_math_coercions.proofs.Walks.{from-one, one-first}
 
--- what a loop has in hand
--- ---- reading
+-- ---- the first coercion of a path
 
-pub no-first : (cs : List Coercion) (m : FirstSteps) (from to : ℕ) → AreLed cs m → first_of m from to ≡ None → (p : ℕ) (path : List ℕ) → IsPath cs from (p ∷ path) to → ⊥
-no-first cs m from to led gone p path on = none-some _ (sym gone ∙ (led from to).0 p path on)
+-- it is found at the place that is said
+abbrev pub IsFirstPlace : List Coercion → ℕ → ℕ → Option ℕ → Type 0
+IsFirstPlace cs from to o = MatchOption o ((p : ℕ) (path : List ℕ) → IsPath cs from (p ∷ path) to → ⊥) (λ p. (path : List ℕ) × IsPath cs from (p ∷ path) to)
 
-pub next-at : (cs : List Coercion) (m : FirstSteps) (from to place : ℕ) (o : Option Coercion) → AreLed cs m → first_of m from to ≡ Some place → o ≡ slice_get cs place
+pub kept-first : (cs : List Coercion) (m : FirstSteps) (from to : ℕ) (o : Option ℕ) → AreLed cs m → o ≡ first_of m from to → IsFirstPlace cs from to o
+kept-first cs m from to None led is = λ p path on. none-some _ (is ∙ (led from to).0 p path on)
+kept-first cs m from to (Some p) led is = (led from to).1 p (sym is)
+
+pub walked-first : (cs : List Coercion) (steps : List (ℕ × ℕ)) (from to : ℕ) (o : Option ℕ) → AreReached (all_turned cs) ((to, 0) ∷ []) steps → (from ≡ to → ⊥)
+    → MatchOption o (Has steps from → ⊥) (λ p. Contains steps (from, p)) → IsFirstPlace cs from to o
+walked-first cs steps from to None reached other not = λ p path on. not ((reached-back cs (all_turned cs) to 0 ((to, 0) ∷ []) steps refl refl reached from).1 (p ∷ path, on))
+walked-first cs steps from to (Some p) reached other has = elim (reached.via from p has) [
+  | inl first ↦ absurd (other (one-first to 0 from p ((to, 0) ∷ []) refl first).0)
+  | inr came ↦
+      let (r, in-steps, step) = came in
+      let (c, at, begins, ends) = step-back cs r p from step in
+      let (path, on) = (reached-back cs (all_turned cs) to 0 ((to, 0) ∷ []) steps refl refl reached r).0 in-steps in
+      (path, (c, at, begins, subst (λ x. IsPath cs x path to) (sym ends) on))
+]
+
+pub next-at : (cs : List Coercion) (from to place : ℕ) (o : Option Coercion) → OnePath cs → (path : List ℕ) × IsPath cs from (place ∷ path) to → o ≡ slice_get cs place
     → MatchOption o ((p : ℕ) (path : List ℕ) → IsPath cs from (p ∷ path) to → ⊥) (λ c. (p : ℕ) × IsNext cs from to p c)
-next-at cs m from to place None led some at =
-    let (path, (d, at-d, begins, rest)) = (led from to).1 place some in
-    absurd (none-some _ (at ∙ at-d))
-next-at cs m from to place (Some c) led some at =
-    let (path, (d, at-d, begins, rest)) = (led from to).1 place some in
-    let same : d ≡ c = same_Some _ _ (sym at-d ∙ sym at) in
-    (place, (sym at, ap (λ x. x.from) (sym same) ∙ begins, (path, subst (λ x. IsPath cs x.to path to) same rest), λ q other on. same_Some _ _ (sym ((led from to).0 q other on) ∙ some)))
+next-at cs from to place None one (path, (d, at-d, begins, rest)) at = absurd (none-some _ (at ∙ at-d))
+next-at cs from to place (Some c) one (path, (d, at-d, begins, rest)) at =
+    let same : d ≡ c = same_Some _ _ (sym at-d ∙ sym at) in (
+      place,
+      (
+        sym at,
+        ap (λ x. x.from) (sym same) ∙ begins,
+        (path, subst (λ x. IsPath cs x.to path to) same rest),
+        λ q other on. same-head (one from to (q ∷ other) (place ∷ path) on (d, at-d, begins, rest)),
+      ),
+    )
 
-pub reach-next : (cs : List Coercion) (from to : ℕ) (o : Option Coercion) → MatchOption o ((p : ℕ) (path : List ℕ) → IsPath cs from (p ∷ path) to → ⊥) (λ c. (p : ℕ) × IsNext cs from to p c)
-    → (from ≡ to → ⊥) → (b : Bool) → b ≡ is_some o → IsTrue b ↔ HasPath cs from to
-reach-next cs from to None next other b e = (λ t. absurd (true≢false (sym t ∙ e)), λ has. absurd (go has.0 has.1))
+pub reach-first : (cs : List Coercion) (from to : ℕ) (o : Option ℕ) → IsFirstPlace cs from to o → (from ≡ to → ⊥) → (b : Bool) → b ≡ is_some o → IsTrue b ↔ HasPath cs from to
+reach-first cs from to None first other b e = (λ t. absurd (true≢false (sym t ∙ e)), λ has. absurd (go has.0 has.1))
   where
     go : (path : List ℕ) → IsPath cs from path to → ⊥
     go [] on = other on
-    go (p ∷ path) on = next p path on
-reach-next cs from to (Some c) (p, (at, begins, (path, on), one)) other b e = (λ t. (p ∷ path, (c, at, begins, on)), λ has. e)
+    go (p ∷ path) on = first p path on
+reach-first cs from to (Some p) (path, on) other b e = (λ t. (p ∷ path, on), λ has. e)
 
 pub stuck : (cs : List Coercion) (most from to : ℕ) → (from ≡ to → ⊥) → ((p : ℕ) (path : List ℕ) → IsPath cs from (p ∷ path) to → ⊥) → Reaches cs most from to → ⊥
 stuck cs most from to other never ([], on, le) = other on
@@ -80,28 +102,6 @@ module _ (cs : List Coercion) (most from to sort many : ℕ) (along : IsAlong cs
   pub no-further : (sort ≡ to → ⊥) → ((p : ℕ) (path : List ℕ) → IsPath cs sort (p ∷ path) to → ⊥) → Reaches cs most from to → ⊥
   no-further other never reach = stuck cs (most - many) sort to other never (along.left reach)
 
--- ---- one coercion more
-
--- behind the new coercion it isn't taken again
-pub behind : (cs : List Coercion) (c : Coercion) (to : ℕ) (q : List ℕ) → OnePath (cs ++ c ∷ []) → IsPath (cs ++ c ∷ []) c.to q to → IsPath cs c.to q to
-behind cs c to q one on = elim (taken cs c c.to to q on) [
-  | inl without ↦ without
-  | inr again ↦ absurd (no-return (cs ++ c ∷ []) one (length cs) c q to (slice_get-last cs c) on (subst (λ x. Contains x (length cs)) (sym again.2) (contains-middle again.0 again.1 (length cs))))
-]
-
-pub before-here : (cs : List Coercion) (c : Coercion) (from : ℕ) → from ≡ c.from → IsBefore cs c from (length cs)
-before-here cs c from same = ([], [], same, refl)
-
-pub before-first : (cs : List Coercion) (c : Coercion) (m : FirstSteps) (from : ℕ) (o : Option ℕ) → AreLed cs m → o ≡ first_of m from c.from → (from ≡ c.from → ⊥) → MatchOption o (HasPath cs from c.from → ⊥) (λ p. IsBefore cs c from p)
-before-first cs c m from None led is other = λ has. go has.0 has.1
-  where
-    go : (path : List ℕ) → IsPath cs from path c.from → ⊥
-    go [] on = other on
-    go (p ∷ path) on = none-some _ (is ∙ (led from c.from).0 p path on)
-before-first cs c m from (Some p) led is other =
-    let (path, on) = (led from c.from).1 p (sym is) in
-    (p ∷ path, path ++ length cs ∷ [], on, refl)
-
 -- ---- what is kept for a pair
 
 abbrev Kept : Type 0
@@ -118,231 +118,144 @@ then-changed m n o P Q is first second s t = elim (second s t) [
 pub then-kept : (m n : Kept) (P Q : ℕ → ℕ → Option ℕ → Type 0) → ((s t : ℕ) (w : Option ℕ) → Q s t w → P s t w) → IsChanged m n Q → (s t : ℕ) → P s t (first_of m s t) → P s t (first_of n s t)
 then-kept m n P Q is change s t put = elim (change s t) [ inl same ↦ subst (P s t) (sym same) put | inr new ↦ is s t (first_of n s t) new ]
 
--- nothing changed
-pub un-changed : (m n : Kept) (P : ℕ → ℕ → Option ℕ → Type 0) → IsSame m n → IsChanged m n P
-un-changed m n P same s t = inl (same s t)
+-- ---- a list is gone through
+
+-- so is each of the first ones
+abbrev pub AllBefore : (ℕ → ℕ → Type 0) → List (ℕ × ℕ) → ℕ → Type 0
+AllBefore P steps i = (k t p : ℕ) → k < i → slice_get steps k ≡ Some (t, p) → P t p
+
+pub before-more : (P : ℕ → ℕ → Type 0) (steps : List (ℕ × ℕ)) (i s q : ℕ) → slice_get steps i ≡ Some (s, q) → AllBefore P steps i → P s q → AllBefore P steps (i + 1)
+before-more P steps i s q at seen here k t p below is = elim (cases_order k i) [
+  | inl same ↦
+      let e = same_Some _ _ (sym at ∙ ap (slice_get steps) (sym same) ∙ is) in
+      subst (λ (x : ℕ × ℕ). P x.0 x.1) e here
+  | inr order ↦ elim order [ inl less ↦ seen k t p less is | inr above ↦ absurd (omega (arith, above, below)) ]
+]
+
+pub before-all : (P : ℕ → ℕ → Type 0) (steps : List (ℕ × ℕ)) (i : ℕ) → length steps ≤ i → AllBefore P steps i → (t p : ℕ) → Contains steps (t, p) → P t p
+before-all P steps i whole seen t p has = let (k, at) = place-of steps (t, p) has in let within = slice_get_within steps k (t, p) at in seen k t p (omega (arith, within, whole)) at
 
 -- ---- one end more
 
-module _ (m n : Kept) (f : Start) (ends : List ℕ) (end : ℕ) (has : Contains ends end) (put : IsPut m n f.sort end (Some f.place)) where
-  pub end-changed : (l : Kept) → IsChanged l m (IsOfStart f ends) → IsChanged l n (IsOfStart f ends)
-  end-changed l before = then-changed l m n (IsOfStart f ends) (λ x y o. (f.sort ≡ x) × (end ≡ y) × (o ≡ Some f.place)) (λ x y o h. (h.0, subst (Contains ends) h.1 has, h.2)) before put.1
+module _ (m n : Kept) (from place end q : ℕ) (ends : List (ℕ × ℕ)) (i : ℕ) (at : slice_get ends i ≡ Some (end, q)) (put : IsPut m n from end place) where
+  abbrev IsEnd : ℕ → ℕ → Option ℕ → Type 0
+  IsEnd x y o = (from ≡ x) × (end ≡ y) × (o ≡ Some place)
 
-  pub end-kept : (t : ℕ) → first_of m f.sort t ≡ Some f.place → first_of n f.sort t ≡ Some f.place
-  end-kept t is = then-kept m n (λ x y o. o ≡ Some f.place) (λ x y o. (f.sort ≡ x) × (end ≡ y) × (o ≡ Some f.place)) (λ x y o h. h.2) put.1 f.sort t is
+  end-of : (x y : ℕ) (o : Option ℕ) → IsEnd x y o → IsOfStart from place ends x y o
+  end-of x y o h = (h.0, subst (Has ends) h.1 (q, contains_at ends i (end, q) at), h.2)
 
-module _ (m n : Kept) (from : ℕ) (ends : List ℕ) (end : ℕ) (has : Contains ends end) (put : IsPut m n from end None) where
-  pub gone-changed : (l : Kept) → IsChanged l m (IsForgotten from ends) → IsChanged l n (IsForgotten from ends)
-  gone-changed l before = then-changed l m n (IsForgotten from ends) (λ x y o. (from ≡ x) × (end ≡ y) × (o ≡ None)) (λ x y o h. (h.0, subst (Contains ends) h.1 has, h.2)) before put.1
+  pub end-changed : (l : Kept) → IsChanged l m (IsOfStart from place ends) → IsChanged l n (IsOfStart from place ends)
+  end-changed l before = then-changed l m n (IsOfStart from place ends) IsEnd end-of before put.1
 
-  pub gone-kept : (t : ℕ) → first_of m from t ≡ None → first_of n from t ≡ None
-  gone-kept t is = then-kept m n (λ x y o. o ≡ None) (λ x y o. (from ≡ x) × (end ≡ y) × (o ≡ None)) (λ x y o h. h.2) put.1 from t is
+  pub end-seen : AllBefore (λ t p. first_of m from t ≡ Some place) ends i → AllBefore (λ t p. first_of n from t ≡ Some place) ends (i + 1)
+  end-seen seen = before-more (λ t p. first_of n from t ≡ Some place) ends i end q at
+      (λ k t p below is. then-kept m n (λ x y o. o ≡ Some place) IsEnd (λ x y o h. h.2) put.1 from t (seen k t p below is)) put.0
 
 -- ---- one start more
 
-module _ (m n : Kept) (starts : List Start) (ends : List ℕ) (f : Start) (has : Contains starts f) (change : IsChanged m n (IsOfStart f ends)) where
+module _ (m n : Kept) (starts ends : List (ℕ × ℕ)) (i from place : ℕ) (at : slice_get starts i ≡ Some (from, place)) (change : IsChanged m n (IsOfStart from place ends)) where
+  start-of : (x y : ℕ) (o : Option ℕ) → IsOfStart from place ends x y o → IsOfStarts starts ends x y o
+  start-of x y o h = (place, subst (λ z. Contains starts (z, place)) h.0 (contains_at starts i (from, place) at), h.1, h.2)
+
   pub start-changed : (l : Kept) → IsChanged l m (IsOfStarts starts ends) → IsChanged l n (IsOfStarts starts ends)
-  start-changed l before = then-changed l m n (IsOfStarts starts ends) (IsOfStart f ends) (λ x y o h. (f, has, h)) before change
+  start-changed l before = then-changed l m n (IsOfStarts starts ends) (IsOfStart from place ends) start-of before change
 
-  pub start-kept : (g : Start) → ((t : ℕ) → Contains ends t → IsOfStarts starts ends g.sort t (first_of m g.sort t)) → (t : ℕ) → Contains ends t → IsOfStarts starts ends g.sort t (first_of n g.sort t)
-  start-kept g put t at = then-kept m n (IsOfStarts starts ends) (IsOfStart f ends) (λ x y o h. (f, has, h)) change g.sort t (put t at)
+  pub start-seen : ((t : ℕ) → Has ends t → first_of n from t ≡ Some place)
+      → AllBefore (λ s p. (t : ℕ) → Has ends t → IsOfStarts starts ends s t (first_of m s t)) starts i → AllBefore (λ s p. (t : ℕ) → Has ends t → IsOfStarts starts ends s t (first_of n s t)) starts (i + 1)
+  start-seen put seen = before-more (λ s p. (t : ℕ) → Has ends t → IsOfStarts starts ends s t (first_of n s t)) starts i from place at
+      (λ k s p below is t in-t. then-kept m n (IsOfStarts starts ends) (IsOfStart from place ends) start-of change s t (seen k s p below is t in-t))
+      (λ t in-t. start-of from t (first_of n from t) (refl, in-t, put t in-t))
 
-  pub start-put : ((t : ℕ) → Contains ends t → first_of n f.sort t ≡ Some f.place) → (t : ℕ) → Contains ends t → IsOfStarts starts ends f.sort t (first_of n f.sort t)
-  start-put put t at = (f, has, (refl, at, put t at))
+-- ---- one coercion more
 
-module _ (m n : Kept) (starts : List Start) (ends : List ℕ) (f : Start) (has : Contains starts f) (change : IsChanged m n (IsForgotten f.sort ends)) where
-  pub all-changed : (l : Kept) → IsChanged l m (AreForgotten starts ends) → IsChanged l n (AreForgotten starts ends)
-  all-changed l before = then-changed l m n (AreForgotten starts ends) (IsForgotten f.sort ends) (λ x y o h. (f, has, h)) before change
-
-  pub all-kept : (g : Start) → ((t : ℕ) → Contains ends t → first_of m g.sort t ≡ None) → (t : ℕ) → Contains ends t → first_of n g.sort t ≡ None
-  all-kept g gone t at = then-kept m n (λ x y o. o ≡ None) (IsForgotten f.sort ends) (λ x y o h. h.2) change g.sort t (gone t at)
-
--- what was put is forgotten: the same is kept as before, where nothing was kept for the pairs
-pub put-back : (l m n : Kept) (starts : List Start) (ends : List ℕ) → ((f : Start) (t : ℕ) → Contains starts f → Contains ends t → first_of l f.sort t ≡ None)
-    → IsChanged l m (IsOfStarts starts ends) → IsChanged m n (AreForgotten starts ends) → ((f : Start) (t : ℕ) → Contains starts f → Contains ends t → first_of n f.sort t ≡ None)
-    → (s t : ℕ) → first_of n s t ≡ first_of l s t
-put-back l m n starts ends free put change gone s t = elim (change s t) [
-  | inl same ↦ elim (put s t) [
-    | inl before ↦ same ∙ before
-    | inr new ↦ none-both new.0 s (new.2).0 (gone new.0 t new.1 (new.2).1) (free new.0 t new.1 (new.2).1)
-  ]
-  | inr new ↦ none-both new.0 s (new.2).0 (gone new.0 t new.1 (new.2).1) (free new.0 t new.1 (new.2).1)
+-- behind the new coercion it isn't taken again
+pub behind : (cs : List Coercion) (c : Coercion) (to : ℕ) (q : List ℕ) → OnePath (cs ++ c ∷ []) → IsPath (cs ++ c ∷ []) c.to q to → IsPath cs c.to q to
+behind cs c to q one on = elim (taken cs c c.to to q on) [
+  | inl without ↦ without
+  | inr again ↦ absurd (no-return (cs ++ c ∷ []) one (length cs) c q to (slice_get-last cs c) on (subst (λ x. Contains x (length cs)) (sym again.2) (contains-middle again.0 again.1 (length cs))))
 ]
-  where
-    none-both : (f : Start) (x : ℕ) → f.sort ≡ x → first_of n f.sort t ≡ None → first_of l f.sort t ≡ None → first_of n x t ≡ first_of l x t
-    none-both f x is one other = subst (λ y. first_of n y t ≡ first_of l y t) is (one ∙ sym other)
 
--- ---- the pairs of a new coercion
+module _ (cs back : List Coercion) (c : Coercion) (one : OnePath (cs ++ c ∷ [])) (turn : back ≡ all_turned cs) (a : ℕ) (start starts first ends : List (ℕ × ℕ))
+    (start-is : start ≡ (c.from, a) ∷ []) (a-is : a ≡ length cs) (before : AreReached back start starts)
+    (first-is : first ≡ (c.to, 0) ∷ []) (after : AreReached cs first ends) (m : Kept) (led : AreLed cs m) where
+  -- the path from a start begins with its place
+  on : (s p : ℕ) → Contains starts (s, p) → (path : List ℕ) × IsPath (cs ++ c ∷ []) s (p ∷ path) c.to
+  on s p has = elim (before.via s p has) [
+    | inl own ↦ let (is-s, is-p) = one-first c.from a s p start start-is own in
+        ([], (c, subst (λ i. slice_get (cs ++ c ∷ []) i ≡ Some c) (sym (is-p ∙ a-is)) (slice_get-last cs c), sym is-s, refl))
+    | inr came ↦
+        let (r, in-starts, step) = came in
+        let (d, at, begins, ends-at) = step-back cs r p s (subst (λ (ds : List Coercion). IsStep ds r p s) turn step) in
+        let (q, on-q) = (reached-back cs back c.from a start starts turn start-is before r).0 in-starts in (
+          q ++ length cs ∷ [],
+          (
+            d,
+            slice_get-append cs (c ∷ []) p d at,
+            begins,
+            path-join (cs ++ c ∷ []) d.to c.from c.to q (length cs ∷ []) (path-more cs c d.to c.from q (subst (λ x. IsPath cs x q c.from) (sym ends-at) on-q)) (c, slice_get-last cs c, refl, refl),
+          ),
+        )
+  ]
 
-module _ (cs : List Coercion) (c : Coercion) (starts : List Start) (ends : List ℕ) (from-there : AreStarts cs c starts) (to-there : AreEnds cs c ends) where
-  pub joined-clash : (f : Start) (t : ℕ) → Contains starts f → Contains ends t → HasPath cs f.sort t → OnePath (cs ++ c ∷ []) → ⊥
-  joined-clash f t in-f in-t (r, on-r) one =
-      let (front, rest, on, is) = from-there.0 f in-f in
-      let (q, on-q) = to-there.0 t in-t in
-      clash-two cs c f.sort t (front, q, r, on, on-q, on-r) one
+  in-ends : (t : ℕ) → Has ends t ↔ HasPath cs c.to t
+  in-ends t = from-one cs c.to 0 first ends first-is after t
 
-  pub none-joined : OnePath cs → ((f : Start) × (t : ℕ) × Contains starts f × Contains ends t × HasPath cs f.sort t → ⊥) → OnePath (cs ++ c ∷ [])
-  none-joined one never = stays-one cs c one (λ i from j to start end clash. go from to clash.0 clash.1 clash.2 (clash.3) (clash.4) (clash.5))
-    where
-      go : (from to : ℕ) (p q r : List ℕ) → IsPath cs from p c.from → IsPath cs c.to q to → IsPath cs from r to → ⊥
-      go from to p q r on-p on-q on-r =
-          let (f, in-f, is) = from-there.1 from (p, on-p) in
-          never (f, to, in-f, to-there.1 to (q, on-q), (r, subst (λ s. IsPath cs s r to) (sym is) on-r))
+  long : (s p t : ℕ) → Contains starts (s, p) → Has ends t → (path : List ℕ) × IsPath (cs ++ c ∷ []) s (p ∷ path) t
+  long s p t has end =
+      let (path, way) = on s p has in
+      let (q, on-q) = (in-ends t).0 end in
+      (path ++ q, path-join (cs ++ c ∷ []) s c.to t (p ∷ path) q way (path-more cs c c.to t q on-q))
 
-  -- whether one of the starts and one of the ends are joined decides it
-  module _ (ds : List Coercion) (ss : List Start) (es : List ℕ) (d-is : ds ≡ cs) (s-is : ss ≡ starts) (e-is : es ≡ ends)
-      (b : Bool) (joined : IsTrue b ↔ ((f : Start) × (t : ℕ) × Contains ss f × Contains es t × HasPath ds f.sort t)) where
-    pub not-one : b ≡ true → OnePath (cs ++ c ∷ []) → ⊥
-    not-one are one =
-        let (f, t, in-f, in-t, path) = joined.0 are in
-        joined-clash f t (subst (λ (xs : List Start). Contains xs f) s-is in-f) (subst (λ (xs : List ℕ). Contains xs t) e-is in-t) (subst (λ (xs : List Coercion). HasPath xs f.sort t) d-is path) one
+  module _ (n : Kept) (change : IsChanged m n (IsOfStarts starts ends)) (put : (s t : ℕ) → Has starts s → Has ends t → IsOfStarts starts ends s t (first_of n s t)) where
+    -- what is kept for a start and an end begins the path
+    begins-at : (s t p : ℕ) (path : List ℕ) → IsPath (cs ++ c ∷ []) s (p ∷ path) t → IsOfStarts starts ends s t (first_of n s t) → first_of n s t ≡ Some p
+    begins-at s t p path way (q, has, end, is) =
+        let (other, also) = long s q t has end in
+        is ∙ ap Some (sym (same-head (one s t (p ∷ path) (q ∷ other) way also)))
 
-    pub still-one : OnePath cs → b ≡ false → OnePath (cs ++ c ∷ [])
-    still-one one apart = none-joined one (λ h. true≢false (sym (joined.1 (again h)) ∙ apart))
-      where
-        again : (f : Start) × (t : ℕ) × Contains starts f × Contains ends t × HasPath cs f.sort t → (f : Start) × (t : ℕ) × Contains ss f × Contains es t × HasPath ds f.sort t
-        again (f, t, in-f, in-t, path) = (f, t, subst (λ (xs : List Start). Contains xs f) (sym s-is) in-f, subst (λ (xs : List ℕ). Contains xs t) (sym e-is) in-t, subst (λ (xs : List Coercion). HasPath xs f.sort t) (sym d-is) path)
-
-  module _ (m : Kept) (led : AreLed cs m) (one : OnePath (cs ++ c ∷ [])) where
-    pub none-yet : (f : Start) (t : ℕ) → Contains starts f → Contains ends t → first_of m f.sort t ≡ None
-    none-yet f t in-f in-t = go (first_of m f.sort t) refl
-      where
-        go : (o : Option ℕ) → first_of m f.sort t ≡ o → first_of m f.sort t ≡ None
-        go None is = is
-        go (Some p) is = let (path, on) = (led f.sort t).1 p is in absurd (joined-clash f t in-f in-t (p ∷ path, on) one)
-
-    append-mid : (xs ys : List ℕ) (i : ℕ) → xs ++ i ∷ ys ≡ (xs ++ i ∷ []) ++ ys
-    append-mid [] ys i = refl
-    append-mid (x ∷ xs) ys i = ap (λ zs. x ∷ zs) (append-mid xs ys i)
-
-    -- the path from a start to an end begins with the start's place
-    long : (f : Start) (t : ℕ) → Contains starts f → Contains ends t → (path : List ℕ) × IsPath (cs ++ c ∷ []) f.sort (f.place ∷ path) t
-    long f t in-f in-t =
-        let (front, rest, on, is) = from-there.0 f in-f in
-        let (q, on-q) = to-there.0 t in-t in
-        let all : IsPath (cs ++ c ∷ []) f.sort (front ++ length cs ∷ q) t =
-        path-join (cs ++ c ∷ []) f.sort c.from t front (length cs ∷ q) (path-more cs c f.sort c.from front on) (c, slice_get-last cs c, refl, path-more cs c c.to t q on-q) in
-        (rest ++ q, subst (λ x. IsPath (cs ++ c ∷ []) f.sort x t) (append-mid front q (length cs) ∙ ap (λ zs. zs ++ q) is) all)
-
-    module _ (n : Kept) (change : IsChanged m n (IsOfStarts starts ends)) (put : (f : Start) (t : ℕ) → Contains starts f → Contains ends t → IsOfStarts starts ends f.sort t (first_of n f.sort t)) where
-      -- a place that is kept now begins the path
-      begins-at : (s t p q : ℕ) (path : List ℕ) → IsPath (cs ++ c ∷ []) s (q ∷ path) t → IsOfStarts starts ends s t (Some p) → q ≡ p
-      begins-at s t p q path on (f, in-f, (is, in-t, place)) =
-          let (rest, way) = long f t in-f in-t in
-          let same : q ∷ path ≡ f.place ∷ rest = one s t (q ∷ path) (f.place ∷ rest) on (subst (λ x. IsPath (cs ++ c ∷ []) x (f.place ∷ rest) t) is way) in
-          same-head same ∙ sym (same_Some _ _ place)
-
-      new-first : (s t : ℕ) (p : ℕ) (path : List ℕ) → IsPath (cs ++ c ∷ []) s (p ∷ path) t → IsPath cs s (p ∷ path) t ⊎ (HasPath cs s c.from × HasPath cs c.to t) → first_of n s t ≡ Some p
-      new-first s t p path on (inl old) = elim (change s t) [
+    new-first : (s t p : ℕ) (path : List ℕ) → IsPath (cs ++ c ∷ []) s (p ∷ path) t → first_of n s t ≡ Some p
+    new-first s t p path way = elim (taken cs c s t (p ∷ path) way) [
+      | inl old ↦ elim (change s t) [
         | inl same ↦ same ∙ (led s t).0 p path old
-        | inr new ↦ absurd (joined-clash new.0 t new.1 (new.2).1 (p ∷ path, subst (λ x. IsPath cs x (p ∷ path) t) (sym (new.2).0) old) one)
+        | inr new ↦ begins-at s t p path way new
       ]
-      new-first s t p path on (inr (from, to)) =
-          let (f, in-f, is) = from-there.1 s from in
-          let (g, in-g, (is-g, in-t, place)) = put f t in-f (to-there.1 t to) in
-          let here : first_of n s t ≡ Some g.place = ap (λ x. first_of n x t) (sym is) ∙ place in
-          here ∙ ap Some (sym (begins-at s t g.place p path on (g, in-g, (is-g ∙ is, in-t, refl))))
-
-      way-of : (s t : ℕ) (p : ℕ) (path : List ℕ) → IsPath (cs ++ c ∷ []) s (p ∷ path) t → IsPath cs s (p ∷ path) t ⊎ (HasPath cs s c.from × HasPath cs c.to t)
-      way-of s t p path on = elim (taken cs c s t (p ∷ path) on) [
-        | inl without ↦ inl without
-        | inr by ↦ inr ((by.0, by.3), (by.1, behind cs c t by.1 one by.4))
-      ]
-
-      there-is : (s t : ℕ) (p : ℕ) → first_of n s t ≡ Some p → (path : List ℕ) × IsPath (cs ++ c ∷ []) s (p ∷ path) t
-      there-is s t p is = elim (change s t) [
-        | inl same ↦ let (path, on) = (led s t).1 p (sym same ∙ is) in (path, path-more cs c s t (p ∷ path) on)
-        | inr new ↦ go new.0 new.1 new.2
-      ]
-        where
-          go : (f : Start) → Contains starts f → IsOfStart f ends s t (first_of n s t) → (path : List ℕ) × IsPath (cs ++ c ∷ []) s (p ∷ path) t
-          go f in-f (from, in-t, place) =
-              let (rest, on) = long f t in-f in-t in
-              (rest, subst (λ x. IsPath (cs ++ c ∷ []) s (x ∷ rest) t) (same_Some _ _ (sym place ∙ is)) (subst (λ x. IsPath (cs ++ c ∷ []) x (f.place ∷ rest) t) from on))
-
-      pub led-more : AreLed (cs ++ c ∷ []) n
-      led-more s t = (λ p path on. new-first s t p path on (way-of s t p path on), there-is s t)
-
--- the same is kept
-pub led-same : (cs : List Coercion) (m n : Kept) → ((s t : ℕ) → first_of n s t ≡ first_of m s t) → AreLed cs m → AreLed cs n
-led-same cs m n same led s t = (λ p path on. same s t ∙ (led s t).0 p path on, λ p is. (led s t).1 p (sym (same s t) ∙ is))
-
--- ---- the starts and ends are found
-
-abbrev pub IsFound : List Coercion → Coercion → List Start → ℕ → Type 0
-IsFound cs c starts s = HasPath cs s c.from → (f : Start) × Contains starts f × (f.sort ≡ s)
-
--- what was found of the starts among so many sorts
-abbrev pub StartsSoFar : List Coercion → Coercion → List ℕ → ℕ → List Start → Type 0
-StartsSoFar cs c sorts i starts = ((f : Start) → Contains starts f → IsBefore cs c f.sort f.place) × AllSoFar (IsFound cs c starts) sorts i
-
-module _ (cs : List Coercion) (c : Coercion) (sorts : List ℕ) (i : ℕ) (starts : List Start) (below : i < length sorts) (seen : StartsSoFar cs c sorts i starts) where
-  pub starts-one : (here : Start) → here.sort ≡ get_or sorts i 0 → IsBefore cs c here.sort here.place → StartsSoFar cs c sorts (i + 1) (starts ++ here ∷ [])
-  starts-one here is before = (sound, all_so_far_more (IsFound cs c (starts ++ here ∷ [])) sorts i 0 longer below (λ path. (here, Contains-push starts here, is)))
-    where
-      sound : (f : Start) → Contains (starts ++ here ∷ []) f → IsBefore cs c f.sort f.place
-      sound f has = elim (Contains-push_cases starts here f has) [
-        | inl there ↦ seen.0 f there
-        | inr same ↦ subst (λ (g : Start). IsBefore cs c g.sort g.place) same before
-      ]
-
-      longer : AllSoFar (IsFound cs c (starts ++ here ∷ [])) sorts i
-      longer k d less path = let (f, has, same) = seen.1 k d less path in (f, Contains-append_left starts (here ∷ []) f has, same)
-
-  pub starts-skip : (HasPath cs (get_or sorts i 0) c.from → ⊥) → StartsSoFar cs c sorts (i + 1) starts
-  starts-skip never = (seen.0, all_so_far_more (IsFound cs c starts) sorts i 0 seen.1 below (λ path. absurd (never path)))
-
-pub starts-all : (cs : List Coercion) (c : Coercion) (sorts : List ℕ) (i : ℕ) (starts : List Start) → AreMet (cs ++ c ∷ []) sorts → StartsSoFar cs c sorts i starts → length sorts ≤ i → AreStarts cs c starts
-starts-all cs c sorts i starts met seen done = (seen.0, λ s has. all s (at s has.0 has.1) has)
-  where
-    all : (s : ℕ) → Contains sorts s → IsFound cs c starts s
-    all s has = all-members (IsFound cs c starts) sorts seen.1 done s has
-
-    at : (s : ℕ) (path : List ℕ) → IsPath cs s path c.from → Contains sorts s
-    at s [] on = subst (Contains sorts) (sym on) (met c (Contains-push cs c)).0
-    at s (p ∷ path) (d, at-d, begins, rest) = subst (Contains sorts) begins (met d (Contains-append_left cs (c ∷ []) d (contains_at cs p d at-d))).0
-
--- and of the ends
-abbrev pub EndsSoFar : List Coercion → Coercion → List ℕ → ℕ → List ℕ → Type 0
-EndsSoFar cs c sorts i ends = ((t : ℕ) → Contains ends t → HasPath cs c.to t) × AllSoFar (λ t. HasPath cs c.to t → Contains ends t) sorts i
-
-module _ (cs : List Coercion) (c : Coercion) (sorts : List ℕ) (i : ℕ) (ends : List ℕ) (below : i < length sorts) (seen : EndsSoFar cs c sorts i ends) where
-  pub ends-one : (here : ℕ) → here ≡ get_or sorts i 0 → HasPath cs c.to here → EndsSoFar cs c sorts (i + 1) (ends ++ here ∷ [])
-  ends-one here is path = (reached, all_so_far_more (λ t. HasPath cs c.to t → Contains (ends ++ here ∷ []) t) sorts i 0 longer below (λ way. subst (Contains (ends ++ here ∷ [])) is (Contains-push ends here)))
-    where
-      reached : (t : ℕ) → Contains (ends ++ here ∷ []) t → HasPath cs c.to t
-      reached t has = elim (Contains-push_cases ends here t has) [ inl there ↦ seen.0 t there | inr same ↦ subst (HasPath cs c.to) same path ]
-
-      longer : AllSoFar (λ t. HasPath cs c.to t → Contains (ends ++ here ∷ []) t) sorts i
-      longer k d less way = Contains-append_left ends (here ∷ []) (get_or sorts k d) (seen.1 k d less way)
-
-  pub ends-skip : (HasPath cs c.to (get_or sorts i 0) → ⊥) → EndsSoFar cs c sorts (i + 1) ends
-  ends-skip never = (seen.0, all_so_far_more (λ t. HasPath cs c.to t → Contains ends t) sorts i 0 seen.1 below (λ path. absurd (never path)))
-
-pub ends-all : (cs : List Coercion) (c : Coercion) (sorts : List ℕ) (i : ℕ) (ends : List ℕ) → AreMet (cs ++ c ∷ []) sorts → EndsSoFar cs c sorts i ends → length sorts ≤ i → AreEnds cs c ends
-ends-all cs c sorts i ends met seen done = (seen.0, λ t has. all-members (λ t. HasPath cs c.to t → Contains ends t) sorts seen.1 done t (at t has.0 has.1) has)
-  where
-    at : (t : ℕ) (path : List ℕ) → IsPath cs c.to path t → Contains sorts t
-    at t path on = elim (last-end cs c.to t path on) [
-      | inl same ↦ subst (Contains sorts) same (met c (Contains-push cs c)).1
-      | inr found ↦ subst (Contains sorts) found.3 (met found.1 (Contains-append_left cs (c ∷ []) found.1 (contains_at cs found.0 found.1 found.2))).1
+      | inr by ↦ begins-at s t p path way (put s t ((reached-back cs back c.from a start starts turn start-is before s).1 (by.0, by.3)) ((in-ends t).1 (by.1, behind cs c t by.1 one by.4)))
     ]
+
+    there-is : (s t p : ℕ) → first_of n s t ≡ Some p → (path : List ℕ) × IsPath (cs ++ c ∷ []) s (p ∷ path) t
+    there-is s t p is = elim (change s t) [
+      | inl same ↦ let (path, way) = (led s t).1 p (sym same ∙ is) in (path, path-more cs c s t (p ∷ path) way)
+      | inr new ↦ let (q, has, end, at) = new in long s p t (subst (λ x. Contains starts (s, x)) (same_Some _ _ (sym at ∙ is)) has) end
+    ]
+
+    pub led-more : AreLed (cs ++ c ∷ []) n
+    led-more s t = (new-first s t, there-is s t)
 
 -- ---- none yet
 
 no-path : (s to p : ℕ) (path : List ℕ) → IsPath [] s (p ∷ path) to → ⊥
 no-path s to p path (c, at, begins, rest) = none-some _ at
 
-pub none-led : (cs : List Coercion) (xs : Sorts) (m : FirstSteps) → cs ≡ [] → AreNoted [] xs → ((s to : ℕ) → first_of m s to ≡ None) → OnePath cs × AreNoted cs xs × AreLed cs m
-none-led cs xs m is noted gone = subst (λ (ds : List Coercion). OnePath ds × AreNoted ds xs × AreLed ds m) (sym is) (one, noted, led)
-  where
-    one : OnePath []
-    one s to [] [] on-x on-y = refl
-    one s to [] (q ∷ y) on-x on-y = absurd (no-path s to q y on-y)
-    one s to (p ∷ x) y on-x on-y = absurd (no-path s to p x on-x)
+none-one : OnePath []
+none-one s to [] [] on-x on-y = refl
+none-one s to [] (q ∷ y) on-x on-y = absurd (no-path s to q y on-y)
+none-one s to (p ∷ x) y on-x on-y = absurd (no-path s to p x on-x)
 
-    led : AreLed [] m
-    led s to = (λ p path on. absurd (no-path s to p path on), λ p kept. absurd (none-some _ (sym (gone s to) ∙ kept)))
+none-led : (m : FirstSteps) → ((s to : ℕ) → first_of m s to ≡ None) → AreLed [] m
+none-led m gone s to = (λ p path on. absurd (no-path s to p path on), λ p kept. absurd (none-some _ (sym (gone s to) ∙ kept)))
+
+pub none-kept : (cs back : List Coercion) (ups : List ℕ) (m : FirstSteps) → cs ≡ [] → back ≡ [] → ups ≡ [] → ((s to : ℕ) → first_of m s to ≡ None) → AreKept cs back ups m true true
+none-kept cs back ups m cs-is back-is ups-is gone =
+    subst (λ (ds : List Coercion). AreKept ds back ups m true true) (sym cs-is) (record {
+      one = none-one;
+      grouped = (λ s. s, (λ s. ap (λ (us : List ℕ). get_or us s s) ups-is ∙ get_or_past [] s s (omega arith), λ s is. refl), λ c has. (let (k, below, _) = has in absurd (omega (arith, below))));
+      led = λ t. none-led m gone;
+      turned = λ t. back-is;
+    })
+
+-- where memory has run out
+pub torn-kept : (cs back : List Coercion) (ups : List ℕ) (m : FirstSteps) → OnePath cs → AreGrouped cs ups → AreKept cs back ups m false false
+torn-kept cs back ups m one grouped = record { one = one; grouped = grouped; led = λ t. absurd (true≢false (sym t)); turned = λ t. absurd (true≢false (sym t)) }
 
 -- ---- an expression under the terms of a path
 
@@ -361,7 +274,3 @@ wrapped-more cs from at to p c e f g (there, begins, rest, one) (path, on, was) 
       path-join cs from at c.to path (p ∷ []) on (c, there, begins, refl),
       is ∙ ap (λ t. app t (more f none)) (sym term) ∙ ap (λ x. app (coercion_term cs p) (more x none)) was ∙ sym (wrapped-last cs path p e),
     )
-
-pub reach-some : (cs : List Coercion) (most from to : ℕ) → (from ≡ to → ⊥) → Reaches cs most from to → 0 < most
-reach-some cs most from to other ([], on, le) = absurd (other on)
-reach-some cs most from to other (p ∷ path, on, le) = omega (arith, le)

@@ -1,4 +1,5 @@
 mod Cells
+mod Clashes
 mod Leading
-mod Noting
+mod Naming
 mod Walks

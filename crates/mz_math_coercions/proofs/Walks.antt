@@ -223,14 +223,14 @@ all-followed cs s old steps next so_far none p t step = go (cases_order p so_far
 pub record IsWalked (cs : List Coercion) (first steps : List (ℕ × ℕ)) (i : ℕ) : Type 0 where
   pub kept : (more : List (ℕ × ℕ)) × (steps ≡ first ++ more)
   pub only : (t : ℕ) → Has steps t → (s : ℕ) × Has first s × HasPath cs s t
-  pub via : (t p : ℕ) → Contains steps (t, p) → Has first t ⊎ ((s : ℕ) × Has steps s × IsStep cs s p t)
+  pub via : (t p : ℕ) → Contains steps (t, p) → Contains first (t, p) ⊎ ((s : ℕ) × Has steps s × IsStep cs s p t)
   pub closed : (k t p : ℕ) → k < i → slice_get steps k ≡ Some (t, p) → (q u : ℕ) → IsStep cs t q u → Has steps u
 
 pub none-walked : (cs : List Coercion) (first : List (ℕ × ℕ)) → IsWalked cs first first 0
 none-walked cs first = record {
   kept = ([], sym (append-nil first));
   only = λ t has. (t, has, ([], refl));
-  via = λ t p has. inl (p, has);
+  via = λ t p has. inl has;
   closed = λ k t p below at. absurd (omega (arith, below));
 }
 
@@ -257,7 +257,7 @@ module _ (cs : List Coercion) (first steps new : List (ℕ × ℕ)) (i : ℕ) (s
         | inr step ↦ let (r, first-r, (path, on)) = so_far.only s here in (r, first-r, (path ++ q ∷ [], path-join cs r s t path (q ∷ []) on (step.0, step.1, step.2, step.3)))
       ]
 
-      way : (t q : ℕ) → Contains new (t, q) → Has first t ⊎ ((r : ℕ) × Has new r × IsStep cs r q t)
+      way : (t q : ℕ) → Contains new (t, q) → Contains first (t, q) ⊎ ((r : ℕ) × Has new r × IsStep cs r q t)
       way t q has = elim (only t q has) [
         | inl old ↦ elim (so_far.via t q old) [ inl start ↦ inl start | inr came ↦ inr (came.0, still came.0 came.1, came.2) ]
         | inr step ↦ inr (s, still s here, step)
@@ -307,14 +307,14 @@ zero-more (x ∷ links) (suc i) = zero-more links i
 
 -- ---- from one sort
 
-pub from-one : (cs : List Coercion) (s : ℕ) (first steps : List (ℕ × ℕ)) → first ≡ (s, 0) ∷ [] → AreReached cs first steps → (t : ℕ) → Has steps t ↔ HasPath cs s t
-from-one cs s first steps is reached t = (
-  λ has. let (r, in-first, (path, on)) = reached.only t has in (path, subst (λ x. IsPath cs x path t) (only r in-first) on),
-  λ path. reached.all s t (0, subst (λ (xs : List (ℕ × ℕ)). Contains xs (s, 0)) (sym is) (contains_head (s, 0) [])) path,
+pub one-first : (s n t p : ℕ) (first : List (ℕ × ℕ)) → first ≡ (s, n) ∷ [] → Contains first (t, p) → (t ≡ s) × (p ≡ n)
+one-first s n t p first is has = elim (contains_cases (s, n) (t, p) [] (subst (λ (xs : List (ℕ × ℕ)). Contains xs (t, p)) is has)) [
+  | inl same ↦ (sym (ap (λ (e : ℕ × ℕ). e.0) same), sym (ap (λ (e : ℕ × ℕ). e.1) same))
+  | inr none ↦ let (k, below, _) = none in absurd (omega (arith, below))
+]
+
+pub from-one : (cs : List Coercion) (s n : ℕ) (first steps : List (ℕ × ℕ)) → first ≡ (s, n) ∷ [] → AreReached cs first steps → (t : ℕ) → Has steps t ↔ HasPath cs s t
+from-one cs s n first steps is reached t = (
+  λ has. let (r, (p, in-first), (path, on)) = reached.only t has in (path, subst (λ x. IsPath cs x path t) ((one-first s n r p first is in-first).0) on),
+  λ path. reached.all s t (n, subst (λ (xs : List (ℕ × ℕ)). Contains xs (s, n)) (sym is) (contains_head (s, n) [])) path,
 )
-  where
-    only : (r : ℕ) → Has first r → r ≡ s
-    only r (p, has) = elim (contains_cases (s, 0) (r, p) [] (subst (λ (xs : List (ℕ × ℕ)). Contains xs (r, p)) is has)) [
-      | inl same ↦ sym (ap (λ (e : ℕ × ℕ). e.0) same)
-      | inr none ↦ let (k, below, _) = none in absurd (omega (arith, below))
-    ]

@@ -1,4 +1,5 @@
 pub mod Firsts
 pub mod Graph
+pub mod Groups
+pub mod Kept
 pub mod Reached
-pub mod Sorts

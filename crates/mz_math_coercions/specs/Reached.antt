@@ -15,4 +15,4 @@ IsStep cs s p t = (c : Coercion) × (slice_get cs p ≡ Some c) × (c.from ≡ s
 pub record AreReached (cs : List Coercion) (first steps : List (ℕ × ℕ)) : Type 0 where
   pub only : (t : ℕ) → Has steps t → (s : ℕ) × Has first s × HasPath cs s t
   pub all : (s t : ℕ) → Has first s → HasPath cs s t → Has steps t
-  pub via : (t p : ℕ) → Contains steps (t, p) → Has first t ⊎ ((s : ℕ) × Has steps s × IsStep cs s p t)
+  pub via : (t p : ℕ) → Contains steps (t, p) → Contains first (t, p) ⊎ ((s : ℕ) × Has steps s × IsStep cs s p t)

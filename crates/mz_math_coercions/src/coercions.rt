@@ -1,49 +1,51 @@
 // Coercions in the order in which they were declared, and their paths.
-ghost use Rattle.std.specs.Prelude.{◌≡◌, ◌↔◌, ◌≤◌, ◌++◌, ◌∷◌, [], ℕ, List, IsTrue, IfOk, OnOk, OnErr, MatchBool, MatchOption, length};
+ghost use Rattle.std.specs.Prelude.{◌≡◌, ◌↔◌, ◌≤◌, ◌++◌, ◌∷◌, [], ℕ, List, IsTrue, IfOk, OnErr, MatchBool, MatchOption, length, true};
 ghost use Rattle.mz_logic_theory.specs.Tree.{app, more, none};
 ghost use Rattle.mz_logic_theory.specs.View.{tree};
 ghost use Rattle.mz_math_theory.specs.Coercions.{IsPath, OnePath, Reaches, wrapped};
 ghost use Rattle.mz_math_theory.specs.declared.coercion.Coercion.{Coercion};
-ghost use Rattle.mz_math_theory.specs.CoercionAnswers.{AreEnds, AreStarts, HasLength, HasPath};
-ghost use Rattle.mz_math_coercions.specs.Firsts.{AreLed};
+ghost use Rattle.mz_math_theory.specs.CoercionAnswers.{HasLength, HasPath};
+ghost use Rattle.mz_math_coercions.specs.Firsts.{AreLed, ArePathsTo};
+ghost use Rattle.mz_math_coercions.specs.Graph.{all_turned, turned as turned_lem};
 ghost use Rattle.mz_math_coercions.specs.Reached.{Has};
+ghost use Rattle.mz_math_coercions.specs.declared.hops.FirstSteps.{FirstSteps};
 
+use crate::clash::is_clash;
 use crate::graph::Graph;
+use crate::groups::Groups;
 use crate::hops::FirstSteps;
-use crate::next_hop::{
-    are_joined, find_ends, find_starts, forget_all, is_reached, lead_all, next_coercion,
-    steps_between,
-};
+use crate::next_hop::{first_place, lead, next_coercion, steps_between};
 use crate::reached::Reached;
-use crate::sorts::{Sorts, is_marked};
 use mz_logic_theory::{Expr, Exprs};
-use mz_math_theory::{Coercion, Start};
+use mz_math_theory::Coercion;
 use std::alloc::{AllocError, Global};
 use std::marker::Model;
 
-/// The coercions in order. Between two sorts they have one path at most, and it is found in as many
-/// steps as it has coercions.
+/// The coercions in order. Between two sorts they have one path at most. Among sorts that a binary
+/// can have it is found in as many steps as it has coercions, else by a walk.
 #[derive(Drop)]
 pub struct Coercions {
     graph: Graph,
-    // the sorts between which they lead
-    sorts: Sorts,
-    // for two sorts the place of the first coercion of the path
+    // the same coercions, each leading back
+    back: Graph,
+    groups: Groups,
+    // for two sorts the place of the first coercion of the path, where all are kept
     firsts: FirstSteps,
+    is_led: bool,
+    // no longer, where memory ran out while a coercion was added
+    is_whole: bool,
 }
 
 impl Model for Coercions {
     ghost use Rattle.std.specs.Prelude.{List};
     ghost use Rattle.mz_math_theory.specs.declared.coercion.Coercion.{Coercion};
-    ghost use Rattle.mz_math_theory.specs.Coercions.{OnePath};
-    ghost use Rattle.mz_math_coercions.specs.Firsts.{AreLed};
-    ghost use Rattle.mz_math_coercions.specs.Sorts.{AreNoted};
+    ghost use Rattle.mz_math_coercions.specs.Kept.{AreKept};
 
     ghost Value = { List Coercion };
 
     ghost view = { λ a. a.graph };
 
-    ghost invariant = { λ a. OnePath a.graph × AreNoted a.graph a.sorts × AreLed a.graph a.firsts };
+    ghost invariant = { λ a. AreKept a.graph a.back a.groups a.firsts a.is_led a.is_whole };
 }
 
 impl Coercions {
@@ -53,8 +55,11 @@ impl Coercions {
     {
         Coercions {
             graph: Graph::new(alloc),
-            sorts: Sorts::new(alloc),
+            back: Graph::new(alloc),
+            groups: Groups::new(alloc),
             firsts: FirstSteps::new(alloc),
+            is_led: true,
+            is_whole: true,
         }
     }
 
@@ -67,68 +72,156 @@ impl Coercions {
     }
 
     /// Adds a coercion, where there is at most one path between two sorts with it, too, and says
-    /// whether it did.
+    /// whether it did. Where its sorts are in different groups there is, without a search.
     ///
     /// # Errors
     ///
-    /// Where there is no memory. The coercions are unchanged then.
+    /// Where there is no memory, or was none while another one was added. The coercions are unchanged
+    /// then.
     pub fn add(&mut self, alloc: Global, coercion: Coercion) -> Result<bool, AllocError>
         ensures ok { IfOk result (λ added. MatchBool added (OnePath (self.old ++ coercion ∷ []) × (self.new ≡ self.old ++ coercion ∷ []))
             ((OnePath (self.old ++ coercion ∷ []) → ⊥) × (self.new ≡ self.old))) }
         ensures err { OnErr result (self.new ≡ self.old) }
     {
-        let is_reached = is_marked(&self.sorts.ends, coercion.from);
-        let leads_on = is_marked(&self.sorts.begins, coercion.to);
-        self.sorts.note(coercion)?;
-        let items = self.graph.as_slice();
-        let sorts = &self.sorts.list;
-        let starts = find_starts(alloc, items, sorts, &self.firsts, coercion, is_reached)?;
-        let ends = find_ends(alloc, items, sorts, &self.firsts, coercion, leads_on)?;
-        if are_joined(items, &self.firsts, &starts, &ends) {
+        if !self.is_whole {
+            return Err(AllocError);
+        }
+        if is_clash(alloc, &self.graph, &self.back, &mut self.groups, coercion)? {
             return Ok(false);
         }
-        push(&mut self.graph, &mut self.firsts, coercion, &starts, &ends)?;
+        let was_led = self.is_led;
+        self.is_led = false;
+        let is_led = lead_on(
+            alloc,
+            &self.graph,
+            &self.back,
+            &mut self.firsts,
+            coercion,
+            was_led,
+        )?;
+        self.is_whole = false;
+        self.back.add(turned(coercion))?;
+        self.groups.join(coercion.from, coercion.to)?;
+        self.graph.add(coercion)?;
+        self.is_whole = true;
+        self.is_led = is_led;
         Ok(true)
     }
 }
 
-/// Adds a coercion, and keeps the first coercions of the paths that go by it.
-fn push(
-    graph: &mut Graph,
+/// The coercion that leads back.
+fn turned(coercion: Coercion) -> Coercion
+    ensures { result ≡ turned_lem coercion }
+{
+    Coercion {
+        term: coercion.term,
+        from: coercion.to,
+        to: coercion.from,
+    }
+}
+
+/// Keeps the first coercions of the paths that go by a new coercion, where those of all others are
+/// kept, and says whether all are kept.
+///
+/// # Errors
+///
+/// Where there is no memory.
+fn lead_on(
+    alloc: Global,
+    graph: &Graph,
+    back: &Graph,
     firsts: &mut FirstSteps,
     coercion: Coercion,
-    starts: &[Start],
-    ends: &[u32],
-) -> Result<(), AllocError>
-    requires led { AreLed graph.old firsts.old }
-    requires one { OnePath (graph.old ++ coercion ∷ []) }
-    requires starts { AreStarts graph.old coercion starts.now }
-    requires ends { AreEnds graph.old coercion ends.now }
-    ensures led { AreLed graph.new firsts.new }
-    ensures ok { OnOk result (graph.new ≡ graph.old ++ coercion ∷ []) }
-    ensures err { OnErr result (graph.new ≡ graph.old) }
+    was_led: bool,
+) -> Result<bool, AllocError>
+    requires led { was_led ≡ true → AreLed graph.now firsts.old }
+    requires one { OnePath (graph.now ++ coercion ∷ []) }
+    requires turned { back.now ≡ all_turned graph.now }
+    ensures { IfOk result (λ all. all ≡ true → AreLed (graph.now ++ coercion ∷ []) firsts.new) }
 {
-    lead_all(firsts, starts, ends)?;
-    let Ok(()) = graph.add(coercion) else {
-        forget_all(firsts, starts, ends);
+    if was_led {
+        lead(alloc, graph, back, firsts, coercion)
+    } else {
+        Ok(false)
+    }
+}
+
+/// Where not all first coercions are kept, what is reached by a walk back from a sort.
+///
+/// # Errors
+///
+/// Where there is no memory, or was none when a coercion was added.
+fn walk_to(
+    alloc: Global,
+    back: &Graph,
+    is_led: bool,
+    is_whole: bool,
+    to: u32,
+) -> Result<Option<Reached>, AllocError>
+    ensures { IfOk result (λ walked. (cs : List Coercion) (m : FirstSteps) → (is_led ≡ true → AreLed cs m) → (is_whole ≡ true → back.now ≡ all_turned cs) → ArePathsTo cs m walked to) }
+{
+    if is_led {
+        return Ok(None);
+    }
+    if !is_whole {
         return Err(AllocError);
-    };
-    Ok(())
+    }
+    let mut walked = Reached::of(alloc, to, 0)?;
+    back.walk(&mut walked)?;
+    Ok(Some(walked))
 }
 
 /// The length of the path from a sort to another, if there is one.
-pub fn distance(coercions: &Coercions, from: u32, to: u32) -> Option<usize>
-    ensures { MatchOption result (Reaches coercions.now (length coercions.now) from to → ⊥) (HasLength coercions.now (length coercions.now) from to) }
+///
+/// Neither it nor `reaches` is inlined: operands stand deep in one another, and what a walk needs would
+/// take stack for each of them.
+///
+/// # Errors
+///
+/// Where there is no memory.
+#[inline(never)]
+pub fn distance(
+    alloc: Global,
+    coercions: &Coercions,
+    from: u32,
+    to: u32,
+) -> Result<Option<usize>, AllocError>
+    ensures { IfOk result (λ o. MatchOption o (Reaches coercions.now (length coercions.now) from to → ⊥) (HasLength coercions.now (length coercions.now) from to)) }
 {
-    let items = coercions.as_slice();
-    steps_between(items, &coercions.firsts, from, to, items.len())
+    if from == to {
+        return Ok(Some(0));
+    }
+    let walked = walk_to(
+        alloc,
+        &coercions.back,
+        coercions.is_led,
+        coercions.is_whole,
+        to,
+    )?;
+    let items = coercions.graph.as_slice();
+    Ok(steps_between(items, &coercions.firsts, &walked, from, to, items.len()))
 }
 
 /// Whether there is a path from a sort to another.
-pub fn reaches(coercions: &Coercions, from: u32, to: u32) -> bool
-    ensures { IsTrue result ↔ ((path : List ℕ) × IsPath coercions.now from path to) }
+///
+/// # Errors
+///
+/// Where there is no memory.
+#[inline(never)]
+pub fn reaches(alloc: Global, coercions: &Coercions, from: u32, to: u32) -> Result<bool, AllocError>
+    ensures { IfOk result (λ b. IsTrue b ↔ ((path : List ℕ) × IsPath coercions.now from path to)) }
 {
-    is_reached(coercions.graph.as_slice(), &coercions.firsts, from, to)
+    if from == to {
+        return Ok(true);
+    }
+    let walked = walk_to(
+        alloc,
+        &coercions.back,
+        coercions.is_led,
+        coercions.is_whole,
+        to,
+    )?;
+    Ok(first_place(&coercions.firsts, &walked, from, to).is_some())
 }
 
 /// The sorts to which a path leads from a sort.
@@ -139,7 +232,7 @@ pub fn reaches(coercions: &Coercions, from: u32, to: u32) -> bool
 pub fn reached_from(alloc: Global, coercions: &Coercions, from: u32) -> Result<Reached, AllocError>
     ensures { IfOk result (λ reached. (t : ℕ) → Has reached t ↔ HasPath coercions.now from t) }
 {
-    let mut reached = Reached::of(alloc, from)?;
+    let mut reached = Reached::of(alloc, from, 0)?;
     coercions.graph.walk(&mut reached)?;
     Ok(reached)
 }
@@ -159,13 +252,48 @@ pub fn wrap(
     requires { Reaches coercions.now (length coercions.now) from to }
     ensures { IfOk result (λ e. (path : List ℕ) × IsPath coercions.now from path to × (tree e ≡ wrapped coercions.now path (tree expr))) }
 {
+    if from == to {
+        return Ok(expr);
+    }
+    let walked = walk_to(
+        alloc,
+        &coercions.back,
+        coercions.is_led,
+        coercions.is_whole,
+        to,
+    )?;
+    wrap_along(
+        alloc,
+        coercions.graph.as_slice(),
+        &coercions.firsts,
+        &walked,
+        from,
+        to,
+        expr,
+    )
+}
+
+/// The same, where the first coercions are known.
+fn wrap_along(
+    alloc: Global,
+    items: &[Coercion],
+    firsts: &FirstSteps,
+    walked: &Option<Reached>,
+    from: u32,
+    to: u32,
+    expr: Expr,
+) -> Result<Expr, AllocError>
+    requires one { OnePath items.now }
+    requires paths { ArePathsTo items.now firsts.now walked.now to }
+    requires there { Reaches items.now (length items.now) from to }
+    ensures { IfOk result (λ e. (path : List ℕ) × IsPath items.now from path to × (tree e ≡ wrapped items.now path (tree expr))) }
+{
     let mut sort = from;
     let mut built = expr;
     // so many coercions are left at most
-    let items = coercions.graph.as_slice();
     let mut most = items.len();
     'steps: while sort != to {
-        let Some(coercion) = next_coercion(items, &coercions.firsts, sort, to) else {
+        let Some(coercion) = next_coercion(items, firsts, walked, sort, to) else {
             unreachable!()
         };
         built = applied(alloc, coercion.term, built)?;

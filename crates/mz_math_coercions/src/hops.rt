@@ -1,19 +1,17 @@
 // The places of first coercions, by two sorts.
-ghost use Rattle.std.specs.Prelude.{◌≡◌, ◌<◌, ◌+◌, ◌*◌, ℕ, None, Some, OnOk, OnErr, length};
-ghost use Rattle.mz_math_coercions.specs.Firsts.{IsPut, IsSame, IsSet, are_near as are_near_lem, cell_of as cell_lem, first_of, near_at as near_lem};
+ghost use Rattle.std.specs.Prelude.{◌≡◌, ◌<◌, ◌+◌, ◌*◌, ℕ, None, Some, IfOk, OnOk, length, true};
+ghost use Rattle.mz_math_coercions.specs.Firsts.{IsPut, IsSet, are_near as are_near_lem, cell_of as cell_lem, first_of, near_at as near_lem};
 
 use std::alloc::{AllocError, Global};
-use std::collections::BTreeMap;
 
 /// A binary has at most so many sorts, and so a specification that agrees with one.
 const SIDE: u32 = 128;
 
-/// Places by two sorts, from one to another. Those of the sorts that a binary can have stand in a
-/// square, so that each is found in one step.
+/// Places by two sorts that a binary can have, from one to another. They stand in a square, so that
+/// each is found in one step.
 #[derive(Drop)]
 pub struct FirstSteps {
     pub near: Vec<Option<usize>>,
-    pub far: BTreeMap<(u32, u32), usize>,
 }
 
 impl FirstSteps {
@@ -23,7 +21,6 @@ impl FirstSteps {
     {
         FirstSteps {
             near: Vec::new(alloc),
-            far: BTreeMap::new(alloc),
         }
     }
 
@@ -34,36 +31,23 @@ impl FirstSteps {
         if are_near(from, to) {
             near_at(&self.near, cell_of(from, to))
         } else {
-            self.far.get(&(from, to)).copied()
+            None
         }
     }
 
-    /// Keeps a place for two sorts.
+    /// Keeps a place for two sorts, where a binary can have both, and says whether it did.
     ///
     /// # Errors
     ///
-    /// Where there is no memory. The same is kept as before then.
-    pub fn insert(&mut self, from: u32, to: u32, place: usize) -> Result<(), AllocError>
-        ensures ok { OnOk result (IsPut self.old self.new from to (Some place)) }
-        ensures err { OnErr result (IsSame self.old self.new) }
+    /// Where there is no memory.
+    pub fn insert(&mut self, from: u32, to: u32, place: usize) -> Result<bool, AllocError>
+        ensures { IfOk result (λ near. near ≡ true → IsPut self.old self.new from to place) }
     {
-        if are_near(from, to) {
-            put_near(&mut self.near, cell_of(from, to), place)?;
-            return Ok(());
+        if !are_near(from, to) {
+            return Ok(false);
         }
-        self.far.insert((from, to), place)?;
-        Ok(())
-    }
-
-    /// Forgets what is kept for two sorts.
-    pub fn remove(&mut self, from: u32, to: u32)
-        ensures { IsPut self.old self.new from to None }
-    {
-        if are_near(from, to) {
-            clear_near(&mut self.near, cell_of(from, to));
-        } else {
-            self.far.remove(&(from, to));
-        }
+        put_near(&mut self.near, cell_of(from, to), place)?;
+        Ok(true)
     }
 }
 
@@ -90,8 +74,7 @@ fn near_at(cells: &[Option<usize>], i: usize) -> Option<usize>
 }
 
 fn put_near(cells: &mut Vec<Option<usize>>, i: usize, place: usize) -> Result<(), AllocError>
-    ensures ok { OnOk result (IsSet cells.old.items cells.new.items i (Some place)) }
-    ensures err { OnErr result ((j : ℕ) → near_lem cells.new.items j ≡ near_lem cells.old.items j) }
+    ensures { OnOk result (IsSet cells.old.items cells.new.items i (Some place)) }
 {
     reach(cells, i)?;
     cells[i] = Some(place);
@@ -107,12 +90,4 @@ fn reach(cells: &mut Vec<Option<usize>>, i: usize) -> Result<(), AllocError>
         cells.push(None)?;
     }
     Ok(())
-}
-
-fn clear_near(cells: &mut Vec<Option<usize>>, i: usize)
-    ensures { IsSet cells.old.items cells.new.items i None }
-{
-    if i < cells.len() {
-        cells[i] = None;
-    }
 }

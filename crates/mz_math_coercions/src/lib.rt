@@ -2,15 +2,16 @@
 //!
 //! What a path is, and that there is one at most between two sorts, is said in `mz_math_theory`.
 //! `specs/Firsts.antt` says what is kept so that a path is found step by step, `specs/Reached.antt`
-//! what a walk along coercions reaches.
+//! what a walk along coercions reaches, `specs/Groups.antt` between which sorts no path leads.
 #![tactic(auto)]
 
+mod clash;
 mod coercions;
 mod graph;
+mod groups;
 mod hops;
 mod next_hop;
 mod reached;
-mod sorts;
 
 pub use coercions::{Coercions, distance, reached_from, reaches, wrap};
 pub use reached::Reached;

@@ -22,18 +22,18 @@ impl Model for Reached {
 }
 
 impl Reached {
-    /// One sort, to which no coercion leads yet.
+    /// One sort and a place.
     ///
     /// # Errors
     ///
     /// Where there is no memory.
-    pub fn of(alloc: Global, sort: u32) -> Result<Reached, AllocError>
-        ensures { IfOk result (λ r. r ≡ (sort, 0) ∷ []) }
+    pub fn of(alloc: Global, sort: u32, place: usize) -> Result<Reached, AllocError>
+        ensures { IfOk result (λ r. r ≡ (sort, place) ∷ []) }
     {
         let mut reached = Reached {
             steps: IndexMap::new(alloc),
         };
-        reached.add(sort, 0)?;
+        reached.add(sort, place)?;
         Ok(reached)
     }
 
@@ -52,6 +52,16 @@ impl Reached {
         match self.steps.get_index(i) {
             None => None,
             Some(entry) => Some(*entry.0),
+        }
+    }
+
+    /// The i-th of them with its place.
+    pub fn step_at(&self, i: usize) -> Option<(u32, usize)>
+        ensures { result ≡ slice_get self.now i }
+    {
+        match self.steps.get_index(i) {
+            None => None,
+            Some(entry) => Some((*entry.0, *entry.1)),
         }
     }
 

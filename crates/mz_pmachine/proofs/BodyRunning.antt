@@ -1,14 +1,11 @@
 -- The loop over a body: what the machine keeps, and how many steps it counts at the most.
-use Rattle.std.proofs.Common.{◌≡◌, ◌≤◌, ◌+◌, ℕ, List, length, Result, Ok, Err, refl, sym, ◌∙◌, subst}
+use Rattle.std.proofs.Common.{◌≡◌, ◌≤◌, ◌+◌, ℕ, List, length, Result, Ok, Err, refl, ◌∙◌, subst}
 use Rattle.mz_cmd.specs.declared.rule.K.{K}
 use Rattle.mz_pmachine_theory.specs.NodeIdentity.{Numbered, portable}
 use Rattle.mz_machine_theory.specs.MachineState.{State}
 use Rattle.mz_machine_theory.specs.ProofMachine.{proof_end}
 use Rattle.mz_pmachine.specs.BodyAnswers.{IsBodyRun}
-use Rattle.mz_machine.specs.BodyAnswers.{IfRan, UnlessMem as UnlessBodyMem}
-use Rattle.mz_machine.specs.declared.body.BodyChecked.{BodyChecked}
-use Rattle.mz_machine.specs.declared.body.BodyEnd.{BodyEnd}
-use Rattle.mz_machine.specs.declared.body.BodyChecked.TheVariants as checked
+use Rattle.mz_machine.specs.BodyAnswers.{UnlessMem as UnlessBodyMem}
 use Rattle.mz_pmachine.specs.Steps.{Underway, tables_for, heading_for, row_of, steps_for, end_steps}
 use Rattle.mz_cmd.specs.declared.command.Cmd.{Cmd}
 use Rattle.mz_unify.specs.Rows.{StopsBy}
@@ -77,16 +74,3 @@ pub stop-counts : (u v : Underway) (place later steps all : ℕ) (c : Cmd) (afte
     → UnlessBodyMem (stopped_at place stop) (later ≡ all)
 stop-counts u v place later steps all c after (Rule d) same is many then = then d (row-over u v place v.state c (Err d) same is) (steps-over u v v.state c later steps same many)
 stop-counts u v place later steps all c after Mem same is many then = tt
-
--- ---- the nodes
-
--- what holds where a body ran
-pub ran-by : (r : BodyChecked) (P : Type 0) → ((end : BodyEnd) → r ≡ checked.Good end → P) → IfRan r P
-ran-by (checked.Good end) P good = good end refl
-ran-by (checked.Refused at d) P good = tt
-ran-by checked.Mem P good = tt
-
--- a body whose command is stopped didn't run
-pub stopped-ran : (place : ℕ) (stop : Stop) (r : BodyChecked) → r ≡ stopped_at place stop → (P : Type 0) → IfRan r P
-stopped-ran place (Rule d) r is P = subst (λ (b : BodyChecked). IfRan b P) (sym is) tt
-stopped-ran place Mem r is P = subst (λ (b : BodyChecked). IfRan b P) (sym is) tt

@@ -20,6 +20,14 @@ use Rattle.mz_unify.proofs.Offered.{differ}
 pub put_in : (s : Numbering) (old new : List Kept) (x : Kept) → new ≡ old ++ x ∷ [] → IsItemIn s x → AreItemsIn s old → AreItemsIn s new
 put_in s old new x is one all = subst (AreItemsIn s) (sym is) (items-in-both s old (x ∷ []) all (one, tt))
 
+-- the obligation that was taken stood on top
+pub owed-top : (xs ys : List (Item Numbered)) (l r : Numbered) → pop_obligation xs ≡ Ok (l, r, ys) → xs ≡ obligation l r ∷ ys
+owed-top [] ys l r e = absurd cc
+owed-top (expr n ∷ zs) ys l r e = absurd cc
+owed-top (proof n ∷ zs) ys l r e = absurd cc
+owed-top (conversion a b ∷ zs) ys l r e = absurd cc
+owed-top (obligation a b ∷ zs) ys l r e = ap (λ (p : Numbered × Numbered × List (Item Numbered)). obligation p.0 p.1 ∷ p.2) (taken-is (a, b, zs) (l, r, ys) e)
+
 -- ---- what an unfolding takes
 
 module _ (xs ys : List (Item Numbered)) (m : Numbered) (first : pop_expr xs ≡ Ok (m, ys)) where

@@ -6,6 +6,7 @@ mod Citing
 mod NodeItems
 mod TermResults
 mod Ending
+mod Proceeding
 mod Advancing
 mod BodyRunning
 mod Machines

@@ -5,3 +5,4 @@ pub mod Endings
 pub mod Stepping
 pub mod Running
 pub mod Rooms
+pub mod OpenNodes

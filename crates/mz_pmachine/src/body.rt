@@ -1,5 +1,5 @@
 //! A whole body, read in place.
-ghost use Rattle.std.specs.Prelude.{◌≡◌, ◌≤◌, ◌<◌, ◌^◌, ◌+◌, ◌-◌, ◌*◌, false, length};
+ghost use Rattle.std.specs.Prelude.{◌≡◌, ◌≤◌, ◌<◌, ◌^◌, ◌+◌, ◌-◌, ◌*◌, length};
 ghost use Rattle.mz_pmachine_theory.specs.NodeIdentity.{portable};
 ghost use Rattle.mz_machine_theory.specs.Bodies.{body_run, body_steps, body_from, body_steps_from};
 ghost use Rattle.mz_pmachine.specs.Steps.{heading_for, tables_for};
@@ -7,7 +7,8 @@ ghost use Rattle.mz_layout_tables.specs.Heads.{body_bytes};
 ghost use Rattle.mz_machine_env.specs.OwnRow.{MayRun, byte_of};
 ghost use Rattle.mz_machine_theory.specs.Headings.{heading_of};
 ghost use Rattle.mz_machine_env.specs.Before.{tables_before};
-ghost use Rattle.mz_machine.specs.BodyAnswers.{IfRan, UnlessMem};
+ghost use Rattle.mz_machine.specs.BodyAnswers.{UnlessMem};
+ghost use Rattle.mz_machine.specs.Rooms.{OneACommand};
 ghost use Rattle.mz_pmachine.specs.BodyAnswers.{IsBodyRun};
 ghost use Rattle.mz_pmachine.specs.Rooms.{HoldsAtMost};
 ghost use Rattle.mz_pmachine.specs.Running.{IsRunning, machine_of};
@@ -51,6 +52,8 @@ pub fn check_portable<L: Ledger>(
 }
 
 /// Runs the body of a statement as `check_portable` does, in room that earlier bodies may have left.
+/// Unless out of memory, the room keeps at most a node for each parameter and for each command that
+/// comes before the END.
 pub fn check_portable_in<L: Ledger>(
     alloc: Global,
     room: &mut PortableRoom,
@@ -67,7 +70,7 @@ pub fn check_portable_in<L: Ledger>(
     ensures run { IsBodyRun (heading_of mmb.now (byte_of kind) row) (body_run portable (tables_before mmb.now before) (heading_of mmb.now (byte_of kind) row) body.0 (body_bytes mmb.now body.0 body.1)) result }
     ensures most { steps.new ≤ steps.old + (body.1 - body.0) * (length mmb.now + 1) }
     ensures steps { UnlessMem result (steps.new ≡ steps.old + body_steps portable (tables_before mmb.now before) (heading_of mmb.now (byte_of kind) row) body.0 (body_bytes mmb.now body.0 body.1)) }
-    ensures nodes { IfRan result (HoldsAtMost (length (heading_of mmb.now (byte_of kind) row).params + length (body_bytes mmb.now body.0 body.1)) room.new) }
+    ensures nodes { UnlessMem result (HoldsAtMost (length (heading_of mmb.now (byte_of kind) row).params) (body_bytes mmb.now body.0 body.1) room.new) }
 {
     let Ok(mut desk) = room.take(alloc) else {
         return BodyChecked::Mem;
@@ -93,7 +96,7 @@ fn check_on<L: Ledger>(
     ensures run { IsBodyRun (heading_of mmb.now (byte_of kind) row) (body_run portable (tables_before mmb.now before) (heading_of mmb.now (byte_of kind) row) body.0 (body_bytes mmb.now body.0 body.1)) result }
     ensures most { steps.new ≤ steps.old + (body.1 - body.0) * (length mmb.now + 1) }
     ensures steps { UnlessMem result (steps.new ≡ steps.old + body_steps portable (tables_before mmb.now before) (heading_of mmb.now (byte_of kind) row) body.0 (body_bytes mmb.now body.0 body.1)) }
-    ensures nodes { IfRan result (length desk.new.parts.nodes.entries ≤ length (heading_of mmb.now (byte_of kind) row).params + length (body_bytes mmb.now body.0 body.1)) }
+    ensures nodes { UnlessMem result (OneACommand (length (heading_of mmb.now (byte_of kind) row).params) (body_bytes mmb.now body.0 body.1) (length desk.new.parts.nodes.entries)) }
 {
     let Ok(setting) = Setting::begin(mmb, kind, row, before, &mut desk.words, &mut desk.parts)
     else {
@@ -118,7 +121,7 @@ fn run<L: Ledger>(
     ensures run { IsBodyRun (heading_for (machine_of setting.now parts.old)) (body_from portable (tables_for (machine_of setting.now parts.old)) (heading_for (machine_of setting.now parts.old)) (length bytes.now) from bytes.now (machine_of setting.now parts.old).state) result }
     ensures steps { UnlessMem result (steps.new ≡ steps.old + body_steps_from portable (tables_for (machine_of setting.now parts.old)) (heading_for (machine_of setting.now parts.old)) (length bytes.now) from bytes.now (machine_of setting.now parts.old).state) }
     ensures most { steps.new ≤ steps.old + length bytes.now * (length setting.now.earlier.file + 1) }
-    ensures nodes { IfRan result (length parts.new.nodes.entries ≤ length parts.old.nodes.entries + length bytes.now) }
+    ensures nodes { UnlessMem result (OneACommand (length parts.old.nodes.entries) bytes.now (length parts.new.nodes.entries)) }
 {
     let mut at = 0;
     'commands: loop {

@@ -12,11 +12,13 @@ ghost use Rattle.mz_machine_theory.specs.Bodies.{row_steps};
 ghost use Rattle.mz_machine_env.specs.Before.{tables_of, signatures_of};
 ghost use Rattle.mz_pmachine.specs.OverNodes.{state_at, code_of, code_of_keeping, Grows};
 ghost use Rattle.mz_machine_env.specs.CommandCodes.{code_of_making, code_of_converting};
+ghost use Rattle.mz_machine_env.specs.declared.command.Converting.TheVariants.{Cong};
+ghost use Rattle.mz_pmachine.specs.declared.command.Command.TheVariants.{Converts};
 ghost use Rattle.mz_machine.specs.OverStore.{Gives, UnlessMem};
 ghost use Rattle.mz_pmachine_theory.specs.NodeIdentity.{portable};
 
 use crate::command::{Command, Keeping};
-use conversions::{cong, conv, conv_cut, conv_save, refl, symm, unfold};
+use conversions::{conv, conv_cut, conv_save, refl, symm, unfold};
 use heap::{dummy, hyp, refer, save};
 use mz_cmd::{K, Steps};
 use mz_machine::{assume, by_rule};
@@ -44,6 +46,7 @@ fn make<L: Ledger>(
     requires heap { AreItemsIn nodes.old heap.old.items }
     requires stack { AreItemsIn nodes.old stack.old.items }
     ensures grows { OnOk result (Grows (signatures_of earlier.now) nodes.old nodes.new) }
+    ensures nodes { length nodes.new.entries ≤ length nodes.old.entries + 1 }
     ensures ids { OnOk result (AreItemsIn nodes.new heap.new.items × AreItemsIn nodes.new stack.new.items) }
     ensures next { OnOk result (nodes.new.next ≤ at + 1) }
     ensures row { (hyps : List Id) → AreIn nodes.old hyps → Gives (proof_step portable (tables_of earlier.now) at (code_of_making command) value (state_at nodes.old heap.old.items stack.old.items hyps)) result (λ _. state_at nodes.new heap.new.items stack.new.items hyps) }
@@ -86,6 +89,7 @@ fn keep(
     requires hyps { AreIn nodes.old hyps.old.items }
     requires few { length hyps.old.items < 2 ^ 32 }
     ensures grows { OnOk result (Grows (signatures_of earlier.now) nodes.old nodes.new) }
+    ensures nodes { length nodes.new.entries ≤ length nodes.old.entries + 1 }
     ensures ids { OnOk result (AreItemsIn nodes.new heap.new.items × AreItemsIn nodes.new stack.new.items × AreIn nodes.new hyps.new.items) }
     ensures few { OnOk result (length hyps.new.items < 2 ^ 32) }
     ensures next { OnOk result (nodes.new.next ≡ nodes.old.next) }
@@ -110,7 +114,7 @@ fn keep(
     }
 }
 
-/// Executes a command on conversions. A gap is refused.
+/// Executes a command on conversions other than Cong. A gap is refused.
 fn convert<L: Ledger>(
     earlier: &Earlier,
     command: Converting,
@@ -123,6 +127,7 @@ fn convert<L: Ledger>(
     requires over { IsOver (signatures_of earlier.now) nodes.now }
     requires heap { AreItemsIn nodes.now heap.old.items }
     requires stack { AreItemsIn nodes.now stack.old.items }
+    requires other { command ≡ Cong → ⊥ }
     ensures ids { OnOk result (AreItemsIn nodes.now heap.new.items × AreItemsIn nodes.now stack.new.items) }
     ensures row { (at value : ℕ) (hyps : List Id) → Gives (proof_step portable (tables_of earlier.now) at (code_of_converting command) value (state_at nodes.now heap.old.items stack.old.items hyps)) result (λ _. state_at nodes.now heap.new.items stack.new.items hyps) }
     ensures steps { (value : ℕ) (hyps : List Id) → UnlessMem result (steps.new ≡ steps.old + row_steps portable (tables_of earlier.now) (code_of_converting command) value (state_at nodes.now heap.old.items stack.old.items hyps)) }
@@ -132,7 +137,7 @@ fn convert<L: Ledger>(
         Converting::Conv => by_rule(conv(nodes, stack)),
         Converting::Refl => by_rule(refl(nodes, stack)),
         Converting::Symm => by_rule(symm(nodes, stack)),
-        Converting::Cong => cong(nodes, stack),
+        Converting::Cong => unreachable!(),
         Converting::Unfold => unfold(earlier, nodes, stack, spare, steps),
         Converting::ConvCut => conv_cut(nodes, stack),
         Converting::ConvSave => match conv_save(nodes, stack) {
@@ -143,7 +148,7 @@ fn convert<L: Ledger>(
     }
 }
 
-/// Executes the command at a place.
+/// Executes the command at a place, which is not Cong.
 pub(crate) fn execute<L: Ledger>(
     earlier: &Earlier,
     at: u32,
@@ -162,7 +167,9 @@ pub(crate) fn execute<L: Ledger>(
     requires stack { AreItemsIn nodes.old stack.old.items }
     requires hyps { AreIn nodes.old hyps.old.items }
     requires few { length hyps.old.items < 2 ^ 32 }
+    requires other { command ≡ Converts Cong → ⊥ }
     ensures grows { OnOk result (Grows (signatures_of earlier.now) nodes.old nodes.new) }
+    ensures nodes { length nodes.new.entries ≤ length nodes.old.entries + 1 }
     ensures ids { OnOk result (AreItemsIn nodes.new heap.new.items × AreItemsIn nodes.new stack.new.items × AreIn nodes.new hyps.new.items) }
     ensures few { OnOk result (length hyps.new.items < 2 ^ 32) }
     ensures next { OnOk result (nodes.new.next ≤ at + 1) }

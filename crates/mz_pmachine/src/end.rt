@@ -24,7 +24,7 @@ use mz_cmd::{K, Steps};
 use mz_logic_theory::Word;
 use mz_machine::mode_of;
 use mz_machine_env::{BodyKind, Earlier, Spare, first_ids, own_arity, own_proofs, own_stream};
-use mz_pmachine_unify::{Nodes, unify_in};
+use mz_pmachine_unify::{Nodes, kept_apart, unify_in};
 use mz_store::{Id, Item};
 use mz_unify::Stop;
 use std::sync::ledger::Ledger;
@@ -90,12 +90,15 @@ fn run_own<L: Ledger>(
     ensures most { steps.new ≤ steps.old + length stream.now }
 {
     let mode = mode_of(kind);
+    let operands: &[Id] = &spare.operands;
     unify_in(
         earlier,
         stream,
         mode,
-        &mut spare.operands,
+        operands,
+        kept_apart(nodes, operands),
         target,
+        &mut spare.saved,
         &mut spare.targets,
         &mut spare.hyps,
         nodes,

@@ -10,6 +10,8 @@ mod command;
 mod commands;
 mod disjoint;
 mod end;
+mod equations;
+mod lack;
 mod machine;
 mod scratch;
 mod stack;

@@ -1,27 +1,32 @@
 //! A machine that takes the commands of one body.
-ghost use Rattle.std.specs.Prelude.{◌≡◌, ◌≤◌, ◌<◌, ◌+◌, ◌^◌, ℕ, false, IfOk, OnOk, length};
+ghost use Rattle.std.specs.Prelude.{◌≡◌, ◌≤◌, ◌<◌, ◌+◌, ◌^◌, ◌↔◌, ℕ, false, IfOk, IsTrue, OnOk, length, reverse};
 ghost use Rattle.mz_store.specs.Bits.{bound_vars};
 ghost use Rattle.mz_pmachine_unify.specs.Numbering.{AreIn, IsOver};
-ghost use Rattle.mz_pmachine_unify.specs.Stored.{AreItemsIn};
+ghost use Rattle.mz_pmachine_unify.specs.Stored.{AreItemsIn, items_at};
 ghost use Rattle.mz_machine_theory.specs.Bodies.{body_command};
 ghost use Rattle.mz_machine_env.specs.OwnRow.{MayRun, byte_of, kind_of};
 ghost use Rattle.mz_machine_env.specs.Before.{tables_of, signatures_of};
-ghost use Rattle.mz_pmachine.specs.OverNodes.{state_at, Grows};
-ghost use Rattle.mz_machine.specs.OverStore.{Gives, UnlessMem as OrMem};
+ghost use Rattle.mz_machine_env.specs.declared.command.Converting.TheVariants.{Cong};
+ghost use Rattle.mz_machine.specs.OpenEquations.{AreSettled};
+ghost use Rattle.mz_machine.specs.OverStore.{UnlessMem as OrMem};
+ghost use Rattle.mz_pmachine.specs.OpenNodes.{of_nodes, whole_state, Proceeds};
+ghost use Rattle.mz_pmachine.specs.declared.command.Command.TheVariants.{Converts};
 ghost use Rattle.mz_pmachine.specs.Steps.{heading_for, tables_for, steps_for, row_by, steps_by, end_steps};
 ghost use Rattle.mz_pmachine_theory.specs.NodeIdentity.{portable};
 ghost use Rattle.mz_pmachine.specs.Running.{IsRunning, machine_of};
 ghost use Rattle.mz_pmachine.specs.Stepping.{IsBegun, IsStepped, IsFinished};
 ghost use Rattle.mz_machine.specs.Stepping.{UnlessEndMem};
 
-use crate::command::decoded;
+use crate::command::{Command, decoded};
 use crate::commands::execute;
 use crate::end::end;
+use crate::equations::{open_equation, settle};
+use crate::lack::lack;
 use mz_cmd::{Cmd, K, Steps};
 use mz_layout_tables::{Mmb, Rows};
 use mz_logic_theory::Word;
-use mz_machine::{BodyEnd, Finished};
-use mz_machine_env::{BodyKind, Earlier, Spare, deps_mode, first_items, read_words};
+use mz_machine::{BodyEnd, Equation, Finished};
+use mz_machine_env::{BodyKind, Converting, Earlier, Spare, deps_mode, first_items, read_words};
 use mz_pmachine_unify::Nodes;
 use mz_store::{Id, Item};
 use mz_unify::Stop;
@@ -43,6 +48,7 @@ pub(crate) struct Parts {
     nodes: Nodes,
     heap: Vec<Item>,
     stack: Vec<Item>,
+    equations: Vec<Equation>,
     hyps: Vec<Id>,
     spare: Spare,
 }
@@ -54,6 +60,7 @@ impl Parts {
             nodes: Nodes::new(alloc),
             heap: Vec::new(alloc),
             stack: Vec::new(alloc),
+            equations: Vec::new(alloc),
             hyps: Vec::new(alloc),
             spare: Spare::new(alloc),
         }
@@ -86,6 +93,7 @@ impl<'a> Setting<'a> {
         parts.nodes.begin(words.as_slice(), deps_mode(kind))?;
         first_items(&mut parts.heap, words.len())?;
         parts.stack.clear();
+        parts.equations.clear();
         parts.hyps.clear();
         let bound_params = parts.nodes.bound_count();
         Ok(Setting {
@@ -113,6 +121,7 @@ impl<'a> Setting<'a> {
         ensures row { IsStepped (machine_of self.now parts.old) cmd at (machine_of self.now parts.new) result }
         ensures steps { OrMem result (steps.new ≡ steps.old + steps_for (tables_of self.now.earlier) (heading_for (machine_of self.now parts.old)) (machine_of self.now parts.old).state cmd) }
         ensures most { steps.new ≤ steps.old + (1 + length self.now.earlier.file) }
+        ensures nodes { length parts.new.nodes.entries ≤ length parts.old.nodes.entries + 1 }
     {
         obey(
             &self.earlier,
@@ -122,6 +131,7 @@ impl<'a> Setting<'a> {
             &mut parts.nodes,
             &mut parts.heap,
             &mut parts.stack,
+            &mut parts.equations,
             &mut parts.hyps,
             &mut parts.spare,
             steps,
@@ -156,7 +166,8 @@ impl<'a> Setting<'a> {
 }
 
 /// Executes the command at a place, which is no END, if it stands in bodies of the kind, and counts its
-/// steps.
+/// steps; over all that stands on the stack: the items that are written out, and the obligations still to
+/// come. Behind it the obligation in hand is written out.
 fn obey<L: Ledger>(
     earlier: &Earlier,
     kind: BodyKind,
@@ -165,6 +176,7 @@ fn obey<L: Ledger>(
     nodes: &mut Nodes,
     heap: &mut Vec<Item>,
     stack: &mut Vec<Item>,
+    equations: &mut Vec<Equation>,
     hyps: &mut Vec<Id>,
     spare: &mut Spare,
     steps: &mut Steps<L>,
@@ -174,23 +186,37 @@ fn obey<L: Ledger>(
     requires over { IsOver (signatures_of earlier.now) nodes.old }
     requires heap { AreItemsIn nodes.old heap.old.items }
     requires stack { AreItemsIn nodes.old stack.old.items }
+    requires settled { AreSettled (of_nodes nodes.old) (reverse equations.old.items) (items_at nodes.old stack.old.items) }
     requires hyps { AreIn nodes.old hyps.old.items }
     requires few { length hyps.old.items < 2 ^ 32 }
-    ensures grows { OnOk result (Grows (signatures_of earlier.now) nodes.old nodes.new) }
-    ensures ids { OnOk result (AreItemsIn nodes.new heap.new.items × AreItemsIn nodes.new stack.new.items × AreIn nodes.new hyps.new.items) }
-    ensures few { OnOk result (length hyps.new.items < 2 ^ 32) }
-    ensures next { OnOk result (nodes.new.next ≤ at + 1) }
-    ensures row { Gives (row_by (tables_of earlier.now) at (state_at nodes.old heap.old.items stack.old.items hyps.old.items) (body_command portable (kind_of kind) cmd.code cmd.value)) result (λ _. state_at nodes.new heap.new.items stack.new.items hyps.new.items) }
-    ensures steps { OrMem result (steps.new ≡ steps.old + steps_by (tables_of earlier.now) (state_at nodes.old heap.old.items stack.old.items hyps.old.items) (body_command portable (kind_of kind) cmd.code cmd.value)) }
+    ensures done { Proceeds (signatures_of earlier.now) at (row_by (tables_of earlier.now) at (whole_state nodes.old heap.old.items equations.old.items stack.old.items hyps.old.items) (body_command portable (kind_of kind) cmd.code cmd.value)) nodes.old nodes.new heap.new.items equations.new.items stack.new.items hyps.new.items result }
+    ensures steps { OrMem result (steps.new ≡ steps.old + steps_by (tables_of earlier.now) (whole_state nodes.old heap.old.items equations.old.items stack.old.items hyps.old.items) (body_command portable (kind_of kind) cmd.code cmd.value)) }
+    ensures nodes { length nodes.new.entries ≤ length nodes.old.entries + 1 }
     ensures most { steps.new ≤ steps.old + (1 + length earlier.now.file) }
 {
     steps.tick();
     let Some(command) = decoded(kind, cmd.code) else {
         return Err(Stop::Rule(K::Command));
     };
-    execute(
+    if let Some(rule) = lack(earlier, command, cmd.value, nodes, stack.len(), equations) {
+        return Err(Stop::Rule(rule));
+    }
+    if is_cong(command) {
+        return open_equation(nodes, stack, equations);
+    }
+    match execute(
         earlier, at, command, cmd.value, nodes, heap, stack, hyps, spare, steps,
-    )
+    ) {
+        Ok(()) => settle(nodes, stack, equations),
+        Err(stop) => Err(stop),
+    }
+}
+
+/// Whether the command opens an equation.
+fn is_cong(command: Command) -> bool
+    ensures { IsTrue result ↔ (command ≡ Converts Cong) }
+{
+    matches!(command, Command::Converts(Converting::Cong))
 }
 
 /// The hypotheses, and the bound variables that aren't parameters. No gap is left.

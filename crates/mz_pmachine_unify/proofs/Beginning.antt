@@ -7,17 +7,15 @@ use Rattle.mz_store.specs.Bits.{bound_vars}
 use Rattle.mz_store.specs.Nodes.{binder_after}
 use Rattle.mz_pmachine_theory.specs.NodeIdentity.{a_variable}
 use Rattle.mz_pmachine_unify.specs.Numbering.{Entry, Numbering, expr_of}
-use Rattle.mz_pmachine_unify.specs.Entering.{entered, entered_all, variable_node}
-use Rattle.mz_pmachine_unify.specs.declared.node.Node.{Node}
-use Rattle.mz_pmachine_unify.specs.declared.node.Form.TheVariants.{Variable}
+use Rattle.mz_pmachine_unify.specs.Entering.{Made, variable, entered, entered_all, variable_node}
 use Rattle.mz_store.proofs.Offered.{context-after, context_after, next-word}
 use Rattle.mz_pmachine_unify.proofs.Growing.{Begins, entry_with, entry-new, entry-kept, last-in}
 
 pub node-is : (w : Word) (sort deps : ℕ) (bound : Bool) → sort ≡ word_sort w → deps ≡ word_deps w → bound ≡ word_bound w
-    → record { sort = sort; vars = deps; deps = deps; form = Variable bound } ≡ variable_node w
+    → record { sort = sort; vars = deps; deps = deps; form = variable bound } ≡ variable_node w
 node-is w sort deps bound s d b =
-    ap (λ x. record { sort = x; vars = deps; deps = deps; form = Variable bound }) s ∙ ap (λ x. record { sort = word_sort w; vars = x; deps = x; form = Variable bound }) d
-    ∙ ap (λ x. record { sort = word_sort w; vars = word_deps w; deps = word_deps w; form = Variable x }) b
+    ap (λ x. record { sort = x; vars = deps; deps = deps; form = variable bound }) s ∙ ap (λ x. record { sort = word_sort w; vars = x; deps = x; form = variable bound }) d
+    ∙ ap (λ x. record { sort = word_sort w; vars = word_deps w; deps = word_deps w; form = variable x }) b
 
 pub rest-entered : (s s' : Numbering) (ws : List Word) (i : ℕ) → i < length ws → s' ≡ entered s (variable_node (get_or ws i (record { 0 = 0 })))
     → entered_all s' (map variable_node (drop (i + 1) ws)) ≡ entered_all s (map variable_node (drop i ws))
@@ -39,7 +37,7 @@ pub begun-many : (s : Numbering) (ws : List Word) → length (entered_all s (map
 begun-many s [] = omega arith
 begun-many s (w ∷ ws) = begun-many (entered s (variable_node w)) ws ∙ ap (λ m. m + length ws) (length-push s.entries _) ∙ (let e : suc (length s.entries) + length ws ≡ length s.entries + suc (length ws) = omega arith in e)
 
-all-begins : (s : Numbering) (ns : List Node) → Begins s (entered_all s ns)
+all-begins : (s : Numbering) (ns : List Made) → Begins s (entered_all s ns)
 all-begins s [] = ([], sym (append-nil s.entries))
 all-begins s (n ∷ ns) = (let (last, is) = all-begins (entered s n) ns in
     (entry_with s n ∷ last, is ∙ append_assoc s.entries (entry_with s n ∷ []) last))

@@ -11,13 +11,11 @@ use Rattle.mz_store.specs.Nodes.{binder_after, IsVariableWord}
 use Rattle.mz_store.specs.declared.item.DepsMode.TheVariants as of
 use Rattle.mz_store.proofs.Offered.{tells-longer, told-of-var, tells-variable, adds-past}
 use Rattle.mz_pmachine_unify.specs.Numbering.{Numbering, entry_of, by_vars, by_deps, IsRightEntry, IsOver}
-use Rattle.mz_pmachine_unify.specs.Entering.{entered}
-use Rattle.mz_pmachine_unify.specs.declared.node.Node.{Node}
-use Rattle.mz_pmachine_unify.specs.declared.node.Form.TheVariants.{Variable}
+use Rattle.mz_pmachine_unify.specs.Entering.{Made, variable, entered}
 use Rattle.mz_pmachine_unify.proofs.Growing.{entered-begins, entry-kept, entry-new, in-cases}
 
 pub over-entered : (s : Numbering) (sort deps : ℕ) (bound : Bool) → DepsInside s.context → IsVariableWord (length (bound_vars s.context)) deps bound
-    → (sigs : List Signature) → IsOver sigs s → IsOver sigs (entered s (record { sort = sort; vars = deps; deps = deps; form = Variable bound }))
+    → (sigs : List Signature) → IsOver sigs s → IsOver sigs (entered s (record { sort = sort; vars = deps; deps = deps; form = variable bound }))
 over-entered s sort deps bound inside word sigs over i in_i = elim (in-cases s n i in_i) [
   | inl before ↦ subst (IsRightEntry s.mode sigs ctx') (sym (entry-kept s (entered s n) (entered-begins s n) i before)) (
     tells-longer s.mode sigs s.context ctx' longer (adds-past s.context b) inside (by_deps (entry_of s i)) (over i before).0,
@@ -29,8 +27,8 @@ over-entered s sort deps bound inside word sigs over i in_i = elim (in-cases s n
   ))
 ]
   where
-    n : Node
-    n = record { sort = sort; vars = deps; deps = deps; form = Variable bound }
+    n : Made
+    n = record { sort = sort; vars = deps; deps = deps; form = variable bound }
 
     b : Binder
     b = binder_after s.context sort deps bound

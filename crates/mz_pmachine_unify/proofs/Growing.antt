@@ -12,17 +12,14 @@ use Rattle.mz_store.proofs.Offered.{only-last}
 use Rattle.mz_store.specs.declared.item.Id.{Id}
 use Rattle.mz_pmachine_theory.specs.NodeIdentity.{Numbered, a_variable, an_application, one_more}
 use Rattle.mz_pmachine_unify.specs.Numbering.{Entry, Numbering, entry_of, expr_of, exprs_of, IsIn, AreIn, IsMadeBefore}
-use Rattle.mz_pmachine_unify.specs.Entering.{entered, entered_all, context_with, expr_with, next_with}
+use Rattle.mz_pmachine_unify.specs.Entering.{Made, MadeOf, variable, application, entered, entered_all, context_with, expr_with, next_with}
 use Rattle.mz_pmachine_unify.specs.Kept.{Forms, Shows, IsKept}
-use Rattle.mz_pmachine_unify.specs.declared.node.Node.{Node}
-use Rattle.mz_pmachine_unify.specs.declared.node.Form.{Form}
-use Rattle.mz_pmachine_unify.specs.declared.node.Form.TheVariants.{Variable, Application}
 
-pub entered-all-push : (s : Numbering) (ns : List Node) (n : Node) → entered_all s (ns ++ n ∷ []) ≡ entered (entered_all s ns) n
+pub entered-all-push : (s : Numbering) (ns : List Made) (n : Made) → entered_all s (ns ++ n ∷ []) ≡ entered (entered_all s ns) n
 entered-all-push s [] n = refl
 entered-all-push s (m ∷ ns) n = entered-all-push (entered s m) ns n
 
-pub mode-of : (s : Numbering) (ns : List Node) → (entered_all s ns).mode ≡ s.mode
+pub mode-of : (s : Numbering) (ns : List Made) → (entered_all s ns).mode ≡ s.mode
 mode-of s [] = refl
 mode-of s (n ∷ ns) = mode-of (entered s n) ns
 
@@ -30,13 +27,13 @@ mode-of s (n ∷ ns) = mode-of (entered s n) ns
 abbrev pub Begins : Numbering → Numbering → Type 0
 Begins s s' = (last : List Entry) × (s'.entries ≡ s.entries ++ last)
 
-abbrev pub entry_with : Numbering → Node → Entry
+abbrev pub entry_with : Numbering → Made → Entry
 entry_with s n = record { expr = expr_with s n.form; sort = n.sort; vars = n.vars; deps = n.deps }
 
 abbrev nothing : Entry
 nothing = record { expr = a_variable 0; sort = 0; vars = 0; deps = 0 }
 
-pub entered-begins : (s : Numbering) (n : Node) → Begins s (entered s n)
+pub entered-begins : (s : Numbering) (n : Made) → Begins s (entered s n)
 entered-begins s n = (entry_with s n ∷ [], refl)
 
 pub in-kept : (s s' : Numbering) → Begins s s' → (i : ℕ) → IsIn s i → IsIn s' i
@@ -54,29 +51,29 @@ exprs-kept s s' begins [] inside = refl
 exprs-kept s s' begins (i ∷ is) (inside, rest) =
     ap (λ (e : Entry). one_more e.expr (exprs_of s' is)) (entry-kept s s' begins i.0 inside) ∙ ap (one_more (expr_of s i.0)) (exprs-kept s s' begins is rest)
 
-pub entry-new : (s : Numbering) (n : Node) → entry_of (entered s n) (length s.entries) ≡ entry_with s n
+pub entry-new : (s : Numbering) (n : Made) → entry_of (entered s n) (length s.entries) ≡ entry_with s n
 entry-new s n = get_or-append_seam s.entries (entry_with s n) [] nothing
 
-pub in-cases : (s : Numbering) (n : Node) (i : ℕ) → IsIn (entered s n) i → IsIn s i ⊎ (i ≡ length s.entries)
+pub in-cases : (s : Numbering) (n : Made) (i : ℕ) → IsIn (entered s n) i → IsIn s i ⊎ (i ≡ length s.entries)
 in-cases s n i inside = grind (arith, length-append s.entries (entry_with s n ∷ []))
 
-pub last-in : (s : Numbering) (n : Node) → IsIn (entered s n) (length s.entries)
+pub last-in : (s : Numbering) (n : Made) → IsIn (entered s n) (length s.entries)
 last-in s n = omega (arith, length-append s.entries (entry_with s n ∷ []))
 
-pub context-grows : (s : Numbering) (n : Node) (f : Form) (x : ℕ) (b : Binder) → slice_get s.context x ≡ Some b → slice_get (context_with s n f) x ≡ Some b
-context-grows s n (Variable bound) x b at = extends_append s.context (binder_after s.context n.sort n.deps bound ∷ []) x b at
-context-grows s n (Application number head operands) x b at = at
+pub context-grows : (s : Numbering) (n : Made) (f : MadeOf) (x : ℕ) (b : Binder) → slice_get s.context x ≡ Some b → slice_get (context_with s n f) x ≡ Some b
+context-grows s n (variable bound) x b at = extends_append s.context (binder_after s.context n.sort n.deps bound ∷ []) x b at
+context-grows s n (application number head operands) x b at = at
 
-forms-kept : (s : Numbering) (n : Node) (i : ℕ) → IsIn s i → (f : Form) → Forms s i f → Forms (entered s n) i f
-forms-kept s n i inside (Variable bound) (x, b, is, at, bd) =
+forms-kept : (s : Numbering) (n : Made) (i : ℕ) → IsIn s i → (f : MadeOf) → Forms s i f → Forms (entered s n) i f
+forms-kept s n i inside (variable bound) (x, b, is, at, bd) =
     (x, b, ap (λ (e : Entry). e.expr) (entry-kept s (entered s n) (entered-begins s n) i inside) ∙ is, context-grows s n n.form x b at, bd)
-forms-kept s n i inside (Application number head operands) (there, is) = (
-  are-in-kept s (entered s n) (entered-begins s n) operands.items there,
+forms-kept s n i inside (application number head operands) (there, is) = (
+  are-in-kept s (entered s n) (entered-begins s n) operands there,
   ap (λ (e : Entry). e.expr) (entry-kept s (entered s n) (entered-begins s n) i inside) ∙ is
-      ∙ ap (an_application number head) (sym (exprs-kept s (entered s n) (entered-begins s n) operands.items there)),
+      ∙ ap (an_application number head) (sym (exprs-kept s (entered s n) (entered-begins s n) operands there)),
 )
 
-shows-kept : (s : Numbering) (n : Node) (i : ℕ) → IsIn s i → (m : Node) → Shows s i m → Shows (entered s n) i m
+shows-kept : (s : Numbering) (n : Made) (i : ℕ) → IsIn s i → (m : Made) → Shows s i m → Shows (entered s n) i m
 shows-kept s n i inside m shows = record {
   sort = ap (λ (e : Entry). e.sort) (entry-kept s (entered s n) (entered-begins s n) i inside) ∙ shows.sort;
   vars = ap (λ (e : Entry). e.vars) (entry-kept s (entered s n) (entered-begins s n) i inside) ∙ shows.vars;
@@ -92,12 +89,12 @@ made-before m n le (a_variable x) h = tt
 made-before m n le (an_application k t es) h = omega (arith, le, h)
 
 -- the number above all does not fall, and that of the new node is below it
-abbrev Rises : Numbering → Form → Type 0
+abbrev Rises : Numbering → MadeOf → Type 0
 Rises s f = (s.next ≤ next_with s f) × IsMadeBefore (next_with s f) (expr_with s f)
 
 -- ---- what holds before holds with the new node
 
-pub kept-grown : (s : Numbering) (count count' : ℕ) (nodes : List Node) (n : Node) → IsKept s count nodes
+pub kept-grown : (s : Numbering) (count count' : ℕ) (nodes : List Made) (n : Made) → IsKept s count nodes
     → count' ≡ length (bound_vars (context_with s n n.form)) → count' ≤ 55
     → Forms (entered s n) (length s.entries) n.form
     → ((i : ℕ) → IsIn s i → expr_of s i ≡ expr_with s n.form → ⊥)
@@ -114,7 +111,7 @@ kept-grown s count count' nodes n kept counted small form fresh rises inside = r
   once = once;
 }
   where
-    shown : (i : ℕ) (m : Node) → slice_get (nodes ++ n ∷ []) i ≡ Some m → Shows (entered s n) i m
+    shown : (i : ℕ) (m : Made) → slice_get (nodes ++ n ∷ []) i ≡ Some m → Shows (entered s n) i m
     shown i m at = elim (split_at nodes (n ∷ []) i m at) [
       | inl here ↦ shows-kept s n i (omega (arith, kept.many, slice_get_within nodes i m here)) m (kept.shown i m here)
       | inr later ↦ last later.0 later.1 (only-last n m later.0 later.2)
@@ -153,13 +150,13 @@ kept-grown s count count' nodes n kept counted small form fresh rises inside = r
 
 -- ---- no expressions
 
-pub kept-empty : (s : Numbering) (nodes : List Node) → s.entries ≡ [] → s.context ≡ [] → nodes ≡ [] → IsKept s 0 nodes
+pub kept-empty : (s : Numbering) (nodes : List Made) → s.entries ≡ [] → s.context ≡ [] → nodes ≡ [] → IsKept s 0 nodes
 kept-empty s nodes no-entries no-context no-nodes = record {
   many = ap length no-entries ∙ sym (ap length no-nodes);
   count = sym (ap (λ (ctx : List Binder). length (bound_vars ctx)) no-context);
   small = omega arith;
   inside = λ i b at. absurd (none-some _ (sym (ap (λ (ctx : List Binder). slice_get ctx i) no-context) ∙ at));
-  shown = λ i n at. absurd (none-some _ (sym (ap (λ (ns : List Node). slice_get ns i) no-nodes) ∙ at));
+  shown = λ i n at. absurd (none-some _ (sym (ap (λ (ns : List Made). slice_get ns i) no-nodes) ∙ at));
   before = λ i in_i. absurd (let e : length s.entries ≡ 0 = ap length no-entries in omega arith);
   once = λ i j in_i in_j same. absurd (let e : length s.entries ≡ 0 = ap length no-entries in omega arith);
 }

@@ -1,5 +1,6 @@
 pub mod Growing
 mod Entered
+mod Pushed
 mod Adding
 mod Beginning
 mod HandedOver
@@ -7,6 +8,6 @@ mod OverTerms
 mod Reading
 pub mod Params
 pub mod StoredIds
-mod VariableWords
+pub mod VariableWords
 pub mod Parts
 pub mod Offered

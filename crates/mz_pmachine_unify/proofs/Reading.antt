@@ -1,6 +1,8 @@
 -- What is read of a node is what it stands for.
-use Rattle.std.proofs.Common.{ℕ, ◌≡◌, ◌<◌, ◌∙◌, ◌↔◌, Bool, false, IsTrue, List, Some, length, get_or, slice_get, sym, ap, subst, arith}
+use Rattle.std.proofs.Common.{ℕ, ◌≡◌, ◌<◌, ◌+◌, ◌-◌, ◌∙◌, ◌↔◌, Bool, false, IsTrue, List, Some, length, take, drop, get_or, slice_get, sym, ap, subst, arith}
+use Rattle.std.proofs.lemmas.List.{length-map}
 use Rattle.std.proofs.lemmas.Option.{slice_get-get_or}
+use Rattle.mz_base_theory.proofs.Offered.{slice_get-map_at}
 use Rattle.mz_logic_theory.specs.Sorts.{IsBoundVar}
 use Rattle.mz_logic_theory.specs.Tree.{var}
 use Rattle.mz_logic_theory.specs.declared.binder.Binder.{Binder}
@@ -8,26 +10,34 @@ use Rattle.mz_logic_theory.proofs.Offered.{no-application, one_at}
 use Rattle.mz_pmachine_theory.specs.NodeIdentity.{Operands, an_application, operand_trees, tree_of as without_numbers}
 use Rattle.mz_store.specs.declared.item.DepsMode.{DepsMode}
 use Rattle.mz_pmachine_unify.specs.Numbering.{Numbering, IsIn, expr_of, tree_of}
-use Rattle.mz_pmachine_unify.specs.Entering.{numbering_of}
-use Rattle.mz_pmachine_unify.specs.Kept.{Forms, IsKept, Shows}
+use Rattle.mz_store.specs.declared.item.Id.{Id}
+use Rattle.mz_pmachine_unify.specs.Entering.{variable, operands_at, form_of, made_of, all_made, numbering_of}
+use Rattle.mz_pmachine_unify.specs.Kept.{Forms, Shows, Keeps}
 use Rattle.mz_pmachine_unify.specs.declared.node.Node.{Node}
 use Rattle.mz_pmachine_unify.specs.declared.node.Form.{Form}
-use Rattle.mz_pmachine_unify.specs.declared.node.Form.TheVariants.{Variable}
 
-module _ (mode : DepsMode) (count : ℕ) (nodes : List Node) (v : Numbering) (kept : IsKept (numbering_of mode nodes) count nodes) (view : numbering_of mode nodes ≡ v)
+module _ (mode : DepsMode) (count : ℕ) (os : List Id) (nodes : List Node) (v : Numbering) (keeps : Keeps mode count os nodes) (view : numbering_of mode (all_made os nodes) ≡ v)
     (i : ℕ) (n : Node) (inside : IsIn v i) (is : n ≡ get_or nodes i n) where
-  pub shown-at : Shows v i n
-  shown-at =
+  node-at : slice_get nodes i ≡ Some n
+  node-at =
       let before = subst (λ w. IsIn w i) (sym view) inside in
-      let here : i < length nodes = omega (arith, before, kept.many) in
-      subst (λ w. Shows w i n) view (kept.shown i n (slice_get-get_or _ _ _ here ∙ ap (λ m. Some m) (sym is)))
+      let here : i < length nodes = omega (arith, before, keeps.0.many, length-map nodes (made_of os)) in
+      slice_get-get_or _ _ _ here ∙ ap (λ m. Some m) (sym is)
 
-  pub form-at : (f : Form) → n.form ≡ f → Forms v i f
-  form-at f form-is = subst (Forms v i) form-is shown-at.form
+  pub shown-at : Shows v i (made_of os n)
+  shown-at = subst (λ w. Shows w i (made_of os n)) view (keeps.0.shown i (made_of os n) (slice_get-map_at (made_of os) nodes i n node-at))
+
+  pub form-at : (f : Form) → n.form ≡ f → Forms v i (form_of os f)
+  form-at f form-is = subst (λ (g : Form). Forms v i (form_of os g)) form-is shown-at.form
+
+-- as many from one place on, read from the list to its end
+pub operands-read : (os js : List Id) (from many : ℕ) → js ≡ os → take (from + many - from) (drop from js) ≡ operands_at os from many
+operands-read os js from many is =
+    ap (λ k. take k (drop from js)) (let e : from + many - from ≡ many = omega arith in e) ∙ ap (λ (ks : List Id). operands_at ks from many) is
 
 -- ---- whether it is a bound variable
 
-pub bound-variable : (v : Numbering) (i : ℕ) (bound : Bool) → Forms v i (Variable bound) → IsTrue bound ↔ IsBoundVar v.context (tree_of v i)
+pub bound-variable : (v : Numbering) (i : ℕ) (bound : Bool) → Forms v i (variable bound) → IsTrue bound ↔ IsBoundVar v.context (tree_of v i)
 bound-variable v i bound (x, b, is, at, bound-is) = (λ t. (x, b, ap without_numbers is, at, bound-is ∙ t), back)
   where
     place : (y z : ℕ) → var y ≡ var z → y ≡ z

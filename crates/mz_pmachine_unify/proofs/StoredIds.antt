@@ -1,5 +1,5 @@
 -- Lists of ids and the expressions that they stand for.
-use Rattle.std.proofs.Common.{◌≡◌, ℕ, zero, suc, true, List, [], ◌∷◌, ◌++◌, length, map, Option, Some, None, refl, sym, ap, subst, ◌∙◌, ◌≤◌, arith, length-append}
+use Rattle.std.proofs.Common.{◌≡◌, ℕ, zero, suc, true, List, [], ◌∷◌, ◌++◌, length, map, Option, Some, None, refl, sym, ap, subst, ◌∙◌, arith, append_assoc, length-append}
 use Rattle.std.proofs.lemmas.Option.{slice_get-map}
 use Rattle.std.proofs.Math.Dec.{eqb-suc-zero}
 use Rattle.std.specs.Option.{option_map}
@@ -20,6 +20,9 @@ module _ (s : Numbering) where
   pub are-in-both : (xs ys : List Id) → AreIn s xs → AreIn s ys → AreIn s (xs ++ ys)
   are-in-both [] ys p q = q
   are-in-both (x ∷ xs) ys p q = (p.0, are-in-both xs ys p.1 q)
+
+  pub are-in-added : (xs ys : List Id) (x : Id) → AreIn s (xs ++ ys) → IsIn s x.0 → AreIn s (xs ++ (ys ++ x ∷ []))
+  are-in-added xs ys x all one = subst (AreIn s) (append_assoc xs ys (x ∷ [])) (are-in-both (xs ++ ys) (x ∷ []) all (one, tt))
 
   pub are-in-left : (xs ys : List Id) → AreIn s (xs ++ ys) → AreIn s xs
   are-in-left [] ys p = tt
@@ -55,6 +58,10 @@ module _ (s : Numbering) where
   pub exprs-append : (xs ys : List Id) → exprs_at s (xs ++ ys) ≡ exprs_at s xs ++ exprs_at s ys
   exprs-append xs ys = map-append (λ i. expr_of s i.0) xs ys
 
+  -- of a list and what is added to it, with one more
+  pub exprs-added : (xs ys : List Id) (x : Id) → exprs_at s (xs ++ (ys ++ x ∷ [])) ≡ exprs_at s (xs ++ ys) ++ expr_of s x.0 ∷ []
+  exprs-added xs ys x = ap (exprs_at s) (sym (append_assoc xs ys (x ∷ []))) ∙ exprs-append (xs ++ ys) (x ∷ [])
+
   pub listed-exprs : (xs : List Id) → operand_list (exprs_of s xs) ≡ exprs_at s xs
   listed-exprs [] = refl
   listed-exprs (x ∷ xs) = ap (λ (es : List Numbered). expr_of s x.0 ∷ es) (listed-exprs xs)
@@ -88,10 +95,8 @@ module _ (s : Numbering) where
   pub expr-at : (xs : List Id) (k : ℕ) (x : Id) → slice_get xs k ≡ Some x → slice_get (exprs_at s xs) k ≡ Some (expr_of s x.0)
   expr-at xs k x at = slice_get-map (λ i. expr_of s i.0) xs k ∙ ap (option_map (λ (i : Id). expr_of s i.0)) at
 
-  pub no-expr-at : (xs : List Id) (k : ℕ) → length xs ≤ k → slice_get (exprs_at s xs) k ≡ None
-  no-expr-at [] k past = refl
-  no-expr-at (x ∷ xs) zero past = absurd (omega arith)
-  no-expr-at (x ∷ xs) (suc k) past = no-expr-at xs k (omega arith)
+  pub expr-past : (xs : List Id) (k : ℕ) → slice_get xs k ≡ None → slice_get (exprs_at s xs) k ≡ None
+  expr-past xs k past = slice_get-map (λ i. expr_of s i.0) xs k ∙ ap (option_map (λ (i : Id). expr_of s i.0)) past
 
   pub tree-at : (xs : List Id) (k : ℕ) (x : Id) → slice_get xs k ≡ Some x → slice_get (trees_at s xs) k ≡ Some (tree_of (expr_of s x.0))
   tree-at xs k x at = slice_get-map tree_of (exprs_at s xs) k ∙ ap (option_map tree_of) (expr-at xs k x at)

@@ -2,7 +2,7 @@
 use Rattle.std.proofs.Common.{◌≡◌, ℕ, zero, suc, ◌+◌, Bool, true, false, not, eqb, List, [], ◌∷◌, ◌++◌, map, take, Some, refl, sym, ap, subst, ◌∙◌, add-one}
 use Rattle.std.specs.Prelude.{slice_get, bit_and, bit_or, ◌==◌, ◌&&◌, ◌||◌}
 use Rattle.std.proofs.lemmas.List.{map-append}
-use Rattle.mz_logic_theory.specs.Tree.{Tree}
+use Rattle.mz_logic_theory.specs.Tree.{Tree, app, listed}
 use Rattle.mz_logic_theory.specs.Signature.{Signature}
 use Rattle.mz_logic_theory.specs.Sorts.{HasSort, IsBoundVar}
 use Rattle.mz_logic_theory.specs.Legality.{sort_of}
@@ -16,11 +16,12 @@ use Rattle.mz_unify_theory.specs.Profile.{strict}
 use Rattle.mz_unify_theory.specs.Tests.{is_bound_var, var_within}
 use Rattle.mz_unify_theory.specs.UnifyMachine.{within_any, is_fresh}
 use Rattle.mz_unify.specs.Rows.{TellsAny}
-use Rattle.mz_unify.proofs.Offered.{tells-any-push, fresh-word, not-bound as tree-not-bound, other-sort as tree-other-sort}
-use Rattle.mz_pmachine_theory.specs.NodeIdentity.{Numbered, tree_of, portable}
-use Rattle.mz_pmachine_unify.specs.Numbering.{Numbering, expr_of}
-use Rattle.mz_pmachine_unify.specs.Stored.{exprs_at}
-use Rattle.mz_pmachine_unify.proofs.StoredIds.{exprs-append}
+use Rattle.mz_unify_theory.proofs.Offered.{listed-trees_of}
+use Rattle.mz_unify.proofs.Offered.{tells-any-push, tells-listed, fresh-word, not-bound as tree-not-bound, other-sort as tree-other-sort}
+use Rattle.mz_pmachine_theory.specs.NodeIdentity.{Numbered, a_variable, an_application, operand_trees, tree_of, portable}
+use Rattle.mz_pmachine_unify.specs.Numbering.{Numbering, expr_of, exprs_of, head_of, operands_of}
+use Rattle.mz_pmachine_unify.specs.Stored.{exprs_at, trees_at}
+use Rattle.mz_pmachine_unify.proofs.StoredIds.{exprs-append, trees-of}
 
 -- ---- one more expression is reported
 
@@ -38,6 +39,17 @@ tells-next s is k i v w at p q =
     take-next [] n x h = absurd cc
     take-next (y ∷ ys) zero x h = let same : y ≡ x = cc in rw same refl
     take-next (y ∷ ys) (suc n) x h = ap (λ (zs : List Id). y ∷ zs) (take-next ys n x h)
+
+-- ---- the word of an application names the variables of its operands
+
+of-expr : (ctx : List Binder) (word t : ℕ) (e : Numbered) → head_of e ≡ Some t → Tells (bound_vars ctx) word (λ x. InV ctx x (tree_of e)) → TellsAny ctx word (listed (operand_trees (operands_of e)))
+of-expr ctx word t (a_variable x) is tells = absurd cc
+of-expr ctx word t (an_application n u es) is tells = tells-listed ctx word u (app u (operand_trees es)) refl tells
+
+pub tells-operands : (s : Numbering) (i : Id) (args : List Id) (word t : ℕ) → head_of (expr_of s i.0) ≡ Some t → exprs_of s args ≡ operands_of (expr_of s i.0)
+    → Tells (bound_vars s.context) word (λ x. InV s.context x (tree_of (expr_of s i.0))) → TellsAny s.context word (map tree_of (exprs_at s args))
+tells-operands s i args word t is are tells =
+    subst (TellsAny s.context word) (ap (λ es. listed (operand_trees es)) (sym are) ∙ ap listed (sym (trees-of s args)) ∙ listed-trees_of (trees_at s args)) (of-expr s.context word t (expr_of s i.0) is tells)
 
 -- ---- fresh variables: numbers make no difference
 

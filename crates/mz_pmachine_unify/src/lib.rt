@@ -12,4 +12,5 @@ mod running;
 mod variables;
 
 pub use nodes::Nodes;
+pub use rows::kept_apart;
 pub use running::{unify, unify_in};

@@ -9,10 +9,9 @@ ghost use Rattle.mz_store.specs.Nodes.{IsVariableWord};
 ghost use Rattle.mz_store.specs.Sharing.{DependsOn, CanTake, dummy_binder};
 ghost use Rattle.mz_pmachine_theory.specs.NodeIdentity.{a_variable, an_application};
 ghost use Rattle.mz_pmachine_unify.specs.Numbering.{IsIn, AreIn, Holds, expr_of, exprs_of, tree_of, trees_of, sort_of, vars_of, deps_of, head_of, operands_of, IsOver, KeepsIds, IsEmpty};
-ghost use Rattle.mz_pmachine_unify.specs.Entering.{variable_node, entered, entered_all, IsNewIn};
-ghost use Rattle.mz_pmachine_unify.specs.declared.node.Form.TheVariants.{Variable};
+ghost use Rattle.mz_pmachine_unify.specs.Entering.{variable, application, variable_node, entered, entered_all, IsNewIn};
 
-use crate::node::{Form, Node};
+use crate::node::{Application, Form, Node, four_bytes};
 use crate::variables::{all_vars, told_vars};
 use mz_logic_theory::{Terms, Word};
 use mz_store::{DepsMode, Id};
@@ -29,6 +28,8 @@ pub struct Nodes {
     mode: DepsMode,
     bound_count: u32,
     nodes: Vec<Node>,
+    // of all applications, one after another
+    operands: Vec<Id>,
 }
 
 impl Model for Nodes {
@@ -39,12 +40,12 @@ impl Model for Nodes {
 
     ghost coded = { numbering_code };
 
-    ghost use Rattle.mz_pmachine_unify.specs.Entering.{numbering_of};
-    ghost use Rattle.mz_pmachine_unify.specs.Kept.{IsKept};
+    ghost use Rattle.mz_pmachine_unify.specs.Entering.{all_made, numbering_of};
+    ghost use Rattle.mz_pmachine_unify.specs.Kept.{Keeps};
 
-    ghost view = { λ s. numbering_of s.mode s.nodes.items };
+    ghost view = { λ s. numbering_of s.mode (all_made s.operands.items s.nodes.items) };
 
-    ghost invariant = { λ s. IsKept (numbering_of s.mode s.nodes.items) s.bound_count s.nodes.items };
+    ghost invariant = { λ s. Keeps s.mode s.bound_count s.operands.items s.nodes.items };
 }
 
 impl Nodes {
@@ -57,6 +58,7 @@ impl Nodes {
             mode: DepsMode::All,
             bound_count: 0,
             nodes: Vec::new(alloc),
+            operands: Vec::new(alloc),
         }
     }
 
@@ -93,6 +95,7 @@ impl Nodes {
         self.mode = mode;
         self.bound_count = 0;
         self.nodes.clear();
+        self.operands.clear();
     }
 
     /// Enters the variables that the words say.
@@ -110,14 +113,14 @@ impl Nodes {
     /// Adds a variable, whose word must say exactly what a variable after the present ones is.
     fn enter(&mut self, sort: u32, deps: u64, bound: bool) -> Result<(), AllocError>
         requires { IsVariableWord (length (bound_vars self.old.context)) deps bound }
-        ensures ok { OnOk result (self.new ≡ entered self.old (record { sort = sort; vars = deps; deps = deps; form = Variable bound })) }
+        ensures ok { OnOk result (self.new ≡ entered self.old (record { sort = sort; vars = deps; deps = deps; form = variable bound })) }
         ensures over { OnOk result ((sigs : List Signature) → IsOver sigs self.old → IsOver sigs self.new) }
         ensures err { OnErr result (self.new ≡ self.old) }
     {
         self.nodes.push(Node {
-            sort,
             vars: deps,
             deps,
+            sort,
             form: Form::Variable(bound),
         })?;
         self.bound_count += u32::from(bound);
@@ -140,7 +143,7 @@ impl Nodes {
         ensures over { OnOk result ((sigs : List Signature) → IsOver sigs self.old → IsOver sigs self.new) }
         ensures err { OnErr result (self.new ≡ self.old) }
     {
-        let id = Id(self.nodes.len() as u64);
+        let id = Id::at(self.nodes.len())?;
         self.enter(sort, 1 << self.bound_count, true)?;
         Ok(id)
     }
@@ -175,24 +178,40 @@ impl Nodes {
     {
         let vars = all_vars(self, args);
         let deps = told_vars(self.alloc, self, terms, t, args, vars)?;
-        let operands = Vec::from_slice(self.alloc, args)?;
-        self.add(Node {
-            sort: terms.result(t).sort(),
-            vars,
-            deps,
-            form: Form::Application(number, t, operands),
-        })
+        self.add(number, t, args, terms.result(t).sort(), vars, deps)
     }
 
     /// Adds an application of a term to expressions that are there.
-    fn add(&mut self, node: Node) -> Result<Id, AllocError>
-        requires { IsNewIn self.old node.form }
+    fn add(
+        &mut self,
+        number: u32,
+        head: u32,
+        args: &[Id],
+        sort: u32,
+        vars: u64,
+        deps: u64,
+    ) -> Result<Id, AllocError>
+        requires { IsNewIn self.old (application number head args.now) }
         ensures id { IfOk result (λ id. id.0 ≡ length self.old.entries) }
-        ensures ok { OnOk result (self.new ≡ entered self.old node) }
+        ensures ok { OnOk result (self.new ≡ entered self.old (record { sort = sort; vars = vars; deps = deps; form = application number head args.now })) }
         ensures err { OnErr result (self.new ≡ self.old) }
     {
-        let id = Id(self.nodes.len() as u64);
-        self.nodes.push(node)?;
+        let id = Id::at(self.nodes.len())?;
+        let from = four_bytes(self.operands.len())?;
+        let many = four_bytes(args.len())?;
+        self.operands.extend_from_slice(args)?;
+        let made = Application {
+            number,
+            head,
+            from,
+            many,
+        };
+        self.nodes.push(Node {
+            vars,
+            deps,
+            sort,
+            form: Form::Application(made),
+        })?;
         Ok(id)
     }
 
@@ -249,7 +268,7 @@ impl Nodes {
     {
         match &self.nodes[id.0 as usize].form {
             Form::Variable(bound) => *bound,
-            Form::Application(_, _, _) => false,
+            Form::Application(_) => false,
         }
     }
 
@@ -260,7 +279,7 @@ impl Nodes {
     {
         match &self.nodes[id.0 as usize].form {
             Form::Variable(_) => None,
-            Form::Application(_, head, _) => Some(*head),
+            Form::Application(made) => Some(made.head),
         }
     }
 
@@ -272,7 +291,10 @@ impl Nodes {
     {
         match &self.nodes[id.0 as usize].form {
             Form::Variable(_) => &[],
-            Form::Application(_, _, operands) => operands,
+            Form::Application(made) => {
+                let from = made.from as usize;
+                &self.operands[from..from + made.many as usize]
+            }
         }
     }
 

@@ -14,10 +14,10 @@ ghost use Rattle.mz_pmachine_unify.specs.Rows.{state_at};
 use crate::Nodes;
 use mz_cmd::K;
 use mz_store::{Id, Item};
-use mz_unify::{Command, Stop, UnifyMode, push, push_operands};
+use mz_unify::{Command, Stop, UnifyMode, heap_at, push, push_operands};
 
-/// The word of the variables of all these.
-pub(crate) fn variables(nodes: &Nodes, ids: &[Id]) -> u64
+/// The word of the variables of all these, from which dummies are kept apart.
+pub fn kept_apart(nodes: &Nodes, ids: &[Id]) -> u64
     requires ids { AreIn nodes.now ids.now }
     ensures { (sigs : List Signature) → IsOver sigs nodes.now → TellsAny nodes.now.context result (map tree_of (exprs_at nodes.now ids.now)) }
 {
@@ -58,19 +58,25 @@ fn open(nodes: &Nodes, term: u32, targets: &mut Vec<Id>) -> Result<Id, Stop>
 }
 
 /// Takes the top, which is what stands at a place of the heap.
-fn refer(nodes: &Nodes, place: u32, heap: &[Id], targets: &mut Vec<Id>) -> Result<(), Stop>
-    requires heap { AreIn nodes.now heap.now }
+fn refer(
+    nodes: &Nodes,
+    place: u32,
+    operands: &[Id],
+    saved: &[Id],
+    targets: &mut Vec<Id>,
+) -> Result<(), Stop>
+    requires heap { AreIn nodes.now (operands.now ++ saved.now) }
     requires targets { AreIn nodes.now targets.old.items }
     ensures ids { OnOk result (AreIn nodes.now targets.new.items) }
-    ensures row { (sigs : List Signature) (mode : Mode) (st : UnifyState Numbered) → st.heap ≡ exprs_at nodes.now heap.now → st.targets ≡ stack_at nodes.now targets.old.items → IsRow (unify_step portable sigs nodes.now.context mode (u_ref place) st) result (λ _. with_targets st (stack_at nodes.now targets.new.items)) }
+    ensures row { (sigs : List Signature) (mode : Mode) (st : UnifyState Numbered) → st.heap ≡ exprs_at nodes.now (operands.now ++ saved.now) → st.targets ≡ stack_at nodes.now targets.old.items → IsRow (unify_step portable sigs nodes.now.context mode (u_ref place) st) result (λ _. with_targets st (stack_at nodes.now targets.new.items)) }
 {
     let Some(top) = take_top(nodes, targets) else {
         return Err(Stop::Rule(K::UnifyRest));
     };
-    let Some(met) = heap.get(place as usize) else {
+    let Some(met) = heap_at(operands, saved, place) else {
         return Err(Stop::Rule(K::UnifyReference));
     };
-    if !nodes.same(*met, top) {
+    if !nodes.same(met, top) {
         return Err(Stop::Rule(K::UnifyReference));
     }
     Ok(())
@@ -174,13 +180,13 @@ fn end(nodes: &Nodes, mode: UnifyMode, targets: &[Id], hyps: &[Item]) -> Result<
 
 /// Puts an expression at the end of the heap; dummies are then kept apart from it too, whether it was
 /// saved or met for a dummy.
-fn keep(nodes: &Nodes, id: Id, heap: &mut Vec<Id>, apart: &mut u64) -> Result<(), Stop>
+fn keep(nodes: &Nodes, id: Id, saved: &mut Vec<Id>, apart: &mut u64) -> Result<(), Stop>
     requires { IsIn nodes.now id.0 }
-    ensures ok { OnOk result (heap.new.items ≡ heap.old.items ++ id ∷ []) }
+    ensures ok { OnOk result (saved.new.items ≡ saved.old.items ++ id ∷ []) }
     ensures told { (sigs : List Signature) (es : List Numbered) → IsOver sigs nodes.now → TellsAny nodes.now.context apart.old (map tree_of es) → OnOk result (TellsAny nodes.now.context apart.new (map tree_of (es ++ expr_of nodes.now id.0 ∷ []))) }
     ensures err { MatchResult result (λ _. ⊤) (λ stop. StopsBy stop (λ _. ⊥)) }
 {
-    push(heap, id)?;
+    push(saved, id)?;
     *apart |= nodes.vars(id);
     Ok(())
 }
@@ -190,17 +196,18 @@ pub(crate) fn step(
     nodes: &Nodes,
     mode: UnifyMode,
     command: Command,
-    heap: &mut Vec<Id>,
+    operands: &[Id],
+    saved: &mut Vec<Id>,
     apart: &mut u64,
     targets: &mut Vec<Id>,
     hyps: &mut Vec<Item>,
 ) -> Result<(), Stop>
-    requires heap { AreIn nodes.now heap.old.items }
+    requires heap { AreIn nodes.now (operands.now ++ saved.old.items) }
     requires targets { AreIn nodes.now targets.old.items }
     requires hyps { AreItemsIn nodes.now hyps.old.items }
-    ensures ids { OnOk result (AreIn nodes.now heap.new.items × AreIn nodes.now targets.new.items × AreItemsIn nodes.now hyps.new.items) }
+    ensures ids { OnOk result (AreIn nodes.now (operands.now ++ saved.new.items) × AreIn nodes.now targets.new.items × AreItemsIn nodes.now hyps.new.items) }
     ensures left { OnOk result ((taken : ℕ) × (taken ≤ 1) × AreLeft hyps.old.items hyps.new.items taken) }
-    ensures row { (sigs : List Signature) (es : List Numbered) → IsOver sigs nodes.now → TellsAny nodes.now.context apart.old (map tree_of es) → MatchResult result (λ _. (fs : List Numbered) × TellsAny nodes.now.context apart.new (map tree_of fs) × (unify_step portable sigs nodes.now.context (mode_of mode) (command_of command) (state_at nodes.now heap.old.items es targets.old.items hyps.old.items) ≡ Ok (state_at nodes.now heap.new.items fs targets.new.items hyps.new.items))) (λ stop. StopsBy stop (λ k. unify_step portable sigs nodes.now.context (mode_of mode) (command_of command) (state_at nodes.now heap.old.items es targets.old.items hyps.old.items) ≡ Err k)) }
+    ensures row { (sigs : List Signature) (es : List Numbered) → IsOver sigs nodes.now → TellsAny nodes.now.context apart.old (map tree_of es) → MatchResult result (λ _. (fs : List Numbered) × TellsAny nodes.now.context apart.new (map tree_of fs) × (unify_step portable sigs nodes.now.context (mode_of mode) (command_of command) (state_at nodes.now (operands.now ++ saved.old.items) es targets.old.items hyps.old.items) ≡ Ok (state_at nodes.now (operands.now ++ saved.new.items) fs targets.new.items hyps.new.items))) (λ stop. StopsBy stop (λ k. unify_step portable sigs nodes.now.context (mode_of mode) (command_of command) (state_at nodes.now (operands.now ++ saved.old.items) es targets.old.items hyps.old.items) ≡ Err k)) }
 {
     match command {
         Command::Term(term) => {
@@ -209,13 +216,13 @@ pub(crate) fn step(
         }
         Command::TermSave(term) => {
             let whole = open(nodes, term, targets)?;
-            keep(nodes, whole, heap, apart)?;
+            keep(nodes, whole, saved, apart)?;
             Ok(())
         }
-        Command::Ref(place) => refer(nodes, place, heap, targets),
+        Command::Ref(place) => refer(nodes, place, operands, saved, targets),
         Command::Dummy(sort) => {
             let met = dummy(nodes, sort, targets, *apart)?;
-            keep(nodes, met, heap, apart)
+            keep(nodes, met, saved, apart)
         }
         Command::Hyp => hypothesis(nodes, mode, targets, hyps),
         Command::End => end(nodes, mode, targets, hyps),

@@ -14,7 +14,7 @@ use Rattle.mz_store.specs.Sharing.{Shared, Sharing, tree_of, trees_of, IsIn, Are
 use Rattle.mz_store.specs.Nodes.{Made, MadeOf, variable, application, form_of, made_of, all_made, entered, binder_after, sharing_of, no_expressions, IsVariableWord}
 use Rattle.mz_store.specs.Hashes.{hash_of}
 use Rattle.mz_store.specs.Chains.{IsOf, IsNode}
-use Rattle.mz_store.specs.Kept.{Forms, Shows, IsKept, IsChained}
+use Rattle.mz_store.specs.Kept.{Forms, Shows, IsKept, IsChained, named}
 use Rattle.mz_store.specs.declared.item.DepsMode.{DepsMode}
 use Rattle.mz_store.specs.declared.item.Id.{Id}
 use Rattle.mz_store.specs.declared.node.Node.{Node}
@@ -214,7 +214,7 @@ pub add-kept : (factor : ℕ) (mode : DepsMode) (count : ℕ) (os os' news : Lis
     → Keeps factor mode count os nodes newest → sharing_of mode (all_made os nodes) ≡ v → os' ≡ os ++ news → a.from ≡ length os → a.to ≡ length os + length news
     → nodes' ≡ nodes ++ record { sort = sort; deps = deps; form = Application a } ∷ []
     → AreIn v news → ((i : ℕ) → Holds v i (app a.head (trees_of v news)) → ⊥)
-    → hash ≡ hash_of factor a.head news → a.earlier ≡ newest hash → id.0 ≡ length nodes → Puts newest newest' hash id
+    → hash ≡ hash_of factor a.head news → a.earlier ≡ named (length nodes) (newest hash) → id.0 ≡ length nodes → Puts newest newest' hash id
     → Keeps factor mode count os' nodes' newest'
 add-kept factor mode count os os' news nodes nodes' newest newest' sort deps a v hash id (kept, chained) view os-is from-is to-is is there fresh hash-is earlier-is place puts =
     subst (λ (ns : List Node). Keeps factor mode count os' ns newest') (sym is) (subst (λ (is : List Id). Keeps factor mode count is (nodes ++ n ∷ []) newest') (sym os-is) (

@@ -1,19 +1,20 @@
 -- The chains of terms, with one node more.
 use Rattle.std.proofs.Common.{ℕ, zero, suc, ◌≡◌, ◌<◌, ◌≤◌, ◌+◌, ◌⊎◌, Bool, true, false, cond, List, [], ◌∷◌, ◌++◌, length, slice_get, Option, Some, None, nat_eq, refl, ap, sym, ◌∙◌, subst, inl, inr, arith, append-nil}
-use Rattle.std.proofs.lemmas.Bool.Decides.{Decides-eqb}
+use Rattle.std.proofs.lemmas.Bool.Decides.{Decides-eqb, eqb_tells}
 use Rattle.std.proofs.lemmas.List.{length-append}
 use Rattle.std.proofs.lemmas.Option.{slice_get_within, none-some}
 use Rattle.mz_base_theory.proofs.Offered.{slice_get-last, length-push}
 use Rattle.mz_logic_theory.proofs.Offered.{one_at, extends_append, split_at}
 use Rattle.mz_store.specs.Nodes.{Made, variable, application, operands_at, made_of, all_made}
 use Rattle.mz_store.specs.Hashes.{hash_of}
-use Rattle.mz_store.specs.Chains.{IsLast, HasHash, Links}
-use Rattle.mz_store.specs.Kept.{IsChained}
+use Rattle.mz_store.specs.Chains.{IsLast, HasHash, earlier_of, Links}
+use Rattle.mz_store.specs.Kept.{IsChained, named}
 use Rattle.mz_store.specs.declared.item.Id.{Id}
 use Rattle.mz_store.specs.declared.node.Node.{Node}
 use Rattle.mz_store.specs.declared.node.Application.{Application as Term}
 use Rattle.mz_store.specs.declared.node.Form.{Form}
 use Rattle.mz_store.specs.declared.node.Form.TheVariants.{Variable, Application}
+use Rattle.mz_store.proofs.Finding.{earlier-none, earlier-some}
 use Rattle.mz_store.proofs.Made.{Lies, AllLie, operands-kept, operands-new, all-pushed, all-kept, many-made}
 
 pub only-last : {A : Type 0} (x y : A) (j : ℕ) → slice_get (x ∷ []) j ≡ Some y → (j ≡ 0) × (x ≡ y)
@@ -63,13 +64,21 @@ lies-by factor os ms i (Application a) (order, within, _) = (order, within)
 pub all-lie : (factor : ℕ) (os : List Id) (nodes : List Node) (newest : ℕ → Option Id) → IsChained factor os nodes newest → AllLie os nodes
 all-lie factor os nodes newest chained i n at = lies-by factor os (all_made os nodes) i n.form (chained.linked i n at)
 
+-- what a node names says the one before it
+earlier-named : (factor : ℕ) (ms : List Made) (i hash : ℕ) (a : Term) (o : Option Id) → IsLast factor ms i hash o → a.earlier ≡ named i o → earlier_of i a ≡ o
+earlier-named factor ms i hash a None none is = earlier-none i a ((Decides-eqb a.earlier.0 i).1 (ap (λ (e : Id). e.0) is))
+earlier-named factor ms i hash a (Some e) (less, _, _) is = elim (eqb_tells a.earlier.0 i) [
+  | inl same ↦ absurd (let place : a.earlier.0 ≡ e.0 = ap (λ (x : Id). x.0) is in let at : a.earlier.0 ≡ i = same.1 in omega arith)
+  | inr other ↦ earlier-some i a other.0 ∙ ap Some is
+]
+
 links-kept : (factor : ℕ) (os more : List Id) (ms mores : List Made) (i : ℕ) (f : Form) → i ≤ length ms → Links factor os ms i f → Links factor (os ++ more) (ms ++ mores) i f
 links-kept factor os more ms mores i (Variable bound) below _ = tt
 links-kept factor os more ms mores i (Application a) below (order, within, last) = (
   order,
   omega (arith, length-append os more),
-  subst (λ (is : List Id). IsLast factor (ms ++ mores) i (hash_of factor a.head is) a.earlier) (sym (operands-kept os more a.from a.to order within))
-      (last-below factor ms mores i (hash_of factor a.head (operands_at os a.from a.to)) a.earlier below last),
+  subst (λ (is : List Id). IsLast factor (ms ++ mores) i (hash_of factor a.head is) (earlier_of i a)) (sym (operands-kept os more a.from a.to order within))
+      (last-below factor ms mores i (hash_of factor a.head (operands_at os a.from a.to)) (earlier_of i a) below last),
 )
 
 chained-grown : (factor : ℕ) (os more : List Id) (nodes : List Node) (newest newest' : ℕ → Option Id) (n : Node) (m : Made) → IsChained factor os nodes newest → made_of (os ++ more) n ≡ m
@@ -120,7 +129,7 @@ term-says os more sort deps a from-is to-is =
     ap (λ (is : List Id). record { sort = sort; deps = deps; form = application a.head is }) (operands-new os more a.from a.to from-is to-is)
 
 pub chained-term : (factor : ℕ) (os more : List Id) (nodes : List Node) (newest newest' : ℕ → Option Id) (sort deps : ℕ) (a : Term) (hash : ℕ) (id : Id) → IsChained factor os nodes newest
-    → a.from ≡ length os → a.to ≡ length os + length more → hash ≡ hash_of factor a.head more → a.earlier ≡ newest hash → id.0 ≡ length nodes → Puts newest newest' hash id
+    → a.from ≡ length os → a.to ≡ length os + length more → hash ≡ hash_of factor a.head more → a.earlier ≡ named (length nodes) (newest hash) → id.0 ≡ length nodes → Puts newest newest' hash id
     → IsChained factor (os ++ more) (nodes ++ record { sort = sort; deps = deps; form = Application a } ∷ []) newest'
 chained-term factor os more nodes newest newest' sort deps a hash id chained from-is to-is hash-is earlier-is place puts =
     chained-grown factor os more nodes newest newest' n m chained (term-says os more sort deps a from-is to-is) links last
@@ -135,7 +144,7 @@ chained-term factor os more nodes newest newest' sort deps a hash id chained fro
     links = (
       omega arith,
       omega (arith, length-append os more),
-      subst (λ (o : Option Id). IsLast factor (all_made os nodes ++ m ∷ []) (length nodes) (hash_of factor a.head (operands_at (os ++ more) a.from a.to)) o) (sym earlier-is)
+      subst (λ (o : Option Id). IsLast factor (all_made os nodes ++ m ∷ []) (length nodes) (hash_of factor a.head (operands_at (os ++ more) a.from a.to)) o) (sym (earlier-named factor (all_made os nodes) (length nodes) hash a (newest hash) (chained.last hash) earlier-is))
           (subst (λ q. IsLast factor (all_made os nodes ++ m ∷ []) (length nodes) q (newest hash)) (hash-is ∙ ap (hash_of factor a.head) (sym (operands-new os more a.from a.to from-is to-is)))
           (last-below factor (all_made os nodes) (m ∷ []) (length nodes) hash (newest hash) (omega (arith, many-made os nodes)) (chained.last hash))),
     )

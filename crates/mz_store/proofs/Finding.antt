@@ -1,10 +1,10 @@
 -- A term is looked for along the chain of its hash.
-use Rattle.std.proofs.Common.{ℕ, suc, ◌≡◌, ◌<◌, ◌≤◌, Bool, true, false, IsTrue, List, length, get_or, slice_get, Option, Some, None, ap, sym, ◌∙◌, subst, arith}
+use Rattle.std.proofs.Common.{ℕ, ◌≡◌, ◌<◌, ◌≤◌, Bool, true, false, IsTrue, List, length, get_or, slice_get, Option, Some, None, ap, sym, ◌∙◌, subst, arith, ◌==◌, if◌then◌else◌}
 use Rattle.std.proofs.lemmas.Option.{slice_get_within, slice_get-get_or}
 use Rattle.mz_logic_theory.proofs.Offered.{one_at}
 use Rattle.mz_store.specs.Nodes.{Made, MadeOf, variable, application, operands_at, form_of, made_of, all_made}
 use Rattle.mz_store.specs.Hashes.{hash_of}
-use Rattle.mz_store.specs.Chains.{IsOf, IsNode, IsLast, HasHash, Links, IsLinked, IsChain}
+use Rattle.mz_store.specs.Chains.{IsOf, IsNode, IsLast, HasHash, earlier_of, Links, IsLinked, IsChain}
 use Rattle.mz_store.specs.declared.item.Id.{Id}
 use Rattle.mz_store.specs.declared.node.Node.{Node}
 use Rattle.mz_store.specs.declared.node.Application.{Application as Term}
@@ -12,10 +12,12 @@ use Rattle.mz_store.specs.declared.node.Form.{Form}
 use Rattle.mz_store.specs.declared.node.Form.TheVariants.{Variable, Application}
 use Rattle.mz_store.proofs.Made.{made-at, many-made}
 
--- how many places are left: those up to the next one of the chain
-abbrev pub rank : Option Id → ℕ
-rank None = 0
-rank (Some e) = suc e.0
+-- the first of a chain names itself, and each other one the one before it
+pub earlier-none : (i : ℕ) (a : Term) → (a.earlier.0 == i) ≡ true → earlier_of i a ≡ None
+earlier-none i a same = ap (λ b. if b then None else Some a.earlier) same
+
+pub earlier-some : (i : ℕ) (a : Term) → (a.earlier.0 == i) ≡ false → earlier_of i a ≡ Some a.earlier
+earlier-some i a other = ap (λ b. if b then None else Some a.earlier) other
 
 -- what is looked for stands before the k-th of the linked nodes, and the chain goes on with the last one before it
 abbrev pub IsSought : List Id → List Node → ℕ → List Id → Option Id → Type 0
@@ -67,7 +69,7 @@ next-found os nodes h is e d a inside form-is head-is operands-are = (
 
 -- or it isn't, and the chain goes on before it
 pub next-other : (os : List Id) (nodes : List Node) (h : ℕ) (is : List Id) (e : Id) (d : Node) (a : Term) → IsSought os nodes h is (Some e) → (get_or nodes e.0 d).form ≡ Application a
-    → ((a.head ≡ h) × (operands_at os a.from a.to ≡ is) → ⊥) → IsSought os nodes h is a.earlier
+    → ((a.head ≡ h) × (operands_at os a.from a.to ≡ is) → ⊥) → IsSought os nodes h is (earlier_of e.0 a)
 next-other os nodes h is e d a sought form-is other = (sought.0, sought.1, e.0, omega (arith, next-within os nodes h is e sought), last, before)
   where
     n : Node
@@ -82,8 +84,8 @@ next-other os nodes h is e d a sought form-is other = (sought.0, sought.1, e.0, 
     hash-is : hash_of sought.0 a.head (operands_at os a.from a.to) ≡ hash_of sought.0 h is
     hash-is = subst (λ (f : Form). HasHash sought.0 (made_of os (record { sort = n.sort; deps = n.deps; form = f })).form (hash_of sought.0 h is)) form-is (next-hash os nodes h is e sought n here)
 
-    last : IsLast sought.0 (all_made os nodes) e.0 (hash_of sought.0 h is) a.earlier
-    last = subst (λ p. IsLast sought.0 (all_made os nodes) e.0 p a.earlier) hash-is
+    last : IsLast sought.0 (all_made os nodes) e.0 (hash_of sought.0 h is) (earlier_of e.0 a)
+    last = subst (λ p. IsLast sought.0 (all_made os nodes) e.0 p (earlier_of e.0 a)) hash-is
         (subst (Links sought.0 os (all_made os nodes) e.0) form-is (sought.1 e.0 n here)).2
 
     before : (j : ℕ) → IsNode (all_made os nodes) h is j → j < e.0
@@ -102,15 +104,15 @@ next-other os nodes h is e d a sought form-is other = (sought.0, sought.1, e.0, 
         less-than : (x y : ℕ) → x ≤ y → (x ≡ y → ⊥) → x < y
         less-than x y most apart = omega (arith, apart)
 
--- fewer places are left
-pub rank-less : (factor : ℕ) (os : List Id) (nodes : List Node) (e : Id) (d : Node) (a : Term) → IsLinked factor os nodes → e.0 < length nodes → (get_or nodes e.0 d).form ≡ Application a
-    → rank a.earlier < rank (Some e)
-rank-less factor os nodes e d a linked inside form-is =
-    below a.earlier (subst (Links factor os (all_made os nodes) e.0) form-is (linked e.0 (get_or nodes e.0 d) (slice_get-get_or nodes e.0 d inside))).2
+-- and it stands before it
+pub earlier-less : (factor : ℕ) (os : List Id) (nodes : List Node) (e : Id) (d : Node) (a : Term) → IsLinked factor os nodes → e.0 < length nodes → (get_or nodes e.0 d).form ≡ Application a
+    → earlier_of e.0 a ≡ Some a.earlier → a.earlier.0 < e.0
+earlier-less factor os nodes e d a linked inside form-is earlier-is =
+    below (earlier_of e.0 a) earlier-is (subst (Links factor os (all_made os nodes) e.0) form-is (linked e.0 (get_or nodes e.0 d) (slice_get-get_or nodes e.0 d inside))).2
   where
-    below : (o : Option Id) → IsLast factor (all_made os nodes) e.0 (hash_of factor a.head (operands_at os a.from a.to)) o → rank o < suc e.0
-    below None _ = omega arith
-    below (Some x) (less, _, _) = omega arith
+    below : (o : Option Id) → o ≡ Some a.earlier → IsLast factor (all_made os nodes) e.0 (hash_of factor a.head (operands_at os a.from a.to)) o → a.earlier.0 < e.0
+    below None is _ = absurd cc
+    below (Some x) is (less, _, _) = (let same : x ≡ a.earlier = cc in subst (λ (y : Id). y.0 < e.0) same less)
 
 pub not-both : (b : Bool) → IsTrue b → b ≡ false → ⊥
 not-both true yes-is no-is = cc

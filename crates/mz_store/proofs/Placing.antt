@@ -7,7 +7,7 @@ use Rattle.mz_store.specs.Sharing.{Sharing, Shared, AreIn, Holds, KeepsIds, tree
 use Rattle.mz_store.specs.Nodes.{Made, all_made, application, entered}
 use Rattle.mz_store.specs.Hashes.{hash_of}
 use Rattle.mz_store.specs.Chains.{IsChain, IsLast, IsNode}
-use Rattle.mz_store.specs.Kept.{shared_by, IsAdded, HasMore}
+use Rattle.mz_store.specs.Kept.{shared_by, named, IsAdded, HasMore}
 use Rattle.mz_store.specs.Placed.{IsPlaced}
 use Rattle.mz_store.specs.declared.item.Id.{Id}
 use Rattle.mz_store.specs.declared.node.Node.{Node}
@@ -32,7 +32,7 @@ same-modes factor e e' newest mode-is count-is keeps =
 
 -- the last node's operands and what it comes after
 abbrev term-of : Expressions → ℕ → List Id → Option Id → Term
-term-of e t is earlier = record { head = t; from = length e.operands.items; to = length e.operands.items + length is; earlier = earlier }
+term-of e t is earlier = record { head = t; from = length e.operands.items; to = length e.operands.items + length is; earlier = named (length e.nodes.items) earlier }
 
 pub placed-kept : (factor : ℕ) (terms : List TermWords) (e e' : Expressions) (newest newest' : ℕ → Option Id) (v : Sharing) (t : ℕ) (is : List Id) (earlier : Option Id) (hash : ℕ) (id : Id)
     → Has factor e newest → shared_by e ≡ v → IsAdded terms e t is earlier e' → AreIn v is → ((i : ℕ) → Holds v i (app t (trees_of v is)) → ⊥)
@@ -40,7 +40,7 @@ pub placed-kept : (factor : ℕ) (terms : List TermWords) (e e' : Expressions) (
 placed-kept factor terms e e' newest newest' v t is earlier hash id keeps view (deps, tells, os-are, nodes-are, mode-is, count-is) there fresh hash-is earlier-is place puts =
     same-modes factor e e' newest' mode-is count-is
     (add-kept factor e.mode e.bound_count e.operands.items e'.operands.items is e.nodes.items e'.nodes.items newest newest' (word_sort (term_at terms t).result) deps (term-of e t is earlier) v hash id
-    keeps view os-are refl refl nodes-are there fresh hash-is earlier-is place puts)
+    keeps view os-are refl refl nodes-are there fresh hash-is (ap (named (length e.nodes.items)) earlier-is) place puts)
 
 pub placed-new : (factor : ℕ) (terms : List TermWords) (e e' : Expressions) (newest : ℕ → Option Id) (v : Sharing) (t : ℕ) (is : List Id) (earlier : Option Id) (id : Id)
     → Has factor e newest → shared_by e ≡ v → IsAdded terms e t is earlier e' → IsOver (signatures_of terms) v → CanTake terms v.context t (trees_of v is)

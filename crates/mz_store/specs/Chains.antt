@@ -1,9 +1,10 @@
 -- How a store finds the terms that it has: those of one hash are a chain.
-use Rattle.std.specs.Prelude.{ℕ, ◌≡◌, ◌<◌, ◌≤◌, ⊤, List, length, slice_get, Option, Some, None}
+use Rattle.std.specs.Prelude.{ℕ, ◌≡◌, ◌<◌, ◌≤◌, ◌==◌, ⊤, List, length, slice_get, Option, Some, None, if◌then◌else◌}
 use Rattle.mz_store.specs.Nodes.{Made, MadeOf, variable, application, operands_at, all_made}
 use Rattle.mz_store.specs.Hashes.{hash_of}
 use Rattle.mz_store.specs.declared.item.Id.{Id}
 use Rattle.mz_store.specs.declared.node.Node.{Node}
+use Rattle.mz_store.specs.declared.node.Application.{Application as Term}
 use Rattle.mz_store.specs.declared.node.Form.{Form}
 use Rattle.mz_store.specs.declared.node.Form.TheVariants.{Variable, Application}
 
@@ -27,10 +28,14 @@ IsLast factor made k hash None = (j : ℕ) (m : Made) → j < k → slice_get ma
 IsLast factor made k hash (Some e) = (e.0 < k) × ((m : Made) × (slice_get made e.0 ≡ Some m) × HasHash factor m.form hash)
     × ((j : ℕ) (m : Made) → j < k → slice_get made j ≡ Some m → HasHash factor m.form hash → j ≤ e.0)
 
+-- the one before the i-th in its chain: one that names itself is the first
+abbrev pub earlier_of : ℕ → Term → Option Id
+earlier_of i a = if a.earlier.0 == i then None else Some a.earlier
+
 -- the operands lie within the list, and before the i-th with its hash comes the one that it names
 abbrev pub Links : ℕ → List Id → List Made → ℕ → Form → Type 0
 Links factor operands made i (Variable bound) = ⊤
-Links factor operands made i (Application a) = (a.from ≤ a.to) × (a.to ≤ length operands) × IsLast factor made i (hash_of factor a.head (operands_at operands a.from a.to)) a.earlier
+Links factor operands made i (Application a) = (a.from ≤ a.to) × (a.to ≤ length operands) × IsLast factor made i (hash_of factor a.head (operands_at operands a.from a.to)) (earlier_of i a)
 
 abbrev pub IsLinked : ℕ → List Id → List Node → Type 0
 IsLinked factor operands nodes = (i : ℕ) (n : Node) → slice_get nodes i ≡ Some n → Links factor operands (all_made operands nodes) i n.form

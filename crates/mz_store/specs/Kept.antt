@@ -1,5 +1,5 @@
 -- What holds between a store's nodes, their hashes and the trees that they stand for.
-use Rattle.std.specs.Prelude.{ℕ, ◌≡◌, ◌<◌, ◌≤◌, ◌+◌, Contains, List, [], ◌∷◌, ◌++◌, length, slice_get, Option, Some}
+use Rattle.std.specs.Prelude.{ℕ, ◌≡◌, ◌<◌, ◌≤◌, ◌+◌, Contains, List, [], ◌∷◌, ◌++◌, length, slice_get, Option, Some, None}
 use Rattle.mz_logic_theory.specs.Tree.{var, app}
 use Rattle.mz_logic_theory.specs.Legality.{Each}
 use Rattle.mz_logic_theory.specs.Words.{TermWords, term_at, word_sort, signatures_of}
@@ -49,6 +49,11 @@ shared_by e = sharing_of e.mode (all_made e.operands.items e.nodes.items)
 abbrev pub AreKept : Expressions → Type 0
 AreKept e = IsKept (shared_by e) e.bound_count e.operands.items e.nodes.items
 
+-- what the i-th names before it in its chain: itself where there is none
+abbrev pub named : ℕ → Option Id → Id
+named i None = record { 0 = i }
+named i (Some e) = e
+
 -- e' has the term t over these expressions as its last one, and its word names its variables
 abbrev pub IsAdded : List TermWords → Expressions → ℕ → List Id → Option Id → Expressions → Type 0
 IsAdded terms e t is earlier e' = (deps : ℕ) × Tells (bound_vars (shared_by e).context) deps (DependsOn (shared_by e).mode (signatures_of terms) (shared_by e).context (app t (trees_of (shared_by e) is)))
@@ -56,7 +61,7 @@ IsAdded terms e t is earlier e' = (deps : ℕ) × Tells (bound_vars (shared_by e
     × (e'.nodes.items ≡ e.nodes.items ++ record {
       sort = word_sort (term_at terms t).result;
       deps = deps;
-      form = Application (record { head = t; from = length e.operands.items; to = length e.operands.items + length is; earlier = earlier });
+      form = Application (record { head = t; from = length e.operands.items; to = length e.operands.items + length is; earlier = named (length e.nodes.items) earlier });
     } ∷ [])
     × (e'.mode ≡ e.mode) × (e'.bound_count ≡ e.bound_count)
 

@@ -1,6 +1,6 @@
 //! From a head and operands to the expression that has them: those of one hash are a chain, the last
 //! one first.
-ghost use Rattle.std.specs.Prelude.{ℕ, ◌≡◌, ◌↔◌, ◌≤◌, IfSome, IfNone, IsTrue, List, length};
+ghost use Rattle.std.specs.Prelude.{ℕ, ◌≡◌, ◌↔◌, ◌≤◌, IfSome, IfNone, IsTrue, List, Some, length};
 ghost use Rattle.mz_store.specs.Nodes.{all_made, operands_at};
 ghost use Rattle.mz_store.specs.Hashes.{mixed, hash_of, spread};
 ghost use Rattle.mz_store.specs.Chains.{IsNode, IsChain};
@@ -30,7 +30,7 @@ pub(crate) fn hash_of(factor: u64, head: u32, operands: &[Id]) -> u64
 /// can't be found by sums alone.
 #[tactic(auto, unfolding(crate::specs::Hashes::mixed))]
 #[inline(always)]
-fn mixed(factor: u64, hash: u64, id: u64) -> u64
+fn mixed(factor: u64, hash: u64, id: u32) -> u64
     ensures { result ≡ mixed factor hash id }
 {
     let sum = spread(factor, hash, id);
@@ -39,10 +39,10 @@ fn mixed(factor: u64, hash: u64, id: u64) -> u64
 
 #[tactic(auto, unfolding(crate::specs::Hashes::spread))]
 #[inline(always)]
-fn spread(factor: u64, hash: u64, id: u64) -> u64
+fn spread(factor: u64, hash: u64, id: u32) -> u64
     ensures { result ≡ spread factor hash id }
 {
-    hash.wrapping_mul(factor).wrapping_add(id)
+    hash.wrapping_mul(factor).wrapping_add(u64::from(id))
 }
 
 /// The id of the term `head` over these operands, if there is one. `newest` is the last expression
@@ -51,24 +51,26 @@ fn spread(factor: u64, hash: u64, id: u64) -> u64
 pub(crate) fn find(
     nodes: &[Node],
     operands: &[Id],
-    newest: Option<Id>,
+    newest: Id,
     head: u32,
     args: &[Id],
 ) -> Option<Id>
-    requires { IsChain operands.now nodes.now head args.now newest }
+    requires { IsChain operands.now nodes.now head args.now (Some newest) }
     ensures some { IfSome result (λ id. IsNode (all_made operands.now nodes.now) head args.now id.0) }
     ensures none { IfNone result ((i : ℕ) → IsNode (all_made operands.now nodes.now) head args.now i → ⊥) }
 {
     let mut next = newest;
     'chain: loop {
-        let Some(id) = next else {
+        let Form::Application(made) = nodes[next.0 as usize].form else {
             return None;
         };
-        let Form::Application(made) = nodes[id.0 as usize].form else {
+        if made.head == head
+            && are_same(part(operands, made.from as usize, made.to as usize), args)
+        {
+            return Some(next);
+        }
+        if made.earlier == next {
             return None;
-        };
-        if made.head == head && are_same(part(operands, made.from, made.to), args) {
-            return Some(id);
         }
         next = made.earlier;
     }

@@ -9,7 +9,7 @@ ghost use Rattle.mz_store.specs.Sharing.{IsIn, AreIn, tree_of, trees_of, deps_of
 ghost use Rattle.mz_store.specs.Kept.{shared_by, AreKept, IsAdded, HasMore};
 
 use crate::deps::deps_of_term;
-use crate::item::{DepsMode, Id};
+use crate::item::{DepsMode, Id, number};
 use crate::node::{Application, Form, Node};
 use mz_logic_theory::Terms;
 use std::alloc::{AllocError, Global};
@@ -41,7 +41,8 @@ impl Expressions {
     ///
     /// # Errors
     ///
-    /// Where there is no memory. The same expressions are there then.
+    /// Where there is no memory, or no place for 2^32 expressions or operands. The same expressions are
+    /// there then.
     #[inline(always)]
     pub fn add<T: Terms>(
         &mut self,
@@ -60,18 +61,19 @@ impl Expressions {
         ensures err { OnErr result (HasMore self.old self.new) }
     {
         let deps = deps_of_term(alloc, self, terms, t, args)?;
-        let from = self.operands.len();
+        let id = Id::at(self.nodes.len())?;
+        let from = number(self.operands.len())?;
         put_all(&mut self.operands, args)?;
+        let to = number(self.operands.len())?;
         let made = Application {
             head: t,
             from,
-            to: self.operands.len(),
-            earlier,
+            to,
+            earlier: earlier.unwrap_or(id),
         };
-        let id = Id(self.nodes.len() as u64);
         self.nodes.push(Node {
-            sort: terms.result(t).sort(),
             deps,
+            sort: terms.result(t).sort(),
             form: Form::Application(made),
         })?;
         Ok(id)

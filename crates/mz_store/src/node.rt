@@ -1,12 +1,15 @@
 use crate::item::Id;
 
-/// An expression of a store: its sort, its word of variables, and what it is made of.
+/// An expression of a store: its word of variables, its sort, and what it is made of. Fields lie in this
+/// order: the word first leaves no gap.
 #[derive(Clone, Copy)]
 pub struct Node {
-    pub sort: u32,
     pub deps: u64,
+    pub sort: u32,
     pub form: Form,
 }
+
+const _: () = prove!(size_of::<Node>() == 32);
 
 /// A variable, bound or regular; or a term over earlier expressions of the store.
 #[derive(Clone, Copy)]
@@ -19,8 +22,8 @@ pub enum Form {
 #[derive(Clone, Copy)]
 pub struct Application {
     pub head: u32,
-    pub from: usize,
-    pub to: usize,
-    /// The last one before it with the same hash.
-    pub earlier: Option<Id>,
+    pub from: u32,
+    pub to: u32,
+    /// The last one before it with the same hash; itself where there is none.
+    pub earlier: Id,
 }

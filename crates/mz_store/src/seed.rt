@@ -1,8 +1,8 @@
 use mz_base::Hashing;
 
 /// What the numbers are made with by which a store's terms are looked up. It is drawn by chance, so that
-/// a file can't be chosen for terms that share them, which take long to compare. No answer
-/// depends on it.
+/// a file can't be chosen for terms that share them, which take long to compare. No answer but out of
+/// memory depends on it.
 #[derive(Clone, Copy, Debug, PartialEq, Eq)]
 pub struct Seed(pub u64);
 

@@ -134,8 +134,8 @@ impl Store {
         ensures err { OnErr result (self.new ≡ self.old) }
     {
         self.expressions.nodes.push(Node {
-            sort,
             deps,
+            sort,
             form: Form::Variable(bound),
         })?;
         self.expressions.bound_count += u32::from(bound);
@@ -158,7 +158,7 @@ impl Store {
         ensures over { OnOk result ((sigs : List Signature) → IsOver sigs self.old → IsOver sigs self.new) }
         ensures err { OnErr result (self.new ≡ self.old) }
     {
-        let id = Id(self.expressions.nodes.len() as u64);
+        let id = Id::at(self.expressions.nodes.len())?;
         self.enter(sort, 1 << self.expressions.bound_count, true)?;
         Ok(id)
     }
@@ -197,7 +197,7 @@ impl Store {
     {
         match self.newest.entry(hash_of(self.factor, t, args))? {
             Entry::Occupied(mut place) => {
-                let newest = Some(*place.get());
+                let newest = *place.get();
                 let there = find(
                     &self.expressions.nodes,
                     &self.expressions.operands,
@@ -208,7 +208,9 @@ impl Store {
                 if let Some(id) = there {
                     return Ok(id);
                 }
-                let id = self.expressions.add(self.alloc, terms, t, args, newest)?;
+                let id = self
+                    .expressions
+                    .add(self.alloc, terms, t, args, Some(newest))?;
                 place.insert(id);
                 Ok(id)
             }
@@ -301,7 +303,9 @@ impl Store {
     {
         match &self.expressions.nodes[id.0 as usize].form {
             Form::Variable(_) => &[],
-            Form::Application(made) => &self.expressions.operands[made.from..made.to],
+            Form::Application(made) => &self
+                .expressions
+                .operands[made.from as usize..made.to as usize],
         }
     }
 

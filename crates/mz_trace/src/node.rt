@@ -1,5 +1,5 @@
 //! The nodes of a proof.
-ghost use Rattle.std.specs.Prelude.{◌≡◌, ◌++◌, ◌∷◌, [], IfOk, OnOk, length, slice_get};
+ghost use Rattle.std.specs.Prelude.{◌≡◌, ◌<◌, ◌^◌, ◌++◌, ◌∷◌, [], IfOk, IsOk, OnOk, length, slice_get};
 ghost use Rattle.mz_trace.specs.Nodes.{IsApplication, Applies, IsVariable, IsVariableAt};
 
 use std::alloc::AllocError;
@@ -33,7 +33,8 @@ pub enum RunNode {
 
 /// The number of what comes behind so many.
 pub(crate) fn number(len: usize) -> Result<u32, AllocError>
-    ensures { IfOk result (λ n. n ≡ len) }
+    ensures number { IfOk result (λ n. n ≡ len) }
+    ensures few { len < 2 ^ 32 → IsOk result }
 {
     if len > u32::MAX as usize {
         return Err(AllocError);

@@ -1,5 +1,6 @@
 pub mod StoredIds
 pub mod VariableWords
+pub mod OperandWords
 pub mod Parts
 pub mod RowValues
 pub mod UnifyTurns

@@ -1,4 +1,5 @@
 -- What crates above may use of these proofs; all else is this crate's own, and may change.
+pub use Rattle.mz_unify.proofs.OperandWords.{tells-listed, tells-operands}
 pub use Rattle.mz_unify.proofs.Parts.{Parts, differ, of-trees}
 pub use Rattle.mz_unify.proofs.RowValues.{dummy-no-target, dummy-other, dummy-row, end-left, end-row, end-target, heads-differ, heads-same, hyp-row, hyp-stop, hyp-target, ref-no-place, ref-no-target, ref-other, ref-row, save-none, save-other, save-row, term-none, term-other, term-row}
 pub use Rattle.mz_unify.proofs.StoredIds.{are-in-both, are-still-in, is-in-at, items-in-both, items-in-left, items-in-right, items-push, listed-trees, still-in, tree-at}

@@ -1,5 +1,5 @@
 -- Lists of ids and the trees that they stand for.
-use Rattle.std.proofs.Common.{◌≡◌, ℕ, zero, suc, true, List, [], ◌∷◌, ◌++◌, length, map, Option, Some, None, refl, sym, ap, subst, ◌∙◌, ◌≤◌, arith, length-append}
+use Rattle.std.proofs.Common.{◌≡◌, ℕ, zero, suc, true, List, [], ◌∷◌, ◌++◌, length, map, Option, Some, None, refl, sym, ap, subst, ◌∙◌, arith, append_assoc, length-append}
 use Rattle.std.proofs.lemmas.Option.{slice_get-map}
 use Rattle.std.proofs.Math.Dec.{eqb-suc-zero}
 use Rattle.std.specs.Option.{option_map}
@@ -19,6 +19,9 @@ module _ (s : Sharing) where
   pub are-in-both : (xs ys : List Id) → AreIn s xs → AreIn s ys → AreIn s (xs ++ ys)
   are-in-both [] ys p q = q
   are-in-both (x ∷ xs) ys p q = (p.0, are-in-both xs ys p.1 q)
+
+  pub are-in-added : (xs ys : List Id) (x : Id) → AreIn s (xs ++ ys) → IsIn s x.0 → AreIn s (xs ++ (ys ++ x ∷ []))
+  are-in-added xs ys x all one = subst (AreIn s) (append_assoc xs ys (x ∷ [])) (are-in-both (xs ++ ys) (x ∷ []) all (one, tt))
 
   pub are-in-left : (xs ys : List Id) → AreIn s (xs ++ ys) → AreIn s xs
   are-in-left [] ys p = tt
@@ -54,6 +57,10 @@ module _ (s : Sharing) where
   pub trees-append : (xs ys : List Id) → trees_at s (xs ++ ys) ≡ trees_at s xs ++ trees_at s ys
   trees-append xs ys = map-append (λ i. tree_of s i.0) xs ys
 
+  -- of a list and what is added to it, with one more
+  pub trees-added : (xs ys : List Id) (x : Id) → trees_at s (xs ++ (ys ++ x ∷ [])) ≡ trees_at s (xs ++ ys) ++ tree_of s x.0 ∷ []
+  trees-added xs ys x = ap (trees_at s) (sym (append_assoc xs ys (x ∷ []))) ∙ trees-append (xs ++ ys) (x ∷ [])
+
   pub listed-trees : (xs : List Id) → listed (trees_of s xs) ≡ trees_at s xs
   listed-trees [] = refl
   listed-trees (x ∷ xs) = ap (λ (es : List Tree). tree_of s x.0 ∷ es) (listed-trees xs)
@@ -83,10 +90,8 @@ module _ (s : Sharing) where
   pub tree-at : (xs : List Id) (k : ℕ) (x : Id) → slice_get xs k ≡ Some x → slice_get (trees_at s xs) k ≡ Some (tree_of s x.0)
   tree-at xs k x at = slice_get-map (λ i. tree_of s i.0) xs k ∙ ap (option_map (λ (i : Id). tree_of s i.0)) at
 
-  pub no-tree-at : (xs : List Id) (k : ℕ) → length xs ≤ k → slice_get (trees_at s xs) k ≡ None
-  no-tree-at [] k past = refl
-  no-tree-at (x ∷ xs) zero past = absurd (omega arith)
-  no-tree-at (x ∷ xs) (suc k) past = no-tree-at xs k (omega arith)
+  pub tree-past : (xs : List Id) (k : ℕ) → slice_get xs k ≡ None → slice_get (trees_at s xs) k ≡ None
+  tree-past xs k past = slice_get-map (λ i. tree_of s i.0) xs k ∙ ap (option_map (λ (i : Id). tree_of s i.0)) past
 
   -- ---- whether there are any
 

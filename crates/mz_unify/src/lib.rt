@@ -11,6 +11,7 @@ mod stop;
 mod unified;
 
 pub use command::{Command, decoded};
+pub use rows::{heap_at, kept_apart};
 pub use running::{unify, unify_in};
 pub use stop::{Stop, push, push_operands};
 pub use unified::{Unified, UnifyMode};

@@ -1,5 +1,5 @@
 //! What each command does: its premises in order, and what it leaves.
-ghost use Rattle.std.specs.Prelude.{ℕ, ◌≡◌, ◌≤◌, ◌+◌, ◌++◌, ◌∷◌, ◌⊎◌, [], List, Ok, Err, OnOk, IfOk, IfSome, IfNone, MatchResult, length};
+ghost use Rattle.std.specs.Prelude.{ℕ, ◌≡◌, ◌≤◌, ◌+◌, ◌++◌, ◌∷◌, ◌⊎◌, [], List, Ok, Err, OnOk, IfOk, IfSome, IfNone, MatchResult, length, slice_get};
 ghost use Rattle.mz_cmd.specs.declared.rule.K.{K};
 ghost use Rattle.mz_logic_theory.specs.Tree.{Tree};
 ghost use Rattle.mz_logic_theory.specs.Signature.{Signature};
@@ -33,7 +33,7 @@ fn variables(store: &Store, ids: &[Id]) -> u64
 /// The word of the variables of the operands, from which a definition's dummies are kept apart. Other
 /// streams have no dummies.
 #[inline(always)]
-pub(crate) fn kept_apart(store: &Store, mode: UnifyMode, operands: &[Id]) -> u64
+pub fn kept_apart(store: &Store, mode: UnifyMode, operands: &[Id]) -> u64
     requires ids { AreIn store.now operands.now }
     requires told { TellsAllOf store.now operands.now }
     ensures { (sigs : List Signature) → IsOver sigs store.now → TellsFor (mode_of mode) store.now.context result (trees_at store.now operands.now) }
@@ -75,21 +75,39 @@ fn open(store: &Store, term: u32, targets: &mut Vec<Id>) -> Result<Id, Stop>
     Ok(top)
 }
 
+/// What stands at a place of the heap: the operands come first, and then what was saved.
+#[inline(always)]
+pub fn heap_at(operands: &[Id], saved: &[Id], place: u32) -> Option<Id>
+    ensures { result ≡ slice_get (operands.now ++ saved.now) place }
+{
+    let place = place as usize;
+    if place < operands.len() {
+        return operands.get(place).copied();
+    }
+    saved.get(place - operands.len()).copied()
+}
+
 /// Takes the top, which is what stands at a place of the heap.
 #[inline(always)]
-fn refer(store: &Store, place: u32, heap: &[Id], targets: &mut Vec<Id>) -> Result<(), Stop>
-    requires heap { AreIn store.now heap.now }
+fn refer(
+    store: &Store,
+    place: u32,
+    operands: &[Id],
+    saved: &[Id],
+    targets: &mut Vec<Id>,
+) -> Result<(), Stop>
+    requires heap { AreIn store.now (operands.now ++ saved.now) }
     requires targets { AreIn store.now targets.old.items }
     ensures ids { OnOk result (AreIn store.now targets.new.items) }
-    ensures row { (sigs : List Signature) (mode : Mode) (st : UnifyState Tree) → st.heap ≡ trees_at store.now heap.now → st.targets ≡ stack_at store.now targets.old.items → IsRow (unify_step strict sigs store.now.context mode (u_ref place) st) result (λ _. with_targets st (stack_at store.now targets.new.items)) }
+    ensures row { (sigs : List Signature) (mode : Mode) (st : UnifyState Tree) → st.heap ≡ trees_at store.now (operands.now ++ saved.now) → st.targets ≡ stack_at store.now targets.old.items → IsRow (unify_step strict sigs store.now.context mode (u_ref place) st) result (λ _. with_targets st (stack_at store.now targets.new.items)) }
 {
     let Some(top) = take_top(store, targets) else {
         return Err(Stop::Rule(K::UnifyRest));
     };
-    let Some(met) = heap.get(place as usize) else {
+    let Some(met) = heap_at(operands, saved, place) else {
         return Err(Stop::Rule(K::UnifyReference));
     };
-    if !store.same(*met, top) {
+    if !store.same(met, top) {
         return Err(Stop::Rule(K::UnifyReference));
     }
     Ok(())
@@ -204,18 +222,19 @@ pub(crate) fn step(
     store: &Store,
     mode: UnifyMode,
     command: Command,
-    heap: &mut Vec<Id>,
+    operands: &[Id],
+    saved: &mut Vec<Id>,
     apart: &mut u64,
     targets: &mut Vec<Id>,
     hyps: &mut Vec<Item>,
 ) -> Result<(), Stop>
     requires stands { (sort : ℕ) → command ≡ Dummy sort → mode_of mode ≡ in_definition }
-    requires heap { AreIn store.now heap.old.items }
+    requires heap { AreIn store.now (operands.now ++ saved.old.items) }
     requires targets { AreIn store.now targets.old.items }
     requires hyps { AreItemsIn store.now hyps.old.items }
-    ensures ids { OnOk result (AreIn store.now heap.new.items × AreIn store.now targets.new.items × AreItemsIn store.now hyps.new.items) }
+    ensures ids { OnOk result (AreIn store.now (operands.now ++ saved.new.items) × AreIn store.now targets.new.items × AreItemsIn store.now hyps.new.items) }
     ensures left { OnOk result ((taken : ℕ) × (taken ≤ 1) × AreLeft hyps.old.items hyps.new.items taken) }
-    ensures row { (sigs : List Signature) (es : List Tree) → IsOver sigs store.now → TellsFor (mode_of mode) store.now.context apart.old es → MatchResult result (λ _. (fs : List Tree) × TellsFor (mode_of mode) store.now.context apart.new fs × (unify_step strict sigs store.now.context (mode_of mode) (command_of command) (state_at store.now heap.old.items es targets.old.items hyps.old.items) ≡ Ok (state_at store.now heap.new.items fs targets.new.items hyps.new.items))) (λ stop. StopsBy stop (λ k. unify_step strict sigs store.now.context (mode_of mode) (command_of command) (state_at store.now heap.old.items es targets.old.items hyps.old.items) ≡ Err k)) }
+    ensures row { (sigs : List Signature) (es : List Tree) → IsOver sigs store.now → TellsFor (mode_of mode) store.now.context apart.old es → MatchResult result (λ _. (fs : List Tree) × TellsFor (mode_of mode) store.now.context apart.new fs × (unify_step strict sigs store.now.context (mode_of mode) (command_of command) (state_at store.now (operands.now ++ saved.old.items) es targets.old.items hyps.old.items) ≡ Ok (state_at store.now (operands.now ++ saved.new.items) fs targets.new.items hyps.new.items))) (λ stop. StopsBy stop (λ k. unify_step strict sigs store.now.context (mode_of mode) (command_of command) (state_at store.now (operands.now ++ saved.old.items) es targets.old.items hyps.old.items) ≡ Err k)) }
 {
     match command {
         Command::Term(term) => {
@@ -224,16 +243,16 @@ pub(crate) fn step(
         }
         Command::TermSave(term) => {
             let whole = open(store, term, targets)?;
-            push(heap, whole)?;
+            push(saved, whole)?;
             Ok(())
         }
         Command::Ref(place) => {
-            refer(store, place, heap, targets)?;
+            refer(store, place, operands, saved, targets)?;
             Ok(())
         }
         Command::Dummy(sort) => {
             let met = dummy(store, sort, targets, apart)?;
-            push(heap, met)?;
+            push(saved, met)?;
             Ok(())
         }
         Command::Hyp => {

@@ -1,5 +1,5 @@
 //! A stream run against operands, on a target.
-ghost use Rattle.std.specs.Prelude.{ℕ, ◌≡◌, ◌≤◌, ◌<◌, ◌^◌, ◌+◌, List, length};
+ghost use Rattle.std.specs.Prelude.{ℕ, ◌≡◌, ◌≤◌, ◌<◌, ◌^◌, ◌+◌, ◌++◌, List, length};
 ghost use Rattle.mz_logic_theory.specs.Words.{signatures_of};
 ghost use Rattle.mz_logic_theory.specs.Signature.{Signature};
 ghost use Rattle.mz_logic_theory.specs.declared.binder.Binder.{Binder};
@@ -8,7 +8,7 @@ ghost use Rattle.mz_unify_theory.specs.Profile.{strict};
 ghost use Rattle.mz_unify_theory.specs.UnifyMachine.{unify, unify_from, unify_steps, unify_steps_from};
 ghost use Rattle.mz_unify.specs.Stored.{mode_of, trees_at, items_at, AreItemsIn, TellsAllOf, matching_at, OnDone, UnlessMem, IsRun, AreLeft};
 ghost use Rattle.mz_unify.specs.Patterns.{AreOperandsFor, IsExact};
-ghost use Rattle.mz_unify.specs.Rows.{state_at};
+ghost use Rattle.mz_unify.specs.Rows.{TellsFor, state_at};
 
 use crate::command::{Command, decoded};
 use crate::rows::{kept_apart, step};
@@ -53,27 +53,42 @@ pub fn unify<T: Terms, L: Ledger>(
     ensures steps { UnlessMem result (steps.new ≡ steps.old + unify_steps strict (signatures_of (T.all_terms terms.now)) store.now.context (matching_at store.now mode stream.now heap.old.items target hyps.old.items)) }
     ensures most { steps.new ≤ steps.old + length stream.now }
 {
-    let mut targets = Vec::new(*heap.allocator());
-    unify_in(
+    let alloc = *heap.allocator();
+    let mut saved = Vec::new(alloc);
+    let mut targets = Vec::new(alloc);
+    let apart = kept_apart(store, mode, heap);
+    let said = unify_in(
         terms,
         stream,
         mode,
         heap,
+        apart,
         target,
+        &mut saved,
         &mut targets,
         hyps,
         store,
         steps,
-    )
+    );
+    match heap.extend_from_slice(&saved) {
+        Ok(()) => said,
+        Err(_) => Unified::Mem,
+    }
 }
 
-/// Runs a unify stream as `unify` does. Its targets stand in a list of the caller's, whatever that held.
+/// Runs a unify stream as `unify` does, with operands that are only lent. The word names the variables
+/// of the operands, where the stream may have dummies. What is saved and met for dummies, and the
+/// targets, stand in lists of the caller's, whatever these held.
+///
+/// After `Done` the heap is the operands, and then what was saved.
 pub fn unify_in<T: Terms, L: Ledger>(
     terms: &T,
     stream: &[u8],
     mode: UnifyMode,
-    heap: &mut Vec<Id>,
+    operands: &[Id],
+    apart: u64,
     target: Id,
+    saved: &mut Vec<Id>,
     targets: &mut Vec<Id>,
     hyps: &mut Vec<Item>,
     store: &Store,
@@ -81,48 +96,53 @@ pub fn unify_in<T: Terms, L: Ledger>(
 ) -> Unified
     requires stream { length stream.now < 2 ^ 32 }
     requires over { IsOver (signatures_of (T.all_terms terms.now)) store.now }
-    requires heap { AreIn store.now heap.old.items }
+    requires operands { AreIn store.now operands.now }
+    requires apart { TellsFor (mode_of mode) store.now.context apart (trees_at store.now operands.now) }
     requires target { IsIn store.now target.0 }
     requires hyps { AreItemsIn store.now hyps.old.items }
-    requires told { TellsAllOf store.now heap.old.items }
-    ensures run { IsRun (unify strict (signatures_of (T.all_terms terms.now)) store.now.context (matching_at store.now mode stream.now heap.old.items target hyps.old.items)) result (trees_at store.now heap.new.items) (items_at store.now hyps.new.items) }
-    ensures exact { (params : List Binder) → AreOperandsFor mode params (matching_at store.now mode stream.now heap.old.items target hyps.old.items) → IsExact mode (signatures_of (T.all_terms terms.now)) store.now.context params (matching_at store.now mode stream.now heap.old.items target hyps.old.items) result (trees_at store.now heap.new.items) (items_at store.now hyps.new.items) }
+    ensures run { IsRun (unify strict (signatures_of (T.all_terms terms.now)) store.now.context (matching_at store.now mode stream.now operands.now target hyps.old.items)) result (trees_at store.now (operands.now ++ saved.new.items)) (items_at store.now hyps.new.items) }
+    ensures exact { (params : List Binder) → AreOperandsFor mode params (matching_at store.now mode stream.now operands.now target hyps.old.items) → IsExact mode (signatures_of (T.all_terms terms.now)) store.now.context params (matching_at store.now mode stream.now operands.now target hyps.old.items) result (trees_at store.now (operands.now ++ saved.new.items)) (items_at store.now hyps.new.items) }
     ensures taken { OnDone result (λ taken. AreLeft hyps.old.items hyps.new.items taken) }
-    ensures ids { OnDone result (λ _. AreIn store.now heap.new.items × AreItemsIn store.now hyps.new.items) }
-    ensures steps { UnlessMem result (steps.new ≡ steps.old + unify_steps strict (signatures_of (T.all_terms terms.now)) store.now.context (matching_at store.now mode stream.now heap.old.items target hyps.old.items)) }
+    ensures ids { OnDone result (λ _. AreIn store.now (operands.now ++ saved.new.items) × AreItemsIn store.now hyps.new.items) }
+    ensures steps { UnlessMem result (steps.new ≡ steps.old + unify_steps strict (signatures_of (T.all_terms terms.now)) store.now.context (matching_at store.now mode stream.now operands.now target hyps.old.items)) }
     ensures most { steps.new ≤ steps.old + length stream.now }
 {
+    saved.clear();
     targets.clear();
     let Ok(()) = targets.push(target) else {
         return Unified::Mem;
     };
-    run(stream, mode, heap, targets, hyps, store, steps)
+    run(
+        stream, mode, operands, apart, saved, targets, hyps, store, steps,
+    )
 }
 
-/// Runs a stream on these targets, the top one last.
+/// Runs a stream on these targets, the top one last, with a heap that holds the operands and what was
+/// saved. The word names the variables of the operands.
 #[inline(always)]
 fn run<L: Ledger>(
     stream: &[u8],
     mode: UnifyMode,
-    heap: &mut Vec<Id>,
+    operands: &[Id],
+    mut apart: u64,
+    saved: &mut Vec<Id>,
     targets: &mut Vec<Id>,
     hyps: &mut Vec<Item>,
     store: &Store,
     steps: &mut Steps<L>,
 ) -> Unified
     requires stream { length stream.now < 2 ^ 32 }
-    requires heap { AreIn store.now heap.old.items }
+    requires heap { AreIn store.now (operands.now ++ saved.old.items) }
+    requires apart { TellsFor (mode_of mode) store.now.context apart (trees_at store.now operands.now) }
     requires targets { AreIn store.now targets.old.items }
     requires hyps { AreItemsIn store.now hyps.old.items }
-    requires told { TellsAllOf store.now heap.old.items }
-    ensures run { (sigs : List Signature) → IsOver sigs store.now → IsRun (unify_from strict sigs store.now.context (mode_of mode) (length stream.now) 0 stream.now (state_at store.now heap.old.items (trees_at store.now heap.old.items) targets.old.items hyps.old.items)) result (trees_at store.now heap.new.items) (items_at store.now hyps.new.items) }
+    ensures run { (sigs : List Signature) → IsOver sigs store.now → IsRun (unify_from strict sigs store.now.context (mode_of mode) (length stream.now) 0 stream.now (state_at store.now (operands.now ++ saved.old.items) (trees_at store.now operands.now) targets.old.items hyps.old.items)) result (trees_at store.now (operands.now ++ saved.new.items)) (items_at store.now hyps.new.items) }
     ensures taken { OnDone result (λ taken. AreLeft hyps.old.items hyps.new.items taken) }
-    ensures ids { OnDone result (λ _. AreIn store.now heap.new.items × AreItemsIn store.now hyps.new.items) }
-    ensures steps { (sigs : List Signature) → IsOver sigs store.now → UnlessMem result (steps.new ≡ steps.old + unify_steps_from strict sigs store.now.context (mode_of mode) (length stream.now) stream.now (state_at store.now heap.old.items (trees_at store.now heap.old.items) targets.old.items hyps.old.items)) }
+    ensures ids { OnDone result (λ _. AreIn store.now (operands.now ++ saved.new.items) × AreItemsIn store.now hyps.new.items) }
+    ensures steps { (sigs : List Signature) → IsOver sigs store.now → UnlessMem result (steps.new ≡ steps.old + unify_steps_from strict sigs store.now.context (mode_of mode) (length stream.now) stream.now (state_at store.now (operands.now ++ saved.old.items) (trees_at store.now operands.now) targets.old.items hyps.old.items)) }
     ensures most { steps.new ≤ steps.old + length stream.now }
 {
     let held = hyps.len();
-    let mut apart = kept_apart(store, mode, heap);
     let mut at = 0;
     'commands: loop {
         let Ok(cmd) = cmd_at(stream, at) else {
@@ -132,7 +152,9 @@ fn run<L: Ledger>(
         let Some(next) = decoded(mode, cmd) else {
             return Unified::stopped(at, Stop::Rule(K::Command));
         };
-        if let Err(stop) = step(store, mode, next, heap, &mut apart, targets, hyps) {
+        if let Err(stop) = step(
+            store, mode, next, operands, saved, &mut apart, targets, hyps,
+        ) {
             return Unified::stopped(at, stop);
         }
         if let Command::End = next {

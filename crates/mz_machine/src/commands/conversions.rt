@@ -1,14 +1,14 @@
 //! Conversions: obligations that two expressions are convertible, and how they are paid.
 ghost use Rattle.std.specs.Prelude.{ℕ, ◌≡◌, ◌≤◌, ◌<◌, ◌++◌, ◌∷◌, [], Some, IfOk, OnOk, drop, length, vec_capacity};
 ghost use Rattle.mz_cmd.specs.declared.code.ProofCode.TheVariants as code;
-ghost use Rattle.mz_logic_theory.specs.Tree.{Tree};
+ghost use Rattle.mz_logic_theory.specs.Tree.{Tree, listed};
 ghost use Rattle.mz_layout_tables.specs.Tables.{term_row};
-ghost use Rattle.mz_store.specs.Sharing.{AreIn, IsIn, IsOver, tree_of};
+ghost use Rattle.mz_store.specs.Sharing.{IsIn, IsOver, head_of, operands_of, tree_of};
 ghost use Rattle.mz_store.specs.declared.item.Item.TheVariants.{Obligation};
 ghost use Rattle.mz_store.specs.declared.item.DepsMode.TheVariants.{All};
 ghost use Rattle.mz_unify_theory.specs.Profile.{strict};
 ghost use Rattle.mz_unify_theory.specs.UnifyMachine.{in_definition};
-ghost use Rattle.mz_unify.specs.Stored.{items_at, item_at, trees_at, AreItemsIn, IsItemIn};
+ghost use Rattle.mz_unify.specs.Stored.{items_at, item_at, AreItemsIn, IsItemIn};
 ghost use Rattle.mz_machine_theory.specs.Premises.{pop_sides};
 ghost use Rattle.mz_machine_theory.specs.MachineState.{RowsBefore, State};
 ghost use Rattle.mz_machine_theory.specs.ProofMachine.{proof_step, unfolding_of};
@@ -16,7 +16,7 @@ ghost use Rattle.mz_machine_theory.specs.Bodies.{row_steps};
 ghost use Rattle.mz_machine_env.specs.Before.{tables_of, signatures_of};
 ghost use Rattle.mz_machine.specs.OverStore.{with_stack, pop_unfolding, Gives, GivesRule};
 ghost use Rattle.mz_machine.specs.Executing.{Counts};
-ghost use Rattle.mz_machine.specs.OpenEquations.{opened_on};
+ghost use Rattle.mz_machine.specs.OpenEquations.{stored, opened_on};
 
 use crate::stack::{pop, pop_conversion, pop_expr, pop_obligation, pop_proof};
 use mz_cmd::{K, Steps};
@@ -78,7 +78,7 @@ pub(crate) fn cong(store: &Store, stack: &mut Vec<Item>) -> Result<(Id, Id), K>
     requires { AreItemsIn store.now stack.old.items }
     ensures ids { IfOk result (λ ids. IsIn store.now ids.0.0 × IsIn store.now ids.1.0 × AreItemsIn store.now stack.new.items) }
     ensures items { IfOk result (λ ids. stack.old.items ≡ stack.new.items ++ Obligation ids.0 ids.1 ∷ []) }
-    ensures row { (tables : RowsBefore) (at n : ℕ) (st : State Tree) → st.stack ≡ items_at store.now stack.old.items → GivesRule (proof_step strict tables at code.Cong n st) result (λ ids. with_stack st (opened_on store.now (Some ids) (items_at store.now stack.new.items))) }
+    ensures row { (tables : RowsBefore) (at n : ℕ) (st : State Tree) → st.stack ≡ items_at store.now stack.old.items → GivesRule (proof_step strict tables at code.Cong n st) result (λ ids. with_stack st (opened_on (stored store.now) (Some ids) (items_at store.now stack.new.items))) }
 {
     let (left, right) = pop_obligation(store, stack)?;
     let Some(term) = store.head(left) else {
@@ -106,17 +106,20 @@ pub(crate) fn unfold<L: Ledger>(
     ensures row { (at n : ℕ) (st : State Tree) → st.ctx ≡ store.now.context → st.stack ≡ items_at store.now stack.old.items → Gives (proof_step strict (tables_of earlier.now) at code.Unfold n st) result (λ _. with_stack st (items_at store.now stack.new.items)) }
     ensures steps { (n : ℕ) (st : State Tree) → st.ctx ≡ store.now.context → st.stack ≡ items_at store.now stack.old.items → Counts result steps.old steps.new (row_steps strict (tables_of earlier.now) code.Unfold n st) (length earlier.now.file) }
 {
-    let (unfolded, right, term) = match take_unfolding(earlier, store, stack, spare) {
+    let (unfolded, left, right, term) = match take_unfolding(earlier, store, stack) {
         Ok(taken) => taken,
-        Err(stop) => return Err(stop),
+        Err(rule) => return Err(Stop::Rule(rule)),
     };
     let stream = earlier.stream_of_term(term);
+    spare.hyps.clear();
     match unify_in(
         earlier,
         stream,
         UnifyMode::Body,
-        &mut spare.operands,
+        store.args(left),
+        store.deps(left),
         unfolded,
+        &mut spare.saved,
         &mut spare.targets,
         &mut spare.hyps,
         store,
@@ -129,35 +132,27 @@ pub(crate) fn unfold<L: Ledger>(
     }
 }
 
-/// What an unfolding matches: what is unfolded to, the right side of the obligation, and the definition
-/// whose application the left side is; the list of operands becomes those of the left side.
+/// What an unfolding matches: what is unfolded to, the two sides of the obligation, and the definition
+/// whose application the left side is, and whose operands it has. It takes no memory.
 fn take_unfolding(
     earlier: &Earlier,
     store: &Store,
     stack: &mut Vec<Item>,
-    spare: &mut Spare,
-) -> Result<(Id, Id, u32), Stop>
+) -> Result<(Id, Id, Id, u32), K>
     requires over { IsOver (signatures_of earlier.now) store.now }
     requires stack { AreItemsIn store.now stack.old.items }
-    ensures ids { IfOk result (λ r. IsIn store.now r.0.0 × IsIn store.now r.1.0 × (r.2 < earlier.now.rows.terms) × AreIn store.now spare.new.operands.items × AreItemsIn store.now stack.new.items × (spare.new.hyps.items ≡ [])) }
-    ensures taken { (st : State Tree) → st.stack ≡ items_at store.now stack.old.items → Gives (unfolding_of strict (tables_of earlier.now) st) result (λ r. (record { mode = in_definition; stream = drop (term_row earlier.now.file r.2).stream_at earlier.now.file; operands = trees_at store.now spare.new.operands.items; target = tree_of store.now r.0.0; items = [] }, tree_of store.now r.1.0, items_at store.now stack.new.items)) }
+    ensures ids { IfOk result (λ r. IsIn store.now r.0.0 × IsIn store.now r.1.0 × IsIn store.now r.2.0 × (r.3 < earlier.now.rows.terms) × AreItemsIn store.now stack.new.items) }
+    ensures head { IfOk result (λ r. head_of (tree_of store.now r.1.0) ≡ Some r.3) }
+    ensures taken { (st : State Tree) → st.stack ≡ items_at store.now stack.old.items → GivesRule (unfolding_of strict (tables_of earlier.now) st) result (λ r. (record { mode = in_definition; stream = drop (term_row earlier.now.file r.3).stream_at earlier.now.file; operands = listed (operands_of (tree_of store.now r.1.0)); target = tree_of store.now r.0.0; items = [] }, tree_of store.now r.2.0, items_at store.now stack.new.items)) }
 {
-    let (unfolded, left, right) = match pop_unfolding(store, stack) {
-        Ok(items) => items,
-        Err(rule) => return Err(Stop::Rule(rule)),
-    };
+    let (unfolded, left, right) = pop_unfolding(store, stack)?;
     let Some(term) = store.head(left) else {
-        return Err(Stop::Rule(K::Unfold));
+        return Err(K::Unfold);
     };
     if !earlier.has_body(term) {
-        return Err(Stop::Rule(K::Unfold));
+        return Err(K::Unfold);
     }
-    spare.hyps.clear();
-    spare.operands.clear();
-    match spare.operands.extend_from_slice(store.args(left)) {
-        Ok(()) => Ok((unfolded, right, term)),
-        Err(_) => Err(Stop::Mem),
-    }
+    Ok((unfolded, left, right, term))
 }
 
 /// What an unfolding takes: what is unfolded to, and below it the two sides of the obligation, perhaps

@@ -1,5 +1,5 @@
 //! The heap: references to it, and what is kept there.
-ghost use Rattle.std.specs.Prelude.{ℕ, ◌≡◌, ◌≤◌, ◌<◌, ◌++◌, ◌∷◌, [], IfOk, OnOk, slice_get, Some, vec_capacity};
+ghost use Rattle.std.specs.Prelude.{ℕ, ◌≡◌, ◌≤◌, ◌<◌, ◌+◌, ◌++◌, ◌∷◌, [], IfOk, OnOk, length, slice_get, Some, vec_capacity};
 ghost use Rattle.mz_cmd.specs.declared.code.ProofCode.TheVariants as code;
 ghost use Rattle.mz_logic_theory.specs.Tree.{Tree};
 ghost use Rattle.mz_store.specs.Sharing.{IsIn, IsOver, tree_of};
@@ -128,6 +128,7 @@ fn may_be_dummy(earlier: &Earlier, sort: u32) -> bool
 pub(crate) fn dummy(earlier: &Earlier, sort: u32, store: &mut Store) -> Result<Id, Stop>
     requires over { IsOver (signatures_of earlier.now) store.old }
     ensures grows { OnOk result (Grows (signatures_of earlier.now) store.old store.new) }
+    ensures nodes { length store.new.entries ≤ length store.old.entries + 1 }
     ensures ids { IfOk result (λ id. IsIn store.new id.0) }
     ensures row { (at : ℕ) (st : State Tree) → st.ctx ≡ store.old.context → Gives (proof_step strict (tables_of earlier.now) at code.Dummy sort st) result (λ id. record { ctx = store.new.context; heap = st.heap ++ expr (tree_of store.new id.0) ∷ []; stack = expr (tree_of store.new id.0) ∷ st.stack; hyps = st.hyps }) }
 {

@@ -1,5 +1,5 @@
 //! Applications of terms, and citations of axioms and theorems.
-ghost use Rattle.std.specs.Prelude.{ℕ, ◌≡◌, ◌<◌, IfOk, OnOk, length, drop};
+ghost use Rattle.std.specs.Prelude.{ℕ, ◌≡◌, ◌≤◌, ◌<◌, ◌+◌, IfOk, OnOk, length, drop};
 ghost use Rattle.mz_cmd.specs.declared.code.ProofCode.TheVariants as code;
 ghost use Rattle.mz_logic_theory.specs.Tree.{Tree};
 ghost use Rattle.mz_layout_tables.specs.Tables.{thm_row};
@@ -38,6 +38,7 @@ pub(crate) fn build(
     requires stack { AreItemsIn store.old stack.old.items }
     ensures grows { OnOk result (Grows (signatures_of earlier.now) store.old store.new) }
     ensures context { store.new.context ≡ store.old.context }
+    ensures nodes { length store.new.entries ≤ length store.old.entries + 1 }
     ensures ids { IfOk result (λ id. IsIn store.new id.0 × AreItemsIn store.new stack.new.items) }
     ensures built { (at : ℕ) (st : State Tree) → st.ctx ≡ store.old.context → st.stack ≡ items_at store.old stack.old.items → Gives (built strict (tables_of earlier.now) at t st) result (λ id. (tree_of store.new id.0, items_at store.new stack.new.items)) }
 {
@@ -82,8 +83,11 @@ pub(crate) fn cite<L: Ledger>(
         earlier,
         stream,
         UnifyMode::Use,
-        &mut spare.operands,
+        &spare.operands,
+        // An assertion's stream has no dummies.
+        0,
         target,
+        &mut spare.saved,
         &mut spare.targets,
         stack,
         store,

@@ -1,16 +1,18 @@
 //! Conversions: obligations that two expressions are convertible, and how they are paid.
-ghost use Rattle.std.specs.Prelude.{ℕ, ◌≡◌, ◌≤◌, ◌++◌, ◌∷◌, ◌+◌, ⊤, [], IfOk, OnOk, MatchResult, length};
+ghost use Rattle.std.specs.Prelude.{ℕ, ◌≡◌, ◌≤◌, ◌++◌, ◌∷◌, ◌+◌, [], Some, IfOk, OnOk, length};
 ghost use Rattle.mz_cmd.specs.declared.code.ProofCode.TheVariants as code;
-ghost use Rattle.mz_pmachine_unify.specs.Numbering.{AreIn, IsIn, IsOver, expr_of};
-ghost use Rattle.mz_pmachine_unify.specs.Stored.{items_at, item_at, exprs_at, AreItemsIn, IsItemIn};
+ghost use Rattle.mz_pmachine_unify.specs.Numbering.{IsIn, IsOver, expr_of};
+ghost use Rattle.mz_pmachine_unify.specs.Stored.{items_at, item_at, AreItemsIn, IsItemIn};
 ghost use Rattle.mz_machine_theory.specs.Premises.{pop_sides};
 ghost use Rattle.mz_machine_theory.specs.MachineState.{RowsBefore, State};
-ghost use Rattle.mz_machine_theory.specs.ProofMachine.{proof_step, sides};
+ghost use Rattle.mz_machine_theory.specs.ProofMachine.{proof_step};
 ghost use Rattle.mz_machine_theory.specs.Bodies.{row_steps};
 ghost use Rattle.mz_machine_env.specs.Before.{tables_of, signatures_of};
 ghost use Rattle.mz_machine.specs.OverStore.{GivesRule, Gives, UnlessMem};
 ghost use Rattle.mz_pmachine.specs.OverNodes.{with_stack, pop_unfolding};
-ghost use Rattle.mz_unify.specs.Rows.{StopsBy};
+ghost use Rattle.mz_unify_theory.specs.Profile.{obligation};
+ghost use Rattle.mz_machine.specs.OpenEquations.{opened_on};
+ghost use Rattle.mz_pmachine.specs.OpenNodes.{of_nodes};
 ghost use Rattle.mz_pmachine_theory.specs.NodeIdentity.{Numbered, portable};
 
 use crate::stack::{pop_conversion, pop_expr, pop_obligation, pop_proof};
@@ -64,42 +66,23 @@ pub(crate) fn symm(nodes: &Nodes, stack: &mut Vec<Item>) -> Result<(), K>
     Ok(())
 }
 
-/// From an obligation between two applications of one term to those between their operands, the
-/// first on top.
+/// Takes an obligation between two applications of one term, in place of which those between their
+/// operands are to come, the first on top.
 #[tactic(auto, unfolding(mz_machine_theory::specs::ProofMachine::proof_step))]
-pub(crate) fn cong(nodes: &Nodes, stack: &mut Vec<Item>) -> Result<(), Stop>
+pub(crate) fn cong(nodes: &Nodes, stack: &mut Vec<Item>) -> Result<(Id, Id), K>
     requires { AreItemsIn nodes.now stack.old.items }
-    ensures ids { OnOk result (AreItemsIn nodes.now stack.new.items) }
-    ensures row { (tables : RowsBefore) (at n : ℕ) (st : State Numbered) → st.stack ≡ items_at nodes.now stack.old.items → Gives (proof_step portable tables at code.Cong n st) result (λ _. with_stack st (items_at nodes.now stack.new.items)) }
+    ensures ids { IfOk result (λ ids. IsIn nodes.now ids.0.0 × IsIn nodes.now ids.1.0 × AreItemsIn nodes.now stack.new.items) }
+    ensures owed { IfOk result (λ ids. items_at nodes.now stack.old.items ≡ obligation (expr_of nodes.now ids.0.0) (expr_of nodes.now ids.1.0) ∷ items_at nodes.now stack.new.items) }
+    ensures row { (tables : RowsBefore) (at n : ℕ) (st : State Numbered) → st.stack ≡ items_at nodes.now stack.old.items → GivesRule (proof_step portable tables at code.Cong n st) result (λ ids. with_stack st (opened_on (of_nodes nodes.now) (Some ids) (items_at nodes.now stack.new.items))) }
 {
-    let (left, right) = match pop_obligation(nodes, stack) {
-        Ok(sides) => sides,
-        Err(rule) => return Err(Stop::Rule(rule)),
-    };
+    let (left, right) = pop_obligation(nodes, stack)?;
     let Some(term) = nodes.head(left) else {
-        return Err(Stop::Rule(K::Cong));
+        return Err(K::Cong);
     };
     if nodes.head(right) != Some(term) {
-        return Err(Stop::Rule(K::Cong));
+        return Err(K::Cong);
     }
-    push_sides(nodes, nodes.args(left), nodes.args(right), stack)
-}
-
-/// Puts the obligations between the operands on the stack, the first one last.
-fn push_sides(nodes: &Nodes, lefts: &[Id], rights: &[Id], stack: &mut Vec<Item>) -> Result<(), Stop>
-    requires lefts { AreIn nodes.now lefts.now }
-    requires rights { AreIn nodes.now rights.now }
-    requires stack { AreItemsIn nodes.now stack.old.items }
-    ensures ids { OnOk result (AreItemsIn nodes.now stack.new.items) }
-    ensures sides { OnOk result (items_at nodes.now stack.new.items ≡ sides (exprs_at nodes.now lefts.now) (exprs_at nodes.now rights.now) (items_at nodes.now stack.old.items)) }
-    ensures err { MatchResult result (λ _. ⊤) (λ stop. StopsBy stop (λ _. ⊥)) }
-{
-    let mut at = lefts.len().min(rights.len());
-    'operands: while at > 0 {
-        at -= 1;
-        push(stack, Item::Obligation(lefts[at], rights[at]))?;
-    }
-    Ok(())
+    Ok((left, right))
 }
 
 /// From an obligation whose left side is a definition's application, and what it unfolds to, to the
@@ -129,18 +112,16 @@ pub(crate) fn unfold<L: Ledger>(
     if !earlier.has_body(term) {
         return Err(Stop::Rule(K::Unfold));
     }
-    spare.operands.clear();
-    let Ok(()) = spare.operands.extend_from_slice(nodes.args(left)) else {
-        return Err(Stop::Mem);
-    };
     spare.hyps.clear();
     let stream = earlier.stream_of_term(term);
     unify_in(
         earlier,
         stream,
         UnifyMode::Body,
-        &mut spare.operands,
+        nodes.args(left),
+        nodes.vars(left),
         unfolded,
+        &mut spare.saved,
         &mut spare.targets,
         &mut spare.hyps,
         nodes,

@@ -1,5 +1,5 @@
 //! The heap: references to it, and what is kept there.
-ghost use Rattle.std.specs.Prelude.{ℕ, ◌≡◌, ◌<◌, ◌++◌, ◌∷◌, [], IfOk, OnOk, slice_get, Some};
+ghost use Rattle.std.specs.Prelude.{ℕ, ◌≡◌, ◌≤◌, ◌<◌, ◌+◌, ◌++◌, ◌∷◌, [], IfOk, OnOk, length, slice_get, Some};
 ghost use Rattle.mz_cmd.specs.declared.code.ProofCode.TheVariants as code;
 ghost use Rattle.mz_pmachine_unify.specs.Numbering.{IsIn, IsOver, expr_of};
 ghost use Rattle.mz_store.specs.declared.item.Item.TheVariants.{Conversion};
@@ -100,6 +100,7 @@ fn may_be_dummy(earlier: &Earlier, sort: u32) -> bool
 pub(crate) fn dummy(earlier: &Earlier, sort: u32, nodes: &mut Nodes) -> Result<Id, Stop>
     requires over { IsOver (signatures_of earlier.now) nodes.old }
     ensures grows { OnOk result (Grows (signatures_of earlier.now) nodes.old nodes.new) }
+    ensures nodes { length nodes.new.entries ≤ length nodes.old.entries + 1 }
     ensures next { OnOk result (nodes.new.next ≡ nodes.old.next) }
     ensures ids { IfOk result (λ id. IsIn nodes.new id.0) }
     ensures row { (at : ℕ) (st : State Numbered) → st.ctx ≡ nodes.old.context → Gives (proof_step portable (tables_of earlier.now) at code.Dummy sort st) result (λ id. record { ctx = nodes.new.context; heap = st.heap ++ expr (expr_of nodes.new id.0) ∷ []; stack = expr (expr_of nodes.new id.0) ∷ st.stack; hyps = st.hyps }) }

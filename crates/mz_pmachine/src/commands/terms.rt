@@ -21,7 +21,7 @@ use mz_cmd::{K, Steps};
 use mz_layout_tables::Row;
 use mz_logic_theory::Terms;
 use mz_machine_env::{Earlier, Spare};
-use mz_pmachine_unify::{Nodes, unify_in};
+use mz_pmachine_unify::{Nodes, kept_apart, unify_in};
 use mz_store::{Id, Item};
 use mz_unify::{Stop, UnifyMode, push};
 use std::sync::ledger::Ledger;
@@ -41,6 +41,7 @@ fn build(
     ensures grows { OnOk result (Grows (signatures_of earlier.now) nodes.old nodes.new) }
     ensures next { OnOk result (nodes.new.next ≤ at + 1) }
     ensures context { nodes.new.context ≡ nodes.old.context }
+    ensures nodes { length nodes.new.entries ≤ length nodes.old.entries + 1 }
     ensures ids { IfOk result (λ id. IsIn nodes.new id.0 × AreItemsIn nodes.new stack.new.items) }
     ensures built { (st : State Numbered) → st.ctx ≡ nodes.old.context → st.stack ≡ items_at nodes.old stack.old.items → Gives (built portable (tables_of earlier.now) at t st) result (λ id. (expr_of nodes.new id.0, items_at nodes.new stack.new.items)) }
 {
@@ -73,6 +74,7 @@ pub(crate) fn term(
     ensures grows { OnOk result (Grows (signatures_of earlier.now) nodes.old nodes.new) }
     ensures next { OnOk result (nodes.new.next ≤ at + 1) }
     ensures context { nodes.new.context ≡ nodes.old.context }
+    ensures nodes { length nodes.new.entries ≤ length nodes.old.entries + 1 }
     ensures ids { IfOk result (λ id. IsIn nodes.new id.0 × AreItemsIn nodes.new stack.new.items) }
     ensures plain { (st : State Numbered) → st.ctx ≡ nodes.old.context → st.stack ≡ items_at nodes.old stack.old.items → Gives (proof_step portable (tables_of earlier.now) at code.Term t st) result (λ _. with_stack st (items_at nodes.new stack.new.items)) }
     ensures saved { (st : State Numbered) → st.ctx ≡ nodes.old.context → st.stack ≡ items_at nodes.old stack.old.items → Gives (proof_step portable (tables_of earlier.now) at code.TermSave t st) result (λ id. record (with_stack st (items_at nodes.new stack.new.items)) { heap = st.heap ++ expr (expr_of nodes.new id.0) ∷ [] }) }
@@ -102,12 +104,15 @@ pub(crate) fn thm<L: Ledger>(
 {
     let target = take_citation(earlier, t, nodes, stack, spare)?;
     let stream = earlier.stream_of_thm(t);
+    let operands: &[Id] = &spare.operands;
     unify_in(
         earlier,
         stream,
         UnifyMode::Use,
-        &mut spare.operands,
+        operands,
+        kept_apart(nodes, operands),
         target,
+        &mut spare.saved,
         &mut spare.targets,
         stack,
         nodes,

@@ -12,5 +12,5 @@ pub loop-i-preserved : goal.loop-i-preserved
 loop-i-preserved c =
     let long = c.loop-i.invariant.0 in (
       let more = ap length c.in_ok-push.ensures.items ∙ length-append c.loop-i.ids.items _ in omega (arith, more, long),
-      subst (λ ids. Each ids (λ i id. id.0 ≡ i)) (sym c.in_ok-push.ensures.items) (number_push c.loop-i.ids.items _ c.loop-i.invariant.1 (sym long)),
+      subst (λ ids. Each ids (λ i id. id.0 ≡ i)) (sym c.in_ok-push.ensures.items) (number_push c.loop-i.ids.items _ c.loop-i.invariant.1 (c.in_ok-id.ensures.number ∙ sym long)),
     )

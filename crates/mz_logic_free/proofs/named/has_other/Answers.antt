@@ -1,8 +1,13 @@
-use Rattle.std.proofs.Common.{◌∙◌, ◌+◌, ℕ, List, drop, get_or, refl, sym, true≢false}
+use Rattle.std.proofs.Common.{◌∙◌, ◌+◌, ◌↔◌, ℕ, List, IsTrue, drop, get_or, refl, subst, sym, true≢false}
 use Rattle.std.proofs.lemmas.List.{drop_all}
-use Rattle.mz_logic_free.proofs.Sharing.{HasAny, IsOther, place-here, places-behind, places-none}
+use Rattle.mz_logic_free.proofs.Sharing.{HasAny, IsAtOther, IsOther, turned-round, place-here, places-behind, places-none}
 use Rattle.mz_logic_free.proofs.Walking.{left-at}
 use Rattle.mz_logic_free.proofs.named.has_other.Goals as goal
+
+pub returns-then-len-lt-FEW : goal.returns-then-len-lt-FEW
+returns-then-len-lt-FEW c =
+    turned-round c.args.variables.now c.args.own.now c.args.places.now c.has_one_of.result
+    (subst (λ xs. IsTrue c.has_one_of.result ↔ HasAny (IsAtOther c.args.places.now c.args.own.now) xs) c.as_slice.ensures c.has_one_of.ensures)
 
 pub returns-then-is_other : goal.returns-then-is_other
 returns-then-is_other c =

@@ -1,12 +1,12 @@
-use Rattle.std.proofs.Common.{◌≤◌, ◌+◌, ◌∙◌, length, sym, ap, subst, arith}
+use Rattle.std.proofs.Common.{◌+◌, ◌∙◌, length, sym, ap, subst, arith}
 use Rattle.mz_store.specs.Sharing.{Sharing}
+use Rattle.mz_machine.specs.Rooms.{OneACommand}
 use Rattle.mz_machine.specs.Running.{machine_of}
 use Rattle.mz_machine.specs.Steps.{tables_for, heading_for}
 use Rattle.mz_unify_theory.specs.Profile.{plain}
 use Rattle.mz_unify_theory.proofs.Offered.{further}
 use Rattle.mz_machine_env.proofs.Offered.{at-first, cut-whole, long-whole, end-whole, end-refused, end-many, refused-whole, refused-many, goes-on, ends-there, goes-further}
-use Rattle.mz_machine.proofs.BodyRunning.{itself, goes, row-over, steps-over, most-over, end-answer, end-counts, stop-answer, stop-counts, place-fits, more-nodes, end-nodes, stop-nodes}
-use Rattle.mz_unify.proofs.Offered.{counted-within}
+use Rattle.mz_machine.proofs.BodyRunning.{itself, goes, row-over, steps-over, most-over, end-answer, end-counts, stop-answer, stop-counts, place-fits, none-last, none-so-far, one-last, one-so-far, whatever}
 use Rattle.mz_machine_theory.proofs.Offered.{more-steps, within-steps}
 use Rattle.mz_machine.proofs.GapWalk.{gap-at-first, gap-ends, gap-goes-on}
 use Rattle.mz_machine.proofs.body.run.Goals as goal
@@ -22,7 +22,7 @@ commands-init g c =
       underway = at-first (plain v.gaps) (tables_for v) (heading_for v) c.args.from bytes v.state c.args.steps.now;
       gap = gap-at-first bytes v.sorry c.requires.fresh;
       most = omega arith;
-      nodes = omega arith;
+      nodes = none-so-far (length c.args.parts.now.store.entries) bytes;
     }
 
 pub returns-in_default-clause-run : goal.returns-in_default-clause-run
@@ -149,21 +149,29 @@ returns-in-Err-clause-most g c =
 
 -- ---- the store
 
+pub returns-in_default-clause-nodes : goal.returns-in_default-clause-nodes
+returns-in_default-clause-nodes g c =
+    none-last (length c.args.parts.now.store.entries) c.args.bytes.now c.commands.at (length c.commands.parts.store.entries) c.commands.invariant.nodes
+
+pub returns-then-next-bytes-clause-nodes : goal.returns-then-next-bytes-clause-nodes
+returns-then-next-bytes-clause-nodes g c =
+    none-last (length c.args.parts.now.store.entries) c.args.bytes.now c.commands.at (length c.commands.parts.store.entries) c.commands.invariant.nodes
+
 pub returns-then-cmd-eq-END-clause-nodes : goal.returns-then-cmd-eq-END-clause-nodes
 returns-then-cmd-eq-END-clause-nodes g c =
     let first = length c.args.parts.now.store.entries in
-    let whole = length c.args.bytes.now in
-    let most : length c.commands.parts.store.entries ≤ first + whole =
-    counted-within first (length c.commands.parts.store.entries) c.commands.at whole c.commands.invariant.nodes c.commands.invariant.in_range in
-    rw c.ended.ensures
-    (end-nodes (c.args.from + c.commands.at) c.finish.result (length c.finish.new.parts.store.entries ≤ first + whole)
-    (subst (λ (s : Sharing). length s.entries ≤ first + whole) (sym c.finish.ensures.store) most))
+    let bytes = c.args.bytes.now in
+    let made = none-last first bytes c.commands.at (length c.commands.parts.store.entries) c.commands.invariant.nodes in
+    whatever c.ended.result (OneACommand first bytes (length c.finish.new.parts.store.entries))
+    (subst (λ (s : Sharing). OneACommand first bytes (length s.entries)) (sym c.finish.ensures.store) made)
 
 pub returns-in-Err-clause-nodes : goal.returns-in-Err-clause-nodes
 returns-in-Err-clause-nodes g c =
-    rw c.stopped.ensures
-    (stop-nodes (c.args.from + c.commands.at) c.in-Err.stop
-    (length c.advance.new.parts.store.entries ≤ length c.args.parts.now.store.entries + length c.args.bytes.now))
+    let first = length c.args.parts.now.store.entries in
+    let bytes = c.args.bytes.now in
+    let later = length c.advance.new.parts.store.entries in
+    whatever c.stopped.result (OneACommand first bytes later)
+    (one-last first bytes c.commands.at (length c.commands.parts.store.entries) later c.in-Ok.cmd (sym c.in-Ok.ensures.computed) c.if-cmd-eq-END.false c.advance.ensures.nodes c.commands.invariant.nodes)
 
 -- ---- the loop
 
@@ -192,5 +200,5 @@ commands-preserved g c =
       underway = rw c.from.ensures (goes-on on cmd read c.if-cmd-eq-END.false after.state c.advance.new.steps (row-over u v place v.state cmd _ same (c.in-Ok-advance.ensures.row place).0) (steps-over u v v.state cmd c.advance.new.steps c.commands.steps same c.in-Ok-advance.ensures.steps));
       gap = rw c.from.ensures (gap-goes-on c.args.bytes.now c.commands.at cmd v.sorry after.sorry read (c.in-Ok-advance.ensures.row place).1.sorry c.commands.invariant.gap);
       most = rw c.from.ensures (more-steps c.args.steps.now c.commands.steps c.advance.new.steps c.commands.at cmd.len (length u.file) c.commands.invariant.most (most-over u v c.advance.new.steps c.commands.steps same c.in-Ok-advance.ensures.most) ahead.0);
-      nodes = rw c.from.ensures (more-nodes (length c.args.parts.now.store.entries) (length c.commands.parts.store.entries) (length c.advance.new.parts.store.entries) c.commands.at cmd.len c.commands.invariant.nodes (c.in-Ok-advance.ensures.row place).1.nodes ahead.0);
+      nodes = rw c.from.ensures (one-so-far (length c.args.parts.now.store.entries) c.args.bytes.now c.commands.at (length c.commands.parts.store.entries) (length c.advance.new.parts.store.entries) cmd read c.if-cmd-eq-END.false c.advance.ensures.nodes c.commands.invariant.nodes);
     }

@@ -6,7 +6,7 @@ use Rattle.mz_machine_theory.specs.Sound.{HasGap}
 use Rattle.mz_machine.specs.Steps.{tables_for, heading_for}
 use Rattle.mz_machine.specs.Running.{IsRunning, machine_of}
 use Rattle.mz_machine_env.proofs.Offered.{IsUnderway}
-use Rattle.mz_machine.proofs.BodyRunning.{IsSameBody}
+use Rattle.mz_machine.proofs.BodyRunning.{IsSameBody, OneSoFar}
 use Rattle.mz_machine.proofs.body.run.Given as goal
 
 abbrev pub invariant-commands : goal.invariant-commands
@@ -17,7 +17,7 @@ invariant-commands g l = record {
   underway : IsUnderway (plain (gaps_of l.setting.mode)) (tables_for (machine_of l.setting l.fn.parts)) (heading_for (machine_of l.setting l.fn.parts)) l.from l.bytes (machine_of l.setting l.fn.parts).state l.fn.steps l.at (machine_of l.setting l.parts).state l.steps;
   gap : HasGap l.bytes ↔ ((l.parts.sorry ≡ true) ⊎ HasGap (drop l.at l.bytes));
   most : l.steps ≤ l.fn.steps + l.at * (length l.setting.earlier.file + 1);
-  nodes : length l.parts.store.entries ≤ length l.fn.parts.store.entries + l.at;
+  nodes : OneSoFar (length l.fn.parts.store.entries) l.bytes l.at (length l.parts.store.entries);
 }
 
 abbrev pub decreases-commands : goal.decreases-commands

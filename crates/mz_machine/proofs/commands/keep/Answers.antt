@@ -17,8 +17,8 @@ use Rattle.mz_machine.proofs.Popping.{assumed-state, heap-pushed, conversion-the
 use Rattle.mz_machine.proofs.TermResults.{dummy-state, items-still}
 use Rattle.mz_machine.proofs.commands.keep.Goals as goal
 
-pub returns-in-Ref : goal.returns-in-Ref
-returns-in-Ref c =
+pub returns-in-Ref-clause-done : goal.returns-in-Ref-clause-done
+returns-in-Ref-clause-done c =
     let E = c.args.earlier.now in
     let s = c.args.store.now in
     let heap = c.args.heap.now.items in
@@ -32,8 +32,8 @@ returns-in-Ref c =
     (λ none. let there = conversion-there s heap n none in c.refer.ensures.never there.0 there.1 (ap (λ xs. slice_get xs n) c.deref.ensures.value ∙ there.2))
     (λ none. let there = conversion-there s heap n none in c.refer.ensures.capacity there.0 there.1 (ap (λ xs. slice_get xs n) c.deref.ensures.value ∙ there.2)))
 
-pub returns-in-ConvRef : goal.returns-in-ConvRef
-returns-in-ConvRef c =
+pub returns-in-ConvRef-clause-done : goal.returns-in-ConvRef-clause-done
+returns-in-ConvRef-clause-done c =
     let E = c.args.earlier.now in
     let s = c.args.store.now in
     let heap = c.args.heap.now.items in
@@ -48,8 +48,8 @@ returns-in-ConvRef c =
 
 -- ---- Dummy
 
-pub returns-in-Ok : goal.returns-in-Ok
-returns-in-Ok c =
+pub returns-in-Ok-clause-done : goal.returns-in-Ok-clause-done
+returns-in-Ok-clause-done c =
     let E = c.args.earlier.now in
     let s = c.args.store.now in
     let heap = c.args.heap.now.items in
@@ -74,8 +74,8 @@ returns-in-Ok c =
     })
     c.push_both.ensures)
 
-pub returns-in-Err : goal.returns-in-Err
-returns-in-Err c =
+pub returns-in-Err-clause-done : goal.returns-in-Err-clause-done
+returns-in-Err-clause-done c =
     let E = c.args.earlier.now in
     let s = c.args.store.now in
     let heap = c.args.heap.now.items in
@@ -88,8 +88,8 @@ returns-in-Err c =
 
 -- ---- Hyp
 
-pub returns-in-Ok-hyp : goal.returns-in-Ok-hyp
-returns-in-Ok-hyp c =
+pub returns-in-Ok-hyp-clause-done : goal.returns-in-Ok-hyp-clause-done
+returns-in-Ok-hyp-clause-done c =
     let E = c.args.earlier.now in
     let s = c.args.store.now in
     let heap = c.args.heap.now.items in
@@ -112,14 +112,14 @@ returns-in-Ok-hyp c =
     }) c.assume.ensures.heap c.assume.ensures.hyps c.assume.ensures.few)
     c.assume.ensures.err)
 
-pub returns-in-Err-hyp : goal.returns-in-Err-hyp
-returns-in-Err-hyp c at =
+pub returns-in-Err-hyp-clause-done : goal.returns-in-Err-hyp-clause-done
+returns-in-Err-hyp-clause-done c at =
     rw c.in-Hyp.is (c.in-Err-hyp.ensures.row at c.args.value (state_at c.args.store.now c.args.heap.now.items c.args.stack.now.items c.args.hyps.now.items) refl refl)
 
 -- ---- Save
 
-pub returns-in-Ok-save : goal.returns-in-Ok-save
-returns-in-Ok-save c =
+pub returns-in-Ok-save-clause-done : goal.returns-in-Ok-save-clause-done
+returns-in-Ok-save-clause-done c =
     let E = c.args.earlier.now in
     let s = c.args.store.now in
     let heap = c.args.heap.now.items in
@@ -141,8 +141,8 @@ returns-in-Ok-save c =
     }) c.push.ensures.ok)
     c.push.ensures.err)
 
-pub returns-in-Err-save : goal.returns-in-Err-save
-returns-in-Err-save c at =
+pub returns-in-Err-save-clause-done : goal.returns-in-Err-save-clause-done
+returns-in-Err-save-clause-done c at =
     rw c.in-Save.is (c.in-Err-save.ensures.row (tables_of c.args.earlier.now) at c.args.value (state_at c.args.store.now c.args.heap.now.items c.args.stack.now.items c.args.hyps.now.items)
     (ap (items_at c.args.store.now) (sym c.deref-in-Save.ensures.value)))
 

@@ -137,7 +137,7 @@ returns-in-Keeps-clause-done g c =
     let stands : body_command strict kind c.args.cmd.code value ≡ Some (proves (code_of_keeping c.in-Keeps.keeping) value) = here ∙ ap (λ (k : Command). Some (proves (code_of k) value)) is in
     let other : (gaps && is_sorry (Some (code_of_keeping c.in-Keeps.keeping))) ≡ false = ap (λ (k : Command). gaps && is_sorry (Some (code_of k))) (sym is) ∙ sym c.leaves_gap.ensures ∙ c.if-leaves_gap.false in
     obeys-none gaps tables kind c.args.cmd.code value (code_of_keeping c.in-Keeps.keeping) stands st (signatures_of E) (IsTrue (takes_none (code_of_keeping c.in-Keeps.keeping) value st)) (λ none. none) s c.keep.new.store c.keep.new.heap.items stack c.keep.new.stack.items c.keep.new.hyps.items room c.keep.new.stack.cap other
-    c.keep.result c.opens_none-in-Keeps.result c.opens_none-in-Keeps.ensures c.keep.ensures
+    c.keep.result c.opens_none-in-Keeps.result c.opens_none-in-Keeps.ensures c.keep.ensures.done
 
 pub returns-in-Keeps-clause-steps : goal.returns-in-Keeps-clause-steps
 returns-in-Keeps-clause-steps g c =

@@ -3,7 +3,7 @@ use Rattle.mz_cmd.specs.declared.code.ProofCode.{ProofCode}
 use Rattle.mz_machine_env.specs.Before.{tables_of}
 use Rattle.mz_machine_env.specs.OwnRow.{kind_of}
 use Rattle.mz_machine.specs.OverStore.{code_of}
-use Rattle.mz_machine.specs.OpenEquations.{asked_by, many_to_come}
+use Rattle.mz_machine.specs.OpenEquations.{stored, asked_by, many_to_come}
 use Rattle.mz_machine.proofs.LackRows.{asks-none, asks-one, no-lack-by, not-enough}
 use Rattle.mz_machine.proofs.lack.lack_where_open.Goals as goal
 
@@ -24,17 +24,21 @@ pub returns-then-reach-clause-some : goal.returns-then-reach-clause-some
 returns-then-reach-clause-some c = record {
   code = code_of c.in-Some.command;
   here = c.in-Some.ensures.some c.args.cmd.value;
-  more = omega (arith, c.asked_by-asked.ensures, c.if-asked-written.false);
-  told = inl (refl, (let enough = c.reach.ensures.0 c.if-reach.true in omega (arith, c.asked_by-asked.ensures, enough)));
+  lacking = (
+    omega (arith, c.asked_by-asked.ensures, c.if-asked-written.false),
+    inl (refl, (let enough = c.reach.ensures.0 c.if-reach.true in omega (arith, c.asked_by-asked.ensures, enough))),
+  );
 }
 
 pub returns-else-reach-clause-some : goal.returns-else-reach-clause-some
 returns-else-reach-clause-some c = record {
   code = code_of c.in-Some.command;
   here = c.in-Some.ensures.some c.args.cmd.value;
-  more = omega (arith, c.asked_by-asked.ensures, c.if-asked-written.false);
-  told = inr (
-    refl,
-    (let more = not-enough c.asked_by-asked.result c.args.written (many_to_come c.args.store.now c.args.equations.now) c.reach.result c.if-reach.false c.reach.ensures.1 in omega (arith, c.asked_by-asked.ensures, more)),
+  lacking = (
+    omega (arith, c.asked_by-asked.ensures, c.if-asked-written.false),
+    inr (
+      refl,
+      (let more = not-enough c.asked_by-asked.result c.args.written (many_to_come (stored c.args.store.now) c.args.equations.now) c.reach.result c.if-reach.false c.reach.ensures.1 in omega (arith, c.asked_by-asked.ensures, more)),
+    ),
   );
 }

@@ -6,7 +6,7 @@ use Rattle.mz_machine_theory.specs.Bodies.{body_command}
 use Rattle.mz_machine_env.specs.Before.{signatures_of, tables_of}
 use Rattle.mz_machine_env.specs.OwnRow.{kind_of}
 use Rattle.mz_machine.specs.OverStore.{state_at}
-use Rattle.mz_machine.specs.OpenEquations.{AllOpen, IsLack, IsNoLack}
+use Rattle.mz_machine.specs.OpenEquations.{stored, AllOpen, IsLack, IsNoLack}
 use Rattle.mz_machine.specs.declared.equations.Equation.{Equation}
 use Rattle.mz_machine.proofs.LackRows.{lack-gives, no-lack-asks, open-each}
 use Rattle.mz_machine.proofs.Citing.{items-many}
@@ -29,7 +29,7 @@ returns-in-Some-clause-done g c at =
     let xs = items_at s stack in
     let st = state_at s heap stack hyps in
     let many : length xs ≡ c.len.result = omega (arith, c.len.ensures, c.args.stack.now.ok.0, items-many s stack) in
-    let lack = lack-gives gaps (tables_of E) st kind c.args.cmd s es xs c.len.result many c.requires.settled c.in-Some.rule (subst (λ (fs : List Equation). IsLack (tables_of E) kind c.args.cmd s c.len.result fs c.in-Some.rule) c.deref.ensures.value c.in-Some.ensures.some) in
+    let lack = lack-gives gaps (tables_of E) st kind c.args.cmd (stored s) es xs c.len.result many c.requires.settled c.in-Some.rule (subst (λ (fs : List Equation). IsLack (tables_of E) kind c.args.cmd (stored s) c.len.result fs c.in-Some.rule) c.deref.ensures.value c.in-Some.ensures.some) in
     (lack at).0
 
 pub returns-in-Some-clause-steps : goal.returns-in-Some-clause-steps
@@ -45,7 +45,7 @@ returns-in-Some-clause-steps g c =
     let xs = items_at s stack in
     let st = state_at s heap stack hyps in
     let many : length xs ≡ c.len.result = omega (arith, c.len.ensures, c.args.stack.now.ok.0, items-many s stack) in
-    let lack = lack-gives gaps (tables_of E) st kind c.args.cmd s es xs c.len.result many c.requires.settled c.in-Some.rule (subst (λ (fs : List Equation). IsLack (tables_of E) kind c.args.cmd s c.len.result fs c.in-Some.rule) c.deref.ensures.value c.in-Some.ensures.some) in
+    let lack = lack-gives gaps (tables_of E) st kind c.args.cmd (stored s) es xs c.len.result many c.requires.settled c.in-Some.rule (subst (λ (fs : List Equation). IsLack (tables_of E) kind c.args.cmd (stored s) c.len.result fs c.in-Some.rule) c.deref.ensures.value c.in-Some.ensures.some) in
     (omega (arith, c.tick.ensures, (lack 0).1), omega (arith, c.tick.ensures))
 
 -- ---- a command stops
@@ -65,7 +65,7 @@ returns-in-Err-clause-done g c =
     let many : length xs ≡ c.len.result = omega (arith, c.len.ensures, c.args.stack.now.ok.0, items-many s stack) in
     let u = body_command (plain gaps) kind c.args.cmd.code c.args.cmd.value in
     let asks : AsksWithin gaps (tables_of E) s heap stack hyps es u =
-    no-lack-asks gaps (tables_of E) st kind c.args.cmd s es xs c.len.result many (subst (λ (fs : List Equation). IsNoLack (tables_of E) kind c.args.cmd c.len.result fs) c.deref.ensures.value c.in_default.ensures.none) in
+    no-lack-asks gaps (tables_of E) st kind c.args.cmd (stored s) es xs c.len.result many (subst (λ (fs : List Equation). IsNoLack (tables_of E) kind c.args.cmd c.len.result fs) c.deref.ensures.value c.in_default.ensures.none) in
     still-stopped gaps (tables_of E) s heap stack hyps es u c.requires.settled asks c.in-Err.stop c.in-Err.ensures.done
 
 pub returns-in-Err-clause-steps : goal.returns-in-Err-clause-steps
@@ -83,7 +83,7 @@ returns-in-Err-clause-steps g c =
     let many : length xs ≡ c.len.result = omega (arith, c.len.ensures, c.args.stack.now.ok.0, items-many s stack) in
     let u = body_command (plain gaps) kind c.args.cmd.code c.args.cmd.value in
     let asks : AsksWithin gaps (tables_of E) s heap stack hyps es u =
-    no-lack-asks gaps (tables_of E) st kind c.args.cmd s es xs c.len.result many (subst (λ (fs : List Equation). IsNoLack (tables_of E) kind c.args.cmd c.len.result fs) c.deref.ensures.value c.in_default.ensures.none) in
+    no-lack-asks gaps (tables_of E) st kind c.args.cmd (stored s) es xs c.len.result many (subst (λ (fs : List Equation). IsNoLack (tables_of E) kind c.args.cmd c.len.result fs) c.deref.ensures.value c.in_default.ensures.none) in
     (as-counted gaps (tables_of E) s heap stack hyps es u c.requires.settled asks (Unit {0}) (Err c.in-Err.stop) c.args.steps.now c.obey.new.steps c.in-Err.ensures.steps.0, c.in-Err.ensures.steps.1)
 
 -- ---- it goes through
@@ -103,7 +103,7 @@ returns-in-Ok-clause-done g c =
     let many : length xs ≡ c.len.result = omega (arith, c.len.ensures, c.args.stack.now.ok.0, items-many s stack) in
     let u = body_command (plain gaps) kind c.args.cmd.code c.args.cmd.value in
     let asks : AsksWithin gaps (tables_of E) s heap stack hyps es u =
-    no-lack-asks gaps (tables_of E) st kind c.args.cmd s es xs c.len.result many (subst (λ (fs : List Equation). IsNoLack (tables_of E) kind c.args.cmd c.len.result fs) c.deref.ensures.value c.in_default.ensures.none) in
+    no-lack-asks gaps (tables_of E) st kind c.args.cmd (stored s) es xs c.len.result many (subst (λ (fs : List Equation). IsNoLack (tables_of E) kind c.args.cmd c.len.result fs) c.deref.ensures.value c.in_default.ensures.none) in
     let room = c.args.stack.now.cap in
     let few : length xs ≤ room = omega (arith, items-many s stack, c.args.stack.now.ok.0, c.args.stack.now.ok.1) in
     resumed gaps (tables_of E) s heap stack hyps es u c.requires.settled asks (signatures_of E) c.obey.new.store c.obey.new.heap.items c.obey.new.stack.items c.obey.new.hyps.items room c.obey.new.stack.cap c.in-Ok.opened c.in-Ok.ensures.done
@@ -124,7 +124,7 @@ returns-in-Ok-clause-steps g c =
     let many : length xs ≡ c.len.result = omega (arith, c.len.ensures, c.args.stack.now.ok.0, items-many s stack) in
     let u = body_command (plain gaps) kind c.args.cmd.code c.args.cmd.value in
     let asks : AsksWithin gaps (tables_of E) s heap stack hyps es u =
-    no-lack-asks gaps (tables_of E) st kind c.args.cmd s es xs c.len.result many (subst (λ (fs : List Equation). IsNoLack (tables_of E) kind c.args.cmd c.len.result fs) c.deref.ensures.value c.in_default.ensures.none) in
+    no-lack-asks gaps (tables_of E) st kind c.args.cmd (stored s) es xs c.len.result many (subst (λ (fs : List Equation). IsNoLack (tables_of E) kind c.args.cmd c.len.result fs) c.deref.ensures.value c.in_default.ensures.none) in
     (unless-mem c.resume.result (as-counted gaps (tables_of E) s heap stack hyps es u c.requires.settled asks (Unit {0}) (Ok tt) c.args.steps.now c.obey.new.steps c.in-Ok.ensures.steps.0), c.in-Ok.ensures.steps.1)
 
 -- ---- what the calls ask
@@ -132,7 +132,7 @@ returns-in-Ok-clause-steps g c =
 pub lack-requires-clause-standing : goal.lack-requires-clause-standing
 lack-requires-clause-standing g c =
     let s = c.args.store.now in
-    subst (AllOpen s) (sym c.deref.ensures.value) (open-each s c.args.equations.now.items (items_at s c.args.stack.now.items) c.requires.settled.0)
+    subst (AllOpen (stored s)) (sym c.deref.ensures.value) (open-each (stored s) c.args.equations.now.items (items_at s c.args.stack.now.items) c.requires.settled.0)
 
 pub obey-requires-clause-ready : goal.obey-requires-clause-ready
 obey-requires-clause-ready g c = c.requires.ready
@@ -161,6 +161,6 @@ resume-requires-clause-standing g c =
     let many : length xs ≡ c.len.result = omega (arith, c.len.ensures, c.args.stack.now.ok.0, items-many s stack) in
     let u = body_command (plain gaps) kind c.args.cmd.code c.args.cmd.value in
     let asks : AsksWithin gaps (tables_of E) s heap stack hyps es u =
-    no-lack-asks gaps (tables_of E) st kind c.args.cmd s es xs c.len.result many (subst (λ (fs : List Equation). IsNoLack (tables_of E) kind c.args.cmd c.len.result fs) c.deref.ensures.value c.in_default.ensures.none) in
+    no-lack-asks gaps (tables_of E) st kind c.args.cmd (stored s) es xs c.len.result many (subst (λ (fs : List Equation). IsNoLack (tables_of E) kind c.args.cmd c.len.result fs) c.deref.ensures.value c.in_default.ensures.none) in
     now-stand gaps (tables_of E) s heap stack hyps es u c.requires.settled asks (signatures_of E) c.obey.new.store c.obey.new.heap.items c.obey.new.stack.items c.obey.new.hyps.items c.args.stack.now.cap c.obey.new.stack.cap c.in-Ok.opened c.in-Ok.ensures.done
     c.requires.ready.stack_in

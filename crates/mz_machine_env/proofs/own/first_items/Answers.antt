@@ -1,5 +1,7 @@
-use Rattle.std.proofs.Common.{◌∙◌, ◌++◌, ◌∷◌, [], ap}
+use Rattle.std.proofs.Common.{ℕ, List, ◌∙◌, ◌++◌, ◌∷◌, [], ap}
+use Rattle.mz_store.specs.declared.item.Item.{Item as Kept}
 use Rattle.mz_store.specs.declared.item.Item.TheVariants.{Expr}
+use Rattle.mz_machine_env.specs.OwnRow.{first_items}
 use Rattle.mz_machine_env.proofs.OwnWords.{items-next}
 use Rattle.mz_machine_env.proofs.own.first_items.Goals as goal
 
@@ -7,4 +9,6 @@ pub ids-init : goal.ids-init
 ids-init c = c.reserve.ensures.items ∙ c.clear.ensures.items
 
 pub ids-preserved : goal.ids-preserved
-ids-preserved c = c.in_ok-push.ensures.items ∙ ap (λ is. is ++ Expr (record { 0 = c.ids.i }) ∷ []) c.ids.invariant ∙ items-next c.ids.i
+ids-preserved c =
+    c.in_ok-push.ensures.items ∙ ap (λ (is : List Kept). is ++ Expr c.in_ok-id.id ∷ []) c.ids.invariant
+    ∙ ap (λ (n : ℕ). first_items c.ids.i ++ Expr (record { 0 = n }) ∷ []) c.in_ok-id.ensures.number ∙ items-next c.ids.i

@@ -10,6 +10,7 @@ use Rattle.mz_unify_theory.specs.Spells.{trees_of}
 use Rattle.mz_spec_proved_theory.specs.AlphaTrees.{SameTrees}
 use Rattle.mz_match_rows.specs.Streams.{step_at, Passes, Says}
 use Rattle.mz_match_rows.proofs.Steps.{step-takes}
+use Rattle.mz_match_rows.proofs.Numbering.{nothing-yet}
 use Rattle.mz_match_rows.proofs.PlainTrees.{said-passes, next-hyp-same, all-left, left-answer, hyp-left, hyp-found}
 use Rattle.mz_match_rows.proofs.expression.same_hyps.Goals as goal
 
@@ -21,6 +22,7 @@ hyps-init c =
       within = plain0.stream.within;
       few = omega (arith, all);
       known = λ e m f to at plain said. absurd (let below = slice_get_within (listed c.args.hyps.now) c.len-left.result e at in omega (arith, below, c.len-left.ensures));
+      right = nothing-yet c.args.sides.now c.args.hyps.now c.len-left.result c.new-formulas.result c.new-formulas.ensures.said c.new-formulas.ensures.number;
       goes_on = λ m hs plain (conclusion, to, said, hyps).
           let (n, passes) = said-passes c.args.sides.now.mmb.now c.args.sides.now.params m c.args.sides.now.start 0 conclusion to.at to.dummies said in
           let whole = all-left c.args.sides.now.publics.now (exprs_of c.args.hyps.now) c.args.hyps.now hs (trees-exprs c.args.hyps.now) in (
@@ -66,6 +68,9 @@ same_hyp-requires-clause-there c = let many = length-exprs c.args.hyps.now in om
 pub same_hyp-requires-clause-known : goal.same_hyp-requires-clause-known
 same_hyp-requires-clause-known c = c.hyps.invariant.known
 
+pub same_hyp-requires-clause-right : goal.same_hyp-requires-clause-right
+same_hyp-requires-clause-right c = c.hyps.invariant.right
+
 pub same_hyp-requires-clause-said : goal.same_hyp-requires-clause-said
 same_hyp-requires-clause-said c =
     let (m, hs, plain, said) = c.requires in
@@ -83,7 +88,7 @@ returns-then-not-same_hyp c = λ m hs plain said.
     let below : c.hyps.left - 1 < length (exprs_of c.args.hyps.now) = omega (arith, one-less, c.hyps.invariant.few) in
     let (e, at, read) = expr-at c.args.hyps.now (c.hyps.left - 1) below in (
       (λ yes-is. absurd (false≢true yes-is)),
-      λ same. absurd (false≢true (sym c.if-not-same_hyp.true ∙ (c.same_hyp.ensures (tree e) m h end at plain made).1
+      λ same. absurd (false≢true (sym c.if-not-same_hyp.true ∙ (c.same_hyp.ensures.same (tree e) m h end at plain made).1
           ((next-hyp-same c.args.sides.now.publics.now (exprs_of c.args.hyps.now) (c.hyps.left - 1) e h later below read).0
           (subst (λ (gs : List Tree). SameTrees c.args.sides.now.publics.now (trees (take (suc (c.hyps.left - 1)) (exprs_of c.args.hyps.now))) (trees_of (reverse gs))) rest-is
           (subst (λ (j : ℕ). SameTrees c.args.sides.now.publics.now (trees (take j (exprs_of c.args.hyps.now))) (trees_of (reverse rest))) (sym one-less) (exact.0 same)))).1)),
@@ -97,7 +102,8 @@ hyps-preserved c =
     record {
       within = (step-takes c.args.sides.now.mmb.now q (record { code = codes.Hyp; value = v; next = c.in-Some.next }) says).1;
       few = omega (arith, c.hyps.invariant.few);
-      known = λ e m f to at plain made. (c.same_hyp.ensures e m f to at plain made).0 c.if-not-same_hyp.false;
+      known = λ e m f to at plain made. (c.same_hyp.ensures.same e m f to at plain made).0 c.if-not-same_hyp.false;
+      right = c.same_hyp.ensures.right;
       goes_on = λ m hs plain said.
           let (rest, k, q, passes, hyps, exact) = c.hyps.invariant.goes_on m hs plain said in
           let (h, later, v, to, rest-is, says, said-h, hyps-later) = hyp-found c.args.sides.now.mmb.now c.args.sides.now.params m _ k c.hyps.at q rest c.in-Some.next c.file.ensures.file passes hyps c.in-Some.ensures.end c.in-Some.ensures.hyp in
@@ -106,7 +112,7 @@ hyps-preserved c =
           let one-less : suc (c.hyps.left - 1) ≡ c.hyps.left = omega (arith, c.if-left-eq0.false) in
           let below : c.hyps.left - 1 < length (exprs_of c.args.hyps.now) = omega (arith, one-less, c.hyps.invariant.few) in
           let (e, at, read) = expr-at c.args.hyps.now (c.hyps.left - 1) below in
-          let same-h = (c.same_hyp.ensures (tree e) m h end at plain made).0 c.if-not-same_hyp.false in
+          let same-h = (c.same_hyp.ensures.same (tree e) m h end at plain made).0 c.if-not-same_hyp.false in
           let step = next-hyp-same c.args.sides.now.publics.now (exprs_of c.args.hyps.now) (c.hyps.left - 1) e h later below read in
           let exact' = subst (λ (gs : List Tree). SameTrees c.args.sides.now.publics.now c.args.hyps.now (trees_of (reverse hs)) ↔ SameTrees c.args.sides.now.publics.now (trees (take (suc (c.hyps.left - 1)) (exprs_of c.args.hyps.now))) (trees_of (reverse gs))) rest-is
           (subst (λ (j : ℕ). SameTrees c.args.sides.now.publics.now c.args.hyps.now (trees_of (reverse hs)) ↔ SameTrees c.args.sides.now.publics.now (trees (take j (exprs_of c.args.hyps.now))) (trees_of (reverse rest))) (sym one-less) exact) in

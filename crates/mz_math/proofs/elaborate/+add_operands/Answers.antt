@@ -1,9 +1,12 @@
-use Rattle.std.proofs.Common.{◌≤◌, ◌∙◌, ap, sym, subst, arith}
+use Rattle.std.proofs.Common.{◌≤◌, ◌∙◌, ℕ, Option, length, ap, sym, subst, arith}
+use Rattle.std.specs.Prelude.{MatchOption}
 use Rattle.mz_logic_theory.specs.Tree.{none, more, followed_by, size, trees_size}
 use Rattle.mz_logic_theory.specs.View.{tree}
 use Rattle.mz_logic_theory.specs.DeclView.{signature}
 use Rattle.mz_logic_theory.specs.Declaration.{signatures}
 use Rattle.mz_logic_theory.proofs.Offered.{followed_by_none}
+use Rattle.mz_math_theory.specs.Coercions.{Reaches}
+use Rattle.mz_math_theory.specs.CoercionAnswers.{HasLength}
 use Rattle.mz_math_theory.specs.Meaning.{CoercedAll, trees_height}
 use Rattle.mz_math_theory.proofs.Offered.{all-length, take-one, put-one, size-one, none-left, trees_height-push, fits-path, too-high, operand-low, pushed-all, add-variable, operands-there, high-operands, add-application, path-reaches}
 use Rattle.mz_math.proofs.elaborate.+add_operands.Goals as goal
@@ -62,18 +65,21 @@ pub add_operand-unreachable-requires : goal.add_operand-unreachable-requires
 add_operand-unreachable-requires t c =
     let there = c.requires.there in
     let path = fits-path (signatures c.args.env.now) c.args.coercions.now c.args.ctx.now c.requires.one (tree c.args.operand.now) c.args.param.now c.head_sort-sort.result c.head_sort-sort.ensures there.0 there.1 in
-    c.in_default.ensures (path-reaches c.args.coercions.now c.requires.one c.head_sort-sort.result c.args.param.now.sort path.0 path.1)
+    (subst (λ (o : Option ℕ). MatchOption o (Reaches c.args.coercions.now (length c.args.coercions.now) c.head_sort-sort.result c.args.param.now.sort → ⊥)
+    (HasLength c.args.coercions.now (length c.args.coercions.now) c.head_sort-sort.result c.args.param.now.sort)) c.in_default-path.is c.in-Ok.ensures) (path-reaches c.args.coercions.now c.requires.one c.head_sort-sort.result c.args.param.now.sort path.0 path.1)
 
 pub add_operand-returns-then-many-most : goal.add_operand-returns-then-many-most
 add_operand-returns-then-many-most t c =
     too-high (signatures c.args.env.now) c.args.coercions.now c.args.ctx.now c.requires.one (tree c.args.operand.now) c.args.param.now c.head_sort-sort.result c.head_sort-sort.ensures
-    c.in-Some.many c.args.most c.in-Some.ensures c.if-many-most.true
+    c.in-Some.many c.args.most (subst (λ (o : Option ℕ). MatchOption o (Reaches c.args.coercions.now (length c.args.coercions.now) c.head_sort-sort.result c.args.param.now.sort → ⊥)
+    (HasLength c.args.coercions.now (length c.args.coercions.now) c.head_sort-sort.result c.args.param.now.sort)) c.in-Some.is c.in-Ok.ensures) c.if-many-most.true
 
 pub add_operand-returns-in-Var : goal.add_operand-returns-in-Var
 add_operand-returns-in-Var t c =
     let there = c.requires.there in
     add-variable (signatures c.args.env.now) c.args.coercions.now c.args.ctx.now c.requires.one (tree c.args.operand.now) c.args.param.now c.head_sort-sort.result c.head_sort-sort.ensures
-    c.in-Var.x c.add_variable.result c.args.all.now c.add_variable.new.all c.in-Some.many c.args.most there.0 c.in-Some.ensures c.if-many-most.false (ap tree c.in-Var.is) there.1 c.add_variable.ensures
+    c.in-Var.x c.add_variable.result c.args.all.now c.add_variable.new.all c.in-Some.many c.args.most there.0 (subst (λ (o : Option ℕ). MatchOption o (Reaches c.args.coercions.now (length c.args.coercions.now) c.head_sort-sort.result c.args.param.now.sort → ⊥)
+    (HasLength c.args.coercions.now (length c.args.coercions.now) c.head_sort-sort.result c.args.param.now.sort)) c.in-Some.is c.in-Ok.ensures) c.if-many-most.false (ap tree c.in-Var.is) there.1 c.add_variable.ensures
 
 pub add_operand-add_operands-requires : goal.add_operand-add_operands-requires
 add_operand-add_operands-requires t c =
@@ -85,7 +91,7 @@ add_operand-add_operands-requires t c =
     let smaller = ap size e_is in
     let own = operands-there sigs cs ctx c.requires.one (tree c.args.operand.now) c.args.param.now c.head_sort-sort.result c.head_sort-sort.ensures
     c.in-App.t c.in-App.operands (signature c.in-Some-term.term.now) e_is (sym c.in-Some-term.ensures.signature) there.0 there.1 in
-    (omega (arith, smaller, c.decreases), (c.requires.one, ((own.0, subst (λ ps. CoercedAll sigs cs ctx c.in-App.operands ps own.0) (sym c.as_slice.ensures) own.1), c.in-Ok.ensures)))
+    (omega (arith, smaller, c.decreases), (c.requires.one, ((own.0, subst (λ ps. CoercedAll sigs cs ctx c.in-App.operands ps own.0) (sym c.as_slice.ensures) own.1), c.in-Ok-with_capacity.ensures)))
 
 pub add_operand-returns-in-High : goal.add_operand-returns-in-High
 add_operand-returns-in-High t c =
@@ -93,7 +99,8 @@ add_operand-returns-in-High t c =
     let cs = c.args.coercions.now in
     let ctx = c.args.ctx.now in
     high-operands sigs cs ctx c.requires.one (tree c.args.operand.now) c.args.param.now c.head_sort-sort.result c.head_sort-sort.ensures
-    c.in-App.t c.in-App.operands (signature c.in-Some-term.term.now) (ap tree c.in-App.is) (sym c.in-Some-term.ensures.signature) c.in-Some.many c.args.most c.in-Some.ensures c.if-many-most.false
+    c.in-App.t c.in-App.operands (signature c.in-Some-term.term.now) (ap tree c.in-App.is) (sym c.in-Some-term.ensures.signature) c.in-Some.many c.args.most (subst (λ (o : Option ℕ). MatchOption o (Reaches c.args.coercions.now (length c.args.coercions.now) c.head_sort-sort.result c.args.param.now.sort → ⊥)
+    (HasLength c.args.coercions.now (length c.args.coercions.now) c.head_sort-sort.result c.args.param.now.sort)) c.in-Some.is c.in-Ok.ensures) c.if-many-most.false
     (λ fs all. c.in-High.ensures fs (subst (λ ps. CoercedAll sigs cs ctx c.in-App.operands ps fs) (sym c.as_slice.ensures) all))
 
 pub add_operand-returns-in-Done : goal.add_operand-returns-in-Done
@@ -106,5 +113,6 @@ add_operand-returns-in-Done t c =
     let own = c.add_operands.new.all in
     add-application sigs cs ctx c.requires.one (tree c.args.operand.now) c.args.param.now c.head_sort-sort.result c.head_sort-sort.ensures
     c.in-App.t c.in-App.operands (signature c.in-Some-term.term.now) (ap tree c.in-App.is) (sym c.in-Some-term.ensures.signature) own
-    c.add_wrapped.result c.args.all.now c.add_wrapped.new.all c.in-Some.many c.args.most there.0 c.in-Some.ensures c.if-many-most.false there.1
+    c.add_wrapped.result c.args.all.now c.add_wrapped.new.all c.in-Some.many c.args.most there.0 (subst (λ (o : Option ℕ). MatchOption o (Reaches c.args.coercions.now (length c.args.coercions.now) c.head_sort-sort.result c.args.param.now.sort → ⊥)
+    (HasLength c.args.coercions.now (length c.args.coercions.now) c.head_sort-sort.result c.args.param.now.sort)) c.in-Some.is c.in-Ok.ensures) c.if-many-most.false there.1
     (subst (λ ps. CoercedAll sigs cs ctx c.in-App.operands ps own) c.as_slice.ensures done.0) done.1 c.add_wrapped.ensures

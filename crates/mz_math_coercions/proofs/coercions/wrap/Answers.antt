@@ -1,25 +1,26 @@
-use Rattle.std.proofs.Common.{◌∙◌, List, sym, subst}
+use Rattle.std.proofs.Common.{◌≡◌, ◌∙◌, ℕ, List, [], length, refl, sym, subst}
+use Rattle.std.specs.Prelude.{IfOk}
 use Rattle.mz_logic_theory.specs.View.{tree}
 use Rattle.mz_math_theory.specs.declared.coercion.Coercion.{Coercion}
-use Rattle.mz_math_theory.specs.Coercions.{Reaches}
-use Rattle.mz_math_theory.specs.CoercionAnswers.{IsNext}
-use Rattle.mz_math_coercions.specs.Firsts.{AreLed}
-use Rattle.mz_math_coercions.proofs.Leading.{next-reach, stuck, wrapped-more}
+use Rattle.mz_math_theory.specs.Coercions.{IsPath, OnePath, Reaches, wrapped}
+use Rattle.mz_math_coercions.specs.Firsts.{ArePathsTo}
 use Rattle.mz_math_coercions.proofs.coercions.wrap.Goals as goal
 
-pub next_coercion-requires : goal.next_coercion-requires
-next_coercion-requires c = subst (λ (cs : List Coercion). AreLed cs c.coercions.inside.firsts) (sym c.as_slice-items.ensures) c.coercions.invariant.2
+pub returns-then-from-to : goal.returns-then-from-to
+returns-then-from-to c = ([], c.if-from-to.true, refl)
 
-pub unreachable-requires : goal.unreachable-requires
-unreachable-requires c =
-    let reach = subst (λ (cs : List Coercion). Reaches cs c.steps.most c.steps.sort c.args.to) (sym (c.as_slice-items.ensures ∙ c.coercions.view_is)) c.steps.invariant.reach in
-    stuck c.as_slice-items.result.now c.steps.most c.steps.sort c.args.to c.steps-test.true c.in_default.ensures reach
+pub wrap_along-requires-clause-one : goal.wrap_along-requires-clause-one
+wrap_along-requires-clause-one c = subst OnePath (sym c.as_slice.ensures) c.coercions.invariant.one
 
-pub steps-preserved : goal.steps-preserved
-steps-preserved c =
-    let (p, next) = c.in-Some.ensures in
-    let next' = subst (λ (cs : List Coercion). IsNext cs c.steps.sort c.args.to p c.in-Some.coercion) (c.as_slice-items.ensures ∙ c.coercions.view_is) next in
-    record {
-      reach = next-reach c.args.coercions.now c.steps.most c.steps.sort c.args.to p c.in-Some.coercion next' c.steps-test.true c.steps.invariant.reach;
-      so_far = wrapped-more c.args.coercions.now c.args.from c.steps.sort c.args.to p c.in-Some.coercion (tree c.args.expr) (tree c.steps.built) (tree c.in_ok-built.built) next' c.steps.invariant.so_far c.in_ok-built.ensures;
-    }
+pub wrap_along-requires-clause-paths : goal.wrap_along-requires-clause-paths
+wrap_along-requires-clause-paths c =
+    subst (λ (cs : List Coercion). ArePathsTo cs c.coercions.inside.firsts c.in_ok-walked.walked c.args.to) (sym c.as_slice.ensures)
+    (c.in_ok-walked.ensures c.coercions.inside.graph c.coercions.inside.firsts c.coercions.invariant.led c.coercions.invariant.turned)
+
+pub wrap_along-requires-clause-there : goal.wrap_along-requires-clause-there
+wrap_along-requires-clause-there c = subst (λ (cs : List Coercion). Reaches cs (length cs) c.args.from c.args.to) (sym (c.as_slice.ensures ∙ c.coercions.view_is)) c.requires
+
+pub returns : goal.returns
+returns c =
+    subst (λ (cs : List Coercion). IfOk c.wrap_along.result (λ e. (path : List ℕ) × IsPath cs c.args.from path c.args.to × (tree e ≡ wrapped cs path (tree c.args.expr)))) (c.as_slice.ensures ∙ c.coercions.view_is)
+    c.wrap_along.ensures

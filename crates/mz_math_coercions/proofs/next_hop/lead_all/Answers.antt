@@ -1,38 +1,31 @@
-use Rattle.std.proofs.Common.{ℕ, get_or, Contains}
-use Rattle.std.proofs.lemmas.List.Elements.{Contains-get_or}
-use Rattle.mz_base_theory.proofs.Offered.{all_so_far_more, all-members}
-use Rattle.mz_math_theory.specs.declared.start.Start.{Start}
+use Rattle.std.proofs.Common.{◌∙◌, ℕ, arith, inl, refl, sym}
+use Rattle.std.proofs.lemmas.Option.{none-some}
+use Rattle.mz_base_theory.proofs.Offered.{slice_get-some}
 use Rattle.mz_math_coercions.specs.Firsts.{IsOfStarts, first_of}
-use Rattle.mz_math_coercions.proofs.Leading.{put-back, start-changed, start-kept, start-put}
+use Rattle.mz_math_coercions.specs.Reached.{Has}
+use Rattle.mz_math_coercions.proofs.Leading.{before-all, start-changed, start-seen}
 use Rattle.mz_math_coercions.proofs.next_hop.lead_all.Goals as goal
 
-pub returns-in_default-clause-err : goal.returns-in_default-clause-err
-returns-in_default-clause-err c =
-    let zero : Start = record { sort = 0; place = 0 } in
-    let f : Start = get_or c.args.starts.now c.loop-start.start-index zero in
-    let has = Contains-get_or c.args.starts.now c.loop-start.start-index zero c.loop-start-test.true in
-    put-back c.args.firsts.now c.lead_from.new.firsts c.forget_all.new.firsts c.args.starts.now c.args.ends.now c.requires
-    (start-changed c.loop-start.firsts c.lead_from.new.firsts c.args.starts.now c.args.ends.now f has c.lead_from.ensures.others c.args.firsts.now c.loop-start.invariant.others)
-    c.forget_all.ensures.others c.forget_all.ensures.gone
+pub starts-init : goal.starts-init
+starts-init c = record { others = λ s t. inl refl; so_far = λ k s p below is. absurd (omega (arith, below)) }
 
-pub loop-start-preserved : goal.loop-start-preserved
-loop-start-preserved c =
-    let m = c.loop-start.firsts in
-    let n = c.lead_from.new.firsts in
-    let starts = c.args.starts.now in
-    let ends = c.args.ends.now in
-    let zero : Start = record { sort = 0; place = 0 } in
-    let f : Start = get_or c.args.starts.now c.loop-start.start-index zero in
-    let has = Contains-get_or c.args.starts.now c.loop-start.start-index zero c.loop-start-test.true in
-    let P : Start → Type 0 = λ g. (t : ℕ) → Contains c.args.ends.now t → IsOfStarts c.args.starts.now c.args.ends.now g.sort t (first_of c.lead_from.new.firsts g.sort t) in
+pub unreachable-requires : goal.unreachable-requires
+unreachable-requires c =
+    let many = c.len-i-end.ensures.many in
+    let (entry, at) = slice_get-some c.args.starts.now c.starts.i (omega (arith, many, c.starts-test.true)) in
+    none-some entry (c.in_default.ensures ∙ at)
+
+pub starts-preserved : goal.starts-preserved
+starts-preserved c =
+    let at = sym c.in-Some.ensures in
+    let (change, put) = c.in_ok-lead_from.ensures c.if-not-branch.false in
     record {
-      others = start-changed m n starts ends f has c.lead_from.ensures.others c.args.firsts.now c.loop-start.invariant.others;
-      so_far = all_so_far_more P starts c.loop-start.start-index zero
-          (λ k d below. start-kept m n starts ends f has c.lead_from.ensures.others (get_or c.args.starts.now k d) (c.loop-start.invariant.so_far k d below)) c.loop-start-test.true
-          (start-put m n starts ends f has c.lead_from.ensures.others c.in-Ok.ensures.ok);
+      others = start-changed c.starts.firsts c.lead_from.new.firsts c.args.starts.now c.args.ends.now c.starts.i c.in-Some.sort c.in-Some.place at change c.args.firsts.now c.starts.invariant.others;
+      so_far = start-seen c.starts.firsts c.lead_from.new.firsts c.args.starts.now c.args.ends.now c.starts.i c.in-Some.sort c.in-Some.place at change put c.starts.invariant.so_far;
     }
 
-pub returns-clause-ok : goal.returns-clause-ok
-returns-clause-ok c = λ f t in-f in-t.
-    let P : Start → Type 0 = λ g. (t : ℕ) → Contains c.args.ends.now t → IsOfStarts c.args.starts.now c.args.ends.now g.sort t (first_of c.loop-start.firsts g.sort t) in
-    all-members P c.args.starts.now c.loop-start.invariant.so_far c.loop-start-test.false f in-f t in-t
+pub returns : goal.returns
+returns c = λ t.
+    let many = c.len-i-end.ensures.many in
+    let P : ℕ → ℕ → Type 0 = λ s p. (t : ℕ) → Has c.args.ends.now t → IsOfStarts c.args.starts.now c.args.ends.now s t (first_of c.starts.firsts s t) in
+    (c.starts.invariant.others, λ s t has. before-all P c.args.starts.now c.starts.i (omega (arith, many, c.starts-test.false)) c.starts.invariant.so_far s has.0 has.1 t)

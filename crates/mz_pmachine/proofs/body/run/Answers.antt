@@ -1,20 +1,19 @@
-use Rattle.std.proofs.Common.{◌≤◌, ◌+◌, ◌∙◌, length, refl, sym, ap, subst, arith}
+use Rattle.std.proofs.Common.{◌+◌, ◌∙◌, length, sym, ap, subst, arith}
 use Rattle.mz_pmachine_unify.specs.Numbering.{Numbering}
-use Rattle.mz_machine.specs.Stepping.{ended_at, stopped_at}
+use Rattle.mz_machine.specs.Rooms.{OneACommand}
 use Rattle.mz_pmachine.specs.Running.{machine_of}
 use Rattle.mz_pmachine.specs.Steps.{tables_for, heading_for}
 use Rattle.mz_pmachine_theory.specs.NodeIdentity.{portable}
 use Rattle.mz_unify_theory.proofs.Offered.{further}
 use Rattle.mz_machine_env.proofs.Offered.{at-first, cut-whole, long-whole, end-whole, end-refused, end-many, refused-whole, refused-many, goes-on, ends-there, goes-further}
-use Rattle.mz_pmachine.proofs.BodyRunning.{itself, goes, row-over, steps-over, most-over, end-answer, end-counts, stop-answer, stop-counts, ran-by, stopped-ran}
-use Rattle.mz_unify.proofs.Offered.{counted-within}
+use Rattle.mz_pmachine.proofs.BodyRunning.{itself, goes, row-over, steps-over, most-over, end-answer, end-counts, stop-answer, stop-counts}
 use Rattle.mz_machine_theory.proofs.Offered.{more-steps, within-steps}
-use Rattle.mz_machine.proofs.Offered.{place-fits}
+use Rattle.mz_machine.proofs.Offered.{none-last, none-so-far, one-last, one-so-far, place-fits, whatever}
 use Rattle.mz_pmachine.proofs.body.run.Goals as goal
 
 pub commands-init : goal.commands-init
 commands-init g c =
-    record { in_range = omega arith; running = c.requires.running; same = itself (machine_of c.args.setting.now c.args.parts.now); underway = at-first portable (tables_for (machine_of c.args.setting.now c.args.parts.now)) (heading_for (machine_of c.args.setting.now c.args.parts.now)) c.args.from c.args.bytes.now (machine_of c.args.setting.now c.args.parts.now).state c.args.steps.now; first = omega (arith, c.requires.first); most = omega arith; nodes = omega arith }
+    record { in_range = omega arith; running = c.requires.running; same = itself (machine_of c.args.setting.now c.args.parts.now); underway = at-first portable (tables_for (machine_of c.args.setting.now c.args.parts.now)) (heading_for (machine_of c.args.setting.now c.args.parts.now)) c.args.from c.args.bytes.now (machine_of c.args.setting.now c.args.parts.now).state c.args.steps.now; first = omega (arith, c.requires.first); most = omega arith; nodes = none-so-far (length c.args.parts.now.nodes.entries) c.args.bytes.now }
 
 pub returns-in_default-clause-run : goal.returns-in_default-clause-run
 returns-in_default-clause-run g c =
@@ -139,21 +138,29 @@ returns-in-Err-clause-most g c =
 
 -- ---- the nodes
 
+pub returns-in_default-clause-nodes : goal.returns-in_default-clause-nodes
+returns-in_default-clause-nodes g c =
+    none-last (length c.args.parts.now.nodes.entries) c.args.bytes.now c.commands.at (length c.commands.parts.nodes.entries) c.commands.invariant.nodes
+
+pub returns-then-next-bytes-clause-nodes : goal.returns-then-next-bytes-clause-nodes
+returns-then-next-bytes-clause-nodes g c =
+    none-last (length c.args.parts.now.nodes.entries) c.args.bytes.now c.commands.at (length c.commands.parts.nodes.entries) c.commands.invariant.nodes
+
 pub returns-then-cmd-eq-END-clause-nodes : goal.returns-then-cmd-eq-END-clause-nodes
 returns-then-cmd-eq-END-clause-nodes g c =
     let first = length c.args.parts.now.nodes.entries in
-    let whole = length c.args.bytes.now in
-    let most : length c.commands.parts.nodes.entries ≤ first + whole =
-    counted-within first (length c.commands.parts.nodes.entries) c.commands.at whole c.commands.invariant.nodes c.commands.invariant.in_range in
-    rw c.ended.ensures
-    (ran-by (ended_at (c.args.from + c.commands.at) c.finish.result) (length c.finish.new.parts.nodes.entries ≤ first + whole)
-    (λ end is. subst (λ (s : Numbering). length s.entries ≤ first + whole) (sym c.finish.ensures.nodes) most))
+    let bytes = c.args.bytes.now in
+    let made = none-last first bytes c.commands.at (length c.commands.parts.nodes.entries) c.commands.invariant.nodes in
+    whatever c.ended.result (OneACommand first bytes (length c.finish.new.parts.nodes.entries))
+    (subst (λ (s : Numbering). OneACommand first bytes (length s.entries)) (sym c.finish.ensures.nodes) made)
 
 pub returns-in-Err-clause-nodes : goal.returns-in-Err-clause-nodes
 returns-in-Err-clause-nodes g c =
-    rw c.stopped.ensures
-    (stopped-ran (c.args.from + c.commands.at) c.in-Err.stop (stopped_at (c.args.from + c.commands.at) c.in-Err.stop) refl
-    (length c.advance.new.parts.nodes.entries ≤ length c.args.parts.now.nodes.entries + length c.args.bytes.now))
+    let first = length c.args.parts.now.nodes.entries in
+    let bytes = c.args.bytes.now in
+    let later = length c.advance.new.parts.nodes.entries in
+    whatever c.stopped.result (OneACommand first bytes later)
+    (one-last first bytes c.commands.at (length c.commands.parts.nodes.entries) later c.in-Ok.cmd (sym c.in-Ok.ensures.computed) c.if-cmd-eq-END.false c.advance.ensures.nodes c.commands.invariant.nodes)
 
 -- ---- the loop
 
@@ -184,5 +191,5 @@ commands-preserved g c =
           (row-over u v place v.state cmd _ same c.in-Ok-advance.ensures.row.0) (steps-over u v v.state cmd c.advance.new.steps c.commands.steps same c.in-Ok-advance.ensures.steps));
       first = rw c.from.ensures (omega (arith, ahead.0, c.in-Ok-advance.ensures.row.1.next));
       most = rw c.from.ensures (more-steps c.args.steps.now c.commands.steps c.advance.new.steps c.commands.at cmd.len (length u.file) c.commands.invariant.most (most-over u v c.advance.new.steps c.commands.steps same c.in-Ok-advance.ensures.most) ahead.0);
-      nodes = rw c.from.ensures (omega (arith, c.commands.invariant.nodes, c.in-Ok-advance.ensures.row.1.nodes, ahead.0));
+      nodes = rw c.from.ensures (one-so-far (length c.args.parts.now.nodes.entries) c.args.bytes.now c.commands.at (length c.commands.parts.nodes.entries) (length c.advance.new.parts.nodes.entries) cmd read c.if-cmd-eq-END.false c.advance.ensures.nodes c.commands.invariant.nodes);
     }

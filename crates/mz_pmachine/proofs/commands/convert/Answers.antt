@@ -44,16 +44,6 @@ returns-in-Symm-clause-row g c at value hyps =
 pub returns-in-Symm-clause-steps : goal.returns-in-Symm-clause-steps
 returns-in-Symm-clause-steps g c value hyps = rw c.in-Symm.is (unless-mem c.by_rule-in-Symm.result (no-more _ _ refl))
 
-pub returns-in-Cong-clause-ids : goal.returns-in-Cong-clause-ids
-returns-in-Cong-clause-ids g c = on_ok_weaker c.cong.result (λ stack. (c.requires.heap, stack)) c.cong.ensures.ids
-
-pub returns-in-Cong-clause-row : goal.returns-in-Cong-clause-row
-returns-in-Cong-clause-row g c at value hyps =
-    rw c.in-Cong.is (c.cong.ensures.row (tables_of c.args.earlier.now) at value (state_at c.args.nodes.now c.args.heap.now.items c.args.stack.now.items hyps) refl)
-
-pub returns-in-Cong-clause-steps : goal.returns-in-Cong-clause-steps
-returns-in-Cong-clause-steps g c value hyps = rw c.in-Cong.is (unless-mem c.cong.result (no-more _ _ refl))
-
 pub returns-in-Unfold-clause-ids : goal.returns-in-Unfold-clause-ids
 returns-in-Unfold-clause-ids g c = on_ok_weaker c.unfold.result (λ stack. (c.requires.heap, stack)) c.unfold.ensures.ids
 
@@ -120,9 +110,6 @@ refl-requires g c = c.requires.stack
 
 pub symm-requires : goal.symm-requires
 symm-requires g c = c.requires.stack
-
-pub cong-requires : goal.cong-requires
-cong-requires g c = c.requires.stack
 
 pub conv_cut-requires : goal.conv_cut-requires
 conv_cut-requires g c = c.requires.stack

@@ -1,10 +1,11 @@
-use Rattle.std.proofs.Common.{arith}
+use Rattle.std.proofs.Common.{arith, ap, ◌∙◌}
 use Rattle.std.proofs.lemmas.Result.{on_ok_weaker}
 use Rattle.mz_pmachine_theory.specs.NodeIdentity.{portable}
 use Rattle.mz_machine_env.specs.Before.{tables_of}
 use Rattle.mz_pmachine_unify.proofs.Offered.{are-still-in}
 use Rattle.mz_machine.proofs.Offered.{no-more, on-both, on-ok, unless-mem}
 use Rattle.mz_pmachine.specs.OverNodes.{state_at}
+use Rattle.mz_pmachine.specs.declared.command.Command.TheVariants.{Converts}
 use Rattle.mz_pmachine.proofs.Codes.{keeping-steps}
 use Rattle.mz_pmachine.proofs.TermResults.{grows-not}
 use Rattle.mz_pmachine.proofs.commands.execute.Goals as goal
@@ -111,6 +112,9 @@ convert-requires-clause-heap g c = c.requires.heap
 
 pub convert-requires-clause-stack : goal.convert-requires-clause-stack
 convert-requires-clause-stack g c = c.requires.stack
+
+pub convert-requires-clause-other : goal.convert-requires-clause-other
+convert-requires-clause-other g c is = c.requires.other (c.in-Converts.is ∙ ap Converts is)
 
 pub returns-in-Keeps-clause-most : goal.returns-in-Keeps-clause-most
 returns-in-Keeps-clause-most g c = omega arith

@@ -1,4 +1,4 @@
-use Rattle.std.proofs.Common.{◌∙◌, ◌+◌, ◌≤◌, length, drop, refl, sym, ap, subst, arith}
+use Rattle.std.proofs.Common.{◌∙◌, ◌+◌, ◌++◌, ◌≤◌, length, drop, refl, sym, ap, subst, arith}
 use Rattle.mz_unify_theory.specs.Streams.{IsEnd}
 use Rattle.mz_unify.specs.Stored.{mode_of, trees_at, items_at}
 use Rattle.mz_unify.specs.Rows.{command_of, TellsFor, state_at}
@@ -15,7 +15,7 @@ commands-init g c = record {
   ticked = omega arith;
   held = c.len-held.ensures ∙ c.args.hyps.now.ok.0;
   left = (0, omega arith, left-none c.args.hyps.now.items);
-  underway = λ sigs over. record { left = (trees_at c.args.store.now c.args.heap.now.items, subst (λ is. TellsFor (mode_of c.args.mode) c.args.store.now.context c.kept_apart-apart.result (trees_at c.args.store.now is)) c.deref.ensures.value (c.kept_apart-apart.ensures sigs over), refl, refl) };
+  underway = λ sigs over. record { left = (trees_at c.args.store.now c.args.operands.now, c.requires.apart, refl, refl) };
 }
 
 pub returns-in_default-clause-run : goal.returns-in_default-clause-run
@@ -37,10 +37,10 @@ pub returns-in-Err-clause-steps : goal.returns-in-Err-clause-steps
 returns-in-Err-clause-steps g c sigs over = rw (c.stopped-in-Err.ensures, c.tick.ensures) (stopped-many (c.commands.invariant.underway sigs over) c.in-Ok.cmd (sym c.in-Ok.ensures.computed) (command_of c.in-Some.next) c.in-Some.ensures.some c.in-Err.stop _ (λ es told. c.in-Err.ensures.row sigs es over told))
 
 pub returns-in-End-clause-run : goal.returns-in-End-clause-run
-returns-in-End-clause-run g c sigs over = ended-whole (c.commands.invariant.underway sigs over) c.in-Ok.cmd (sym c.in-Ok.ensures.computed) (command_of c.in-Some.next) c.in-Some.ensures.some (λ fs. TellsFor (mode_of c.args.mode) c.args.store.now.context c.step.new.apart fs) (λ fs. state_at c.args.store.now c.step.new.heap.items fs c.step.new.targets.items c.step.new.hyps.items) (trees_at c.args.store.now c.step.new.heap.items) (items_at c.args.store.now c.step.new.hyps.items) (λ _. (refl, refl)) (subst IsEnd (ap command_of (sym c.in-End.is)) tt) (λ es told. c.in_default-step.ensures.row sigs es over told)
+returns-in-End-clause-run g c sigs over = ended-whole (c.commands.invariant.underway sigs over) c.in-Ok.cmd (sym c.in-Ok.ensures.computed) (command_of c.in-Some.next) c.in-Some.ensures.some (λ fs. TellsFor (mode_of c.args.mode) c.args.store.now.context c.step.new.apart fs) (λ fs. state_at c.args.store.now (c.args.operands.now ++ c.step.new.saved.items) fs c.step.new.targets.items c.step.new.hyps.items) (trees_at c.args.store.now (c.args.operands.now ++ c.step.new.saved.items)) (items_at c.args.store.now c.step.new.hyps.items) (λ _. (refl, refl)) (subst IsEnd (ap command_of (sym c.in-End.is)) tt) (λ es told. c.in_default-step.ensures.row sigs es over told)
 
 pub returns-in-End-clause-steps : goal.returns-in-End-clause-steps
-returns-in-End-clause-steps g c sigs over = c.tick.ensures ∙ ended-many (c.commands.invariant.underway sigs over) c.in-Ok.cmd (sym c.in-Ok.ensures.computed) (command_of c.in-Some.next) c.in-Some.ensures.some (λ fs. TellsFor (mode_of c.args.mode) c.args.store.now.context c.step.new.apart fs) (λ fs. state_at c.args.store.now c.step.new.heap.items fs c.step.new.targets.items c.step.new.hyps.items) (subst IsEnd (ap command_of (sym c.in-End.is)) tt) (λ es told. c.in_default-step.ensures.row sigs es over told)
+returns-in-End-clause-steps g c sigs over = c.tick.ensures ∙ ended-many (c.commands.invariant.underway sigs over) c.in-Ok.cmd (sym c.in-Ok.ensures.computed) (command_of c.in-Some.next) c.in-Some.ensures.some (λ fs. TellsFor (mode_of c.args.mode) c.args.store.now.context c.step.new.apart fs) (λ fs. state_at c.args.store.now (c.args.operands.now ++ c.step.new.saved.items) fs c.step.new.targets.items c.step.new.hyps.items) (subst IsEnd (ap command_of (sym c.in-End.is)) tt) (λ es told. c.in_default-step.ensures.row sigs es over told)
 
 pub overflow_add-at : goal.overflow_add-at
 overflow_add-at g c =
@@ -51,7 +51,7 @@ overflow_add-at g c =
 pub commands-preserved : goal.commands-preserved
 commands-preserved g c =
     let on = further c.args.stream.now c.commands.at c.in-Ok.cmd (sym c.in-Ok.ensures.computed) c.commands.invariant.in_range in
-    let start = state_at c.args.store.now c.args.heap.now.items (trees_at c.args.store.now c.args.heap.now.items) c.args.targets.now.items c.args.hyps.now.items in
+    let start = state_at c.args.store.now (c.args.operands.now ++ c.args.saved.now.items) (trees_at c.args.store.now c.args.operands.now) c.args.targets.now.items c.args.hyps.now.items in
     let before = c.commands.invariant.left in
     let after = c.in_default-step.ensures.left in
     record {
@@ -62,7 +62,7 @@ commands-preserved g c =
       ticked = rw (c.tick.ensures, c.from-at.ensures) (omega (arith, (command-long (drop c.commands.at c.args.stream.now) c.in-Ok.cmd (sym c.in-Ok.ensures.computed)).0, c.commands.invariant.ticked));
       held = c.commands.invariant.held;
       left = (before.0 + after.0, rw c.from-at.ensures (omega arith), left-both c.args.hyps.now.items c.commands.hyps.items c.step.new.hyps.items before.0 after.0 before.2 after.2);
-      underway = λ sigs over. rw (c.tick.ensures, c.from-at.ensures) (goes-on {start = start} (c.commands.invariant.underway sigs over) c.in-Ok.cmd (sym c.in-Ok.ensures.computed) (command_of c.in-Some.next) c.in-Some.ensures.some (λ fs. TellsFor (mode_of c.args.mode) c.args.store.now.context c.step.new.apart fs) (λ fs. state_at c.args.store.now c.step.new.heap.items fs c.step.new.targets.items c.step.new.hyps.items) (not-end c.in-Some.next c.in_default-next.not-End) (λ es told. c.in_default-step.ensures.row sigs es over told));
+      underway = λ sigs over. rw (c.tick.ensures, c.from-at.ensures) (goes-on {start = start} (c.commands.invariant.underway sigs over) c.in-Ok.cmd (sym c.in-Ok.ensures.computed) (command_of c.in-Some.next) c.in-Some.ensures.some (λ fs. TellsFor (mode_of c.args.mode) c.args.store.now.context c.step.new.apart fs) (λ fs. state_at c.args.store.now (c.args.operands.now ++ c.step.new.saved.items) fs c.step.new.targets.items c.step.new.hyps.items) (not-end c.in-Some.next c.in_default-next.not-End) (λ es told. c.in_default-step.ensures.row sigs es over told));
     }
 
 pub step-requires-clause-stands : goal.step-requires-clause-stands

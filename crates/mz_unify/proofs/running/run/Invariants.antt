@@ -1,4 +1,4 @@
-use Rattle.std.proofs.Common.{◌≡◌, ℕ, ◌+◌, ◌-◌, ◌≤◌, List, length}
+use Rattle.std.proofs.Common.{◌≡◌, ℕ, ◌+◌, ◌-◌, ◌++◌, ◌≤◌, List, length}
 use Rattle.mz_logic_theory.specs.Tree.{Tree}
 use Rattle.mz_logic_theory.specs.Signature.{Signature}
 use Rattle.mz_store.specs.Sharing.{AreIn, IsOver}
@@ -11,15 +11,15 @@ use Rattle.mz_unify.proofs.running.run.Given as goal
 abbrev pub invariant-commands : goal.invariant-commands
 invariant-commands g l = record {
   in_range : l.at ≤ length l.stream;
-  heap : AreIn l.store l.heap.items;
+  heap : AreIn l.store (l.operands ++ l.saved.items);
   targets : AreIn l.store l.targets.items;
   hyps : AreItemsIn l.store l.hyps.items;
   ticked : l.steps ≤ l.fn.steps + l.at;
   held : l.held ≡ length l.fn.hyps.items;
   left : (taken : ℕ) × (taken ≤ l.at) × AreLeft l.fn.hyps.items l.hyps.items taken;
   underway : (sigs : List Signature) → IsOver sigs l.store
-      → IsUnderway strict sigs l.store.context (mode_of l.mode) (List Tree) l.stream (state_at l.store l.fn.heap.items (trees_at l.store l.fn.heap.items) l.fn.targets.items l.fn.hyps.items) l.fn.steps l.at
-      (λ es. TellsFor (mode_of l.mode) l.store.context l.apart es) (λ es. state_at l.store l.heap.items es l.targets.items l.hyps.items) l.steps;
+      → IsUnderway strict sigs l.store.context (mode_of l.mode) (List Tree) l.stream (state_at l.store (l.operands ++ l.fn.saved.items) (trees_at l.store l.operands) l.fn.targets.items l.fn.hyps.items) l.fn.steps l.at
+      (λ es. TellsFor (mode_of l.mode) l.store.context l.apart es) (λ es. state_at l.store (l.operands ++ l.saved.items) es l.targets.items l.hyps.items) l.steps;
 }
 
 abbrev pub decreases-commands : goal.decreases-commands

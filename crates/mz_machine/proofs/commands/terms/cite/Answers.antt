@@ -40,7 +40,7 @@ returns-in-Ok-through-clause-cited g c st ctx is =
     let taken = c.in-Ok.ensures.taken st ctx is in
     let m = matching_at s Use (drop (thm_row E.file c.args.t).stream_at E.file) c.take_citation.new.spare.operands.items c.in-Ok.target c.take_citation.new.stack.items in
     let run = (went-through c.unify_in.result _ _ _ c.in-Ok-through.ensures c.unify_in.ensures.run).1 in
-    cited-row strict (tables_of E) c.args.t st m taken run.0 (cited-run E s st ctx c.args.t c.stream_of_thm-stream.result.now c.stream_of_thm-stream.ensures.stream c.take_citation.new.spare.operands.items c.in-Ok.target c.take_citation.new.stack.items ∙ run.1) ∙ ap (λ xs. Ok (tree_of s c.in-Ok.target.0, xs)) run.3
+    cited-row strict (tables_of E) c.args.t st m taken run.0 (cited-run E s st ctx c.args.t c.stream_of_thm-stream.result.now c.stream_of_thm-stream.ensures.stream c.take_citation.new.spare.operands.items c.deref.result.now c.deref.ensures.value c.in-Ok.target c.take_citation.new.stack.items ∙ run.1) ∙ ap (λ xs. Ok (tree_of s c.in-Ok.target.0, xs)) run.3
 
 pub returns-in-Ok-through-clause-steps : goal.returns-in-Ok-through-clause-steps
 returns-in-Ok-through-clause-steps g c st ctx is =
@@ -48,7 +48,7 @@ returns-in-Ok-through-clause-steps g c st ctx is =
     let s = c.args.store.now in
     let taken = c.in-Ok.ensures.taken st ctx is in
     let m = matching_at s Use (drop (thm_row E.file c.args.t).stream_at E.file) c.take_citation.new.spare.operands.items c.in-Ok.target c.take_citation.new.stack.items in (
-      so-many _ _ _ _ (went-through c.unify_in.result _ _ _ c.in-Ok-through.ensures c.unify_in.ensures.steps).1 (thm-steps strict (tables_of E) c.args.t st m taken ∙ cited-count E s st ctx c.args.t c.stream_of_thm-stream.result.now c.stream_of_thm-stream.ensures.stream c.take_citation.new.spare.operands.items c.in-Ok.target c.take_citation.new.stack.items),
+      so-many _ _ _ _ (went-through c.unify_in.result _ _ _ c.in-Ok-through.ensures c.unify_in.ensures.steps).1 (thm-steps strict (tables_of E) c.args.t st m taken ∙ cited-count E s st ctx c.args.t c.stream_of_thm-stream.result.now c.stream_of_thm-stream.ensures.stream c.take_citation.new.spare.operands.items c.deref.result.now c.deref.ensures.value c.in-Ok.target c.take_citation.new.stack.items),
       omega (arith, c.unify_in.ensures.most, c.stream_of_thm-stream.ensures.within),
     )
 
@@ -62,7 +62,7 @@ returns-in-Err-through-clause-cited g c st ctx is =
     let taken = c.in-Ok.ensures.taken st ctx is in
     let m = matching_at s Use (drop (thm_row E.file c.args.t).stream_at E.file) c.take_citation.new.spare.operands.items c.in-Ok.target c.take_citation.new.stack.items in
     stopped-through c.unify_in.result _ _ (λ k. cited strict (tables_of E) c.args.t st ≡ Err k) c.in-Err-through.stop c.in-Err-through.ensures c.unify_in.ensures.run
-    (λ place k h. cited-refused strict (tables_of E) c.args.t st m taken place k (cited-run E s st ctx c.args.t c.stream_of_thm-stream.result.now c.stream_of_thm-stream.ensures.stream c.take_citation.new.spare.operands.items c.in-Ok.target c.take_citation.new.stack.items ∙ h))
+    (λ place k h. cited-refused strict (tables_of E) c.args.t st m taken place k (cited-run E s st ctx c.args.t c.stream_of_thm-stream.result.now c.stream_of_thm-stream.ensures.stream c.take_citation.new.spare.operands.items c.deref.result.now c.deref.ensures.value c.in-Ok.target c.take_citation.new.stack.items ∙ h))
 
 pub returns-in-Err-through-clause-steps : goal.returns-in-Err-through-clause-steps
 returns-in-Err-through-clause-steps g c st ctx is =
@@ -71,7 +71,7 @@ returns-in-Err-through-clause-steps g c st ctx is =
     let taken = c.in-Ok.ensures.taken st ctx is in
     let m = matching_at s Use (drop (thm_row E.file c.args.t).stream_at E.file) c.take_citation.new.spare.operands.items c.in-Ok.target c.take_citation.new.stack.items in (
       stopped-through c.unify_in.result _ _ (λ k. c.unify_in.new.steps ≡ c.args.steps.now + row_steps strict (tables_of E) code.Thm c.args.t st) c.in-Err-through.stop c.in-Err-through.ensures c.unify_in.ensures.steps
-          (λ place k h. so-many _ _ _ _ h (thm-steps strict (tables_of E) c.args.t st m taken ∙ cited-count E s st ctx c.args.t c.stream_of_thm-stream.result.now c.stream_of_thm-stream.ensures.stream c.take_citation.new.spare.operands.items c.in-Ok.target c.take_citation.new.stack.items)),
+          (λ place k h. so-many _ _ _ _ h (thm-steps strict (tables_of E) c.args.t st m taken ∙ cited-count E s st ctx c.args.t c.stream_of_thm-stream.result.now c.stream_of_thm-stream.ensures.stream c.take_citation.new.spare.operands.items c.deref.result.now c.deref.ensures.value c.in-Ok.target c.take_citation.new.stack.items)),
       omega (arith, c.unify_in.ensures.most, c.stream_of_thm-stream.ensures.within),
     )
 
@@ -89,8 +89,11 @@ take_citation-requires-clause-stack g c = c.requires.stack
 pub unify_in-requires-clause-over : goal.unify_in-requires-clause-over
 unify_in-requires-clause-over g c = subst (λ sigs. IsOver sigs c.args.store.now) (sym (signatures-before c.args.earlier.now)) c.requires.over
 
-pub unify_in-requires-clause-heap : goal.unify_in-requires-clause-heap
-unify_in-requires-clause-heap g c = c.in-Ok.ensures.ids.1
+pub unify_in-requires-clause-operands : goal.unify_in-requires-clause-operands
+unify_in-requires-clause-operands g c = rw c.deref.ensures.value c.in-Ok.ensures.ids.1
+
+pub unify_in-requires-clause-apart : goal.unify_in-requires-clause-apart
+unify_in-requires-clause-apart g c is = absurd cc
 
 pub unify_in-requires-clause-target : goal.unify_in-requires-clause-target
 unify_in-requires-clause-target g c = c.in-Ok.ensures.ids.0

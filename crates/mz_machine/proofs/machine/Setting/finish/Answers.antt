@@ -7,7 +7,7 @@ use Rattle.mz_store.specs.declared.item.Id.{Id}
 use Rattle.mz_store.specs.declared.item.Item.{Item as Kept}
 use Rattle.mz_base.specs.Gaps.{gaps_of}
 use Rattle.mz_unify.specs.Stored.{items_at}
-use Rattle.mz_unify_theory.specs.Profile.{strict}
+use Rattle.mz_unify_theory.specs.Profile.{plain, strict}
 use Rattle.mz_machine_theory.specs.MachineState.{Kind}
 use Rattle.mz_machine_theory.specs.ProofMachine.{proof_end, ends_with}
 use Rattle.mz_machine_theory.specs.Bodies.{match_steps}
@@ -15,7 +15,7 @@ use Rattle.mz_machine_env.specs.Before.{tables_before, tables_of}
 use Rattle.mz_machine_env.specs.OwnRow.{byte_of, kind_of, mode_for, IsNextRow}
 use Rattle.mz_machine_theory.specs.Headings.{kind_at, heading_by, heading_of}
 use Rattle.mz_machine_env.proofs.Offered.{kind-byte}
-use Rattle.mz_machine.specs.OpenEquations.{whole_state}
+use Rattle.mz_machine.specs.OpenEquations.{stored, whole_state}
 use Rattle.mz_machine.specs.OverStore.{state_at, AreFirst, IsContextOf}
 use Rattle.mz_machine.proofs.GapRows.{ends-steps}
 use Rattle.mz_machine_theory.proofs.Offered.{end-plain}
@@ -69,7 +69,7 @@ returns-in-Ok-clause-run g c =
     let tables = tables_before c.args.self.now.earlier.file c.args.self.now.earlier.rows in
     let es = reverse c.args.parts.now.equations.items in
     let written = end-plain (gaps_of c.args.self.now.mode) tables h st ∙ sym ended ∙ c.in-Ok.ensures.row heap ∙ ap Ok is in
-    let whole = end-whole (gaps_of c.args.self.now.mode) tables h st s es (items_at s c.args.parts.now.stack.items) c.requires.2 written in
+    let whole = end-whole (plain (gaps_of c.args.self.now.mode)) tables h st (stored s) es (items_at s c.args.parts.now.stack.items) c.requires.2 written in
     (whole_state s heap c.args.parts.now.equations.items c.args.parts.now.stack.items c.args.parts.now.hyps.items, whole, record { hyps = hyps ∙ sym (length-map c.args.parts.now.hyps.items (λ (i : Id). tree_of s i.0)); dummies = dummies }, c.counted.ensures.sorry)
 
 pub returns-in-Ok-clause-steps : goal.returns-in-Ok-clause-steps
@@ -79,7 +79,7 @@ returns-in-Ok-clause-steps g c =
     let many = same-three (λ (k : Kind) (stack : List Kept) (hyps : List Id). match_steps strict (tables_of c.args.self.now.earlier) (state_at s heap stack hyps) (ends_with strict (tables_of c.args.self.now.earlier) (heading_by c.args.self.now.earlier.file c.args.self.now.row k) (state_at s heap stack hyps)))
     (kind_of c.args.self.now.kind) (kind_at (byte_of c.args.self.now.kind)) c.deref.result.now c.args.parts.now.stack.items c.deref-2.result.now c.args.parts.now.hyps.items
     (sym (kind-byte c.args.self.now.kind)) c.deref.ensures.value c.deref-2.ensures.value in
-    (omega (arith, c.in-Ok.ensures.steps heap, c.tick.ensures, many, ends-steps (gaps_of c.args.self.now.mode) (tables_before c.args.self.now.earlier.file c.args.self.now.earlier.rows) (state_at s heap c.args.parts.now.stack.items c.args.parts.now.hyps.items) (heading_of c.args.self.now.earlier.file (byte_of c.args.self.now.kind) c.args.self.now.row), end-counts (gaps_of c.args.self.now.mode) (tables_before c.args.self.now.earlier.file c.args.self.now.earlier.rows) (heading_of c.args.self.now.earlier.file (byte_of c.args.self.now.kind) c.args.self.now.row) (state_at s heap c.args.parts.now.stack.items c.args.parts.now.hyps.items) s (reverse c.args.parts.now.equations.items) (items_at s c.args.parts.now.stack.items) c.requires.2))
+    (omega (arith, c.in-Ok.ensures.steps heap, c.tick.ensures, many, ends-steps (gaps_of c.args.self.now.mode) (tables_before c.args.self.now.earlier.file c.args.self.now.earlier.rows) (state_at s heap c.args.parts.now.stack.items c.args.parts.now.hyps.items) (heading_of c.args.self.now.earlier.file (byte_of c.args.self.now.kind) c.args.self.now.row), end-counts (plain (gaps_of c.args.self.now.mode)) (tables_before c.args.self.now.earlier.file c.args.self.now.earlier.rows) (heading_of c.args.self.now.earlier.file (byte_of c.args.self.now.kind) c.args.self.now.row) (state_at s heap c.args.parts.now.stack.items c.args.parts.now.hyps.items) (stored s) (reverse c.args.parts.now.equations.items) (items_at s c.args.parts.now.stack.items) c.requires.2))
 
 pub returns-in-Err-Rule-clause-run : goal.returns-in-Err-Rule-clause-run
 returns-in-Err-Rule-clause-run g c =
@@ -94,7 +94,7 @@ returns-in-Err-Rule-clause-run g c =
     let refused = stopped c.in-Err-Rule.field-0 c.in-Err-Rule.rule
     (λ (k : K). proof_end strict (tables_of c.args.self.now.earlier) (heading_by c.args.self.now.earlier.file c.args.self.now.row (kind_of c.args.self.now.kind)) (state_at s heap c.deref.result.now c.deref-2.result.now) ≡ Err k)
     c.in-Err-Rule.field-0-is (c.in-Err-Rule.ensures.row heap) in
-    end-refused (gaps_of c.args.self.now.mode) tables h st s (reverse c.args.parts.now.equations.items) (items_at s c.args.parts.now.stack.items) c.requires.2 c.in-Err-Rule.rule
+    end-refused (plain (gaps_of c.args.self.now.mode)) tables h st (stored s) (reverse c.args.parts.now.equations.items) (items_at s c.args.parts.now.stack.items) c.requires.2 c.in-Err-Rule.rule
     (end-plain (gaps_of c.args.self.now.mode) tables h st ∙ sym ended ∙ refused)
 
 pub returns-in-Err-Rule-clause-steps : goal.returns-in-Err-Rule-clause-steps
@@ -108,4 +108,4 @@ returns-in-Err-Rule-clause-steps g c =
     (λ (k : K). c.end.new.steps ≡ c.tick.new.self + match_steps strict (tables_of c.args.self.now.earlier) (state_at s heap c.deref.result.now c.deref-2.result.now)
     (ends_with strict (tables_of c.args.self.now.earlier) (heading_by c.args.self.now.earlier.file c.args.self.now.row (kind_of c.args.self.now.kind)) (state_at s heap c.deref.result.now c.deref-2.result.now)))
     c.in-Err-Rule.field-0-is (c.in-Err-Rule.ensures.steps heap) in
-    (omega (arith, so-many, c.tick.ensures, many, ends-steps (gaps_of c.args.self.now.mode) (tables_before c.args.self.now.earlier.file c.args.self.now.earlier.rows) (state_at s heap c.args.parts.now.stack.items c.args.parts.now.hyps.items) (heading_of c.args.self.now.earlier.file (byte_of c.args.self.now.kind) c.args.self.now.row), end-counts (gaps_of c.args.self.now.mode) (tables_before c.args.self.now.earlier.file c.args.self.now.earlier.rows) (heading_of c.args.self.now.earlier.file (byte_of c.args.self.now.kind) c.args.self.now.row) (state_at s heap c.args.parts.now.stack.items c.args.parts.now.hyps.items) s (reverse c.args.parts.now.equations.items) (items_at s c.args.parts.now.stack.items) c.requires.2))
+    (omega (arith, so-many, c.tick.ensures, many, ends-steps (gaps_of c.args.self.now.mode) (tables_before c.args.self.now.earlier.file c.args.self.now.earlier.rows) (state_at s heap c.args.parts.now.stack.items c.args.parts.now.hyps.items) (heading_of c.args.self.now.earlier.file (byte_of c.args.self.now.kind) c.args.self.now.row), end-counts (plain (gaps_of c.args.self.now.mode)) (tables_before c.args.self.now.earlier.file c.args.self.now.earlier.rows) (heading_of c.args.self.now.earlier.file (byte_of c.args.self.now.kind) c.args.self.now.row) (state_at s heap c.args.parts.now.stack.items c.args.parts.now.hyps.items) (stored s) (reverse c.args.parts.now.equations.items) (items_at s c.args.parts.now.stack.items) c.requires.2))

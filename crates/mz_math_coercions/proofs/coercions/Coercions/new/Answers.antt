@@ -1,5 +1,5 @@
-use Rattle.mz_math_coercions.proofs.Leading.{none-led}
+use Rattle.mz_math_coercions.proofs.Leading.{none-kept}
 use Rattle.mz_math_coercions.proofs.coercions.Coercions.new.Goals as goal
 
 pub invariant_of-result : goal.invariant_of-result
-invariant_of-result c = none-led c.new.result c.new-2.result c.new-3.result c.new.ensures c.new-2.ensures c.new-3.ensures
+invariant_of-result c = none-kept c.new.result c.new-2.result c.new-3.result c.new-4.result c.new.ensures c.new-2.ensures c.new-3.ensures c.new-4.ensures

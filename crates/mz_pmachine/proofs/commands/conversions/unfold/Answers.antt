@@ -1,16 +1,15 @@
-use Rattle.std.proofs.Common.{◌≡◌, ◌∙◌, ◌+◌, ◌++◌, Err, ap, sym, subst, arith}
+use Rattle.std.proofs.Common.{◌≡◌, ◌∙◌, ◌+◌, Err, ap, sym, subst, arith}
 use Rattle.std.proofs.lemmas.Result.{err_from_is_err_and}
 use Rattle.mz_cmd.specs.declared.code.ProofCode.TheVariants as code
 use Rattle.mz_machine_theory.specs.ProofMachine.{proof_step}
 use Rattle.mz_machine_theory.specs.Bodies.{row_steps}
 use Rattle.mz_machine_env.specs.Before.{tables_of}
 use Rattle.mz_pmachine_unify.specs.Numbering.{IsOver, expr_of}
-use Rattle.mz_pmachine_unify.specs.Stored.{exprs_at}
 use Rattle.mz_pmachine.specs.OverNodes.{pop_unfolding}
 use Rattle.mz_machine_env.proofs.Offered.{signatures-before}
 use Rattle.mz_pmachine_theory.specs.NodeIdentity.{portable}
 use Rattle.mz_unify.proofs.Offered.{stopped-through, went-through}
-use Rattle.mz_pmachine_unify.proofs.Offered.{of-numbered}
+use Rattle.mz_pmachine_unify.proofs.Offered.{of-numbered, tells-operands}
 use Rattle.mz_machine.proofs.Offered.{not-taken, of-variable, not-defined, is-unfolding, unfold-stopped, stopped-steps, unfold-refused, unfold-row, unfold-steps, gives-stack, no-more, no-stream, row-there, so-many, stream-there, unless-mem}
 use Rattle.mz_pmachine.proofs.Converting.{operand-exprs}
 use Rattle.mz_pmachine.proofs.Unfoldings.{term-there, same-run, same-count, ids-pushed, items-pushed}
@@ -65,11 +64,10 @@ returns-clause-row g c at n st ctx is =
     let h = sym c.head.ensures ∙ c.in-Some.is in
     let there = row-there E t (term-there E s c.requires.over c.in-Ok.items.1.0 t c.in-Ok.ensures.ids.1 h) in
     let m = is-unfolding portable _ st of-numbered _ _ _ _ (ap pop_unfolding is ∙ c.in-Ok.ensures.taken) t _ h (stream-there E t there (sym c.has_body.ensures.row ∙ c.if-not-has_body.false)) in
-    let ops = c.in-Ok-extend_from_slice.ensures.items ∙ ap (λ is. is ++ c.args-2.result.now) c.clear.ensures.items in
-    let are = ap (exprs_at s) ops ∙ operand-exprs s c.args-2.result.now l c.args-2.ensures.exprs in
+    let are = operand-exprs s c.args-2.result.now l c.args-2.ensures.exprs in
     let run = (went-through c.unify_in.result _ _ _ c.in_ok-through.ensures c.unify_in.ensures.run).1 in
     gives-stack st _ _ _ c.push.result
-    (unfold-row portable _ st _ _ _ m at n _ (same-run E s st.ctx ctx t l c.in-Ok.items.0 _ _ _ c.stream_of_term-stream.ensures.stream are c.clear-2.ensures.items ∙ run.1))
+    (unfold-row portable _ st _ _ _ m at n _ (same-run E s st.ctx ctx t l c.in-Ok.items.0 _ _ _ c.stream_of_term-stream.ensures.stream are c.clear.ensures.items ∙ run.1))
     (items-pushed s _ _ _ c.push.result c.push.ensures.ok) c.push.ensures.err
 
 pub returns-clause-steps : goal.returns-clause-steps
@@ -81,9 +79,8 @@ returns-clause-steps g c n st ctx is =
     let h = sym c.head.ensures ∙ c.in-Some.is in
     let there = row-there E t (term-there E s c.requires.over c.in-Ok.items.1.0 t c.in-Ok.ensures.ids.1 h) in
     let m = is-unfolding portable _ st of-numbered _ _ _ _ (ap pop_unfolding is ∙ c.in-Ok.ensures.taken) t _ h (stream-there E t there (sym c.has_body.ensures.row ∙ c.if-not-has_body.false)) in
-    let ops = c.in-Ok-extend_from_slice.ensures.items ∙ ap (λ is. is ++ c.args-2.result.now) c.clear.ensures.items in
-    let are = ap (exprs_at s) ops ∙ operand-exprs s c.args-2.result.now l c.args-2.ensures.exprs in
-    unless-mem c.push.result (so-many _ _ _ _ (went-through c.unify_in.result _ _ _ c.in_ok-through.ensures c.unify_in.ensures.steps).1 (unfold-steps portable _ st _ _ _ m n ∙ sym (same-count E s st.ctx ctx t l c.in-Ok.items.0 _ _ _ c.stream_of_term-stream.ensures.stream are c.clear-2.ensures.items)))
+    let are = operand-exprs s c.args-2.result.now l c.args-2.ensures.exprs in
+    unless-mem c.push.result (so-many _ _ _ _ (went-through c.unify_in.result _ _ _ c.in_ok-through.ensures c.unify_in.ensures.steps).1 (unfold-steps portable _ st _ _ _ m n ∙ sym (same-count E s st.ctx ctx t l c.in-Ok.items.0 _ _ _ c.stream_of_term-stream.ensures.stream are c.clear.ensures.items)))
 
 pub returns-in_err-through-clause-row : goal.returns-in_err-through-clause-row
 returns-in_err-through-clause-row g c at n st ctx is =
@@ -94,11 +91,10 @@ returns-in_err-through-clause-row g c at n st ctx is =
     let h = sym c.head.ensures ∙ c.in-Some.is in
     let there = row-there E t (term-there E s c.requires.over c.in-Ok.items.1.0 t c.in-Ok.ensures.ids.1 h) in
     let m = is-unfolding portable _ st of-numbered _ _ _ _ (ap pop_unfolding is ∙ c.in-Ok.ensures.taken) t _ h (stream-there E t there (sym c.has_body.ensures.row ∙ c.if-not-has_body.false)) in
-    let ops = c.in-Ok-extend_from_slice.ensures.items ∙ ap (λ is. is ++ c.args-2.result.now) c.clear.ensures.items in
-    let are = ap (exprs_at s) ops ∙ operand-exprs s c.args-2.result.now l c.args-2.ensures.exprs in
+    let are = operand-exprs s c.args-2.result.now l c.args-2.ensures.exprs in
     let p = err_from_is_err_and c.from_residual.result c.from_residual.ensures.1 in
     rw (p.1, p.2) (stopped-through c.unify_in.result _ _ (λ d. proof_step portable (tables_of E) at code.Unfold n st ≡ Err d) c.in_err-through.field-0.0 c.in_err-through.ensures c.unify_in.ensures.run
-    (λ place d stopped. unfold-refused portable _ st _ _ _ m at n place d (same-run E s st.ctx ctx t l c.in-Ok.items.0 _ _ _ c.stream_of_term-stream.ensures.stream are c.clear-2.ensures.items ∙ stopped)))
+    (λ place d stopped. unfold-refused portable _ st _ _ _ m at n place d (same-run E s st.ctx ctx t l c.in-Ok.items.0 _ _ _ c.stream_of_term-stream.ensures.stream are c.clear.ensures.items ∙ stopped)))
 
 pub returns-in_err-through-clause-steps : goal.returns-in_err-through-clause-steps
 returns-in_err-through-clause-steps g c n st ctx is =
@@ -109,11 +105,10 @@ returns-in_err-through-clause-steps g c n st ctx is =
     let h = sym c.head.ensures ∙ c.in-Some.is in
     let there = row-there E t (term-there E s c.requires.over c.in-Ok.items.1.0 t c.in-Ok.ensures.ids.1 h) in
     let m = is-unfolding portable _ st of-numbered _ _ _ _ (ap pop_unfolding is ∙ c.in-Ok.ensures.taken) t _ h (stream-there E t there (sym c.has_body.ensures.row ∙ c.if-not-has_body.false)) in
-    let ops = c.in-Ok-extend_from_slice.ensures.items ∙ ap (λ is. is ++ c.args-2.result.now) c.clear.ensures.items in
-    let are = ap (exprs_at s) ops ∙ operand-exprs s c.args-2.result.now l c.args-2.ensures.exprs in
+    let are = operand-exprs s c.args-2.result.now l c.args-2.ensures.exprs in
     let p = err_from_is_err_and c.from_residual.result c.from_residual.ensures.1 in
     rw (p.1, p.2) (stopped-through c.unify_in.result _ _ (λ d. c.unify_in.new.steps ≡ c.args.steps.now + row_steps portable (tables_of E) code.Unfold n st) c.in_err-through.field-0.0 c.in_err-through.ensures c.unify_in.ensures.steps
-    (λ place d many. so-many _ _ _ _ many (unfold-steps portable _ st _ _ _ m n ∙ sym (same-count E s st.ctx ctx t l c.in-Ok.items.0 _ _ _ c.stream_of_term-stream.ensures.stream are c.clear-2.ensures.items))))
+    (λ place d many. so-many _ _ _ _ many (unfold-steps portable _ st _ _ _ m n ∙ sym (same-count E s st.ctx ctx t l c.in-Ok.items.0 _ _ _ c.stream_of_term-stream.ensures.stream are c.clear.ensures.items))))
 
 pub returns-in_err-through-clause-ids : goal.returns-in_err-through-clause-ids
 returns-in_err-through-clause-ids g c = rw (err_from_is_err_and c.from_residual.result c.from_residual.ensures.1).1 tt
@@ -135,6 +130,16 @@ head-requires g c = c.in-Ok.ensures.ids.1
 pub args-requires : goal.args-requires
 args-requires g c = c.in-Ok.ensures.ids.1
 
+pub vars-requires : goal.vars-requires
+vars-requires g c = c.in-Ok.ensures.ids.1
+
+pub unify_in-requires-clause-operands : goal.unify_in-requires-clause-operands
+unify_in-requires-clause-operands g c = c.args-2.ensures.ids
+
+pub unify_in-requires-clause-apart : goal.unify_in-requires-clause-apart
+unify_in-requires-clause-apart g c =
+    tells-operands c.args.nodes.now c.in-Ok.items.1 c.args-2.result.now c.vars.result c.in-Some.term (sym c.head.ensures ∙ c.in-Some.is) c.args-2.ensures.exprs (c.vars.ensures.variables _ c.requires.over)
+
 pub unify_in-requires-clause-target : goal.unify_in-requires-clause-target
 unify_in-requires-clause-target g c = c.in-Ok.ensures.ids.0
 
@@ -149,6 +154,3 @@ returns-in_default-clause-ids g c = tt
 
 pub returns-then-not-has_body-clause-ids : goal.returns-then-not-has_body-clause-ids
 returns-then-not-has_body-clause-ids g c = tt
-
-pub returns-in_default-extend_from_slice-clause-ids : goal.returns-in_default-extend_from_slice-clause-ids
-returns-in_default-extend_from_slice-clause-ids g c = tt

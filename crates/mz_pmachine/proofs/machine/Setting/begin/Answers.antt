@@ -28,7 +28,7 @@ returns-clause-running c =
     let mode = c.in_ok-begin.ensures.mode ∙ c.deps_mode.ensures ∙ ap mode_for (sym (kind-byte c.args.kind)) in
     let begun = is-begun c.args.mmb.now (byte_of c.args.kind) c.args.row c.args.before s ws c.requires words ctx many exprs (c.in_ok-begin.ensures.over (signatures_in (tables_before c.args.mmb.now c.args.before))) mode in
     let bound = c.bound_count-bound_params.ensures.many ∙ ap (λ ps. length (bound_vars ps)) (ctx ∙ sym (params-are c.args.mmb.now (byte_of c.args.kind) c.args.row c.args.before s ws c.requires words ctx many exprs)) in
-    rw (c.new-earlier.ensures.file, c.new-earlier.ensures.rows, c.in_ok-first_items.ensures ∙ ap first_items (c.len.ensures ∙ c.read_words.new.words.ok.0), c.clear.ensures.items, c.clear-2.ensures.items) (begun, bound)
+    rw (c.new-earlier.ensures.file, c.new-earlier.ensures.rows, c.in_ok-first_items.ensures ∙ ap first_items (c.len.ensures ∙ c.read_words.new.words.ok.0), c.clear.ensures.items, c.clear-2.ensures.items, c.clear-3.ensures.items) (begun, bound, (tt, tt))
 
 pub returns-clause-begun : goal.returns-clause-begun
 returns-clause-begun c =
@@ -43,7 +43,7 @@ returns-clause-begun c =
       kind_is = refl;
       row_is = refl;
       before_is = c.new-earlier.ensures.rows;
-      state = rw (c.in_ok-first_items.ensures ∙ ap first_items (c.len.ensures ∙ c.read_words.new.words.ok.0), c.clear.ensures.items, c.clear-2.ensures.items) (state-begun c.args.mmb.now (byte_of c.args.kind) c.args.row c.args.before s ws c.requires words ctx many exprs);
+      state = rw (c.in_ok-first_items.ensures ∙ ap first_items (c.len.ensures ∙ c.read_words.new.words.ok.0), c.clear.ensures.items, c.clear-2.ensures.items, c.clear-3.ensures.items) (state-begun c.args.mmb.now (byte_of c.args.kind) c.args.row c.args.before s ws c.requires words ctx many exprs);
       next = c.in_ok-begin.ensures.next;
       nodes = many ∙ sym (params-many c.args.mmb.now (byte_of c.args.kind) c.args.row c.args.before s ws c.requires words ctx many exprs);
     }

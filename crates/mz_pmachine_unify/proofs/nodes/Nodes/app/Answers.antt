@@ -11,7 +11,7 @@ told_vars-requires-clause-vars g c = c.all_vars-vars.ensures (signatures_of (g.T
 pub returns-clause-over : goal.returns-clause-over
 returns-clause-over g c = on-ok-from _ _ c.add.result
     (λ is. subst (IsOver (signatures_of (g.T.Terms.all_terms c.args.terms.now))) (sym is)
-    (over-term (g.T.Terms.all_terms c.args.terms.now) c.args.self.now c.args.number c.args.t c.args.args.now c.sort.result c.all_vars-vars.result c.in_ok-deps.deps c.in_ok-operands.operands
-    c.requires.over c.requires.fit c.in_ok-operands.ensures.items (c.sort.ensures ∙ ap word_sort c.result.ensures)
+    (over-term (g.T.Terms.all_terms c.args.terms.now) c.args.self.now c.args.number c.args.t c.args.args.now c.sort.result c.all_vars-vars.result c.in_ok-deps.deps
+    c.requires.over c.requires.fit (c.sort.ensures ∙ ap word_sort c.result.ensures)
     (c.all_vars-vars.ensures (signatures_of (g.T.Terms.all_terms c.args.terms.now)) c.requires.over) c.in_ok-deps.ensures))
     c.add.ensures.ok

@@ -9,8 +9,8 @@ use Rattle.mz_store.proofs.store.Store.find_or_add.Goals as goal
 pub find-there-requires : goal.find-there-requires
 find-there-requires g c =
     chain-here c.self.inside.factor c.self.inside.expressions (get nat_eq c.self.inside.newest) c.args.t c.args.args.now
-    c.deref-in-Occupied.result.now c.deref.result.now (Some c.get.result.now) c.hash_of.result
-    c.self.invariant c.deref-in-Occupied.ensures.value c.deref.ensures.value c.hash_of.ensures (sym c.get.ensures ∙ ap entry_value (sym c.in-Occupied.is) ∙ c.in_ok-place.ensures.value)
+    c.deref-in-Occupied.result.now c.deref.result.now (Some c.get-newest.result.now) c.hash_of.result
+    c.self.invariant c.deref-in-Occupied.ensures.value c.deref.ensures.value c.hash_of.ensures (sym c.get-newest.ensures ∙ ap entry_value (sym c.in-Occupied.is) ∙ c.in_ok-place.ensures.value)
 
 pub add-requires-clause-kept : goal.add-requires-clause-kept
 add-requires-clause-kept g c = c.self.invariant.0
@@ -52,11 +52,11 @@ returns-in_err-id-in-Occupied-clause-err g c = on-err _ c.from_residual-in_err-i
 
 pub invariant_of-self-in-Occupied : goal.invariant_of-self-in-Occupied
 invariant_of-self-in-Occupied g c =
-    placed-kept c.self.inside.factor (g.T.Terms.all_terms c.args.terms.now) c.self.inside.expressions c.add.new.self (get nat_eq c.self.inside.newest) _ c.args.self.now c.args.t c.args.args.now (Some c.get.result.now) c.hash_of.result c.in_ok-id-in-Occupied.id
+    placed-kept c.self.inside.factor (g.T.Terms.all_terms c.args.terms.now) c.self.inside.expressions c.add.new.self (get nat_eq c.self.inside.newest) _ c.args.self.now c.args.t c.args.args.now (Some c.get-newest.result.now) c.hash_of.result c.in_ok-id-in-Occupied.id
     c.self.invariant c.self.view_is c.in_ok-id-in-Occupied.ensures.ok c.requires.ids
     (missing-fresh c.self.inside.factor c.self.inside.expressions (get nat_eq c.self.inside.newest) c.args.self.now c.args.t c.args.args.now c.deref-in-Occupied.result.now c.deref.result.now
     c.self.invariant c.self.view_is c.requires.ids c.deref-in-Occupied.ensures.value c.deref.ensures.value c.in_default.ensures.none)
-    c.hash_of.ensures (sym c.get.ensures ∙ ap entry_value (sym c.in-Occupied.is) ∙ c.in_ok-place.ensures.value) c.in_ok-id-in-Occupied.ensures.id
+    c.hash_of.ensures (sym c.get-newest.ensures ∙ ap entry_value (sym c.in-Occupied.is) ∙ c.in_ok-place.ensures.value) c.in_ok-id-in-Occupied.ensures.id
     (λ q. grind (arith, c.insert.ensures.written.1, ((subst (IsEntryFor nat_eq c.self.inside.newest c.hash_of.result) c.in-Occupied.is c.in_ok-place.ensures.update).0 c.in_ok-id-in-Occupied.id).0 q))
 
 pub invariant_of-self-in_err-id-in-Vacant : goal.invariant_of-self-in_err-id-in-Vacant
@@ -79,10 +79,10 @@ invariant_of-self-in-Vacant g c =
 
 pub returns-in_ok-id-in-Occupied-clause-ok : goal.returns-in_ok-id-in-Occupied-clause-ok
 returns-in_ok-id-in-Occupied-clause-ok g c =
-    placed-new c.self.inside.factor (g.T.Terms.all_terms c.args.terms.now) c.self.inside.expressions c.add.new.self (get nat_eq c.self.inside.newest) c.args.self.now c.args.t c.args.args.now (Some c.get.result.now) c.in_ok-id-in-Occupied.id
+    placed-new c.self.inside.factor (g.T.Terms.all_terms c.args.terms.now) c.self.inside.expressions c.add.new.self (get nat_eq c.self.inside.newest) c.args.self.now c.args.t c.args.args.now (Some c.get-newest.result.now) c.in_ok-id-in-Occupied.id
     c.self.invariant c.self.view_is c.in_ok-id-in-Occupied.ensures.ok c.requires.over c.requires.fit c.in_ok-id-in-Occupied.ensures.id
 
 pub returns-in_ok-id-in-Vacant-clause-ok : goal.returns-in_ok-id-in-Vacant-clause-ok
 returns-in_ok-id-in-Vacant-clause-ok g c =
-    placed-new c.self.inside.factor (g.T.Terms.all_terms c.args.terms.now) c.self.inside.expressions c.add-in-Vacant.new.self (get nat_eq c.self.inside.newest) c.args.self.now c.args.t c.args.args.now _ c.in_ok-id-in-Vacant.id
+    placed-new c.self.inside.factor (g.T.Terms.all_terms c.args.terms.now) c.self.inside.expressions c.add-in-Vacant.new.self (get nat_eq c.self.inside.newest) c.args.self.now c.args.t c.args.args.now None c.in_ok-id-in-Vacant.id
     c.self.invariant c.self.view_is c.in_ok-id-in-Vacant.ensures.ok c.requires.over c.requires.fit c.in_ok-id-in-Vacant.ensures.id

@@ -18,7 +18,7 @@ returns c =
     let s = stage_of c.args.self.now in
     let e = c.pop_expr-claim.result in
     let xs = reverse c.pop_expr-claim.new.stack.items in
-    let count : c.in_ok-hyp.hyp ≡ length c.args.self.now.hyps.items = omega (arith, c.in_ok-hyp.ensures, c.len.ensures, c.args.self.now.hyps.ok.0) in
+    let count : c.in_ok-hyp.hyp ≡ length c.args.self.now.hyps.items = omega (arith, c.in_ok-hyp.ensures.number, c.len.ensures, c.args.self.now.hyps.ok.0) in
     on_ok_weaker c.keep.result (λ is. leads-to IsAny code.Hyp 0 s (Held (Expr e) ∷ xs) (record s { nodes = c.add.new.nodes.items; heap = c.keep.new.heap.items; stack = xs; hyps = c.push.new.self.items }) (assumed 0 s xs e) c.pop_expr-claim.ensures
     (assumed-is 0 s xs e c.add.new.nodes.items c.keep.new.heap.items c.push.new.self.items c.in_ok-hyp.hyp c.in_ok-proof.proof c.in_ok-proof.ensures.added is c.in_ok-push.ensures.items count c.in_ok-proof.ensures.number)
     (hyp-leads 0 s xs e)) c.keep.ensures
