@@ -17,7 +17,7 @@ use Rattle.mz_emit_theory.specs.Claims.{conclusion_of}
 use Rattle.mz_emit_theory.specs.Costs.{body_at}
 use Rattle.mz_emit_theory.specs.Uses.{a_gap}
 use Rattle.mz_emit_theory.specs.Weights.{proof_weight}
-use Rattle.mz_emit_theory.specs.BodyWriting.{Kept, expression, hypothesis, first_part, Writing, Written, Writer, and_then, nothing, ◌>>◌, command, keeping, unless_kept, variables_below, at_first, write_expr, write_exprs, write_payment, write_payments, at_name, write_proof, write_proofs, write_hyp, write_hyps}
+use Rattle.mz_emit_theory.specs.BodyWriting.{Kept, expression, hypothesis, first_part, Writing, Written, Writer, and_then, nothing, ◌>>◌, command, keeping, unless_kept, at_first, write_expr, write_exprs, write_payment, write_payments, at_name, write_proof, write_proofs, write_hyp, write_hyps}
 use Rattle.mz_emit_bodies.specs.Places.{place_of}
 use Rattle.mz_emit_bodies.specs.Sight.{Part, parts}
 use Rattle.mz_emit_bodies.specs.Scopes.{in_sight, row_of, scopes_after}

@@ -26,6 +26,7 @@ pub mod Paying
 pub mod NoMore
 pub mod Making
 pub mod Owned
+mod Kept
 mod Entering
 mod Bits
 pub mod Offered

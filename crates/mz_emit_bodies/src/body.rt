@@ -9,12 +9,14 @@ ghost use Rattle.mz_mmu_theory.specs.ProofView.{proof_view, proofs_view};
 ghost use Rattle.mz_store.specs.Sharing.{head_of, tree_of};
 ghost use Rattle.mz_emit_theory.specs.Steps.{command_bytes};
 ghost use Rattle.mz_emit_bodies.specs.TaskInvariant.{prove, prove_all, cite, push, make, pay, pay_all, give, save, task_view, to_do};
+ghost use Rattle.mz_emit_bodies.specs.Instances.{AreInstances};
 ghost use Rattle.mz_emit_bodies.specs.Places.{place_of};
 ghost use Rattle.mz_emit_bodies.specs.Pushing.{pushes};
 ghost use Rattle.mz_emit_bodies.specs.Going.{Job, IsAfter, Does, steps_left};
 ghost use Rattle.mz_emit_bodies.specs.Stages.{HasDummiesBehind, Begins, Rests, writing_too, assuming, with_hyps, Writes, Assumes, AssumesAll, Proves};
 ghost use Rattle.mz_emit_theory.specs.BodyWriting.{write_expr, write_hyp, write_proof};
 
+use crate::instances::{Instances, conclusion_id};
 use crate::let_scopes::{Cells, Chain};
 use crate::work_list::Task;
 use crate::{Heap, Shared, TermTable};
@@ -223,23 +225,38 @@ impl<'t> Body<'t> {
         ensures done { OnOk result (self.new.tasks.items ≡ []) }
         ensures same { OnOk result (self.new.before ≡ self.old.before) }
     {
+        let mut instances = Instances::new(self.shared.alloc);
+        self.run_with(&mut instances)
+    }
+
+    /// The same with these instances of conclusions.
+    fn run_with(&mut self, instances: &mut Instances) -> Result<(), Mem>
+        requires instances { AreInstances self.old.before.env.now self.old.shared.store instances.old.items.items }
+        requires before { IsAfter self.old.before }
+        requires can { (o : Job) × Does o self.old [] }
+        ensures does { OnOk result ((o : Job) → Does o self.old [] → Does o self.new []) }
+        ensures done { OnOk result (self.new.tasks.items ≡ []) }
+        ensures same { OnOk result (self.new.before ≡ self.old.before) }
+    {
         while let Some(task) = self.tasks.pop() {
-            self.step(task)?;
+            self.step(task, instances)?;
         }
         Ok(())
     }
 
-    fn step(&mut self, task: Task<'t>) -> Result<(), Mem>
+    fn step(&mut self, task: Task<'t>, instances: &mut Instances) -> Result<(), Mem>
+        requires instances { AreInstances self.old.before.env.now self.old.shared.store instances.old.items.items }
         requires before { IsAfter self.old.before }
         requires can { (o : Job) × Does o self.old (task_view task ∷ []) }
         ensures does { OnOk result ((o : Job) → Does o self.old (task_view task.entry ∷ []) → Does o self.new []) }
         ensures less { OnOk result (steps_left self.new [] < steps_left self.old (task_view task.entry ∷ [])) }
+        ensures instances { OnOk result (AreInstances self.old.before.env.now self.new.shared.store instances.new.items.items) }
         ensures same { OnOk result (self.new.before ≡ self.old.before) }
     {
         match task {
             Task::Prove(proof, chain) => self.prove(proof, chain),
             Task::ProveAll(proofs, chain) => self.prove_all(proofs, chain),
-            Task::Cite(number, es) => self.cite(number, es),
+            Task::Cite(number, es) => self.cite(number, es, instances),
             Task::Push(id) => self.push(id),
             Task::Make(id) => self.make(id),
             Task::Pay(conv) => self.pay(conv),
@@ -419,20 +436,27 @@ impl<'t> Body<'t> {
     }
 
     /// Pushes the operands and the conclusion's instance, and cites.
-    fn cite(&mut self, number: u32, es: &'t Exprs) -> Result<(), Mem>
+    fn cite(&mut self, number: u32, es: &'t Exprs, instances: &mut Instances) -> Result<(), Mem>
+        requires instances { AreInstances self.old.before.env.now self.old.shared.store instances.old.items.items }
         requires before { IsAfter self.old.before }
         requires can { (o : Job) × Does o self.old (cite number es.now ∷ []) }
         ensures does { OnOk result ((o : Job) → Does o self.old (cite number es.now ∷ []) → Does o self.new []) }
         ensures less { OnOk result (steps_left self.new [] < steps_left self.old (cite number es.now ∷ [])) }
+        ensures instances { OnOk result (AreInstances self.old.before.env.now self.new.shared.store instances.new.items.items) }
         ensures same { OnOk result (self.new.before ≡ self.old.before) }
     {
         let Some(thm) = self.before.env.thm(number) else {
             unreachable!();
         };
         let operands = self.shared.ids(self.before.table, es)?;
-        let conclusion = self
-            .shared
-            .instance(self.before.table, &operands, &thm.conclusion)?;
+        let conclusion = conclusion_id(
+            &mut self.shared,
+            self.before.table,
+            instances,
+            number,
+            &operands,
+            &thm.conclusion,
+        )?;
         add_citation(&mut self.tasks, &operands, conclusion, number)
     }
 

@@ -9,6 +9,7 @@
 
 mod body;
 mod heap;
+mod instances;
 mod laws;
 mod let_scopes;
 mod shared;

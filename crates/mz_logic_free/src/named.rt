@@ -65,11 +65,12 @@ fn binder_names_other(binder: &Binder, y: u32, variables: &VariableSet, own: &Va
     }
 }
 
-/// Whether one of the variables, but for those that are `own`, is at one of the places.
+/// Whether one of the variables, but for those that are `own`, is at one of the places. Of the variables and
+/// the places, those are gone through that are fewer.
 fn has_other(places: &Deps, variables: &VariableSet, own: &VariableSet) -> bool
     ensures { IsTrue result ↔ ((x : ℕ) × (Contains variables.now x × (Contains own.now x → ⊥)) × Contains places.now x) }
 {
-    if variables.len() < FEW {
+    if variables.len() < places.as_slice().len() {
         return has_one_of(places, variables.as_slice(), own);
     }
     for place in places.as_slice() {
@@ -79,10 +80,6 @@ fn has_other(places: &Deps, variables: &VariableSet, own: &VariableSet) -> bool
     }
     false
 }
-
-/// So many variables are looked for in a list of places one by one: that takes less than to look up each
-/// of the places.
-const FEW: usize = 16;
 
 /// Whether one of the variables, but for those that are `own`, is at one of the places.
 fn has_one_of(places: &Deps, variables: &[u32], own: &VariableSet) -> bool
@@ -100,14 +97,7 @@ fn has_one_of(places: &Deps, variables: &[u32], own: &VariableSet) -> bool
 fn is_at_other(x: u32, places: &Deps, own: &VariableSet) -> bool
     ensures { IsTrue result ↔ ((Contains own.now x → ⊥) × Contains places.now x) }
 {
-    !own.has(x) && is_at(x, places.as_slice())
-}
-
-/// Whether the variable is at one of the places.
-fn is_at(x: u32, places: &[u32]) -> bool
-    ensures { IsTrue result ↔ Contains places.now x }
-{
-    places.contains(&x)
+    !own.has(x) && places.has(x)
 }
 
 /// Whether this is one of the variables, and none that is `own`.

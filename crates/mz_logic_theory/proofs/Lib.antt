@@ -18,6 +18,7 @@ pub mod Bound
 pub mod Follow
 pub mod Repeated
 pub mod Grouped
+pub mod Dependences
 pub mod AsExprs
 pub mod EightRules
 pub mod PlainLegality

@@ -4,6 +4,7 @@ pub mod Signature
 pub mod Declaration
 pub mod Places
 pub mod Modifiers
+pub mod Alike
 pub mod Sorts
 pub mod Variables
 pub mod Legality

@@ -1,4 +1,6 @@
-ghost use Rattle.std.specs.Prelude.{◌≡◌, ◌↔◌, ◌∷◌, [], ◌++◌, IsTrue, IfErr, IfOk, OnOk, OnErr, length};
+ghost use Rattle.std.specs.Prelude.{◌≡◌, ◌↔◌, ◌<◌, ◌-◌, ◌∷◌, [], ◌++◌, true, IsTrue, IfErr, IfOk, OnOk, OnErr, Contains, length};
+ghost use Rattle.std.specs.List.Sorted.{IsNonDecreasing};
+ghost use Rattle.mz_logic_theory.specs.Alike.{deps_at};
 ghost use Rattle.mz_logic_theory.specs.Modifiers.{IsPure, IsStrict, IsProvable, IsFree};
 
 use crate::room::push_tightly;
@@ -51,16 +53,21 @@ impl SortMods {
 pub struct Deps {
     // none where there are no places
     places: Option<RcSlice<u32>>,
+    // whether none is below the one before it, as was seen when they were taken over
+    ascend: bool,
 }
 
 impl Model for Deps {
-    ghost use Rattle.std.specs.Prelude.{List, ℕ, []};
+    ghost use Rattle.std.specs.Prelude.{◌≡◌, List, ℕ, [], true};
+    ghost use Rattle.std.specs.List.Sorted.{IsNonDecreasing};
     ghost use Rattle.std.specs.Option.{option_map_or};
     ghost use Rattle.std.specs.Rc.{rc_slice_items};
 
     ghost Value = { List ℕ };
 
     ghost view = { λ a. option_map_or rc_slice_items a.places [] };
+
+    ghost invariant = { λ a. a.ascend ≡ true → IsNonDecreasing (option_map_or rc_slice_items a.places []) };
 }
 
 impl Deps {
@@ -68,7 +75,10 @@ impl Deps {
     pub fn new() -> Deps
         ensures { result ≡ [] }
     {
-        Deps { places: None }
+        Deps {
+            places: None,
+            ascend: true,
+        }
     }
 
     /// These places.
@@ -82,9 +92,11 @@ impl Deps {
         if places.is_empty() {
             return Ok(Deps::new());
         }
+        let ascend = places.is_sorted();
         let places = RcSlice::from_vec(places)?;
         Ok(Deps {
             places: Some(places),
+            ascend,
         })
     }
 
@@ -102,6 +114,7 @@ impl Deps {
                 let shared = places.clone()?;
                 Ok(Deps {
                     places: Some(shared),
+                    ascend: self.ascend,
                 })
             }
         }
@@ -115,6 +128,28 @@ impl Deps {
             None => &[],
             Some(places) => places.as_slice(),
         }
+    }
+
+    /// Whether the place is one of them. Where they ascend, a few are looked at, else all.
+    pub fn has(&self, place: u32) -> bool
+        ensures { IsTrue result ↔ Contains self.now place }
+    {
+        match &self.places {
+            None => false,
+            Some(places) => is_among(place, places.as_slice(), self.ascend),
+        }
+    }
+}
+
+/// Whether the place is one of these, which may be said to ascend.
+fn is_among(place: u32, places: &[u32], ascend: bool) -> bool
+    requires { ascend ≡ true → IsNonDecreasing places.now }
+    ensures { IsTrue result ↔ Contains places.now place }
+{
+    if ascend {
+        places.binary_search(&place).is_ok()
+    } else {
+        places.contains(&place)
     }
 }
 
@@ -131,15 +166,20 @@ pub struct Binder {
 #[derive(Drop)]
 pub struct Binders {
     items: Vec<Binder>,
+    // places where the dependencies are known to be those of the binder before
+    alike: Vec<usize>,
 }
 
 impl Model for Binders {
-    ghost use Rattle.std.specs.Prelude.{List};
+    ghost use Rattle.std.specs.Prelude.{List, All};
+    ghost use Rattle.mz_logic_theory.specs.Alike.{DependsAsPrevious};
     ghost use Rattle.mz_logic_theory.specs.declared.binder.Binder.{Binder};
 
     ghost Value = { List Binder };
 
     ghost view = { λ a. a.items.items };
+
+    ghost invariant = { λ a. All (DependsAsPrevious a.items.items) a.alike.items };
 }
 
 impl Binders {
@@ -149,14 +189,31 @@ impl Binders {
     {
         Binders {
             items: Vec::new(alloc),
+            alike: Vec::new(alloc),
         }
+    }
+
+    /// No binders, with room for so many.
+    ///
+    /// # Errors
+    ///
+    /// Where there is no memory.
+    pub fn with_capacity(alloc: Global, many: usize) -> Result<Binders, AllocError>
+        ensures { IfOk result (λ binders. binders ≡ []) }
+    {
+        let items = Vec::with_capacity(alloc, many)?;
+        Ok(Binders::from_vec(items))
     }
 
     /// These binders.
     pub fn from_vec(items: Vec<Binder>) -> Binders
         ensures { result ≡ items.items }
     {
-        Binders { items }
+        let alloc = *items.allocator();
+        Binders {
+            items,
+            alike: Vec::new(alloc),
+        }
     }
 
     /// Appends a binder.
@@ -172,6 +229,38 @@ impl Binders {
         push_tightly(&mut self.items, binder)
     }
 
+    /// Appends a binder that depends on what the last one does, and on nothing where there is none. The
+    /// places are kept once for both.
+    ///
+    /// # Errors
+    ///
+    /// Where there is no memory, or more share the places than can be counted. The list is unchanged then.
+    pub fn push_alike(&mut self, sort: u32, bound: bool) -> Result<(), AllocError>
+        ensures ok { OnOk result (self.new ≡ self.old ++ record { sort = sort; bound = bound; deps = deps_at self.old (length self.old - 1) } ∷ []) }
+        ensures err { OnErr result (self.new ≡ self.old) }
+    {
+        let deps = self.last_deps()?;
+        let place = self.items.len();
+        push_tightly(&mut self.alike, place)?;
+        match push_tightly(&mut self.items, Binder { sort, bound, deps }) {
+            Ok(()) => Ok(()),
+            Err(failed) => {
+                self.alike.pop();
+                Err(failed.into())
+            }
+        }
+    }
+
+    /// On what the last one depends.
+    fn last_deps(&self) -> Result<Deps, AllocError>
+        ensures { IfOk result (λ deps. deps ≡ deps_at self.now (length self.now - 1)) }
+    {
+        match self.items.last() {
+            None => Ok(Deps::new()),
+            Some(binder) => binder.deps.share(),
+        }
+    }
+
     /// How many there are.
     pub fn len(&self) -> usize
         ensures { result ≡ length self.now }
@@ -184,6 +273,15 @@ impl Binders {
         ensures { result.now ≡ self.now }
     {
         &self.items
+    }
+
+    /// Whether the i-th one and the one before it share what they depend on, kept once for both. No clause
+    /// says that it is reported where it is so, since how the places are kept isn't to be seen.
+    pub fn shares_with_previous(&self, i: usize) -> bool
+        requires { 0 < i }
+        ensures { IsTrue result → deps_at self.now (i - 1) ≡ deps_at self.now i }
+    {
+        self.alike.binary_search(&i).is_ok()
     }
 }
 

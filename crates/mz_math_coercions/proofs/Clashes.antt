@@ -48,14 +48,14 @@ reached-back cs back to n first steps turn is reached s =
 
 -- ---- second paths
 
-module _ (cs back : List Coercion) (c : Coercion) (turn : back ≡ all_turned cs) (start front ahead first ends : List (ℕ × ℕ)) (n m : ℕ)
+module _ (cs back : List Coercion) (c : Coercion) (turn : back ≡ all_turned cs) (start front ahead ends : List (ℕ × ℕ)) (n : ℕ)
     (start-is : start ≡ (c.from, n) ∷ []) (before : AreReached back start front) (on : AreReached cs front ahead)
-    (first-is : first ≡ (c.to, m) ∷ []) (after : AreReached cs first ends) where
+    (after : AreReached cs ((c.to, 0) ∷ []) ends) where
   before-has : (s : ℕ) → Has front s ↔ HasPath cs s c.from
   before-has s = reached-back cs back c.from n start front turn start-is before s
 
   after-has : (t : ℕ) → Has ends t ↔ HasPath cs c.to t
-  after-has t = from-one cs c.to m first ends first-is after t
+  after-has t = from-one cs c.to 0 ((c.to, 0) ∷ []) ends refl after t
 
   met-clash : (t : ℕ) → Has ahead t → Has ends t → OnePath (cs ++ c ∷ []) → ⊥
   met-clash t in-ahead in-ends =

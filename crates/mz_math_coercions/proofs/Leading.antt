@@ -22,26 +22,6 @@ use Rattle.mz_math_coercions.proofs.Walks.{from-one, one-first}
 
 -- ---- the first coercion of a path
 
--- it is found at the place that is said
-abbrev pub IsFirstPlace : List Coercion → ℕ → ℕ → Option ℕ → Type 0
-IsFirstPlace cs from to o = MatchOption o ((p : ℕ) (path : List ℕ) → IsPath cs from (p ∷ path) to → ⊥) (λ p. (path : List ℕ) × IsPath cs from (p ∷ path) to)
-
-pub kept-first : (cs : List Coercion) (m : FirstSteps) (from to : ℕ) (o : Option ℕ) → AreLed cs m → o ≡ first_of m from to → IsFirstPlace cs from to o
-kept-first cs m from to None led is = λ p path on. none-some _ (is ∙ (led from to).0 p path on)
-kept-first cs m from to (Some p) led is = (led from to).1 p (sym is)
-
-pub walked-first : (cs : List Coercion) (steps : List (ℕ × ℕ)) (from to : ℕ) (o : Option ℕ) → AreReached (all_turned cs) ((to, 0) ∷ []) steps → (from ≡ to → ⊥)
-    → MatchOption o (Has steps from → ⊥) (λ p. Contains steps (from, p)) → IsFirstPlace cs from to o
-walked-first cs steps from to None reached other not = λ p path on. not ((reached-back cs (all_turned cs) to 0 ((to, 0) ∷ []) steps refl refl reached from).1 (p ∷ path, on))
-walked-first cs steps from to (Some p) reached other has = elim (reached.via from p has) [
-  | inl first ↦ absurd (other (one-first to 0 from p ((to, 0) ∷ []) refl first).0)
-  | inr came ↦
-      let (r, in-steps, step) = came in
-      let (c, at, begins, ends) = step-back cs r p from step in
-      let (path, on) = (reached-back cs (all_turned cs) to 0 ((to, 0) ∷ []) steps refl refl reached r).0 in-steps in
-      (path, (c, at, begins, subst (λ x. IsPath cs x path to) (sym ends) on))
-]
-
 pub next-at : (cs : List Coercion) (from to place : ℕ) (o : Option Coercion) → OnePath cs → (path : List ℕ) × IsPath cs from (place ∷ path) to → o ≡ slice_get cs place
     → MatchOption o ((p : ℕ) (path : List ℕ) → IsPath cs from (p ∷ path) to → ⊥) (λ c. (p : ℕ) × IsNext cs from to p c)
 next-at cs from to place None one (path, (d, at-d, begins, rest)) at = absurd (none-some _ (at ∙ at-d))
@@ -56,13 +36,13 @@ next-at cs from to place (Some c) one (path, (d, at-d, begins, rest)) at =
       ),
     )
 
-pub reach-first : (cs : List Coercion) (from to : ℕ) (o : Option ℕ) → IsFirstPlace cs from to o → (from ≡ to → ⊥) → (b : Bool) → b ≡ is_some o → IsTrue b ↔ HasPath cs from to
-reach-first cs from to None first other b e = (λ t. absurd (true≢false (sym t ∙ e)), λ has. absurd (go has.0 has.1))
+pub led-reaches : (cs : List Coercion) (m : FirstSteps) (from to : ℕ) (o : Option ℕ) → AreLed cs m → (from ≡ to → ⊥) → o ≡ first_of m from to → (b : Bool) → b ≡ is_some o → IsTrue b ↔ HasPath cs from to
+led-reaches cs m from to None led other at b e = (λ t. absurd (true≢false (sym t ∙ e)), λ has. absurd (go has.0 has.1))
   where
     go : (path : List ℕ) → IsPath cs from path to → ⊥
     go [] on = other on
-    go (p ∷ path) on = first p path on
-reach-first cs from to (Some p) (path, on) other b e = (λ t. (p ∷ path, on), λ has. e)
+    go (p ∷ path) on = none-some _ (at ∙ (led from to).0 p path on)
+led-reaches cs m from to (Some p) led other at b e = (λ t. let (path, on) = (led from to).1 p (sym at) in (p ∷ path, on), λ has. e)
 
 pub stuck : (cs : List Coercion) (most from to : ℕ) → (from ≡ to → ⊥) → ((p : ℕ) (path : List ℕ) → IsPath cs from (p ∷ path) to → ⊥) → Reaches cs most from to → ⊥
 stuck cs most from to other never ([], on, le) = other on
@@ -175,9 +155,9 @@ behind cs c to q one on = elim (taken cs c c.to to q on) [
   | inr again ↦ absurd (no-return (cs ++ c ∷ []) one (length cs) c q to (slice_get-last cs c) on (subst (λ x. Contains x (length cs)) (sym again.2) (contains-middle again.0 again.1 (length cs))))
 ]
 
-module _ (cs back : List Coercion) (c : Coercion) (one : OnePath (cs ++ c ∷ [])) (turn : back ≡ all_turned cs) (a : ℕ) (start starts first ends : List (ℕ × ℕ))
+module _ (cs back : List Coercion) (c : Coercion) (one : OnePath (cs ++ c ∷ [])) (turn : back ≡ all_turned cs) (a : ℕ) (start starts ends : List (ℕ × ℕ))
     (start-is : start ≡ (c.from, a) ∷ []) (a-is : a ≡ length cs) (before : AreReached back start starts)
-    (first-is : first ≡ (c.to, 0) ∷ []) (after : AreReached cs first ends) (m : Kept) (led : AreLed cs m) where
+    (after : AreReached cs ((c.to, 0) ∷ []) ends) (m : Kept) (led : AreLed cs m) where
   -- the path from a start begins with its place
   on : (s p : ℕ) → Contains starts (s, p) → (path : List ℕ) × IsPath (cs ++ c ∷ []) s (p ∷ path) c.to
   on s p has = elim (before.via s p has) [
@@ -198,7 +178,7 @@ module _ (cs back : List Coercion) (c : Coercion) (one : OnePath (cs ++ c ∷ []
   ]
 
   in-ends : (t : ℕ) → Has ends t ↔ HasPath cs c.to t
-  in-ends t = from-one cs c.to 0 first ends first-is after t
+  in-ends t = from-one cs c.to 0 ((c.to, 0) ∷ []) ends refl after t
 
   long : (s p t : ℕ) → Contains starts (s, p) → Has ends t → (path : List ℕ) × IsPath (cs ++ c ∷ []) s (p ∷ path) t
   long s p t has end =
@@ -259,6 +239,9 @@ torn-kept cs back ups m one grouped = record { one = one; grouped = grouped; led
 
 -- ---- an expression under the terms of a path
 
+pub term-at : (cs : List Coercion) (p : ℕ) (c : Coercion) → slice_get cs p ≡ Some c → coercion_term cs p ≡ c.term
+term-at cs p c at = ap (λ d. d.term) (get_or_from_slice_get cs p c (record { term = 0; from = 0; to = 0 }) at)
+
 wrapped-last : (cs : List Coercion) (path : List ℕ) (p : ℕ) (e : Tree) → wrapped cs (path ++ p ∷ []) e ≡ app (coercion_term cs p) (more (wrapped cs path e) none)
 wrapped-last cs [] p e = refl
 wrapped-last cs (q ∷ path) p e = wrapped-last cs path p (app (coercion_term cs q) (more e none))
@@ -268,9 +251,8 @@ abbrev pub IsWrapped : List Coercion → ℕ → ℕ → Tree → Tree → Type 
 IsWrapped cs from to e f = (path : List ℕ) × IsPath cs from path to × (f ≡ wrapped cs path e)
 
 pub wrapped-more : (cs : List Coercion) (from at to p : ℕ) (c : Coercion) (e f g : Tree) → IsNext cs at to p c → IsWrapped cs from at e f → g ≡ app c.term (more f none) → IsWrapped cs from c.to e g
-wrapped-more cs from at to p c e f g (there, begins, rest, one) (path, on, was) is =
-    let term : coercion_term cs p ≡ c.term = ap (λ d. d.term) (get_or_from_slice_get cs p c (record { term = 0; from = 0; to = 0 }) there) in (
-      path ++ p ∷ [],
-      path-join cs from at c.to path (p ∷ []) on (c, there, begins, refl),
-      is ∙ ap (λ t. app t (more f none)) (sym term) ∙ ap (λ x. app (coercion_term cs p) (more x none)) was ∙ sym (wrapped-last cs path p e),
-    )
+wrapped-more cs from at to p c e f g (there, begins, rest, one) (path, on, was) is = (
+  path ++ p ∷ [],
+  path-join cs from at c.to path (p ∷ []) on (c, there, begins, refl),
+  is ∙ ap (λ t. app t (more f none)) (sym (term-at cs p c there)) ∙ ap (λ x. app (coercion_term cs p) (more x none)) was ∙ sym (wrapped-last cs path p e),
+)

@@ -1,10 +1,9 @@
 -- The first coercion of each path, by the two sorts between which it leads.
-use Rattle.std.specs.Prelude.{◌≡◌, ◌⊎◌, ◌+◌, ◌*◌, ◌&&◌, ◌∷◌, [], ℕ, Bool, List, Contains, MatchOption, Option, None, Some, cond, get_or, nat_lt}
+use Rattle.std.specs.Prelude.{◌≡◌, ◌⊎◌, ◌+◌, ◌*◌, ◌&&◌, ◌∷◌, ℕ, Bool, List, Contains, Option, None, Some, cond, get_or, nat_lt}
 use Rattle.mz_math_theory.specs.declared.coercion.Coercion.{Coercion}
 use Rattle.mz_math_theory.specs.Coercions.{IsPath}
 use Rattle.mz_math_coercions.specs.declared.hops.FirstSteps.{FirstSteps}
-use Rattle.mz_math_coercions.specs.Graph.{all_turned}
-use Rattle.mz_math_coercions.specs.Reached.{AreReached, Has}
+use Rattle.mz_math_coercions.specs.Reached.{Has}
 
 -- ---- what is kept
 
@@ -32,10 +31,6 @@ IsLed cs m s to = ((p : ℕ) (path : List ℕ) → IsPath cs s (p ∷ path) to �
 -- so for all sorts
 abbrev pub AreLed : List Coercion → FirstSteps → Type 0
 AreLed cs m = (s to : ℕ) → IsLed cs m s to
-
--- where no walk has gone back from a sort, the first coercions of all paths are kept
-abbrev pub ArePathsTo : List Coercion → FirstSteps → Option (List (ℕ × ℕ)) → ℕ → Type 0
-ArePathsTo cs m walked to = MatchOption walked (AreLed cs m) (λ steps. AreReached (all_turned cs) ((to, 0) ∷ []) steps)
 
 -- ---- what is kept, before and after a change
 

@@ -55,8 +55,7 @@ fn is_second(
     let mut front = Reached::of(alloc, coercion.from, 0)?;
     back.walk(&mut front)?;
     graph.walk(&mut front)?;
-    let mut ends = Reached::of(alloc, coercion.to, 0)?;
-    graph.walk(&mut ends)?;
+    let ends = graph.reached_from(alloc, coercion.to)?;
     Ok(meet(&front, &ends))
 }
 

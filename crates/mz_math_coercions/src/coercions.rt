@@ -1,11 +1,11 @@
 // Coercions in the order in which they were declared, and their paths.
-ghost use Rattle.std.specs.Prelude.{◌≡◌, ◌↔◌, ◌≤◌, ◌++◌, ◌∷◌, [], ℕ, List, IsTrue, IfOk, OnErr, MatchBool, MatchOption, length, true};
+ghost use Rattle.std.specs.Prelude.{◌≡◌, ◌↔◌, ◌≤◌, ◌++◌, ◌∷◌, [], ℕ, List, IsTrue, IfOk, OnErr, MatchBool, MatchOption, length, reverse, true};
 ghost use Rattle.mz_logic_theory.specs.Tree.{app, more, none};
 ghost use Rattle.mz_logic_theory.specs.View.{tree};
 ghost use Rattle.mz_math_theory.specs.Coercions.{IsPath, OnePath, Reaches, wrapped};
 ghost use Rattle.mz_math_theory.specs.declared.coercion.Coercion.{Coercion};
 ghost use Rattle.mz_math_theory.specs.CoercionAnswers.{HasLength, HasPath};
-ghost use Rattle.mz_math_coercions.specs.Firsts.{AreLed, ArePathsTo};
+ghost use Rattle.mz_math_coercions.specs.Firsts.{AreLed};
 ghost use Rattle.mz_math_coercions.specs.Graph.{all_turned, turned as turned_lem};
 ghost use Rattle.mz_math_coercions.specs.Reached.{Has};
 ghost use Rattle.mz_math_coercions.specs.declared.hops.FirstSteps.{FirstSteps};
@@ -14,7 +14,8 @@ use crate::clash::is_clash;
 use crate::graph::Graph;
 use crate::groups::Groups;
 use crate::hops::FirstSteps;
-use crate::next_hop::{first_place, lead, next_coercion, steps_between};
+use crate::next_hop::{coercion_at, lead, next_coercion, steps_between};
+use crate::path_back::path_back;
 use crate::reached::Reached;
 use mz_logic_theory::{Expr, Exprs};
 use mz_math_theory::Coercion;
@@ -22,7 +23,8 @@ use std::alloc::{AllocError, Global};
 use std::marker::Model;
 
 /// The coercions in order. Between two sorts they have one path at most. Among sorts that a binary
-/// can have it is found in as many steps as it has coercions, else by a walk.
+/// can have it is found in as many steps as it has coercions, else by a walk over all that its first
+/// sort reaches.
 #[derive(Drop)]
 pub struct Coercions {
     graph: Graph,
@@ -146,31 +148,6 @@ fn lead_on(
     }
 }
 
-/// Where not all first coercions are kept, what is reached by a walk back from a sort.
-///
-/// # Errors
-///
-/// Where there is no memory, or was none when a coercion was added.
-fn walk_to(
-    alloc: Global,
-    back: &Graph,
-    is_led: bool,
-    is_whole: bool,
-    to: u32,
-) -> Result<Option<Reached>, AllocError>
-    ensures { IfOk result (λ walked. (cs : List Coercion) (m : FirstSteps) → (is_led ≡ true → AreLed cs m) → (is_whole ≡ true → back.now ≡ all_turned cs) → ArePathsTo cs m walked to) }
-{
-    if is_led {
-        return Ok(None);
-    }
-    if !is_whole {
-        return Err(AllocError);
-    }
-    let mut walked = Reached::of(alloc, to, 0)?;
-    back.walk(&mut walked)?;
-    Ok(Some(walked))
-}
-
 /// The length of the path from a sort to another, if there is one.
 ///
 /// Neither it nor `reaches` is inlined: operands stand deep in one another, and what a walk needs would
@@ -191,15 +168,16 @@ pub fn distance(
     if from == to {
         return Ok(Some(0));
     }
-    let walked = walk_to(
-        alloc,
-        &coercions.back,
-        coercions.is_led,
-        coercions.is_whole,
-        to,
-    )?;
     let items = coercions.graph.as_slice();
-    Ok(steps_between(items, &coercions.firsts, &walked, from, to, items.len()))
+    if coercions.is_led {
+        return Ok(steps_between(items, &coercions.firsts, from, to, items.len()));
+    }
+    let reached = coercions.graph.reached_from(alloc, from)?;
+    if !reached.has(to) {
+        return Ok(None);
+    }
+    let places = path_back(alloc, items, &reached, from, to)?;
+    Ok(Some(places.len()))
 }
 
 /// Whether there is a path from a sort to another.
@@ -214,14 +192,11 @@ pub fn reaches(alloc: Global, coercions: &Coercions, from: u32, to: u32) -> Resu
     if from == to {
         return Ok(true);
     }
-    let walked = walk_to(
-        alloc,
-        &coercions.back,
-        coercions.is_led,
-        coercions.is_whole,
-        to,
-    )?;
-    Ok(first_place(&coercions.firsts, &walked, from, to).is_some())
+    if coercions.is_led {
+        return Ok(coercions.firsts.get(from, to).is_some());
+    }
+    let reached = coercions.graph.reached_from(alloc, from)?;
+    Ok(reached.has(to))
 }
 
 /// The sorts to which a path leads from a sort.
@@ -232,9 +207,7 @@ pub fn reaches(alloc: Global, coercions: &Coercions, from: u32, to: u32) -> Resu
 pub fn reached_from(alloc: Global, coercions: &Coercions, from: u32) -> Result<Reached, AllocError>
     ensures { IfOk result (λ reached. (t : ℕ) → Has reached t ↔ HasPath coercions.now from t) }
 {
-    let mut reached = Reached::of(alloc, from, 0)?;
-    coercions.graph.walk(&mut reached)?;
-    Ok(reached)
+    coercions.graph.reached_from(alloc, from)
 }
 
 /// An expression of a sort, wrapped in the path to another.
@@ -255,36 +228,26 @@ pub fn wrap(
     if from == to {
         return Ok(expr);
     }
-    let walked = walk_to(
-        alloc,
-        &coercions.back,
-        coercions.is_led,
-        coercions.is_whole,
-        to,
-    )?;
-    wrap_along(
-        alloc,
-        coercions.graph.as_slice(),
-        &coercions.firsts,
-        &walked,
-        from,
-        to,
-        expr,
-    )
+    let items = coercions.graph.as_slice();
+    if coercions.is_led {
+        return wrap_along(alloc, items, &coercions.firsts, from, to, expr);
+    }
+    let reached = coercions.graph.reached_from(alloc, from)?;
+    let places = path_back(alloc, items, &reached, from, to)?;
+    wrap_back(alloc, items, places, expr)
 }
 
-/// The same, where the first coercions are known.
+/// The same, where the first coercions of all paths are kept.
 fn wrap_along(
     alloc: Global,
     items: &[Coercion],
     firsts: &FirstSteps,
-    walked: &Option<Reached>,
     from: u32,
     to: u32,
     expr: Expr,
 ) -> Result<Expr, AllocError>
     requires one { OnePath items.now }
-    requires paths { ArePathsTo items.now firsts.now walked.now to }
+    requires led { AreLed items.now firsts.now }
     requires there { Reaches items.now (length items.now) from to }
     ensures { IfOk result (λ e. (path : List ℕ) × IsPath items.now from path to × (tree e ≡ wrapped items.now path (tree expr))) }
 {
@@ -293,12 +256,33 @@ fn wrap_along(
     // so many coercions are left at most
     let mut most = items.len();
     'steps: while sort != to {
-        let Some(coercion) = next_coercion(items, firsts, walked, sort, to) else {
+        let Some(coercion) = next_coercion(items, firsts, sort, to) else {
             unreachable!()
         };
         built = applied(alloc, coercion.term, built)?;
         sort = coercion.to;
         most -= 1;
+    }
+    Ok(built)
+}
+
+/// The same, where the places of the path's coercions are known, the last one first.
+fn wrap_back(
+    alloc: Global,
+    items: &[Coercion],
+    places: Vec<usize>,
+    expr: Expr,
+) -> Result<Expr, AllocError>
+    requires { (from to : ℕ) × IsPath items.now from (reverse places.items) to }
+    ensures { IfOk result (λ e. tree e ≡ wrapped items.now (reverse places.items) (tree expr)) }
+{
+    let mut left = places;
+    let mut built = expr;
+    'steps: while let Some(place) = left.pop() {
+        let Some(coercion) = coercion_at(items, place) else {
+            unreachable!()
+        };
+        built = applied(alloc, coercion.term, built)?;
     }
     Ok(built)
 }

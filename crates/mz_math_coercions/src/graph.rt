@@ -1,5 +1,5 @@
 // Coercions in chains, by the sorts at which they begin.
-ghost use Rattle.std.specs.Prelude.{◌≡◌, ◌<◌, ◌≤◌, ◌+◌, ◌⊎◌, ◌++◌, ◌∷◌, [], ℕ, List, Contains, OnOk, OnErr, get_or, length};
+ghost use Rattle.std.specs.Prelude.{◌≡◌, ◌<◌, ◌≤◌, ◌+◌, ◌⊎◌, ◌++◌, ◌∷◌, [], ℕ, List, Contains, IfOk, OnOk, OnErr, get_or, length};
 ghost use Rattle.mz_math_coercions.specs.Graph.{AreChained};
 ghost use Rattle.mz_math_coercions.specs.Reached.{AreReached, Has, IsStep};
 ghost use Rattle.mz_math_theory.specs.declared.coercion.Coercion.{Coercion};
@@ -80,6 +80,19 @@ impl Graph {
             i += 1;
         }
         Ok(())
+    }
+
+    /// The sorts to which a path leads from a sort.
+    ///
+    /// # Errors
+    ///
+    /// Where there is no memory.
+    pub fn reached_from(&self, alloc: Global, sort: u32) -> Result<Reached, AllocError>
+        ensures { IfOk result (λ reached. AreReached self.now ((sort, 0) ∷ []) reached) }
+    {
+        let mut reached = Reached::of(alloc, sort, 0)?;
+        self.walk(&mut reached)?;
+        Ok(reached)
     }
 
     /// Adds the sorts to which one coercion leads from a sort.

@@ -11,6 +11,7 @@ mod graph;
 mod groups;
 mod hops;
 mod next_hop;
+mod path_back;
 mod reached;
 
 pub use coercions::{Coercions, distance, reached_from, reaches, wrap};

@@ -2,7 +2,7 @@
 ghost use Rattle.std.specs.Prelude.{◌≡◌, ◌++◌, ◌∷◌, [], ℕ, List, Contains, IfOk, MatchOption, Some, slice_get, true};
 ghost use Rattle.mz_math_theory.specs.Coercions.{IsPath, OnePath, Reaches};
 ghost use Rattle.mz_math_theory.specs.CoercionAnswers.{HasLength, IsNext};
-ghost use Rattle.mz_math_coercions.specs.Firsts.{AreLed, ArePathsTo, IsChanged, IsOfStart, IsOfStarts, first_of};
+ghost use Rattle.mz_math_coercions.specs.Firsts.{AreLed, IsChanged, IsOfStart, IsOfStarts, first_of};
 ghost use Rattle.mz_math_coercions.specs.Graph.{all_turned};
 ghost use Rattle.mz_math_coercions.specs.Reached.{Has};
 ghost use Rattle.mz_math_theory.specs.declared.coercion.Coercion.{Coercion};
@@ -20,37 +20,18 @@ pub fn coercion_at(items: &[Coercion], place: usize) -> Option<Coercion>
     items.get(place).copied()
 }
 
-/// The place of the coercion that begins the path from a sort to another one, if there is such a
-/// path. Where not all are kept, a walk has gone back from the other one.
-pub fn first_place(
-    firsts: &FirstSteps,
-    walked: &Option<Reached>,
-    from: u32,
-    to: u32,
-) -> Option<usize>
-    ensures { (cs : List Coercion) → ArePathsTo cs firsts.now walked.now to → (from ≡ to → ⊥)
-        → MatchOption result ((p : ℕ) (path : List ℕ) → IsPath cs from (p ∷ path) to → ⊥) (λ p. (path : List ℕ) × IsPath cs from (p ∷ path) to) }
-{
-    match walked {
-        None => firsts.get(from, to),
-        Some(reached) => reached.place_to(from),
-    }
-}
-
 /// The coercion that begins the path from a sort to another one, if there is such a path.
 pub fn next_coercion(
     items: &[Coercion],
     firsts: &FirstSteps,
-    walked: &Option<Reached>,
     from: u32,
     to: u32,
 ) -> Option<Coercion>
     requires one { OnePath items.now }
-    requires paths { ArePathsTo items.now firsts.now walked.now to }
-    requires other { from ≡ to → ⊥ }
+    requires led { AreLed items.now firsts.now }
     ensures { MatchOption result ((p : ℕ) (path : List ℕ) → IsPath items.now from (p ∷ path) to → ⊥) (λ c. (p : ℕ) × IsNext items.now from to p c) }
 {
-    match first_place(firsts, walked, from, to) {
+    match firsts.get(from, to) {
         Some(place) => coercion_at(items, place),
         None => None,
     }
@@ -60,13 +41,12 @@ pub fn next_coercion(
 pub fn steps_between(
     items: &[Coercion],
     firsts: &FirstSteps,
-    walked: &Option<Reached>,
     from: u32,
     to: u32,
     most: usize,
 ) -> Option<usize>
     requires one { OnePath items.now }
-    requires paths { ArePathsTo items.now firsts.now walked.now to }
+    requires led { AreLed items.now firsts.now }
     ensures { MatchOption result (Reaches items.now most from to → ⊥) (HasLength items.now most from to) }
 {
     let mut sort = from;
@@ -75,7 +55,7 @@ pub fn steps_between(
         if many == most {
             return None;
         }
-        let Some(coercion) = next_coercion(items, firsts, walked, sort, to) else {
+        let Some(coercion) = next_coercion(items, firsts, sort, to) else {
             return None;
         };
         sort = coercion.to;
@@ -104,8 +84,7 @@ pub fn lead(
 {
     let mut starts = Reached::of(alloc, coercion.from, graph.as_slice().len())?;
     back.walk(&mut starts)?;
-    let mut ends = Reached::of(alloc, coercion.to, 0)?;
-    graph.walk(&mut ends)?;
+    let ends = graph.reached_from(alloc, coercion.to)?;
     lead_all(firsts, &starts, &ends)
 }
 

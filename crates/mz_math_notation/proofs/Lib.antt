@@ -1,5 +1,6 @@
 pub mod Spotting
 mod Levelling
+mod Pairwise
 pub mod Literals
 pub mod Naming
 pub mod Noting

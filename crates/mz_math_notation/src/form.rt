@@ -1,6 +1,7 @@
 // The notation that a statement makes, where it is of its form.
-ghost use Rattle.std.specs.Prelude.{◌≡◌, ◌≤◌, ◌<◌, ◌+◌, ◌^◌, ◌↔◌, ◌∷◌, [], ℕ, Bool, IfOk, IsTrue, MatchOption, drop, length, slice_range};
+ghost use Rattle.std.specs.Prelude.{◌≡◌, ◌≤◌, ◌<◌, ◌+◌, ◌-◌, ◌^◌, ◌↔◌, ◌∷◌, [], ℕ, Bool, IfOk, IsTrue, MatchOption, drop, length, slice_range};
 ghost use Rattle.std.specs.Result.{result_map_both};
+ghost use Rattle.mz_logic_theory.specs.Alike.{deps_at};
 ghost use Rattle.mz_logic_theory.specs.Declaration.{signatures};
 ghost use Rattle.mz_math_theory.specs.NotationAnswers.{IsMade, IsNotationOf};
 ghost use Rattle.mz_math_notation.specs.Given.{general};
@@ -11,7 +12,7 @@ ghost use Rattle.mz_math_theory.specs.Listed.{slots};
 
 use crate::parameters::each_once;
 use crate::scope::Scope;
-use mz_logic_theory::{Binder, Env, ResultType};
+use mz_logic_theory::{Binder, Binders, Env, ResultType};
 use mz_math_theory::{
     Coercion, Element, Elements, Literal, Notation, NoteFault, Tail, level_number,
 };
@@ -218,20 +219,33 @@ fn head_of(elements: &[Element], tail: Option<Tail>) -> Option<(u32, bool)>
     }
 }
 
-fn same_binder(a: &Binder, b: &Binder) -> bool
+/// Whether two binders are the same, which may be known to depend on the same.
+fn same_binder(a: &Binder, b: &Binder, alike: bool) -> bool
+    requires { IsTrue alike → a.now.deps ≡ b.now.deps }
     ensures { IsTrue result ↔ (a.now ≡ b.now) }
 {
-    a.sort == b.sort && a.bound == b.bound && a.deps.as_slice() == b.deps.as_slice()
+    a.sort == b.sort && a.bound == b.bound && (alike || a.deps.as_slice() == b.deps.as_slice())
 }
 
-fn same_binders(xs: &[Binder], ys: &[Binder]) -> bool
+/// Whether in both lists the i-th one shares what it depends on with the one before it.
+fn both_share(xs: &Binders, ys: &Binders, i: usize) -> bool
+    ensures { IsTrue result → (0 < i) × (deps_at xs.now (i - 1) ≡ deps_at xs.now i) × (deps_at ys.now (i - 1) ≡ deps_at ys.now i) }
+{
+    i > 0 && xs.shares_with_previous(i) && ys.shares_with_previous(i)
+}
+
+/// Whether the binders are the same. What those that share it depend on is compared once.
+fn same_binders(xs: &Binders, ys: &Binders) -> bool
     ensures { IsTrue result ↔ (xs.now ≡ ys.now) }
 {
-    if xs.len() != ys.len() {
+    let left = xs.as_slice();
+    let right = ys.as_slice();
+    if left.len() != right.len() {
         return false;
     }
-    for i in 0..xs.len() {
-        if !same_binder(&xs[i], &ys[i]) {
+    for i in 0..left.len() {
+        let alike = both_share(xs, ys, i);
+        if !same_binder(&left[i], &right[i], alike) {
             return false;
         }
     }
@@ -258,9 +272,7 @@ pub fn general_of(
     let Some(decl) = env.term(statement.term) else {
         return Err(NoteFault::Form);
     };
-    if !same_binders(decl.params.as_slice(), binders.as_slice())
-        || !same_result(&decl.result, statement.result)
-    {
+    if !same_binders(&decl.params, binders) || !same_result(&decl.result, statement.result) {
         return Err(NoteFault::Form);
     }
     match elements_of(

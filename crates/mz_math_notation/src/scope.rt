@@ -1,6 +1,7 @@
 // The variables of a statement.
-ghost use Rattle.std.specs.Prelude.{◌≡◌, ◌≢◌, ◌↔◌, ◌⊎◌, ◌<◌, ◌++◌, ◌∷◌, [], IsTrue, Contains, MatchOption, OnOk, OnErr, length, slice_get};
+ghost use Rattle.std.specs.Prelude.{◌≡◌, ◌≢◌, ◌↔◌, ◌⊎◌, ◌<◌, ◌-◌, ◌++◌, ◌∷◌, [], IsTrue, Contains, MatchOption, OnOk, OnErr, length, slice_get};
 ghost use Rattle.mz_base.specs.Identifiers.{is_name};
+ghost use Rattle.mz_logic_theory.specs.Alike.{deps_at};
 ghost use Rattle.mz_math_theory.specs.Notation.{with_variable};
 ghost use Rattle.mz_math_theory.specs.Kept.{AreVariables};
 
@@ -61,6 +62,29 @@ impl Scope {
             Err(failed) => {
                 self.names.pop();
                 Err(failed.into())
+            }
+        }
+    }
+
+    /// Adds a variable that depends on what the last one does, and on nothing where there is none. Its name
+    /// is as for `push`.
+    ///
+    /// # Errors
+    ///
+    /// Where there is no memory. The variables are unchanged then.
+    pub fn push_alike(&mut self, name: &[u8], sort: u32, bound: bool) -> Result<(), AllocError>
+        requires name { (name.now ≡ []) ⊎ IsTrue (is_name name.now) }
+        requires other { name.now ≢ [] → Contains self.old.names name.now → ⊥ }
+        requires room { length self.old.names < 4294967295 }
+        ensures ok { OnOk result (self.new ≡ with_variable self.old name.now (record { sort = sort; bound = bound; deps = deps_at self.old.binders (length self.old.binders - 1) })) }
+        ensures err { OnErr result (self.new ≡ self.old) }
+    {
+        self.names.push(self.alloc, name)?;
+        match self.binders.push_alike(sort, bound) {
+            Ok(()) => Ok(()),
+            Err(failed) => {
+                self.names.pop();
+                Err(failed)
             }
         }
     }

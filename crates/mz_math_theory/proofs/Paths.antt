@@ -1,12 +1,11 @@
 -- Paths of coercions.
-use Rattle.std.proofs.Common.{◌≡◌, ◌<◌, ◌≤◌, ◌+◌, ◌⊎◌, ◌++◌, ◌∙◌, ℕ, zero, suc, List, [], ◌∷◌, length, Bool, true, false, Some, slice_get, get_or, ap, sym, refl, subst, inl, inr, arith, Contains, length-append, Option, None, ◌↔◌}
-use Rattle.std.specs.Prelude.{◌||◌, IsTrue, MatchOption}
-use Rattle.std.specs.Option.{is_some}
+use Rattle.std.proofs.Common.{◌≡◌, ◌<◌, ◌≤◌, ◌⊎◌, ◌++◌, ◌∙◌, ℕ, zero, suc, List, [], ◌∷◌, length, Bool, true, false, Some, slice_get, ap, sym, refl, subst, inl, inr, arith, Contains}
+use Rattle.std.specs.Prelude.{◌||◌}
 use Rattle.std.proofs.Math.Dec.{eqb}
 use Rattle.std.specs.List.{AllByRecursion, IsDistinct, list_any}
 use Rattle.std.proofs.lemmas.Bool.{true≢false, eqb-true}
 use Rattle.std.proofs.lemmas.Map.Steps.{length-le_from_distinct_below}
-use Rattle.std.proofs.lemmas.Option.{slice_get_within, get_or_from_slice_get, same_Some}
+use Rattle.std.proofs.lemmas.Option.{slice_get_within, same_Some}
 use Rattle.mz_base_theory.proofs.Offered.{slice_get-last, slice_get-append, nil-cons, slice_get-push_cases}
 use Rattle.mz_math_theory.specs.declared.coercion.Coercion.{Coercion}
 use Rattle.mz_math_theory.specs.Coercions.{IsPath, OnePath, Reaches}
@@ -14,24 +13,9 @@ use Rattle.mz_math_theory.specs.CoercionAnswers.{HasLength, MayStart, MayEnd, Is
 
 -- ---- one step
 
-pub no-reach : (cs : List Coercion) (most n from to : ℕ) → suc n ≡ most → (from ≡ to → ⊥)
-    → ((j : ℕ) (d : Coercion) → j < length cs → (get_or cs j d).from ≡ from → Reaches cs n (get_or cs j d).to to → ⊥) → Reaches cs most from to → ⊥
-no-reach cs most n from to one other never ([], is, le) = other is
-no-reach cs most n from to one other never (p ∷ path, (c, at, begins, rest), le) =
-    let here : get_or cs p c ≡ c = get_or_from_slice_get cs p c c at in
-    let short : suc (length path) ≤ suc n = subst (λ m. suc (length path) ≤ m) (sym one) le in
-    never p c (slice_get_within cs p c at) (ap (λ d. d.from) here ∙ begins)
-    (path, subst (λ d. IsPath cs d.to path to) (sym here) rest, omega (arith, short))
-
 pub never-reach : (cs : List Coercion) (from to : ℕ) → (from ≡ to → ⊥) → Reaches cs 0 from to → ⊥
 never-reach cs from to other ([], is, le) = other is
 never-reach cs from to other (p ∷ path, on, le) = absurd (omega (arith, le))
-
-pub one-reach : (cs : List Coercion) (most n i from to r : ℕ) (c : Coercion) → suc n ≡ most → slice_get cs i ≡ Some c → c.from ≡ from → HasLength cs n c.to to r → HasLength cs most from to (r + 1)
-one-reach cs most n i from to r c one at begins (path, on, many, le) = (i ∷ path, (c, at, begins, on), omega (arith, many), omega (arith, one, le))
-
-pub reaches-length : (cs : List Coercion) (most from to r : ℕ) → HasLength cs most from to r → Reaches cs most from to
-reaches-length cs most from to r (path, on, many, le) = (path, on, omega (arith, many, le))
 
 -- ---- where there is one path at most, none is longer than the list
 
@@ -166,12 +150,7 @@ module _ (cs : List Coercion) (c : Coercion) (one : OnePath cs) (none : (i from 
       go (inr (p, q, is, on_p, on_q)) (inr (p', q', is', on_p', on_q')) =
           is ∙ ap (λ z. z ++ length cs ∷ q) (one s c.from p p' on_p on_p') ∙ ap (λ z. p' ++ length cs ∷ z) (one c.to to q q' (once to q on_q) (once to q' on_q')) ∙ sym is'
 
--- ---- what the code finds
-
-pub reach-decides : (cs : List Coercion) → OnePath cs → (s to : ℕ) (o : Option ℕ) → MatchOption o (Reaches cs (length cs) s to → ⊥) (HasLength cs (length cs) s to) → (b : Bool) → b ≡ is_some o
-    → IsTrue b ↔ ((path : List ℕ) × IsPath cs s path to)
-reach-decides cs one s to None m b e = (λ t. absurd (true≢false (sym t ∙ e)), λ h. absurd (m (path-reaches cs one s to h.0 h.1)))
-reach-decides cs one s to (Some n) (path, on, many, le) b e = (λ t. (path, on), λ h. e)
+-- ---- two paths
 
 pub clash-parts : (cs : List Coercion) (c : Coercion) (from to : ℕ) → IsClashAt cs c from to
     → ((p : List ℕ) × IsPath cs from p c.from) × ((q : List ℕ) × IsPath cs c.to q to) × ((r : List ℕ) × IsPath cs from r to)
@@ -179,15 +158,3 @@ clash-parts cs c from to (p, q, r, on_p, on_q, on_r) = ((p, on_p), (q, on_q), (r
 
 pub clash-made : (cs : List Coercion) (c : Coercion) (from to : ℕ) → (p : List ℕ) × IsPath cs from p c.from → (q : List ℕ) × IsPath cs c.to q to → (r : List ℕ) × IsPath cs from r to → IsClashAt cs c from to
 clash-made cs c from to (p, on_p) (q, on_q) (r, on_r) = (p, q, r, on_p, on_q, on_r)
-
-pub end-one : (cs : List Coercion) (c : Coercion) (j a b : ℕ) → MayEnd cs c j a → MayEnd cs c j b → a ≡ b
-end-one cs c j a b (d, at, is) (e, there, other) = sym is ∙ ap (λ x. x.to) (same_Some _ _ (sym at ∙ there)) ∙ other
-
-pub start-one : (cs : List Coercion) (c : Coercion) (j a b : ℕ) → MayStart cs c j a → MayStart cs c j b → a ≡ b
-start-one cs c j a b (d, at, is) (e, there, other) = sym is ∙ ap (λ x. x.from) (same_Some _ _ (sym at ∙ there)) ∙ other
-
-pub end-below : (cs : List Coercion) (c : Coercion) (j a : ℕ) → MayEnd cs c j a → j < length cs + 1
-end-below cs c j a (d, at, is) = let within = slice_get_within (cs ++ c ∷ []) j d at in omega (arith, within, length-append cs (c ∷ []))
-
-pub start-below : (cs : List Coercion) (c : Coercion) (j a : ℕ) → MayStart cs c j a → j < length cs + 1
-start-below cs c j a (d, at, is) = let within = slice_get_within (cs ++ c ∷ []) j d at in omega (arith, within, length-append cs (c ∷ []))

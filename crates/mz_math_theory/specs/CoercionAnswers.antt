@@ -1,7 +1,6 @@
 -- What the calls on paths of coercions answer.
-use Rattle.std.specs.Prelude.{◌≡◌, ◌≤◌, ◌++◌, ℕ, List, [], ◌∷◌, Some, Contains, slice_get, length}
+use Rattle.std.specs.Prelude.{◌≡◌, ◌≤◌, ◌++◌, ℕ, List, [], ◌∷◌, Some, slice_get, length}
 use Rattle.mz_math_theory.specs.declared.coercion.Coercion.{Coercion}
-use Rattle.mz_math_theory.specs.declared.start.Start.{Start}
 use Rattle.mz_math_theory.specs.Coercions.{IsPath}
 
 abbrev pub HasLength : List Coercion → ℕ → ℕ → ℕ → ℕ → Type 0
@@ -25,15 +24,3 @@ HasPath cs from to = (path : List ℕ) × IsPath cs from path to
 -- the p-th coercion begins the path from a sort to another
 abbrev pub IsNext : List Coercion → ℕ → ℕ → ℕ → Coercion → Type 0
 IsNext cs from to p c = (slice_get cs p ≡ Some c) × (c.from ≡ from) × HasPath cs c.to to × ((q : ℕ) (path : List ℕ) → IsPath cs from (q ∷ path) to → q ≡ p)
-
--- the p-th coercion begins the path from a sort by the new coercion, which is the last
-abbrev pub IsBefore : List Coercion → Coercion → ℕ → ℕ → Type 0
-IsBefore cs c from p = (front : List ℕ) × (rest : List ℕ) × IsPath cs from front c.from × (front ++ length cs ∷ [] ≡ p ∷ rest)
-
--- the sorts from which the new coercion is reached, each with the place of the first coercion of the path by it
-abbrev pub AreStarts : List Coercion → Coercion → List Start → Type 0
-AreStarts cs c starts = ((f : Start) → Contains starts f → IsBefore cs c f.sort f.place) × ((s : ℕ) → HasPath cs s c.from → (f : Start) × Contains starts f × (f.sort ≡ s))
-
--- the sorts that are reached from its end
-abbrev pub AreEnds : List Coercion → Coercion → List ℕ → Type 0
-AreEnds cs c ends = ((t : ℕ) → Contains ends t → HasPath cs c.to t) × ((t : ℕ) → HasPath cs c.to t → Contains ends t)

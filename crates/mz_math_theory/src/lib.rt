@@ -12,7 +12,6 @@ mod coercion;
 mod fault;
 mod literal;
 mod notation;
-mod start;
 mod syntax;
 mod wanted;
 
@@ -21,6 +20,5 @@ pub use coercion::Coercion;
 pub use fault::NoteFault;
 pub use literal::{Literal, Tail};
 pub use notation::{Element, ElementRef, Elements, MAX, Notation, level_number};
-pub use start::Start;
 pub use syntax::Syntax;
 pub use wanted::{Parsed, Wanted};

@@ -1,4 +1,5 @@
 pub mod Binding
+mod Grouping
 pub mod Numerals
 pub mod NamesAlone
 pub mod Offered

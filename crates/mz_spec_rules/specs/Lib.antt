@@ -1,4 +1,4 @@
 pub mod Entries
 pub mod Answers
 pub mod Noting
-pub mod Found
+pub mod LastOf

@@ -1,19 +1,19 @@
 // The variables of a statement over what is declared.
-ghost use Rattle.std.specs.Prelude.{◌≡◌, ◌+◌, ◌<◌, ◌^◌, ◌++◌, ⊤, [], ℕ, List, Option, IfOk, MatchOption, OnOk, length, map, option_map};
+ghost use Rattle.std.specs.Prelude.{◌≡◌, ◌≢◌, ◌⊎◌, ◌+◌, ◌<◌, ◌^◌, ◌++◌, ◌∷◌, ⊤, [], ℕ, List, Option, Contains, IfOk, IsTrue, MatchOption, OnOk, length, map, option_map};
+ghost use Rattle.mz_base.specs.Identifiers.{is_name};
 ghost use Rattle.mz_spec_theory.specs.StatementCode.{lexeme, type_text};
 ghost use Rattle.mz_spec_theory.specs.Statement.{TypeText as TypeLem};
 ghost use Rattle.mz_math_theory.specs.Kept.{AreVariables};
 ghost use Rattle.mz_spec_variables.specs.Code.{AreGrouped, AreParts, IsOfTypes, typed, variable as variable_lem};
-ghost use Rattle.mz_spec_theory.specs.Dependencies.{dep_places};
 ghost use Rattle.mz_spec_rules.specs.Entries.{state};
-ghost use Rattle.mz_spec_rules.specs.Found.{IsFound};
+ghost use Rattle.mz_spec_rules.specs.LastOf.{IsLastOf};
 ghost use Rattle.mz_spec_variables.specs.Index.{IsIndexOf};
 ghost use Rattle.mz_spec_theory.specs.Kept.{IsKept};
 ghost use Rattle.mz_spec_theory.specs.State.{binder_of as binder_of_lem, bytes_of as bytes_of_lem, result_of, scope_of as scope_of_lem, sort_number as sort_number_lem, term_number as term_number_lem, variable_bytes};
 ghost use Rattle.mz_spec_theory.specs.View.{Variable as VariableLem, alone};
 
 use crate::state::State;
-use mz_logic_theory::{Binder, Binders, Deps, ResultType};
+use mz_logic_theory::{Binder, Binders, ResultType};
 use mz_math_notation::Scope;
 use mz_spec_theory::{Lexeme, TypeText};
 use mz_spec_variables::{NameIndex, Parts, Variable, places_among};
@@ -42,23 +42,20 @@ impl<'a> State<'a> {
         }
     }
 
-    /// The binder of a variable, over these parameters, with what was found for the variable before it.
+    /// The binder of a variable, over these parameters with this index.
     fn binder_of(
         &self,
         alloc: Global,
         index: &Option<NameIndex<'a>>,
         params: &[Variable<'_, 'a>],
         variable: &Variable<'_, 'a>,
-        found: &mut Found,
     ) -> Result<Binder, AllocError>
         requires few { length (state self.now).sort_names < 2 ^ 32 }
         requires index { MatchOption index.now ⊤ (IsIndexOf (map variable_lem params.now)) }
         requires small { length params.now < 2 ^ 32 }
-        ensures binder { IfOk result (λ binder. (types : ℕ → Option TypeLem) → IsOfTypes types (typed variable.now) → IsFound types (map variable_lem params.now) found.old
-            → binder ≡ binder_of_lem (state self.now) (map variable_lem params.now) (variable_lem variable.now)) }
-        ensures found { OnOk result ((types : ℕ → Option TypeLem) → IsOfTypes types (typed variable.now) → IsFound types (map variable_lem params.now) found.old → IsFound types (map variable_lem params.now) found.new) }
+        ensures { IfOk result (λ binder. binder ≡ binder_of_lem (state self.now) (map variable_lem params.now) (variable_lem variable.now)) }
     {
-        let deps = deps_of(alloc, index, params, variable, found)?;
+        let deps = places_among(alloc, index, params, &variable.ty.deps)?;
         let sort = self.sort_number(variable.ty.sort);
         Ok(Binder {
             sort,
@@ -81,9 +78,9 @@ impl<'a> State<'a> {
         requires grouped { AreGrouped variables.now }
         ensures { IfOk result (λ binders. binders ≡ map (binder_of_lem (state self.now) (map variable_lem params.now)) (map variable_lem variables.now)) }
     {
-        let mut binders = Vec::with_capacity(alloc, variables.len())?;
+        let mut binders = Binders::with_capacity(alloc, variables.len())?;
         self.push_binders(alloc, index, &mut binders, params, variables)?;
-        Ok(Binders::from_vec(binders))
+        Ok(binders)
     }
 
     /// Adds them.
@@ -91,7 +88,7 @@ impl<'a> State<'a> {
         &self,
         alloc: Global,
         index: &Option<NameIndex<'a>>,
-        binders: &mut Vec<Binder>,
+        binders: &mut Binders,
         params: &[Variable<'_, 'a>],
         variables: &[Variable<'_, 'a>],
     ) -> Result<(), AllocError>
@@ -99,14 +96,39 @@ impl<'a> State<'a> {
         requires index { MatchOption index.now ⊤ (IsIndexOf (map variable_lem params.now)) }
         requires small { length params.now < 2 ^ 32 }
         requires grouped { AreGrouped variables.now }
-        requires none { binders.old.items ≡ [] }
-        ensures { OnOk result (binders.new.items ≡ map (binder_of_lem (state self.now) (map variable_lem params.now)) (map variable_lem variables.now)) }
+        requires none { binders.old ≡ [] }
+        ensures { OnOk result (binders.new ≡ map (binder_of_lem (state self.now) (map variable_lem params.now)) (map variable_lem variables.now)) }
     {
-        let mut found = Found::new();
+        let mut group = None;
         for variable in variables {
-            let binder = self.binder_of(alloc, index, params, variable, &mut found)?;
-            binders.push(binder)?;
+            self.push_binder(alloc, index, binders, params, variable, group)?;
+            group = variable.group;
         }
+        Ok(())
+    }
+
+    /// Adds the binder of a variable. Where this is of the group of the last one, they share what they depend
+    /// on.
+    fn push_binder(
+        &self,
+        alloc: Global,
+        index: &Option<NameIndex<'a>>,
+        binders: &mut Binders,
+        params: &[Variable<'_, 'a>],
+        variable: &Variable<'_, 'a>,
+        group: Option<usize>,
+    ) -> Result<(), AllocError>
+        requires few { length (state self.now).sort_names < 2 ^ 32 }
+        requires index { MatchOption index.now ⊤ (IsIndexOf (map variable_lem params.now)) }
+        requires small { length params.now < 2 ^ 32 }
+        ensures { OnOk result ((types : ℕ → Option TypeLem) → IsOfTypes types (typed variable.now) → IsLastOf types (map variable_lem params.now) group binders.old
+            → binders.new ≡ binders.old ++ binder_of_lem (state self.now) (map variable_lem params.now) (variable_lem variable.now) ∷ []) }
+    {
+        if variable.is_of(group) {
+            return binders.push_alike(self.sort_number(variable.ty.sort), variable.is_bound);
+        }
+        let binder = self.binder_of(alloc, index, params, variable)?;
+        binders.push(binder)?;
         Ok(())
     }
 
@@ -147,12 +169,41 @@ impl<'a> State<'a> {
         ensures names { OnOk result (scope.new.names ≡ scope.old.names ++ map variable_bytes (map variable_lem variables.now)) }
         ensures binders { OnOk result (scope.new.binders ≡ scope.old.binders ++ map (binder_of_lem (state self.now) (map variable_lem params.now)) (map variable_lem variables.now)) }
     {
-        let mut found = Found::new();
+        let mut group = None;
         for variable in variables {
-            let binder = self.binder_of(alloc, index, params, variable, &mut found)?;
-            scope.push(bytes_of(variable.name), binder)?;
+            self.push_variable(alloc, index, scope, params, variable, group)?;
+            group = variable.group;
         }
         Ok(())
+    }
+
+    /// Adds a variable. Where it is of the group of the last one, they share what they depend on.
+    fn push_variable(
+        &self,
+        alloc: Global,
+        index: &Option<NameIndex<'a>>,
+        scope: &mut Scope,
+        params: &[Variable<'_, 'a>],
+        variable: &Variable<'_, 'a>,
+        group: Option<usize>,
+    ) -> Result<(), AllocError>
+        requires few { length (state self.now).sort_names < 2 ^ 32 }
+        requires index { MatchOption index.now ⊤ (IsIndexOf (map variable_lem params.now)) }
+        requires small { length params.now < 2 ^ 32 }
+        requires name { (variable_bytes (variable_lem variable.now) ≡ []) ⊎ IsTrue (is_name (variable_bytes (variable_lem variable.now))) }
+        requires other { variable_bytes (variable_lem variable.now) ≢ [] → Contains scope.old.names (variable_bytes (variable_lem variable.now)) → ⊥ }
+        requires room { length scope.old.names < 4294967295 }
+        ensures names { OnOk result (scope.new.names ≡ scope.old.names ++ variable_bytes (variable_lem variable.now) ∷ []) }
+        ensures binders { OnOk result ((types : ℕ → Option TypeLem) → IsOfTypes types (typed variable.now) → IsLastOf types (map variable_lem params.now) group scope.old.binders
+            → scope.new.binders ≡ scope.old.binders ++ binder_of_lem (state self.now) (map variable_lem params.now) (variable_lem variable.now) ∷ []) }
+    {
+        let name = bytes_of(variable.name);
+        if variable.is_of(group) {
+            let sort = self.sort_number(variable.ty.sort);
+            return scope.push_alike(name, sort, variable.is_bound);
+        }
+        let binder = self.binder_of(alloc, index, params, variable)?;
+        scope.push(name, binder)
     }
 
     /// What the statement's math strings see of its variables: parameters first, then dummies.
@@ -175,49 +226,6 @@ impl<'a> State<'a> {
         self.push_variables(alloc, index, &mut scope, &parts.params, &parts.dummies)?;
         Ok(scope)
     }
-}
-
-/// On what the variables of a group depend: they share it.
-#[derive(Drop)]
-struct Found {
-    group: Option<usize>,
-    deps: Deps,
-}
-
-impl Found {
-    fn new() -> Found
-        ensures { (types : ℕ → Option TypeLem) (ps : List VariableLem) → IsFound types ps result }
-    {
-        Found {
-            group: None,
-            deps: Deps::new(),
-        }
-    }
-}
-
-/// The places of the parameters on which a variable depends. Where it is of the group for which they were
-/// found last, they are those.
-fn deps_of<'a>(
-    alloc: Global,
-    index: &Option<NameIndex<'a>>,
-    params: &[Variable<'_, 'a>],
-    variable: &Variable<'_, 'a>,
-    found: &mut Found,
-) -> Result<Deps, AllocError>
-    requires index { MatchOption index.now ⊤ (IsIndexOf (map variable_lem params.now)) }
-    requires small { length params.now < 2 ^ 32 }
-    ensures deps { IfOk result (λ deps. (types : ℕ → Option TypeLem) → IsOfTypes types (typed variable.now) → IsFound types (map variable_lem params.now) found.old
-        → deps ≡ dep_places 0 (map variable_lem params.now) (type_text variable.now.ty.now).deps) }
-    ensures found { OnOk result ((types : ℕ → Option TypeLem) → IsOfTypes types (typed variable.now) → IsFound types (map variable_lem params.now) found.old → IsFound types (map variable_lem params.now) found.new) }
-{
-    if variable.is_of(found.group) {
-        return found.deps.share();
-    }
-    *found = Found {
-        group: variable.group,
-        deps: places_among(alloc, index, params, &variable.ty.deps)?,
-    };
-    found.deps.share()
 }
 
 /// The bytes of a name, none where there is none.

@@ -19,7 +19,7 @@ use Rattle.mz_type_rules.specs.declared.claim.Put.TheVariants.{Nothing, Operands
 heads : {t u : ℕ} {es fs : Trees} → app t es ≡ app u fs → t ≡ u
 heads e = cc
 
-operands : {t u : ℕ} {es fs : Trees} → app t es ≡ app u fs → es ≡ fs
+pub operands : {t u : ℕ} {es fs : Trees} → app t es ≡ app u fs → es ≡ fs
 operands e = cc
 
 firsts : {a b : Tree} {es fs : Trees} → more a es ≡ more b fs → a ≡ b

@@ -7,5 +7,6 @@ pub mod ClaimSides
 pub mod ConvSteps
 pub mod ProofSteps
 pub mod Stacked
+pub mod Keeping
 pub mod StatementSteps
 pub mod Offered

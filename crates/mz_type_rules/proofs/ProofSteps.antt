@@ -1,5 +1,5 @@
 -- Steps of the checks of proofs.
-use Rattle.std.proofs.Common.{ℕ, ◌≡◌, ◌<◌, ◌≤◌, ◌+◌, Result, List, [], ◌∷◌, length, get_or, drop, slice_get, None, sym, ap, ◌∙◌, subst, inl, inr, arith}
+use Rattle.std.proofs.Common.{ℕ, zero, suc, refl, ◌≡◌, ◌<◌, ◌≤◌, ◌+◌, Result, List, [], ◌∷◌, length, get_or, drop, slice_get, None, sym, ap, ◌∙◌, subst, inl, inr, arith}
 use Rattle.std.specs.Prelude.{OnOk}
 use Rattle.std.proofs.lemmas.List.{drop_more}
 use Rattle.std.proofs.lemmas.Option.{slice_get-get_or, none-some}
@@ -8,7 +8,7 @@ use Rattle.mz_base_theory.proofs.Offered.{fails-after, all_hold-both}
 use Rattle.mz_sexpr.specs.declared.rule.U.{U}
 use Rattle.mz_sexpr.specs.Node.{Node, Nodes, place, parts}
 use Rattle.mz_sexpr.specs.Number.{first, rest}
-use Rattle.mz_logic_theory.specs.Tree.{Tree, Trees, more, listed, instance, instances}
+use Rattle.mz_logic_theory.specs.Tree.{Tree, Trees, more, listed, operand, instance, instances}
 use Rattle.mz_logic_theory.specs.Signature.{Signature}
 use Rattle.mz_logic_theory.specs.Declaration.{Assertion, Declaration, signatures}
 use Rattle.mz_logic_theory.specs.Sorts.{Fits}
@@ -142,6 +142,17 @@ module _ (env : List Declaration) (ctx : List Binder) (hyps lets : Trees) where
 
     pub conversion_holds : AllHold of_expr → AllHold of_conv → AllHold of_proof → (left c ≡ e) × (right c ≡ proved env hyps lets p) → AllHold of_conversion
     conversion_holds h k l is = all_hold-both of_expr _ h (all_hold-both of_conv _ k (all_hold-both of_proof _ l (is, tt)))
+
+-- what each of a list proves
+module _ (env : List Declaration) (hyps lets : Trees) where
+  pub proved_many : (xs : List Coded) → length (listed (all_proved env hyps lets (proofs_view xs))) ≡ length xs
+  proved_many [] = refl
+  proved_many (x ∷ xs) = ap suc (proved_many xs)
+
+  pub proved_read : (xs : List Coded) (i : ℕ) (p : Coded) → i < length xs → p ≡ get_or xs i p → operand (all_proved env hyps lets (proofs_view xs)) i ≡ proved env hyps lets (proof_view p)
+  proved_read [] i p below is = absurd (omega (arith, below))
+  proved_read (x ∷ xs) zero p below is = ap (λ q. proved env hyps lets (proof_view q)) (sym is)
+  proved_read (x ∷ xs) (suc i) p below is = proved_read xs i p (omega (arith, below)) is
 
 -- what is asked and reported of a proof is asked and reported of an equal one
 module _ {p q : Proof} (is : q ≡ p) where

@@ -1,2 +1,4 @@
 pub mod Claims
 pub mod Answers
+pub mod Scopes
+pub mod Compared

@@ -142,10 +142,23 @@ fn compare_first<'t>(waiting: &mut Vec<Lists<'t>>, lists: Lists<'t>) -> Result<b
     }
 }
 
-/// Whether two claims are the same expression. What is left to compare is kept in a list: both may
-/// be deep, and so are proofs, so that there is no stack for both.
+/// Whether two claims are the same expression.
 #[inline(never)]
 pub(crate) fn same_claim<'t>(alloc: Global, a: Claim<'t>, b: Claim<'t>) -> Result<bool, AllocError>
+    ensures { IfOk result (λ same. IsTrue same ↔ (claim_tree a.entry ≡ claim_tree b.entry)) }
+{
+    let mut turns: usize = 0;
+    same_claim_in(alloc, a, b, &mut turns)
+}
+
+/// The same, and counts the turns that it takes. What is left to compare is kept in a list: both may
+/// be deep, and so are proofs, so that there is no stack for both.
+pub(crate) fn same_claim_in<'t>(
+    alloc: Global,
+    a: Claim<'t>,
+    b: Claim<'t>,
+    count: &mut usize,
+) -> Result<bool, AllocError>
     ensures { IfOk result (λ same. IsTrue same ↔ (claim_tree a.entry ≡ claim_tree b.entry)) }
 {
     let mut waiting: Vec<Lists> = Vec::new(alloc);
@@ -154,6 +167,7 @@ pub(crate) fn same_claim<'t>(alloc: Global, a: Claim<'t>, b: Claim<'t>) -> Resul
         return Ok(false);
     }
     'comparing: while let Some(lists) = waiting.pop() {
+        *count = count.saturating_add(1);
         let same = compare_first(&mut waiting, lists)?;
         if !same {
             return Ok(false);

@@ -7,6 +7,7 @@ mod claim;
 mod convs;
 mod cursor;
 mod exprs;
+mod lets;
 mod proofs;
 mod statements;
 

@@ -9,18 +9,20 @@ ghost use Rattle.mz_logic_theory.specs.Tree.{listed, operand, instance, instance
 ghost use Rattle.mz_logic_theory.specs.View.{tree};
 ghost use Rattle.mz_mmu_theory.specs.ConvView.{conversion};
 ghost use Rattle.mz_mmu_theory.specs.Proof.{by_citation, by_conv, by_let};
-ghost use Rattle.mz_mmu_theory.specs.ProofView.{proof_view};
+ghost use Rattle.mz_mmu_theory.specs.ProofView.{proof_view, proofs_view};
 ghost use Rattle.mz_type_rules.specs.Answers.{Judged, IsProved, converted_rules};
 ghost use Rattle.mz_type_rules.specs.Claims.{claim_tree, claim_trees};
 ghost use Rattle.mz_mmu_theory.specs.Names.{ProofThere, ProofsThere, ConvThere, ExprThere, ExprsThere};
 ghost use Rattle.mz_mmu_theory.specs.Parts.{part};
 ghost use Rattle.mz_mmu_theory.specs.Rules.{proof_rules, citation_rules, subproof_rules, exprs_rules, claim_rules};
-ghost use Rattle.mz_mmu_theory.specs.Sides.{left, right, assertion_at, proved, with_fact};
+ghost use Rattle.mz_mmu_theory.specs.Sides.{left, right, assertion_at, proved, all_proved, with_fact};
+ghost use Rattle.mz_type_rules.specs.Scopes.{with_let};
 
-use crate::claim::{Claim, is_side, same_claim};
+use crate::claim::{Claim, is_side};
 use crate::convs::{Checker, refuse};
 use crate::cursor::Cursor;
 use crate::exprs::{check_claim, check_expr, check_operands};
+use crate::lets::Lets;
 use mz_logic::are_apart;
 use mz_logic_theory::{Expr, Exprs, Hyps, ThmDecl};
 use mz_mmu_theory::{Conv, Proof, Proofs, Stop};
@@ -83,47 +85,50 @@ fn claim_instead<'t>(claims: &mut Vec<Claim<'t>>, from: usize, expr: &'t Expr) -
 
 /// Puts what a visible let proves behind the claims.
 #[inline(never)]
-fn claim_let<'t>(lets: &[Claim<'t>], claims: &mut Vec<Claim<'t>>, place: u32) -> Result<(), Stop>
-    requires { place < length lets.now }
+fn claim_let<'t>(lets: &Lets<'t>, claims: &mut Vec<Claim<'t>>, place: u32) -> Result<(), Stop>
+    requires { place < length (listed lets.now.lets) }
     ensures stops { Judged result nothing }
-    ensures claims { OnOk result (claim_trees claims.new.items ≡ with_fact (claim_trees claims.old.items) (operand (claim_trees lets.now) place)) }
+    ensures claims { OnOk result (claim_trees claims.new.items ≡ with_fact (claim_trees claims.old.items) (operand lets.now.lets place)) }
 {
-    push_claim(claims, claim_at(lets, place as usize))
+    push_claim(claims, lets.at(place))
 }
 
-/// Takes the claims from a place on away, and puts the first of them behind the visible lets.
+/// Takes the claims from a place on away, and lets the first of them be visible.
 #[inline(never)]
-fn name_claim<'t>(
-    lets: &mut Vec<Claim<'t>>,
-    claims: &mut Vec<Claim<'t>>,
-    from: usize,
-) -> Result<(), Stop>
+fn name_claim<'t>(lets: &mut Lets<'t>, claims: &mut Vec<Claim<'t>>, from: usize) -> Result<(), Stop>
     requires { from < length claims.old.items }
     ensures stops { Judged result nothing }
-    ensures lets { OnOk result (claim_trees lets.new.items ≡ with_fact (claim_trees lets.old.items) (operand (claim_trees claims.old.items) from)) }
-    ensures visible { OnOk result (take (length lets.old.items) lets.new.items ≡ lets.old.items) }
+    ensures lets { OnOk result (lets.new ≡ with_let lets.old (operand (claim_trees claims.old.items) from)) }
     ensures claims { OnOk result (claims.new.items ≡ take from claims.old.items) }
 {
-    lets.push(claim_at(claims, from))?;
+    lets.open(claim_at(claims, from))?;
     claims.truncate(from);
     Ok(())
 }
 
 impl<'t, 'c> Checker<'t, 'c> {
-    /// Whether each claim is the instance of its hypothesis.
+    /// Whether each claim, which the subproof at its place proves, is the instance of its hypothesis of
+    /// the axiom or theorem with this number.
     fn check_claims(
         &self,
-        claims: &[Claim],
-        es: &Exprs,
+        lets: &mut Lets<'t>,
+        claims: &[Claim<'t>],
+        proofs: &[Proof],
+        number: u32,
+        es: &'t Exprs,
         hyps: &Hyps,
         nodes: &Cursor,
     ) -> Result<(), Stop>
-        requires { length claims.now ≡ length (listed hyps.now) }
-        ensures { Judged result (subproof_rules (claim_trees claims.now) nodes.now (instances es.now hyps.now)) }
+        requires many { length claims.now ≡ length (listed hyps.now) }
+        requires proved { claim_trees claims.now ≡ all_proved lets.old.env lets.old.hyps lets.old.lets (proofs_view proofs.now) }
+        requires hyps { hyps.now ≡ (assertion_at lets.old.env number).hyps }
+        ensures judged { Judged result (subproof_rules (claim_trees claims.now) nodes.now (instances es.now hyps.now)) }
+        ensures same { lets.new ≡ lets.old }
     {
         let mut left = nodes.after(0);
         for i in 0..claims.len() {
-            let same = same_claim(self.alloc, claims[i], Claim::instance(hyps.at(i), es))?;
+            let hyp = hyps.at(i);
+            let same = lets.is_hyp(self.alloc, claims[i], &proofs[i], number, i, hyp, es)?;
             if !same {
                 return Err(Stop::Refused(left.fault(U::Hypothesis)));
             }
@@ -135,14 +140,20 @@ impl<'t, 'c> Checker<'t, 'c> {
     /// The own rules of a citation, and what it proves, after the rules of its parts.
     fn check_assertion(
         &self,
+        lets: &mut Lets<'t>,
         thm: &'t ThmDecl,
-        es: &'t Exprs,
         claims: &[Claim<'t>],
+        number: u32,
+        es: &'t Exprs,
+        proofs: &[Proof],
         nodes: &Cursor,
     ) -> Result<Claim<'t>, Stop>
+        requires thm { assertion_at lets.old.env number ≡ assertion_view thm.now }
+        requires proved { claim_trees claims.now ≡ all_proved lets.old.env lets.old.hyps lets.old.lets (proofs_view proofs.now) }
         requires there { ExprsThere (length (signatures self.now.env.now)) (length self.now.ctx.now) es.now }
         requires sorted { AllHold (exprs_rules (signatures self.now.env.now) self.now.ctx.now es.now (parts (part (parts (first nodes.now)) 1))) }
-        ensures { IsProved result (citation_rules (signatures self.now.env.now) self.now.ctx.now (assertion_view thm.now) es.now (claim_trees claims.now) (first nodes.now)) (instance es.now (tree thm.now.conclusion)) }
+        ensures proved { IsProved result (citation_rules (signatures self.now.env.now) self.now.ctx.now (assertion_view thm.now) es.now (claim_trees claims.now) (first nodes.now)) (instance es.now (tree thm.now.conclusion)) }
+        ensures same { lets.new ≡ lets.old }
     {
         let params = thm.params.as_slice();
         if es.len() != params.len() || claims.len() != thm.hyps.len() {
@@ -153,7 +164,15 @@ impl<'t, 'c> Checker<'t, 'c> {
         if !apart {
             return Err(Stop::Refused(nodes.fault(U::Disjoint)));
         }
-        self.check_claims(claims, es, &thm.hyps, &nodes.parts_after(2))?;
+        self.check_claims(
+            lets,
+            claims,
+            proofs,
+            number,
+            es,
+            &thm.hyps,
+            &nodes.parts_after(2),
+        )?;
         Ok(Claim::instance(&thm.conclusion, es))
     }
 
@@ -161,19 +180,26 @@ impl<'t, 'c> Checker<'t, 'c> {
     /// claims from a place on, and what it proves is put in their place.
     fn conclude(
         &self,
+        lets: &mut Lets<'t>,
         thm: &'t ThmDecl,
         claims: &mut Vec<Claim<'t>>,
         from: usize,
+        number: u32,
         es: &'t Exprs,
+        proofs: &[Proof],
         nodes: &Cursor,
     ) -> Result<(), Stop>
+        requires thm { assertion_at lets.old.env number ≡ assertion_view thm.now }
+        requires proved { claim_trees (drop from claims.old.items) ≡ all_proved lets.old.env lets.old.hyps lets.old.lets (proofs_view proofs.now) }
         requires there { ExprsThere (length (signatures self.now.env.now)) (length self.now.ctx.now) es.now }
         requires sorted { AllHold (exprs_rules (signatures self.now.env.now) self.now.ctx.now es.now (parts (part (parts (first nodes.now)) 1))) }
         requires within { from ≤ length claims.old.items }
         ensures judged { Judged result (citation_rules (signatures self.now.env.now) self.now.ctx.now (assertion_view thm.now) es.now (claim_trees (drop from claims.old.items)) (first nodes.now)) }
         ensures claims { OnOk result (claim_trees claims.new.items ≡ with_fact (claim_trees (take from claims.old.items)) (instance es.now (tree thm.now.conclusion))) }
+        ensures same { lets.new ≡ lets.old }
     {
-        let claim = self.check_assertion(thm, es, claims_from(claims, from), nodes)?;
+        let own = claims_from(claims, from);
+        let claim = self.check_assertion(lets, thm, own, number, es, proofs, nodes)?;
         claims.truncate(from);
         push_claim(claims, claim)
     }
@@ -182,22 +208,27 @@ impl<'t, 'c> Checker<'t, 'c> {
     #[inline(never)]
     fn check_cited(
         &self,
+        lets: &mut Lets<'t>,
         claims: &mut Vec<Claim<'t>>,
         from: usize,
         number: u32,
         es: &'t Exprs,
+        proofs: &[Proof],
         nodes: &Cursor,
     ) -> Result<(), Stop>
+        requires env { lets.old.env ≡ self.now.env.now }
+        requires proved { claim_trees (drop from claims.old.items) ≡ all_proved lets.old.env lets.old.hyps lets.old.lets (proofs_view proofs.now) }
         requires number { number < length (assertions self.now.env.now) }
         requires there { ExprsThere (length (signatures self.now.env.now)) (length self.now.ctx.now) es.now }
         requires sorted { AllHold (exprs_rules (signatures self.now.env.now) self.now.ctx.now es.now (parts (part (parts (first nodes.now)) 1))) }
         requires within { from ≤ length claims.old.items }
         ensures judged { Judged result (citation_rules (signatures self.now.env.now) self.now.ctx.now (assertion_at self.now.env.now number) es.now (claim_trees (drop from claims.old.items)) (first nodes.now)) }
         ensures claims { OnOk result (claim_trees claims.new.items ≡ with_fact (claim_trees (take from claims.old.items)) (instance es.now (assertion_at self.now.env.now number).conclusion)) }
+        ensures same { lets.new ≡ lets.old }
     {
         match self.env.thm(number) {
             None => unreachable!(),
-            Some(thm) => self.conclude(thm, claims, from, es, nodes),
+            Some(thm) => self.conclude(lets, thm, claims, from, number, es, proofs, nodes),
         }
     }
 
@@ -244,15 +275,16 @@ impl<'t, 'c> Checker<'t, 'c> {
     #[cycle(check_proof)]
     pub(crate) fn check_proof(
         &self,
-        lets: &mut Vec<Claim<'t>>,
+        lets: &mut Lets<'t>,
         claims: &mut Vec<Claim<'t>>,
         proof: &'t Proof,
         nodes: &Cursor,
     ) -> Result<(), Stop>
-        requires { ProofThere (length (signatures self.now.env.now)) (length self.now.ctx.now) (length (assertions self.now.env.now)) (length (listed self.now.hyps.now)) (length lets.old.items) (proof_view proof.now) }
-        ensures judged { Judged result (proof_rules self.now.env.now self.now.ctx.now self.now.hyps.now (claim_trees lets.old.items) (proof_view proof.now) (first nodes.now)) }
-        ensures claims { OnOk result (claim_trees claims.new.items ≡ with_fact (claim_trees claims.old.items) (proved self.now.env.now self.now.hyps.now (claim_trees lets.old.items) (proof_view proof.now))) }
-        ensures same { OnOk result (lets.new.items ≡ lets.old.items) }
+        requires over { (lets.old.env ≡ self.now.env.now) × (lets.old.hyps ≡ self.now.hyps.now) }
+        requires there { ProofThere (length (signatures self.now.env.now)) (length self.now.ctx.now) (length (assertions self.now.env.now)) (length (listed self.now.hyps.now)) (length (listed lets.old.lets)) (proof_view proof.now) }
+        ensures judged { Judged result (proof_rules self.now.env.now self.now.ctx.now self.now.hyps.now lets.old.lets (proof_view proof.now) (first nodes.now)) }
+        ensures claims { OnOk result (claim_trees claims.new.items ≡ with_fact (claim_trees claims.old.items) (proved self.now.env.now self.now.hyps.now lets.old.lets (proof_view proof.now))) }
+        ensures same { OnOk result (lets.new ≡ lets.old) }
     {
         match proof {
             Proof::Hyp(i) => self.claim_hyp(claims, *i),
@@ -275,19 +307,20 @@ impl<'t, 'c> Checker<'t, 'c> {
     #[inline(never)]
     fn check_citation(
         &self,
-        lets: &mut Vec<Claim<'t>>,
+        lets: &mut Lets<'t>,
         claims: &mut Vec<Claim<'t>>,
         number: u32,
         es: &'t Exprs,
         proofs: &'t Proofs,
         nodes: &Cursor,
     ) -> Result<(), Stop>
+        requires over { (lets.old.env ≡ self.now.env.now) × (lets.old.hyps ≡ self.now.hyps.now) }
         requires number { number < length (assertions self.now.env.now) }
         requires operands { ExprsThere (length (signatures self.now.env.now)) (length self.now.ctx.now) es.now }
-        requires subproofs { ProofsThere (length (signatures self.now.env.now)) (length self.now.ctx.now) (length (assertions self.now.env.now)) (length (listed self.now.hyps.now)) (length lets.old.items) proofs.now }
-        ensures judged { Judged result (proof_rules self.now.env.now self.now.ctx.now self.now.hyps.now (claim_trees lets.old.items) (by_citation number es.now proofs.now) (first nodes.now)) }
-        ensures claims { OnOk result (claim_trees claims.new.items ≡ with_fact (claim_trees claims.old.items) (proved self.now.env.now self.now.hyps.now (claim_trees lets.old.items) (by_citation number es.now proofs.now))) }
-        ensures same { OnOk result (lets.new.items ≡ lets.old.items) }
+        requires subproofs { ProofsThere (length (signatures self.now.env.now)) (length self.now.ctx.now) (length (assertions self.now.env.now)) (length (listed self.now.hyps.now)) (length (listed lets.old.lets)) proofs.now }
+        ensures judged { Judged result (proof_rules self.now.env.now self.now.ctx.now self.now.hyps.now lets.old.lets (by_citation number es.now proofs.now) (first nodes.now)) }
+        ensures claims { OnOk result (claim_trees claims.new.items ≡ with_fact (claim_trees claims.old.items) (proved self.now.env.now self.now.hyps.now lets.old.lets (by_citation number es.now proofs.now))) }
+        ensures same { OnOk result (lets.new ≡ lets.old) }
     {
         let from = claims.len();
         self.check_part_exprs(es, 1, nodes)?;
@@ -296,7 +329,7 @@ impl<'t, 'c> Checker<'t, 'c> {
             self.check_proof(lets, claims, proof, &left)?;
             left = left.rest();
         }
-        self.check_cited(claims, from, number, es, nodes)
+        self.check_cited(lets, claims, from, number, es, proofs.as_slice(), nodes)
     }
 
     /// The rules of a converted proof, at the first node; what it proves is put behind the claims.
@@ -304,18 +337,19 @@ impl<'t, 'c> Checker<'t, 'c> {
     #[inline(never)]
     fn check_conversion(
         &self,
-        lets: &mut Vec<Claim<'t>>,
+        lets: &mut Lets<'t>,
         claims: &mut Vec<Claim<'t>>,
         e: &'t Expr,
         conv: &Conv,
         proof: &'t Proof,
         nodes: &Cursor,
     ) -> Result<(), Stop>
+        requires over { (lets.old.env ≡ self.now.env.now) × (lets.old.hyps ≡ self.now.hyps.now) }
         requires conv { ConvThere (length (signatures self.now.env.now)) (length self.now.ctx.now) (conversion conv.now) }
-        requires proof { ProofThere (length (signatures self.now.env.now)) (length self.now.ctx.now) (length (assertions self.now.env.now)) (length (listed self.now.hyps.now)) (length lets.old.items) (proof_view proof.now) }
-        ensures judged { Judged result (proof_rules self.now.env.now self.now.ctx.now self.now.hyps.now (claim_trees lets.old.items) (by_conv (tree e.now) (conversion conv.now) (proof_view proof.now)) (first nodes.now)) }
+        requires proof { ProofThere (length (signatures self.now.env.now)) (length self.now.ctx.now) (length (assertions self.now.env.now)) (length (listed self.now.hyps.now)) (length (listed lets.old.lets)) (proof_view proof.now) }
+        ensures judged { Judged result (proof_rules self.now.env.now self.now.ctx.now self.now.hyps.now lets.old.lets (by_conv (tree e.now) (conversion conv.now) (proof_view proof.now)) (first nodes.now)) }
         ensures claims { OnOk result (claim_trees claims.new.items ≡ with_fact (claim_trees claims.old.items) (tree e.now)) }
-        ensures same { OnOk result (lets.new.items ≡ lets.old.items) }
+        ensures same { OnOk result (lets.new ≡ lets.old) }
     {
         let from = claims.len();
         self.check_converted(e, conv, nodes)?;
@@ -332,24 +366,24 @@ impl<'t, 'c> Checker<'t, 'c> {
     #[inline(never)]
     fn check_let(
         &self,
-        lets: &mut Vec<Claim<'t>>,
+        lets: &mut Lets<'t>,
         claims: &mut Vec<Claim<'t>>,
         stated: &'t Proof,
         proof: &'t Proof,
         nodes: &Cursor,
     ) -> Result<(), Stop>
-        requires stated { ProofThere (length (signatures self.now.env.now)) (length self.now.ctx.now) (length (assertions self.now.env.now)) (length (listed self.now.hyps.now)) (length lets.old.items) (proof_view stated.now) }
-        requires proof { ProofThere (length (signatures self.now.env.now)) (length self.now.ctx.now) (length (assertions self.now.env.now)) (length (listed self.now.hyps.now)) (length lets.old.items + 1) (proof_view proof.now) }
-        ensures judged { Judged result (proof_rules self.now.env.now self.now.ctx.now self.now.hyps.now (claim_trees lets.old.items) (by_let (proof_view stated.now) (proof_view proof.now)) (first nodes.now)) }
-        ensures claims { OnOk result (claim_trees claims.new.items ≡ with_fact (claim_trees claims.old.items) (proved self.now.env.now self.now.hyps.now (claim_trees lets.old.items) (by_let (proof_view stated.now) (proof_view proof.now)))) }
-        ensures same { OnOk result (lets.new.items ≡ lets.old.items) }
+        requires over { (lets.old.env ≡ self.now.env.now) × (lets.old.hyps ≡ self.now.hyps.now) }
+        requires stated { ProofThere (length (signatures self.now.env.now)) (length self.now.ctx.now) (length (assertions self.now.env.now)) (length (listed self.now.hyps.now)) (length (listed lets.old.lets)) (proof_view stated.now) }
+        requires proof { ProofThere (length (signatures self.now.env.now)) (length self.now.ctx.now) (length (assertions self.now.env.now)) (length (listed self.now.hyps.now)) (length (listed lets.old.lets) + 1) (proof_view proof.now) }
+        ensures judged { Judged result (proof_rules self.now.env.now self.now.ctx.now self.now.hyps.now lets.old.lets (by_let (proof_view stated.now) (proof_view proof.now)) (first nodes.now)) }
+        ensures claims { OnOk result (claim_trees claims.new.items ≡ with_fact (claim_trees claims.old.items) (proved self.now.env.now self.now.hyps.now lets.old.lets (by_let (proof_view stated.now) (proof_view proof.now)))) }
+        ensures same { OnOk result (lets.new ≡ lets.old) }
     {
-        let visible = lets.len();
         let from = claims.len();
         self.check_proof(lets, claims, stated, &nodes.part(2))?;
         name_claim(lets, claims, from)?;
         self.check_proof(lets, claims, proof, &nodes.part(3))?;
-        lets.truncate(visible);
+        lets.close();
         Ok(())
     }
 }

@@ -22,6 +22,7 @@ use crate::claim::{Claim, same_claim};
 use crate::convs::{Checker, refuse};
 use crate::cursor::Cursor;
 use crate::exprs::{check_claim, check_expr};
+use crate::lets::Lets;
 use crate::proofs::claim_at;
 use mz_logic::may_be_result_sort;
 use mz_logic_free::free_vars_are_among;
@@ -143,7 +144,7 @@ fn check_stated_proof(
         ctx: &ctx,
         hyps: &thm.hyps,
     };
-    let mut lets: Vec<Claim> = Vec::new(alloc);
+    let mut lets = Lets::new(alloc, env, &thm.hyps);
     let mut claims: Vec<Claim> = Vec::new(alloc);
     checker.check_proof(&mut lets, &mut claims, proof, &parts.after(6))?;
     let same = same_claim(alloc, claim_at(&claims, 0), Claim::of(&thm.conclusion))?;

@@ -4,10 +4,10 @@ use Rattle.mz_logic_free.proofs.Sharing.{HasAny, IsAtOther, IsOther, turned-roun
 use Rattle.mz_logic_free.proofs.Walking.{left-at}
 use Rattle.mz_logic_free.proofs.named.has_other.Goals as goal
 
-pub returns-then-len-lt-FEW : goal.returns-then-len-lt-FEW
-returns-then-len-lt-FEW c =
+pub returns-then-len-as_slice : goal.returns-then-len-as_slice
+returns-then-len-as_slice c =
     turned-round c.args.variables.now c.args.own.now c.args.places.now c.has_one_of.result
-    (subst (λ xs. IsTrue c.has_one_of.result ↔ HasAny (IsAtOther c.args.places.now c.args.own.now) xs) c.as_slice.ensures c.has_one_of.ensures)
+    (subst (λ xs. IsTrue c.has_one_of.result ↔ HasAny (IsAtOther c.args.places.now c.args.own.now) xs) c.as_slice-then-len-as_slice.ensures c.has_one_of.ensures)
 
 pub returns-then-is_other : goal.returns-then-is_other
 returns-then-is_other c =

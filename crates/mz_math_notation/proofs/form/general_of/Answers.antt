@@ -18,7 +18,7 @@ pub returns-in-Ok-clause-made : goal.returns-in-Ok-clause-made
 returns-in-Ok-clause-made c =
     let g = general c.args.statement in
     let binders : c.in-Some.decl.now.params ≡ c.args.statement.params.now.binders =
-    sym c.as_slice.ensures ∙ c.same_binders.ensures.0 c.if-not-same_binders.false ∙ c.as_slice-2.ensures ∙ c.binders-binders.ensures.binders in
+    c.same_binders.ensures.0 c.if-not-same_binders.false ∙ c.binders-binders.ensures.binders in
     let same : c.in-Some.decl.now.result ≡ c.args.statement.result.now = c.same_result.ensures.0 c.if-not-same_result.false in
     let signature : slice_get (signatures c.args.env.now) c.args.statement.term ≡ Some (record { params = c.args.statement.params.now.binders; result = c.args.statement.result.now }) =
     sym c.in-Some.ensures.signature ∙ ap₂ (λ ps r. Some (record { params = ps; result = r })) binders same in

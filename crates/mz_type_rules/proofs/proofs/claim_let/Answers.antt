@@ -6,4 +6,4 @@ use Rattle.mz_type_rules.proofs.proofs.claim_let.Goals as goal
 
 pub returns-clause-claims : goal.returns-clause-claims
 returns-clause-claims c =
-    on_ok_weaker c.push_claim.result (λ is. is ∙ ap (with_fact (claim_trees c.args.claims.now.items)) c.claim_at.ensures) c.push_claim.ensures.claims
+    on_ok_weaker c.push_claim.result (λ is. is ∙ ap (with_fact (claim_trees c.args.claims.now.items)) c.at.ensures) c.push_claim.ensures.claims

@@ -44,8 +44,8 @@ returns-in_err-check_proof c =
     let A = dummy_rules env ds (parts (part ps 5)) in
     let B = proof_rules env ctx a.hyps none p (part ps 6) in
     let s = c.in_err-check_proof.field-0.0 in
-    let rules = ap (λ k. proof_rules env k a.hyps (claim_trees c.new-lets.result.items) p (first c.after-2.result)) (c.new-ctx.ensures ∙ ap (λ qs. qs ++ ds) c.as_slice.ensures)
-    ∙ ap (λ ls. proof_rules env ctx a.hyps (claim_trees ls) p (first c.after-2.result)) c.new-lets.ensures.items ∙ ap (λ m. proof_rules env ctx a.hyps none p (first m)) c.after-2.ensures in
+    let rules = ap (λ k. proof_rules env k a.hyps c.new-lets.result.lets p (first c.after-2.result)) (c.new-ctx.ensures ∙ ap (λ qs. qs ++ ds) c.as_slice.ensures)
+    ∙ ap (λ ls. proof_rules env ctx a.hyps ls.lets p (first c.after-2.result)) c.new-lets.ensures ∙ ap (λ m. proof_rules env ctx a.hyps none p (first m)) c.after-2.ensures in
     stop_handed_on (theorem_rules env a ds (Some p) ps) c.from_residual-in_err-check_proof.result s c.from_residual-in_err-check_proof.ensures.1
     (stopped_after A _ s (told_holds A c.check_dummies.result c.refuse.result c.in_ok-refuse.field-0 c.refuse.ensures c.in_ok-refuse.was (subst (λ ns. Judges c.check_dummies.result (dummy_rules env ds ns)) (c.parts.ensures ∙ ap (λ ms. parts (first ms)) c.after.ensures) c.check_dummies.ensures))
     (stopped_before B _ s (subst (λ cs. Stops s cs) rules c.in_err-check_proof.ensures.judged)))
@@ -58,7 +58,7 @@ claim_at-requires c =
     let ds = c.args.dummies.now in
     let p = proof_view c.args.proof.now in
     let are : claim_trees c.check_proof.new.claims.items ≡ more (proved env a.hyps none p) none =
-    c.in_ok-check_proof.ensures.claims ∙ ap (λ ls. with_fact (claim_trees c.new-claims.result.items) (proved env a.hyps (claim_trees ls) p)) c.new-lets.ensures.items
+    c.in_ok-check_proof.ensures.claims ∙ ap (λ ls. with_fact (claim_trees c.new-claims.result.items) (proved env a.hyps ls.lets p)) c.new-lets.ensures
     ∙ ap (λ xs. with_fact (claim_trees xs) (proved env a.hyps none p)) c.new-claims.ensures.items in
     let many = many_behind [] c.check_proof.new.claims.items (more (proved env a.hyps none p) none) are in
     omega (arith, many)
@@ -78,10 +78,10 @@ returns-then-same c =
     let ctx = a.params ++ ds in
     let A = dummy_rules env ds (parts (part ps 5)) in
     let B = proof_rules env ctx a.hyps none p (part ps 6) in
-    let rules = ap (λ k. proof_rules env k a.hyps (claim_trees c.new-lets.result.items) p (first c.after-2.result)) (c.new-ctx.ensures ∙ ap (λ qs. qs ++ ds) c.as_slice.ensures)
-    ∙ ap (λ ls. proof_rules env ctx a.hyps (claim_trees ls) p (first c.after-2.result)) c.new-lets.ensures.items ∙ ap (λ m. proof_rules env ctx a.hyps none p (first m)) c.after-2.ensures in
+    let rules = ap (λ k. proof_rules env k a.hyps c.new-lets.result.lets p (first c.after-2.result)) (c.new-ctx.ensures ∙ ap (λ qs. qs ++ ds) c.as_slice.ensures)
+    ∙ ap (λ ls. proof_rules env ctx a.hyps ls.lets p (first c.after-2.result)) c.new-lets.ensures ∙ ap (λ m. proof_rules env ctx a.hyps none p (first m)) c.after-2.ensures in
     let are : claim_trees c.check_proof.new.claims.items ≡ more (proved env a.hyps none p) none =
-    c.in_ok-check_proof.ensures.claims ∙ ap (λ ls. with_fact (claim_trees c.new-claims.result.items) (proved env a.hyps (claim_trees ls) p)) c.new-lets.ensures.items
+    c.in_ok-check_proof.ensures.claims ∙ ap (λ ls. with_fact (claim_trees c.new-claims.result.items) (proved env a.hyps ls.lets p)) c.new-lets.ensures
     ∙ ap (λ xs. with_fact (claim_trees xs) (proved env a.hyps none p)) c.new-claims.ensures.items in
     all_hold-both A _ (told_holds A c.check_dummies.result c.refuse.result c.in_ok-refuse.field-0 c.refuse.ensures c.in_ok-refuse.was (subst (λ ns. Judges c.check_dummies.result (dummy_rules env ds ns)) (c.parts.ensures ∙ ap (λ ms. parts (first ms)) c.after.ensures) c.check_dummies.ensures))
     (all_hold-both B _ (subst (λ cs. AllHold cs) rules c.in_ok-check_proof.ensures.judged)
@@ -97,10 +97,10 @@ returns c =
     let ctx = a.params ++ ds in
     let A = dummy_rules env ds (parts (part ps 5)) in
     let B = proof_rules env ctx a.hyps none p (part ps 6) in
-    let rules = ap (λ k. proof_rules env k a.hyps (claim_trees c.new-lets.result.items) p (first c.after-2.result)) (c.new-ctx.ensures ∙ ap (λ qs. qs ++ ds) c.as_slice.ensures)
-    ∙ ap (λ ls. proof_rules env ctx a.hyps (claim_trees ls) p (first c.after-2.result)) c.new-lets.ensures.items ∙ ap (λ m. proof_rules env ctx a.hyps none p (first m)) c.after-2.ensures in
+    let rules = ap (λ k. proof_rules env k a.hyps c.new-lets.result.lets p (first c.after-2.result)) (c.new-ctx.ensures ∙ ap (λ qs. qs ++ ds) c.as_slice.ensures)
+    ∙ ap (λ ls. proof_rules env ctx a.hyps ls.lets p (first c.after-2.result)) c.new-lets.ensures ∙ ap (λ m. proof_rules env ctx a.hyps none p (first m)) c.after-2.ensures in
     let are : claim_trees c.check_proof.new.claims.items ≡ more (proved env a.hyps none p) none =
-    c.in_ok-check_proof.ensures.claims ∙ ap (λ ls. with_fact (claim_trees c.new-claims.result.items) (proved env a.hyps (claim_trees ls) p)) c.new-lets.ensures.items
+    c.in_ok-check_proof.ensures.claims ∙ ap (λ ls. with_fact (claim_trees c.new-claims.result.items) (proved env a.hyps ls.lets p)) c.new-lets.ensures
     ∙ ap (λ xs. with_fact (claim_trees xs) (proved env a.hyps none p)) c.new-claims.ensures.items in
     fails-after A _ c.fault.result (told_holds A c.check_dummies.result c.refuse.result c.in_ok-refuse.field-0 c.refuse.ensures c.in_ok-refuse.was (subst (λ ns. Judges c.check_dummies.result (dummy_rules env ds ns)) (c.parts.ensures ∙ ap (λ ms. parts (first ms)) c.after.ensures) c.check_dummies.ensures))
     (fails-after B _ c.fault.result (subst (λ cs. AllHold cs) rules c.in_ok-check_proof.ensures.judged)

@@ -2,6 +2,8 @@ use Rattle.std.proofs.Common.{◌<◌, ◌∷◌, [], sym, subst}
 use Rattle.std.specs.Prelude.{OnOk}
 use Rattle.mz_emit_bodies.specs.TaskInvariant.{task_view}
 use Rattle.mz_emit_bodies.specs.Going.{Job, Does, steps_left}
+use Rattle.std.proofs.lemmas.Result.{on_ok_weaker}
+use Rattle.mz_emit_bodies.proofs.Kept.{instances_grown, store_grew}
 use Rattle.mz_emit_bodies.proofs.body.Body.step.Goals as goal
 
 pub prove-requires-clause-can : goal.prove-requires-clause-can
@@ -102,3 +104,35 @@ returns-in-Save-clause-does c =
 pub returns-in-Save-clause-less : goal.returns-in-Save-clause-less
 returns-in-Save-clause-less c =
     subst (λ z. OnOk c.save.result (steps_left c.save.new.self [] < steps_left c.args.self.now (task_view z ∷ []))) (sym c.in-Save.is) c.save.ensures.less
+
+pub returns-in-Prove-clause-instances : goal.returns-in-Prove-clause-instances
+returns-in-Prove-clause-instances c = on_ok_weaker c.prove.result (λ does. instances_grown c.args.self.now.before.env.now c.args.self.now.shared.store c.prove.new.self.shared.store c.args.instances.now.items.items
+    (store_grew c.args.self.now c.prove.new.self (task_view c.args.task ∷ []) c.requires.can.0 c.requires.can.1 does) c.requires.instances) (returns-in-Prove-clause-does c)
+
+pub returns-in-ProveAll-clause-instances : goal.returns-in-ProveAll-clause-instances
+returns-in-ProveAll-clause-instances c = on_ok_weaker c.prove_all.result (λ does. instances_grown c.args.self.now.before.env.now c.args.self.now.shared.store c.prove_all.new.self.shared.store c.args.instances.now.items.items
+    (store_grew c.args.self.now c.prove_all.new.self (task_view c.args.task ∷ []) c.requires.can.0 c.requires.can.1 does) c.requires.instances) (returns-in-ProveAll-clause-does c)
+
+pub returns-in-Push-clause-instances : goal.returns-in-Push-clause-instances
+returns-in-Push-clause-instances c = on_ok_weaker c.push.result (λ does. instances_grown c.args.self.now.before.env.now c.args.self.now.shared.store c.push.new.self.shared.store c.args.instances.now.items.items
+    (store_grew c.args.self.now c.push.new.self (task_view c.args.task ∷ []) c.requires.can.0 c.requires.can.1 does) c.requires.instances) (returns-in-Push-clause-does c)
+
+pub returns-in-Make-clause-instances : goal.returns-in-Make-clause-instances
+returns-in-Make-clause-instances c = on_ok_weaker c.make.result (λ does. instances_grown c.args.self.now.before.env.now c.args.self.now.shared.store c.make.new.self.shared.store c.args.instances.now.items.items
+    (store_grew c.args.self.now c.make.new.self (task_view c.args.task ∷ []) c.requires.can.0 c.requires.can.1 does) c.requires.instances) (returns-in-Make-clause-does c)
+
+pub returns-in-Pay-clause-instances : goal.returns-in-Pay-clause-instances
+returns-in-Pay-clause-instances c = on_ok_weaker c.pay.result (λ does. instances_grown c.args.self.now.before.env.now c.args.self.now.shared.store c.pay.new.self.shared.store c.args.instances.now.items.items
+    (store_grew c.args.self.now c.pay.new.self (task_view c.args.task ∷ []) c.requires.can.0 c.requires.can.1 does) c.requires.instances) (returns-in-Pay-clause-does c)
+
+pub returns-in-PayAll-clause-instances : goal.returns-in-PayAll-clause-instances
+returns-in-PayAll-clause-instances c = on_ok_weaker c.pay_all.result (λ does. instances_grown c.args.self.now.before.env.now c.args.self.now.shared.store c.pay_all.new.self.shared.store c.args.instances.now.items.items
+    (store_grew c.args.self.now c.pay_all.new.self (task_view c.args.task ∷ []) c.requires.can.0 c.requires.can.1 does) c.requires.instances) (returns-in-PayAll-clause-does c)
+
+pub returns-in-Do-clause-instances : goal.returns-in-Do-clause-instances
+returns-in-Do-clause-instances c = on_ok_weaker c.give.result (λ does. instances_grown c.args.self.now.before.env.now c.args.self.now.shared.store c.give.new.self.shared.store c.args.instances.now.items.items
+    (store_grew c.args.self.now c.give.new.self (task_view c.args.task ∷ []) c.requires.can.0 c.requires.can.1 does) c.requires.instances) (returns-in-Do-clause-does c)
+
+pub returns-in-Save-clause-instances : goal.returns-in-Save-clause-instances
+returns-in-Save-clause-instances c = on_ok_weaker c.save.result (λ does. instances_grown c.args.self.now.before.env.now c.args.self.now.shared.store c.save.new.self.shared.store c.args.instances.now.items.items
+    (store_grew c.args.self.now c.save.new.self (task_view c.args.task ∷ []) c.requires.can.0 c.requires.can.1 does) c.requires.instances) (returns-in-Save-clause-does c)

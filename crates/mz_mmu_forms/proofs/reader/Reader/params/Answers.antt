@@ -29,6 +29,13 @@ pub push_param-requires-clause-word : goal.push_param-requires-clause-word
 push_param-requires-clause-word c =
     param_new (names c.args.names.now) c.loop-left.vars (node_at c.args.self.now.nodes.now c.in-Some.m) c.in_ok-name.name.now c.in_ok-name.param c.in_ok-name.ensures.read
 
+pub loop-left-smaller : goal.loop-left-smaller
+loop-left-smaller c =
+    let all = c.args.self.now.nodes.now in
+    let sizes = ap nodes_size (stepped all c.loop-left.left c.in-Some.m c.next-left.result c.in-Some.is c.next-left.ensures) in
+    let one = node_size_positive (node_at all c.in-Some.m) in
+    omega (arith, sizes, one)
+
 pub loop-left-preserved : goal.loop-left-preserved
 loop-left-preserved c =
     let all = c.args.self.now.nodes.now in

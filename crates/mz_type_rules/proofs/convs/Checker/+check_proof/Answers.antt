@@ -1,5 +1,4 @@
-use Rattle.std.proofs.Common.{◌≡◌, ◌<◌, ◌+◌, suc, true≢false, drop, take, sym, ap, ◌∙◌, subst, refl, length, arith}
-use Rattle.std.specs.Prelude.{OnOk}
+use Rattle.std.proofs.Common.{◌≡◌, ◌+◌, suc, true≢false, drop, take, sym, ap, ◌∙◌, subst, refl, length, arith}
 use Rattle.std.proofs.lemmas.List.{drop_all}
 use Rattle.std.proofs.lemmas.Result.{on_ok_weaker}
 use Rattle.mz_base_theory.specs.Checks.{AllHold, ◌>>◌}
@@ -22,6 +21,8 @@ use Rattle.mz_mmu_theory.specs.Rules.{expr_rules, conv_rules, proof_rules, proof
 use Rattle.mz_mmu_theory.specs.Sides.{proved, all_proved, with_fact}
 use Rattle.mz_type_rules.proofs.Building.{builds_more, built_whole}
 use Rattle.mz_type_rules.proofs.Judging.{stop_handed_on, stopped_before, stopped_after, stopped_within, left_step}
+use Rattle.mz_type_rules.specs.Scopes.{with_let}
+use Rattle.mz_type_rules.proofs.Keeping.{fact_many}
 use Rattle.mz_type_rules.proofs.ProofSteps as step
 use Rattle.mz_type_rules.proofs.Stacked.{front_same, behind_same, many_behind, last_same, stopped_still, judged_still, on_ok, citation_judged, converted_stop}
 use Rattle.mz_type_rules.proofs.convs.Checker.+check_proof.Goals as goal
@@ -31,7 +32,7 @@ check_citation-returns-in_err-check_part_exprs-clause-judged t c =
     let env = c.args.self.now.env.now in
     let ctx = c.args.self.now.ctx.now in
     let hyps = c.args.self.now.hyps.now in
-    let lets = claim_trees c.args.lets.now.items in
+    let lets = c.args.lets.now.lets in
     let n = first c.args.nodes.now in
     let s = c.in_err-check_part_exprs.field-0.0 in
     stop_handed_on (proof_rules env ctx hyps lets (by_citation c.args.number c.args.es.now c.args.proofs.now) n) c.from_residual.result s c.from_residual.ensures.1
@@ -42,7 +43,7 @@ check_citation-returns-in_err-check_proof-clause-judged t c =
     let env = c.args.self.now.env.now in
     let ctx = c.args.self.now.ctx.now in
     let hyps = c.args.self.now.hyps.now in
-    let lets = claim_trees c.args.lets.now.items in
+    let lets = c.args.lets.now.lets in
     let n = first c.args.nodes.now in
     let T = c.args.number in
     let es = c.args.es.now in
@@ -61,14 +62,14 @@ check_citation-returns-in_err-check_proof-clause-judged t c =
     (step.citation_subproofs_stop env ctx hyps lets T es ps n s c.in_ok-check_part_exprs.ensures
     (stopped_within (proofs_rules env ctx hyps lets (proofs_view (drop i items)) c.loop-proof.left) own behind whole s
     (step.proofs_rules_cut env ctx hyps lets items i p below is c.loop-proof.left) c.loop-proof.invariant.decides
-    (subst (λ ls. Stops s (proof_rules env ctx hyps (claim_trees ls) (proof_view p) (first c.loop-proof.left))) same c.in_err-check_proof.ensures.judged)))
+    (subst (λ ls. Stops s (proof_rules env ctx hyps ls.lets (proof_view p) (first c.loop-proof.left))) same c.in_err-check_proof.ensures.judged)))
 
 pub check_citation-loop-proof-preserved : goal.check_citation-loop-proof-preserved
 check_citation-loop-proof-preserved t c =
     let env = c.args.self.now.env.now in
     let ctx = c.args.self.now.ctx.now in
     let hyps = c.args.self.now.hyps.now in
-    let lets = claim_trees c.args.lets.now.items in
+    let lets = c.args.lets.now.lets in
     let n = first c.args.nodes.now in
     let T = c.args.number in
     let es = c.args.es.now in
@@ -86,14 +87,15 @@ check_citation-loop-proof-preserved t c =
       decides = subst (λ ns. Decides (proofs_rules env ctx hyps lets (proofs_view (drop (i + 1) items)) ns) whole) (sym c.rest-left.ensures)
           (left_step (proofs_rules env ctx hyps lets (proofs_view (drop i items)) c.loop-proof.left) own behind whole
           (step.proofs_rules_cut env ctx hyps lets items i p below is c.loop-proof.left) c.loop-proof.invariant.decides
-          (subst (λ ls. AllHold (proof_rules env ctx hyps (claim_trees ls) (proof_view p) (first c.loop-proof.left))) same c.in_ok-check_proof.ensures.judged));
+          (subst (λ ls. AllHold (proof_rules env ctx hyps ls.lets (proof_view p) (first c.loop-proof.left))) same c.in_ok-check_proof.ensures.judged));
       builds = builds_more (claim_trees c.loop-proof.claims.items) _ (all_proved env hyps lets (proofs_view (drop i items))) (all_proved env hyps lets (proofs_view (drop (i + 1) items)))
           (followed_by (claim_trees c.args.claims.now.items) (all_proved env hyps lets ps))
           (proved env hyps lets (proof_view p)) (step.all_proved_cut env ctx hyps lets items i p below is)
-          (c.in_ok-check_proof.ensures.claims ∙ ap (λ ls. with_fact (claim_trees c.loop-proof.claims.items) (proved env hyps (claim_trees ls) (proof_view p))) same) c.loop-proof.invariant.builds;
-      there = subst (λ ls. ProofsThere (length (signatures env)) (length ctx) (length (assertions env)) (length (listed hyps)) (length ls) (proofs_view (drop (i + 1) items))) (sym c.in_ok-check_proof.ensures.same)
-          (step.proofs_there_cut env ctx hyps lets items i p below is (length (signatures env)) (length ctx) (length (assertions env)) (length (listed hyps)) (length c.loop-proof.lets.items) c.loop-proof.invariant.there);
+          (c.in_ok-check_proof.ensures.claims ∙ ap (λ ls. with_fact (claim_trees c.loop-proof.claims.items) (proved env hyps ls.lets (proof_view p))) same) c.loop-proof.invariant.builds;
+      there = subst (λ ls. ProofsThere (length (signatures env)) (length ctx) (length (assertions env)) (length (listed hyps)) (length (listed ls.lets)) (proofs_view (drop (i + 1) items))) (sym c.in_ok-check_proof.ensures.same)
+          (step.proofs_there_cut env ctx hyps lets items i p below is (length (signatures env)) (length ctx) (length (assertions env)) (length (listed hyps)) (length (listed c.loop-proof.lets.lets)) c.loop-proof.invariant.there);
       same = c.in_ok-check_proof.ensures.same ∙ same;
+      over = (ap (λ z. z.env) c.in_ok-check_proof.ensures.same ∙ c.loop-proof.invariant.over.0, ap (λ z. z.hyps) c.in_ok-check_proof.ensures.same ∙ c.loop-proof.invariant.over.1);
       small = (step.proofs_size_step env ctx hyps lets items i p below is _ c.loop-proof.invariant.small).1;
     }
 
@@ -103,7 +105,7 @@ check_citation-check_cited-requires-clause-within t c =
     let env = c.args.self.now.env.now in
     let ctx = c.args.self.now.ctx.now in
     let hyps = c.args.self.now.hyps.now in
-    let lets = claim_trees c.args.lets.now.items in
+    let lets = c.args.lets.now.lets in
     let n = first c.args.nodes.now in
     let T = c.args.number in
     let es = c.args.es.now in
@@ -120,13 +122,36 @@ check_citation-check_cited-requires-clause-within t c =
     let many = many_behind old new all are in
     omega (arith, many, from)
 
+pub check_citation-check_cited-requires-clause-env : goal.check_citation-check_cited-requires-clause-env
+check_citation-check_cited-requires-clause-env t c = c.loop-proof.invariant.over.0
+
+pub check_citation-check_cited-requires-clause-proved : goal.check_citation-check_cited-requires-clause-proved
+check_citation-check_cited-requires-clause-proved t c =
+    let from : c.len-from.result ≡ length c.args.claims.now.items = omega (arith, c.len-from.ensures) in
+    let env = c.args.self.now.env.now in
+    let hyps = c.args.self.now.hyps.now in
+    let lets = c.args.lets.now.lets in
+    let ps = c.args.proofs.now in
+    let items = c.as_slice-proof-items.result.now in
+    let i = c.loop-proof.proof-index in
+    let ends = drop_all i items c.loop-proof-test.false in
+    let old = c.args.claims.now.items in
+    let new = c.loop-proof.claims.items in
+    let all = all_proved env hyps lets ps in
+    let z = c.loop-proof.lets in
+    let are : claim_trees new ≡ followed_by (claim_trees old) all =
+    built_whole (claim_trees new) (all_proved env hyps lets (proofs_view (drop i items))) (followed_by (claim_trees old) all) (ap (λ qs. all_proved env hyps lets (proofs_view qs)) ends) c.loop-proof.invariant.builds in
+    ap (λ k. claim_trees (drop k new)) from ∙ behind_same old new all are
+    ∙ ap (λ e. all_proved e hyps lets ps) (sym c.loop-proof.invariant.over.0) ∙ ap (λ h. all_proved z.env h lets ps) (sym c.loop-proof.invariant.over.1)
+    ∙ ap (λ y. all_proved z.env z.hyps y.lets ps) (sym c.loop-proof.invariant.same) ∙ ap (all_proved z.env z.hyps z.lets) (sym c.as_slice.ensures)
+
 pub check_citation-returns-clause-judged : goal.check_citation-returns-clause-judged
 check_citation-returns-clause-judged t c =
     let from : c.len-from.result ≡ length c.args.claims.now.items = omega (arith, c.len-from.ensures) in
     let env = c.args.self.now.env.now in
     let ctx = c.args.self.now.ctx.now in
     let hyps = c.args.self.now.hyps.now in
-    let lets = claim_trees c.args.lets.now.items in
+    let lets = c.args.lets.now.lets in
     let n = first c.args.nodes.now in
     let T = c.args.number in
     let es = c.args.es.now in
@@ -150,7 +175,7 @@ check_citation-returns-clause-claims t c =
     let env = c.args.self.now.env.now in
     let ctx = c.args.self.now.ctx.now in
     let hyps = c.args.self.now.hyps.now in
-    let lets = claim_trees c.args.lets.now.items in
+    let lets = c.args.lets.now.lets in
     let n = first c.args.nodes.now in
     let T = c.args.number in
     let es = c.args.es.now in
@@ -170,14 +195,14 @@ check_citation-returns-clause-claims t c =
 
 pub check_citation-returns-clause-same : goal.check_citation-returns-clause-same
 check_citation-returns-clause-same t c =
-    on_ok c.check_cited.result c.loop-proof.invariant.same
+    on_ok c.check_cited.result (c.check_cited.ensures.same ∙ c.loop-proof.invariant.same)
 
 pub check_conversion-returns-in_err-check_converted-clause-judged : goal.check_conversion-returns-in_err-check_converted-clause-judged
 check_conversion-returns-in_err-check_converted-clause-judged t c =
     let env = c.args.self.now.env.now in
     let ctx = c.args.self.now.ctx.now in
     let hyps = c.args.self.now.hyps.now in
-    let lets = claim_trees c.args.lets.now.items in
+    let lets = c.args.lets.now.lets in
     let n = first c.args.nodes.now in
     let s = c.in_err-check_converted.field-0.0 in
     stop_handed_on (proof_rules env ctx hyps lets (by_conv (tree c.args.e.now) (conversion c.args.conv.now) (proof_view c.args.proof.now)) n) c.from_residual.result s c.from_residual.ensures.1
@@ -188,7 +213,7 @@ check_conversion-returns-in_err-check_proof-clause-judged t c =
     let env = c.args.self.now.env.now in
     let ctx = c.args.self.now.ctx.now in
     let hyps = c.args.self.now.hyps.now in
-    let lets = claim_trees c.args.lets.now.items in
+    let lets = c.args.lets.now.lets in
     let n = first c.args.nodes.now in
     let A = expr_rules (signatures env) ctx (tree c.args.e.now) (part (parts n) 1) in
     let B = conv_rules env ctx (conversion c.args.conv.now) (part (parts n) 2) in
@@ -204,7 +229,7 @@ check_conversion-goes_between-requires t c =
     let env = c.args.self.now.env.now in
     let ctx = c.args.self.now.ctx.now in
     let hyps = c.args.self.now.hyps.now in
-    let lets = claim_trees c.args.lets.now.items in
+    let lets = c.args.lets.now.lets in
     let n = first c.args.nodes.now in
     let old = c.args.claims.now.items in
     let new = c.check_proof.new.claims.items in
@@ -216,7 +241,7 @@ check_conversion-goes_between-requires t c =
 pub check_conversion-returns-in_err-goes-clause-judged : goal.check_conversion-returns-in_err-goes-clause-judged
 check_conversion-returns-in_err-goes-clause-judged t c =
     let p = by_conv (tree c.args.e.now) (conversion c.args.conv.now) (proof_view c.args.proof.now) in
-    stop_handed_on (proof_rules c.args.self.now.env.now c.args.self.now.ctx.now c.args.self.now.hyps.now (claim_trees c.args.lets.now.items) p (first c.args.nodes.now))
+    stop_handed_on (proof_rules c.args.self.now.env.now c.args.self.now.ctx.now c.args.self.now.hyps.now c.args.lets.now.lets p (first c.args.nodes.now))
     c.from_residual-in_err-goes.result Mem c.from_residual-in_err-goes.ensures.1 tt
 
 pub check_conversion-returns-then-not-goes-clause-judged : goal.check_conversion-returns-then-not-goes-clause-judged
@@ -225,7 +250,7 @@ check_conversion-returns-then-not-goes-clause-judged t c =
     let env = c.args.self.now.env.now in
     let ctx = c.args.self.now.ctx.now in
     let hyps = c.args.self.now.hyps.now in
-    let lets = claim_trees c.args.lets.now.items in
+    let lets = c.args.lets.now.lets in
     let n = first c.args.nodes.now in
     let A = expr_rules (signatures env) ctx (tree c.args.e.now) (part (parts n) 1) in
     let B = conv_rules env ctx (conversion c.args.conv.now) (part (parts n) 2) in
@@ -245,7 +270,7 @@ check_conversion-returns-clause-judged t c =
     let env = c.args.self.now.env.now in
     let ctx = c.args.self.now.ctx.now in
     let hyps = c.args.self.now.hyps.now in
-    let lets = claim_trees c.args.lets.now.items in
+    let lets = c.args.lets.now.lets in
     let n = first c.args.nodes.now in
     let A = expr_rules (signatures env) ctx (tree c.args.e.now) (part (parts n) 1) in
     let B = conv_rules env ctx (conversion c.args.conv.now) (part (parts n) 2) in
@@ -267,7 +292,7 @@ check_conversion-returns-clause-claims t c =
     let env = c.args.self.now.env.now in
     let ctx = c.args.self.now.ctx.now in
     let hyps = c.args.self.now.hyps.now in
-    let lets = claim_trees c.args.lets.now.items in
+    let lets = c.args.lets.now.lets in
     let n = first c.args.nodes.now in
     let old = c.args.claims.now.items in
     let new = c.check_proof.new.claims.items in
@@ -286,7 +311,7 @@ check_let-returns-in_err-check_proof-clause-judged t c =
     let env = c.args.self.now.env.now in
     let ctx = c.args.self.now.ctx.now in
     let hyps = c.args.self.now.hyps.now in
-    let lets = claim_trees c.args.lets.now.items in
+    let lets = c.args.lets.now.lets in
     let n = first c.args.nodes.now in
     let p = proof_view c.args.stated.now in
     let q = proof_view c.args.proof.now in
@@ -300,7 +325,7 @@ check_let-name_claim-requires t c =
     let from : c.len-from.result ≡ length c.args.claims.now.items = omega (arith, c.len-from.ensures) in
     let env = c.args.self.now.env.now in
     let hyps = c.args.self.now.hyps.now in
-    let lets = claim_trees c.args.lets.now.items in
+    let lets = c.args.lets.now.lets in
     let x = proved env hyps lets (proof_view c.args.stated.now) in
     let many = many_behind c.args.claims.now.items c.check_proof.new.claims.items (more x none) c.in_ok-check_proof.ensures.claims in
     omega (arith, many, from)
@@ -310,7 +335,7 @@ check_let-returns-in_err-name_claim-clause-judged t c =
     let env = c.args.self.now.env.now in
     let ctx = c.args.self.now.ctx.now in
     let hyps = c.args.self.now.hyps.now in
-    let lets = claim_trees c.args.lets.now.items in
+    let lets = c.args.lets.now.lets in
     let n = first c.args.nodes.now in
     let s = c.in_err-name_claim.field-0.0 in
     let cs = proof_rules env ctx hyps lets (by_let (proof_view c.args.stated.now) (proof_view c.args.proof.now)) n in
@@ -322,18 +347,19 @@ check_let-check_proof-requires-2 t c =
     let env = c.args.self.now.env.now in
     let ctx = c.args.self.now.ctx.now in
     let hyps = c.args.self.now.hyps.now in
-    let lets = claim_trees c.args.lets.now.items in
+    let lets = c.args.lets.now.lets in
     let n = first c.args.nodes.now in
     let p = proof_view c.args.stated.now in
     let q = proof_view c.args.proof.now in
     let x = proved env hyps lets p in
     let one = c.check_proof.new.claims.items in
-    let named : claim_trees c.name_claim.new.lets.items ≡ with_fact lets x =
-    c.in_ok-name_claim.ensures.lets ∙ ap (λ ls. with_fact (claim_trees ls) (operand (claim_trees one) c.len-from.result)) c.in_ok-check_proof.ensures.same
+    let named : c.name_claim.new.lets.lets ≡ with_fact lets x =
+    ap (λ z. z.lets) c.in_ok-name_claim.ensures.lets ∙ ap (λ ls. with_fact ls.lets (operand (claim_trees one) c.len-from.result)) c.in_ok-check_proof.ensures.same
     ∙ ap (with_fact lets) (ap (operand (claim_trees one)) from ∙ last_same c.args.claims.now.items one x c.in_ok-check_proof.ensures.claims) in
-    let behind = many_behind c.args.lets.now.items c.name_claim.new.lets.items (more x none) named in
-    let many : length c.args.lets.now.items + 1 ≡ length c.name_claim.new.lets.items = omega (arith, behind) in
-    (omega arith, subst (λ k. ProofThere (length (signatures env)) (length ctx) (length (assertions env)) (length (listed hyps)) k q) many c.requires.proof)
+    let many = sym (ap (λ ts. length (listed ts)) named ∙ fact_many lets x) in
+    let same = ap (λ z. z.env) c.in_ok-name_claim.ensures.lets ∙ ap (λ z. z.env) c.in_ok-check_proof.ensures.same ∙ c.requires.over.0 in
+    let same-hyps = ap (λ z. z.hyps) c.in_ok-name_claim.ensures.lets ∙ ap (λ z. z.hyps) c.in_ok-check_proof.ensures.same ∙ c.requires.over.1 in
+    (omega arith, ((same, same-hyps), subst (λ k. ProofThere (length (signatures env)) (length ctx) (length (assertions env)) (length (listed hyps)) k q) many c.requires.proof))
 
 pub check_let-returns-in_err-check_proof-2-clause-judged : goal.check_let-returns-in_err-check_proof-2-clause-judged
 check_let-returns-in_err-check_proof-2-clause-judged t c =
@@ -341,14 +367,14 @@ check_let-returns-in_err-check_proof-2-clause-judged t c =
     let env = c.args.self.now.env.now in
     let ctx = c.args.self.now.ctx.now in
     let hyps = c.args.self.now.hyps.now in
-    let lets = claim_trees c.args.lets.now.items in
+    let lets = c.args.lets.now.lets in
     let n = first c.args.nodes.now in
     let p = proof_view c.args.stated.now in
     let q = proof_view c.args.proof.now in
     let x = proved env hyps lets p in
     let one = c.check_proof.new.claims.items in
-    let named : claim_trees c.name_claim.new.lets.items ≡ with_fact lets x =
-    c.in_ok-name_claim.ensures.lets ∙ ap (λ ls. with_fact (claim_trees ls) (operand (claim_trees one) c.len-from.result)) c.in_ok-check_proof.ensures.same
+    let named : c.name_claim.new.lets.lets ≡ with_fact lets x =
+    ap (λ z. z.lets) c.in_ok-name_claim.ensures.lets ∙ ap (λ ls. with_fact ls.lets (operand (claim_trees one) c.len-from.result)) c.in_ok-check_proof.ensures.same
     ∙ ap (with_fact lets) (ap (operand (claim_trees one)) from ∙ last_same c.args.claims.now.items one x c.in_ok-check_proof.ensures.claims) in
     let A = proof_rules env ctx hyps lets p (part (parts n) 2) in
     let B = proof_rules env ctx hyps (with_fact lets x) q (part (parts n) 3) in
@@ -356,7 +382,7 @@ check_let-returns-in_err-check_proof-2-clause-judged t c =
     let s = c.in_err-check_proof-2.field-0.0 in
     stop_handed_on (A >> B) c.from_residual-in_err-check_proof-2.result s c.from_residual-in_err-check_proof-2.ensures.1
     (stopped_after A B s held (subst (λ ls. Stops s (proof_rules env ctx hyps ls q (part (parts n) 3))) named
-    (subst (λ m. Stops s (proof_rules env ctx hyps (claim_trees c.name_claim.new.lets.items) q m)) c.part-2.ensures c.in_err-check_proof-2.ensures.judged)))
+    (subst (λ m. Stops s (proof_rules env ctx hyps c.name_claim.new.lets.lets q m)) c.part-2.ensures c.in_err-check_proof-2.ensures.judged)))
 
 pub check_let-returns-clause-judged : goal.check_let-returns-clause-judged
 check_let-returns-clause-judged t c =
@@ -364,20 +390,20 @@ check_let-returns-clause-judged t c =
     let env = c.args.self.now.env.now in
     let ctx = c.args.self.now.ctx.now in
     let hyps = c.args.self.now.hyps.now in
-    let lets = claim_trees c.args.lets.now.items in
+    let lets = c.args.lets.now.lets in
     let n = first c.args.nodes.now in
     let p = proof_view c.args.stated.now in
     let q = proof_view c.args.proof.now in
     let x = proved env hyps lets p in
     let one = c.check_proof.new.claims.items in
-    let named : claim_trees c.name_claim.new.lets.items ≡ with_fact lets x =
-    c.in_ok-name_claim.ensures.lets ∙ ap (λ ls. with_fact (claim_trees ls) (operand (claim_trees one) c.len-from.result)) c.in_ok-check_proof.ensures.same
+    let named : c.name_claim.new.lets.lets ≡ with_fact lets x =
+    ap (λ z. z.lets) c.in_ok-name_claim.ensures.lets ∙ ap (λ ls. with_fact ls.lets (operand (claim_trees one) c.len-from.result)) c.in_ok-check_proof.ensures.same
     ∙ ap (with_fact lets) (ap (operand (claim_trees one)) from ∙ last_same c.args.claims.now.items one x c.in_ok-check_proof.ensures.claims) in
     let A = proof_rules env ctx hyps lets p (part (parts n) 2) in
     let B = proof_rules env ctx hyps (with_fact lets x) q (part (parts n) 3) in
     let held = subst (λ m. AllHold (proof_rules env ctx hyps lets p m)) c.part.ensures c.in_ok-check_proof.ensures.judged in
     all_hold-both A B held (subst (λ ls. AllHold (proof_rules env ctx hyps ls q (part (parts n) 3))) named
-    (subst (λ m. AllHold (proof_rules env ctx hyps (claim_trees c.name_claim.new.lets.items) q m)) c.part-2.ensures c.in_ok-check_proof-2.ensures.judged))
+    (subst (λ m. AllHold (proof_rules env ctx hyps c.name_claim.new.lets.lets q m)) c.part-2.ensures c.in_ok-check_proof-2.ensures.judged))
 
 pub check_let-returns-clause-claims : goal.check_let-returns-clause-claims
 check_let-returns-clause-claims t c =
@@ -385,26 +411,24 @@ check_let-returns-clause-claims t c =
     let env = c.args.self.now.env.now in
     let ctx = c.args.self.now.ctx.now in
     let hyps = c.args.self.now.hyps.now in
-    let lets = claim_trees c.args.lets.now.items in
+    let lets = c.args.lets.now.lets in
     let n = first c.args.nodes.now in
     let p = proof_view c.args.stated.now in
     let q = proof_view c.args.proof.now in
     let x = proved env hyps lets p in
     let one = c.check_proof.new.claims.items in
-    let named : claim_trees c.name_claim.new.lets.items ≡ with_fact lets x =
-    c.in_ok-name_claim.ensures.lets ∙ ap (λ ls. with_fact (claim_trees ls) (operand (claim_trees one) c.len-from.result)) c.in_ok-check_proof.ensures.same
+    let named : c.name_claim.new.lets.lets ≡ with_fact lets x =
+    ap (λ z. z.lets) c.in_ok-name_claim.ensures.lets ∙ ap (λ ls. with_fact ls.lets (operand (claim_trees one) c.len-from.result)) c.in_ok-check_proof.ensures.same
     ∙ ap (with_fact lets) (ap (operand (claim_trees one)) from ∙ last_same c.args.claims.now.items one x c.in_ok-check_proof.ensures.claims) in
-    let y = proved env hyps (claim_trees c.name_claim.new.lets.items) q in
+    let y = proved env hyps c.name_claim.new.lets.lets q in
     c.in_ok-check_proof-2.ensures.claims ∙ ap (λ xs. with_fact (claim_trees xs) y) c.in_ok-name_claim.ensures.claims ∙ ap (λ k. with_fact (claim_trees (take k one)) y) from
     ∙ ap (λ ts. with_fact ts y) (front_same c.args.claims.now.items one (more x none) c.in_ok-check_proof.ensures.claims)
     ∙ ap (λ ls. with_fact (claim_trees c.args.claims.now.items) (proved env hyps ls q)) named
 
 pub check_let-returns-clause-same : goal.check_let-returns-clause-same
 check_let-returns-clause-same t c =
-    let visible : c.len-visible.result ≡ length c.args.lets.now.items = omega (arith, c.len-visible.ensures) in
-    let same = c.in_ok-check_proof.ensures.same in
-    c.truncate.ensures.items ∙ ap (take c.len-visible.result) c.in_ok-check_proof-2.ensures.same
-    ∙ ap (λ k. take k c.name_claim.new.lets.items) (visible ∙ ap length (sym same)) ∙ c.in_ok-name_claim.ensures.visible ∙ same
+    let x = operand (claim_trees c.check_proof.new.claims.items) c.len-from.result in
+    c.close.ensures c.args.lets.now x (c.in_ok-check_proof-2.ensures.same ∙ c.in_ok-name_claim.ensures.lets ∙ ap (λ z. with_let z x) c.in_ok-check_proof.ensures.same)
 
 pub check_proof-returns-in-Cite-clause-judged : goal.check_proof-returns-in-Cite-clause-judged
 check_proof-returns-in-Cite-clause-judged t c = step.judged_as (ap proof_view c.in-Cite.is) _ _ _ _ _ _ c.check_citation.ensures.judged
@@ -418,7 +442,7 @@ check_proof-returns-in-Hyp-clause-judged t c = step.judged_as (ap proof_view c.i
 
 pub check_proof-returns-in-Hyp-clause-claims : goal.check_proof-returns-in-Hyp-clause-claims
 check_proof-returns-in-Hyp-clause-claims t c = step.claims_as (ap proof_view c.in-Hyp.is) _
-    c.args.self.now.env.now c.args.self.now.hyps.now (claim_trees c.args.lets.now.items) _ _ c.claim_hyp.ensures.claims
+    c.args.self.now.env.now c.args.self.now.hyps.now c.args.lets.now.lets _ _ c.claim_hyp.ensures.claims
 
 pub check_proof-returns-in-Hyp-clause-same : goal.check_proof-returns-in-Hyp-clause-same
 check_proof-returns-in-Hyp-clause-same t c = on_ok_weaker c.claim_hyp.result (λ _. refl) c.claim_hyp.ensures.claims
@@ -428,9 +452,8 @@ check_proof-returns-in-Name-clause-judged t c = step.judged_as (ap proof_view c.
 
 pub check_proof-returns-in-Name-clause-claims : goal.check_proof-returns-in-Name-clause-claims
 check_proof-returns-in-Name-clause-claims t c = step.claims_as (ap proof_view c.in-Name.is) _
-    c.args.self.now.env.now c.args.self.now.hyps.now (claim_trees c.args.lets.now.items) _ _
-    (subst (λ ls. OnOk c.claim_let.result (claim_trees c.claim_let.new.claims.items ≡ with_fact (claim_trees c.args.claims.now.items) (operand (claim_trees ls) c.in-Name.i)))
-    c.deref.ensures.value c.claim_let.ensures.claims)
+    c.args.self.now.env.now c.args.self.now.hyps.now c.args.lets.now.lets _ _
+    c.claim_let.ensures.claims
 
 pub check_proof-returns-in-Name-clause-same : goal.check_proof-returns-in-Name-clause-same
 check_proof-returns-in-Name-clause-same t c = on_ok_weaker c.claim_let.result (λ _. refl) c.claim_let.ensures.claims
@@ -440,26 +463,26 @@ check_proof-returns-in-Gap-clause-judged t c = step.judged_as (ap proof_view c.i
 
 pub check_proof-returns-in-Gap-clause-claims : goal.check_proof-returns-in-Gap-clause-claims
 check_proof-returns-in-Gap-clause-claims t c = step.claims_as (ap proof_view c.in-Gap.is) _
-    c.args.self.now.env.now c.args.self.now.hyps.now (claim_trees c.args.lets.now.items) _ _ c.check_gap.ensures.claims
+    c.args.self.now.env.now c.args.self.now.hyps.now c.args.lets.now.lets _ _ c.check_gap.ensures.claims
 
 pub check_proof-returns-in-Gap-clause-same : goal.check_proof-returns-in-Gap-clause-same
 check_proof-returns-in-Gap-clause-same t c = on_ok_weaker c.check_gap.result (λ _. refl) c.check_gap.ensures.claims
 
 pub check_proof-claim_hyp-requires : goal.check_proof-claim_hyp-requires
-check_proof-claim_hyp-requires t c = step.there_as (ap proof_view c.in-Hyp.is) _ _ _ _ _ c.requires
+check_proof-claim_hyp-requires t c = step.there_as (ap proof_view c.in-Hyp.is) _ _ _ _ _ c.requires.there
 
 pub check_proof-claim_let-requires : goal.check_proof-claim_let-requires
-check_proof-claim_let-requires t c = subst (λ ls. c.in-Name.i < length ls) (sym c.deref.ensures.value) (step.there_as (ap proof_view c.in-Name.is) _ _ _ _ _ c.requires)
+check_proof-claim_let-requires t c = step.there_as (ap proof_view c.in-Name.is) _ _ _ _ _ c.requires.there
 
 pub check_proof-check_citation-requires : goal.check_proof-check_citation-requires
 check_proof-check_citation-requires t c =
     let sizes = ap (λ x. proof_steps (proof_view x)) c.in-Cite.is in
-    let there = step.there_as (ap proof_view c.in-Cite.is) _ _ _ _ _ c.requires in
-    (omega (arith, sizes), (there.0, (there.1, there.2)))
+    let there = step.there_as (ap proof_view c.in-Cite.is) _ _ _ _ _ c.requires.there in
+    (omega (arith, sizes), (c.requires.over, (there.0, (there.1, there.2))))
 
 pub check_proof-returns-in-Cite-clause-claims : goal.check_proof-returns-in-Cite-clause-claims
 check_proof-returns-in-Cite-clause-claims t c = step.claims_as (ap proof_view c.in-Cite.is) _
-    c.args.self.now.env.now c.args.self.now.hyps.now (claim_trees c.args.lets.now.items) _ _ c.check_citation.ensures.claims
+    c.args.self.now.env.now c.args.self.now.hyps.now c.args.lets.now.lets _ _ c.check_citation.ensures.claims
 
 pub check_proof-returns-in-Cite-clause-same : goal.check_proof-returns-in-Cite-clause-same
 check_proof-returns-in-Cite-clause-same t c = c.check_citation.ensures.same
@@ -468,12 +491,12 @@ pub check_proof-check_conversion-requires : goal.check_proof-check_conversion-re
 check_proof-check_conversion-requires t c =
     let is = step.conv_is c.args.proof.now c.in-Conv.e c.in-Conv.conv c.in-Conv.proof _ _ c.in-Conv.is c.get.ensures c.get-in-Conv.ensures in
     let sizes = ap proof_steps is in
-    let there = step.there_as is _ _ _ _ _ c.requires in
-    (omega (arith, sizes), (there.1, there.2))
+    let there = step.there_as is _ _ _ _ _ c.requires.there in
+    (omega (arith, sizes), (c.requires.over, (there.1, there.2)))
 
 pub check_proof-returns-in-Conv-clause-claims : goal.check_proof-returns-in-Conv-clause-claims
 check_proof-returns-in-Conv-clause-claims t c = step.claims_as (ap proof_view c.in-Conv.is) _
-    c.args.self.now.env.now c.args.self.now.hyps.now (claim_trees c.args.lets.now.items) _ _ c.check_conversion.ensures.claims
+    c.args.self.now.env.now c.args.self.now.hyps.now c.args.lets.now.lets _ _ c.check_conversion.ensures.claims
 
 pub check_proof-returns-in-Conv-clause-same : goal.check_proof-returns-in-Conv-clause-same
 check_proof-returns-in-Conv-clause-same t c = c.check_conversion.ensures.same
@@ -482,13 +505,13 @@ pub check_proof-check_let-requires : goal.check_proof-check_let-requires
 check_proof-check_let-requires t c =
     let is = step.let_is c.args.proof.now c.in-Let.first c.in-Let.second _ _ c.in-Let.is c.get-in-Let.ensures c.get-in-Let-2.ensures in
     let sizes = ap proof_steps is in
-    let there = step.there_as is _ _ _ _ _ c.requires in
-    let more : suc (length c.args.lets.now.items) ≡ length c.args.lets.now.items + 1 = omega arith in
+    let there = step.there_as is _ _ _ _ _ c.requires.there in
+    let more : suc (length (listed c.args.lets.now.lets)) ≡ length (listed c.args.lets.now.lets) + 1 = omega arith in
     let env = c.args.self.now.env.now in
     let hyps = c.args.self.now.hyps.now in
     let q = proof_view c.get-in-Let-2.result.now in
     let second = subst (λ k. ProofThere (length (signatures env)) (length c.args.self.now.ctx.now) (length (assertions env)) (length (listed hyps)) k q) more there.1 in
-    (omega (arith, sizes), (there.0, second))
+    (omega (arith, sizes), (c.requires.over, (there.0, second)))
 
 pub check_proof-returns-in-Let-clause-judged : goal.check_proof-returns-in-Let-clause-judged
 check_proof-returns-in-Let-clause-judged t c =
@@ -497,7 +520,7 @@ check_proof-returns-in-Let-clause-judged t c =
 pub check_proof-returns-in-Let-clause-claims : goal.check_proof-returns-in-Let-clause-claims
 check_proof-returns-in-Let-clause-claims t c =
     step.claims_as (step.let_is c.args.proof.now c.in-Let.first c.in-Let.second _ _ c.in-Let.is c.get-in-Let.ensures c.get-in-Let-2.ensures) _
-    c.args.self.now.env.now c.args.self.now.hyps.now (claim_trees c.args.lets.now.items) _ _ c.check_let.ensures.claims
+    c.args.self.now.env.now c.args.self.now.hyps.now c.args.lets.now.lets _ _ c.check_let.ensures.claims
 
 pub check_proof-returns-in-Let-clause-same : goal.check_proof-returns-in-Let-clause-same
 check_proof-returns-in-Let-clause-same t c = c.check_let.ensures.same

@@ -28,12 +28,13 @@ decreases-check_let l = 3 * (proof_steps (proof_view l.stated.now) + proof_steps
 
 abbrev pub invariant-check_citation-loop-proof : goal.invariant-check_citation-loop-proof
 invariant-check_citation-loop-proof l = record {
-  decides : Decides (proofs_rules l.self.env.now l.self.ctx.now l.self.hyps.now (claim_trees l.fn.lets.items) (proofs_view (drop l.proof-index l.proof-items)) l.left)
-      (proofs_rules l.self.env.now l.self.ctx.now l.self.hyps.now (claim_trees l.fn.lets.items) l.proofs (after 2 (parts (first l.nodes))));
-  builds : Builds (claim_trees l.claims.items) (all_proved l.self.env.now l.self.hyps.now (claim_trees l.fn.lets.items) (proofs_view (drop l.proof-index l.proof-items)))
-      (followed_by (claim_trees l.fn.claims.items) (all_proved l.self.env.now l.self.hyps.now (claim_trees l.fn.lets.items) l.proofs));
-  there : ProofsThere (length (signatures l.self.env.now)) (length l.self.ctx.now) (length (assertions l.self.env.now)) (length (listed l.self.hyps.now)) (length l.lets.items)
+  decides : Decides (proofs_rules l.self.env.now l.self.ctx.now l.self.hyps.now l.fn.lets.lets (proofs_view (drop l.proof-index l.proof-items)) l.left)
+      (proofs_rules l.self.env.now l.self.ctx.now l.self.hyps.now l.fn.lets.lets l.proofs (after 2 (parts (first l.nodes))));
+  builds : Builds (claim_trees l.claims.items) (all_proved l.self.env.now l.self.hyps.now l.fn.lets.lets (proofs_view (drop l.proof-index l.proof-items)))
+      (followed_by (claim_trees l.fn.claims.items) (all_proved l.self.env.now l.self.hyps.now l.fn.lets.lets l.proofs));
+  there : ProofsThere (length (signatures l.self.env.now)) (length l.self.ctx.now) (length (assertions l.self.env.now)) (length (listed l.self.hyps.now)) (length (listed l.lets.lets))
       (proofs_view (drop l.proof-index l.proof-items));
-  same : l.lets.items ≡ l.fn.lets.items;
+  same : l.lets ≡ l.fn.lets;
+  over : (l.lets.env ≡ l.self.env.now) × (l.lets.hyps ≡ l.self.hyps.now);
   small : proofs_steps (proofs_view (drop l.proof-index l.proof-items)) ≤ proofs_steps l.proofs;
 }

@@ -19,8 +19,8 @@ use Rattle.mz_type_rules.proofs.ProofSteps as step
 use Rattle.mz_type_rules.proofs.convs.Checker.check_assertion.Goals as goal
 use Rattle.mz_type_rules.proofs.convs.Checker.check_assertion.Goals.{then-len-params-via-then-len-params, then-len-params-via-else-len-params+then-claims-len}
 
-pub returns-then-len-params : goal.returns-then-len-params
-returns-then-len-params c =
+pub returns-then-len-params-clause-proved : goal.returns-then-len-params-clause-proved
+returns-then-len-params-clause-proved c =
     inl (
       elim c.then-len-params.branch [
         | then-len-params-via-then-len-params w ↦ λ many. w.if-len-params.true (c.len.ensures ∙ many.0 ∙ sym (ap length c.as_slice-params.ensures))
@@ -29,8 +29,8 @@ returns-then-len-params c =
       c.fault.ensures,
     )
 
-pub returns-in_err-refuse : goal.returns-in_err-refuse
-returns-in_err-refuse c =
+pub returns-in_err-refuse-clause-proved : goal.returns-in_err-refuse-clause-proved
+returns-in_err-refuse-clause-proved c =
     let sigs = signatures c.args.self.now.env.now in
     let ctx = c.args.self.now.ctx.now in
     let a = assertion_view c.args.thm.now in
@@ -59,13 +59,13 @@ are_apart-requires c =
     (subst (λ ps. Judges c.check_operands.result (operand_rules sigs ctx es (parts (part (parts n) 1)) ps)) c.as_slice-params.ensures
     (subst (λ ns. Judges c.check_operands.result (operand_rules sigs ctx es ns c.as_slice-params.result.now)) c.parts_of.ensures c.check_operands.ensures))))
 
-pub returns-in_err-apart : goal.returns-in_err-apart
-returns-in_err-apart c =
+pub returns-in_err-apart-clause-proved : goal.returns-in_err-apart-clause-proved
+returns-in_err-apart-clause-proved c =
     stop_proved (citation_rules (signatures c.args.self.now.env.now) c.args.self.now.ctx.now (assertion_view c.args.thm.now) c.args.es.now (claim_trees c.args.claims.now) (first c.args.nodes.now)) (instance c.args.es.now (tree c.args.thm.now.conclusion))
     c.from_residual-in_err-apart.result Mem c.from_residual-in_err-apart.ensures.1 tt
 
-pub returns-then-not-apart : goal.returns-then-not-apart
-returns-then-not-apart c =
+pub returns-then-not-apart-clause-proved : goal.returns-then-not-apart-clause-proved
+returns-then-not-apart-clause-proved c =
     let sigs = signatures c.args.self.now.env.now in
     let ctx = c.args.self.now.ctx.now in
     let a = assertion_view c.args.thm.now in
@@ -78,8 +78,8 @@ returns-then-not-apart c =
     (subst (λ ns. Judges c.check_operands.result (operand_rules sigs ctx es ns c.as_slice-params.result.now)) c.parts_of.ensures c.check_operands.ensures)))
     c.fault-then-not-apart.ensures (λ apart. true≢false (sym (c.in_ok-apart.ensures.1 (subst (λ ps. Apart ctx es ps) (sym c.as_slice-params.ensures) apart)) ∙ c.if-not-apart.true))
 
-pub returns-in_err-check_claims : goal.returns-in_err-check_claims
-returns-in_err-check_claims c =
+pub returns-in_err-check_claims-clause-proved : goal.returns-in_err-check_claims-clause-proved
+returns-in_err-check_claims-clause-proved c =
     let sigs = signatures c.args.self.now.env.now in
     let ctx = c.args.self.now.ctx.now in
     let a = assertion_view c.args.thm.now in
@@ -93,10 +93,10 @@ returns-in_err-check_claims c =
     (subst (λ ps. Judges c.check_operands.result (operand_rules sigs ctx es (parts (part (parts n) 1)) ps)) c.as_slice-params.ensures
     (subst (λ ns. Judges c.check_operands.result (operand_rules sigs ctx es ns c.as_slice-params.result.now)) c.parts_of.ensures c.check_operands.ensures)))
     (subst (λ ps. Apart ctx es ps) c.as_slice-params.ensures (c.in_ok-apart.ensures.0 c.if-not-apart.false))
-    (subst (λ ns. Stops s (subproof_rules (claim_trees c.args.claims.now) ns (instances es a.hyps))) c.parts_after.ensures c.in_err-check_claims.ensures))
+    (subst (λ ns. Stops s (subproof_rules (claim_trees c.args.claims.now) ns (instances es a.hyps))) c.parts_after.ensures c.in_err-check_claims.ensures.judged))
 
-pub returns : goal.returns
-returns c =
+pub returns-clause-proved : goal.returns-clause-proved
+returns-clause-proved c =
     let sigs = signatures c.args.self.now.env.now in
     let ctx = c.args.self.now.ctx.now in
     let a = assertion_view c.args.thm.now in
@@ -108,6 +108,6 @@ returns c =
           (subst (λ ps. Judges c.check_operands.result (operand_rules sigs ctx es (parts (part (parts n) 1)) ps)) c.as_slice-params.ensures
           (subst (λ ns. Judges c.check_operands.result (operand_rules sigs ctx es ns c.as_slice-params.result.now)) c.parts_of.ensures c.check_operands.ensures)))
           (subst (λ ps. Apart ctx es ps) c.as_slice-params.ensures (c.in_ok-apart.ensures.0 c.if-not-apart.false))
-          (subst (λ ns. AllHold (subproof_rules (claim_trees c.args.claims.now) ns (instances es a.hyps))) c.parts_after.ensures c.in_ok-check_claims.ensures),
+          (subst (λ ns. AllHold (subproof_rules (claim_trees c.args.claims.now) ns (instances es a.hyps))) c.parts_after.ensures c.in_ok-check_claims.ensures.judged),
       c.instance.ensures,
     )

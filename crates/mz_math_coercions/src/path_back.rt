@@ -1,0 +1,42 @@
+// The path to a sort that a walk has reached, read off from its end.
+ghost use Rattle.std.specs.Prelude.{◌∷◌, [], IfOk, reverse};
+ghost use Rattle.mz_math_theory.specs.Coercions.{IsPath, OnePath};
+ghost use Rattle.mz_math_coercions.specs.Reached.{AreReached, Has};
+
+use crate::next_hop::coercion_at;
+use crate::reached::Reached;
+use mz_math_theory::Coercion;
+use std::alloc::{AllocError, Global};
+
+/// The places of the coercions of the path from the sort at which a walk began to one that it has
+/// reached, the last one first.
+///
+/// # Errors
+///
+/// Where there is no memory.
+pub fn path_back(
+    alloc: Global,
+    items: &[Coercion],
+    reached: &Reached,
+    from: u32,
+    to: u32,
+) -> Result<Vec<usize>, AllocError>
+    requires one { OnePath items.now }
+    requires reached { AreReached items.now ((from, 0) ∷ []) reached.now }
+    requires there { Has reached.now to }
+    ensures { IfOk result (λ places. IsPath items.now from (reverse places.items) to) }
+{
+    let mut places = Vec::new(alloc);
+    let mut sort = to;
+    'steps: while sort != from {
+        let Some(place) = reached.place_to(sort) else {
+            unreachable!()
+        };
+        let Some(coercion) = coercion_at(items, place) else {
+            unreachable!()
+        };
+        places.push(place)?;
+        sort = coercion.from;
+    }
+    Ok(places)
+}

@@ -1,0 +1,455 @@
+//! The visible lets, and what is kept of the subproofs that were compared with hypotheses.
+ghost use Rattle.std.specs.Prelude.{◌≡◌, ◌↔◌, ◌<◌, ℕ, IfSome, IfOk, IsTrue, OnOk, Some, length, slice_get};
+ghost use Rattle.mz_logic_theory.specs.Tree.{Tree, none, listed, operand, instance, instances};
+ghost use Rattle.mz_logic_theory.specs.View.{tree};
+ghost use Rattle.mz_mmu_theory.specs.ProofView.{proof_view};
+ghost use Rattle.mz_mmu_theory.specs.Sides.{assertion_at, proved};
+ghost use Rattle.mz_type_rules.specs.Claims.{claim_tree};
+ghost use Rattle.mz_type_rules.specs.Scopes.{Scope, with_let};
+ghost use Rattle.mz_type_rules.specs.Compared.{let_trees, Names, put_into, source};
+
+use crate::claim::{Claim, Put, same_claim, same_claim_in};
+use mz_logic_theory::{Env, Expr, Exprs, Hyps};
+use mz_mmu_theory::Proof;
+use std::alloc::{AllocError, Global};
+use std::collections::BTreeMap;
+use std::marker::Model;
+
+/// A comparison is kept where it takes more turns than so many.
+const MANY_TURNS: usize = 64;
+
+/// Nothing is kept where there are more operands: it would take memory for each, and those of a conclusion are
+/// looked for among those of another.
+const MOST_OPERANDS: usize = 64;
+
+/// What a subproof proves that can be named.
+#[derive(Clone, Copy, PartialEq, Eq, PartialOrd, Ord)]
+enum Name {
+    /// A hypothesis of the theorem.
+    Hyp(u32),
+    /// What a let proves, by its number among all lets so far.
+    Let(usize),
+    /// The conclusion of an axiom or theorem, whatever is put in.
+    Cited(u32),
+}
+
+/// What was compared with which hypothesis of which axiom or theorem.
+#[derive(Clone, Copy, PartialEq, Eq, PartialOrd, Ord)]
+struct Key {
+    name: Name,
+    number: u32,
+    place: usize,
+}
+
+/// A comparison that need not be made again: where these are put in, both are the same.
+#[derive(Drop)]
+struct Kept<'t> {
+    key: Key,
+    /// The operands that were put into the hypothesis.
+    at: &'t Exprs,
+    /// The hypothesis' own variables, and a constant in place of the others.
+    own: Exprs,
+    /// What is put into the hypothesis for the pattern: its own variables again, or for a conclusion the
+    /// conclusion's variables.
+    vars: Exprs,
+}
+
+/// A let that is visible.
+#[derive(Clone, Copy)]
+struct Named<'t> {
+    claim: Claim<'t>,
+    number: usize,
+}
+
+/// The visible lets of a theorem's proof, over the statements before it and its hypotheses.
+#[derive(Drop)]
+pub(crate) struct Lets<'t> {
+    env: &'t Env,
+    hyps: &'t Hyps,
+    visible: Vec<Named<'t>>,
+    // what all lets so far prove, those that are no longer visible too
+    named: Vec<Claim<'t>>,
+    kept: Vec<Kept<'t>>,
+    // what is found here is asked of what is kept, so that nothing need be known of the map
+    places: BTreeMap<Key, usize>,
+}
+
+impl<'t> Model for Lets<'t> {
+    ghost use Rattle.mz_type_rules.specs.Scopes.{Scope, scope_code};
+
+    ghost Value = { Scope };
+
+    ghost coded = { scope_code };
+
+    ghost use Rattle.mz_type_rules.specs.Compared.{let_trees, AreNamed, AreKept};
+
+    ghost view = { λ a. record { env = a.env.now; hyps = a.hyps.now; lets = let_trees a.visible.items } };
+
+    ghost invariant = { λ a. AreNamed a.named.items a.visible.items × AreKept a.env.now a.hyps.now a.named.items a.kept.items };
+}
+
+/// The name of what the subproof proves, if it has one.
+fn name_of(visible: &[Named], proof: &Proof) -> Option<Name>
+    ensures { IfSome result (λ name. Names visible.now (proof_view proof.now) name) }
+{
+    match proof {
+        Proof::Hyp(i) => Some(Name::Hyp(*i)),
+        Proof::Name(i) => {
+            let Some(named) = visible.get(*i as usize).copied() else {
+                return None;
+            };
+            Some(Name::Let(named.number))
+        }
+        Proof::Cite(number, _, _) => Some(Name::Cited(*number)),
+        _ => None,
+    }
+}
+
+/// What the visible let at the place proves.
+fn claim_named<'t>(visible: &[Named<'t>], place: usize) -> Claim<'t>
+    requires { place < length visible.now }
+    ensures { claim_tree result ≡ operand (let_trees visible.now) place }
+{
+    visible[place].claim
+}
+
+/// What is put into the pattern.
+fn put_in_pattern<'t>(proof: &'t Proof, at: &'t Exprs) -> &'t Exprs
+    ensures { result.now ≡ put_into (proof_view proof.now) at.now }
+{
+    match proof {
+        Proof::Cite(_, es, _) => es,
+        _ => at,
+    }
+}
+
+/// The expression of which the subproof proves an instance.
+fn source_of<'t>(env: &'t Env, proof: &Proof, hyp: &'t Expr) -> Option<&'t Expr>
+    ensures { IfSome result (λ e. tree e.now ≡ source env.now (proof_view proof.now) (tree hyp.now)) }
+{
+    match proof {
+        Proof::Cite(number, _, _) => {
+            let Some(thm) = env.thm(*number) else {
+                return None;
+            };
+            Some(&thm.conclusion)
+        }
+        _ => Some(hyp),
+    }
+}
+
+/// What is kept under the key.
+fn find<'k, 't>(
+    kept: &'k [Kept<'t>],
+    places: &BTreeMap<Key, usize>,
+    key: Key,
+) -> Option<&'k Kept<'t>>
+    ensures { IfSome result (λ k. (k.now.key ≡ key) × ((i : ℕ) × (slice_get kept.now i ≡ Some k.now))) }
+{
+    let Some(place) = places.get(&key).copied() else {
+        return None;
+    };
+    let Some(found) = kept.get(place) else {
+        return None;
+    };
+    if found.key == key { Some(found) } else { None }
+}
+
+/// Whether two lists are the same, each with operands put in. False where memory runs out.
+fn same_lists(alloc: Global, es: &Exprs, own: &Exprs, at: &Exprs, vars: &Exprs) -> bool
+    ensures { IsTrue result → instances es.now own.now ≡ instances at.now vars.now }
+{
+    let left = Claim::App(0, own.as_slice(), Put::Operands(es, &[]));
+    let right = Claim::App(0, vars.as_slice(), Put::Operands(at, &[]));
+    match same_claim(alloc, left, right) {
+        Ok(same) => same,
+        Err(_) => false,
+    }
+}
+
+/// Whether the expression is the hypothesis with these put in. False where memory runs out.
+fn is_instance(alloc: Global, expr: &Expr, hyp: &Expr, vars: &Exprs) -> bool
+    ensures { IsTrue result → tree expr.now ≡ instance vars.now (tree hyp.now) }
+{
+    match same_claim(alloc, Claim::of(expr), Claim::instance(hyp, vars)) {
+        Ok(same) => same,
+        Err(_) => false,
+    }
+}
+
+/// Marks the variable at the place.
+fn mark_variable(stands: &mut [bool], place: usize) {
+    if place < stands.len() {
+        stands[place] = true;
+    }
+}
+
+/// Lets expressions wait.
+fn wait_all<'e>(waiting: &mut Vec<&'e Expr>, es: &'e [Expr]) -> Result<(), AllocError> {
+    for e in es {
+        waiting.push(e)?;
+    }
+    Ok(())
+}
+
+/// Marks the variables that stand in the expression. What is left to look at is kept in a list, since
+/// the expression may be deep.
+fn mark_variables<'e>(
+    alloc: Global,
+    expr: &'e Expr,
+    stands: &mut [bool],
+) -> Result<(), AllocError> {
+    let mut waiting: Vec<&'e Expr> = Vec::new(alloc);
+    waiting.push(expr)?;
+    // more turns than there are nodes in a text
+    for _turn in 0..u32::MAX {
+        let Some(e) = waiting.pop() else {
+            return Ok(());
+        };
+        match e {
+            Expr::Var(x) => mark_variable(stands, *x as usize),
+            Expr::App(_, es) => wait_all(&mut waiting, es.as_slice())?,
+        }
+    }
+    Ok(())
+}
+
+/// The variable with this number.
+fn variable(alloc: Global, number: usize) -> Expr {
+    match u32::try_from(number) {
+        Ok(x) => Expr::Var(x),
+        // no text has so many
+        Err(_) => Expr::App(0, Exprs::new(alloc)),
+    }
+}
+
+/// The variables that stand somewhere, and a constant in place of the others.
+fn own_list(alloc: Global, stands: &[bool]) -> Result<Exprs, AllocError> {
+    let mut own: Vec<Expr> = Vec::with_capacity(alloc, stands.len())?;
+    for i in 0..stands.len() {
+        if stands[i] {
+            own.push(variable(alloc, i))?;
+        } else {
+            own.push(Expr::App(0, Exprs::new(alloc)))?;
+        }
+    }
+    Ok(Exprs::from_vec(own))
+}
+
+/// The place at which the expression is among the operands.
+fn place_among(alloc: Global, e: &Expr, fs: &[Expr]) -> Result<Option<usize>, AllocError> {
+    for i in 0..fs.len() {
+        let same = same_claim(alloc, Claim::of(e), Claim::of(&fs[i]))?;
+        if same {
+            return Ok(Some(i));
+        }
+    }
+    Ok(None)
+}
+
+/// For each variable that stands somewhere the conclusion's variable with the same operand, and a constant
+/// in place of the others. None where one has no such variable, or there are too many operands.
+fn vars_list(
+    alloc: Global,
+    stands: &[bool],
+    es: &[Expr],
+    fs: &[Expr],
+) -> Result<Option<Exprs>, AllocError> {
+    if fs.len() > MOST_OPERANDS {
+        return Ok(None);
+    }
+    let mut vars: Vec<Expr> = Vec::with_capacity(alloc, es.len())?;
+    for i in 0..es.len() {
+        if i < stands.len() && stands[i] {
+            let Some(place) = place_among(alloc, &es[i], fs)? else {
+                return Ok(None);
+            };
+            vars.push(variable(alloc, place))?;
+        } else {
+            vars.push(Expr::App(0, Exprs::new(alloc)))?;
+        }
+    }
+    Ok(Some(Exprs::from_vec(vars)))
+}
+
+/// The lists of what is to be put in for both, if there are such ones. They are tried by the caller.
+fn lists_of(
+    alloc: Global,
+    proof: &Proof,
+    hyp: &Expr,
+    es: &Exprs,
+) -> Result<Option<(Exprs, Exprs)>, AllocError> {
+    if es.len() > MOST_OPERANDS {
+        return Ok(None);
+    }
+    let mut stands: Vec<bool> = vec![in alloc; false; es.len()]?;
+    mark_variables(alloc, hyp, &mut stands)?;
+    let own = own_list(alloc, &stands)?;
+    match proof {
+        Proof::Cite(_, fs, _) => {
+            let Some(vars) = vars_list(alloc, &stands, es.as_slice(), fs.as_slice())? else {
+                return Ok(None);
+            };
+            Ok(Some((own, vars)))
+        }
+        _ => {
+            let vars = own_list(alloc, &stands)?;
+            Ok(Some((own, vars)))
+        }
+    }
+}
+
+/// What is to be kept of a comparison, if anything is.
+fn kept_of<'t>(
+    alloc: Global,
+    env: &Env,
+    name: Name,
+    proof: &Proof,
+    number: u32,
+    place: usize,
+    hyp: &Expr,
+    es: &'t Exprs,
+) -> Option<Kept<'t>>
+    ensures key { IfSome result (λ k. k.key ≡ record { name = name; number = number; place = place }) }
+    ensures at { IfSome result (λ k. k.at.now ≡ es.now) }
+    ensures own { IfSome result (λ k. tree hyp.now ≡ instance k.own (tree hyp.now)) }
+    ensures source { IfSome result (λ k. source env.now (proof_view proof.now) (tree hyp.now) ≡ instance k.vars (tree hyp.now)) }
+{
+    let Ok(Some((own, vars))) = lists_of(alloc, proof, hyp, es) else {
+        return None;
+    };
+    let Some(from) = source_of(env, proof, hyp) else {
+        return None;
+    };
+    if !is_instance(alloc, hyp, hyp, &own) || !is_instance(alloc, from, hyp, &vars) {
+        return None;
+    }
+    Some(Kept {
+        key: Key {
+            name,
+            number,
+            place,
+        },
+        at: es,
+        own,
+        vars,
+    })
+}
+
+impl<'t> Lets<'t> {
+    /// No lets.
+    pub(crate) fn new(alloc: Global, env: &'t Env, hyps: &'t Hyps) -> Lets<'t>
+        ensures { result ≡ record { env = env.now; hyps = hyps.now; lets = none } }
+    {
+        Lets {
+            env,
+            hyps,
+            visible: Vec::new(alloc),
+            named: Vec::new(alloc),
+            kept: Vec::new(alloc),
+            places: BTreeMap::new(alloc),
+        }
+    }
+
+    /// What the visible let at the place proves.
+    pub(crate) fn at(&self, place: u32) -> Claim<'t>
+        requires { place < length (listed self.now.lets) }
+        ensures { claim_tree result ≡ operand self.now.lets place }
+    {
+        claim_named(&self.visible, place as usize)
+    }
+
+    /// Lets what is proved be visible.
+    pub(crate) fn open(&mut self, claim: Claim<'t>) -> Result<(), AllocError>
+        ensures { OnOk result (self.new ≡ with_let self.old (claim_tree claim.entry)) }
+    {
+        let number = self.named.len();
+        self.named.push(claim)?;
+        self.visible.push(Named { claim, number })?;
+        Ok(())
+    }
+
+    /// The last let is no longer visible.
+    pub(crate) fn close(&mut self)
+        ensures { (before : Scope) (e : Tree) → self.old ≡ with_let before e → self.new ≡ before }
+    {
+        self.visible.pop();
+    }
+
+    /// Whether it is known that what the subproof proves is the instance of the hypothesis.
+    fn knows(&self, alloc: Global, proof: &Proof, number: u32, place: usize, es: &Exprs) -> bool
+        ensures { IsTrue result → proved self.now.env self.now.hyps self.now.lets (proof_view proof.now) ≡ instance es.now (operand (assertion_at self.now.env number).hyps place) }
+    {
+        let Some(name) = name_of(&self.visible, proof) else {
+            return false;
+        };
+        let key = Key {
+            name,
+            number,
+            place,
+        };
+        let Some(kept) = find(&self.kept, &self.places, key) else {
+            return false;
+        };
+        let at = put_in_pattern(proof, kept.at);
+        same_lists(alloc, es, &kept.own, at, &kept.vars)
+    }
+
+    /// Keeps that what the subproof proves is the instance of the hypothesis.
+    fn keep(
+        &mut self,
+        alloc: Global,
+        proof: &Proof,
+        number: u32,
+        place: usize,
+        hyp: &Expr,
+        es: &'t Exprs,
+    )
+        requires hyp { tree hyp.now ≡ operand (assertion_at self.old.env number).hyps place }
+        requires same { proved self.old.env self.old.hyps self.old.lets (proof_view proof.now) ≡ instance es.now (tree hyp.now) }
+        ensures { self.new ≡ self.old }
+    {
+        let Some(name) = name_of(&self.visible, proof) else {
+            return;
+        };
+        let Some(kept) = kept_of(alloc, self.env, name, proof, number, place, hyp, es) else {
+            return;
+        };
+        let key = kept.key;
+        let last = self.kept.len();
+        let Ok(()) = self.kept.push(kept) else {
+            return;
+        };
+        // where this fails the comparison is made again
+        let _ = self.places.insert(key, last);
+    }
+
+    /// Whether the claim, which the subproof proves, is the instance of the hypothesis at the place of
+    /// the axiom or theorem. A long comparison is kept.
+    #[inline(never)]
+    pub(crate) fn is_hyp(
+        &mut self,
+        alloc: Global,
+        claim: Claim<'t>,
+        proof: &Proof,
+        number: u32,
+        place: usize,
+        hyp: &Expr,
+        es: &'t Exprs,
+    ) -> Result<bool, AllocError>
+        requires claim { claim_tree claim ≡ proved self.old.env self.old.hyps self.old.lets (proof_view proof.now) }
+        requires hyp { tree hyp.now ≡ operand (assertion_at self.old.env number).hyps place }
+        ensures is { IfOk result (λ is. IsTrue is ↔ (claim_tree claim.entry ≡ instance es.now (tree hyp.now))) }
+        ensures same { self.new ≡ self.old }
+    {
+        if self.knows(alloc, proof, number, place, es) {
+            return Ok(true);
+        }
+        let mut turns: usize = 0;
+        let same = same_claim_in(alloc, claim, Claim::instance(hyp, es), &mut turns)?;
+        if same && turns > MANY_TURNS {
+            self.keep(alloc, proof, number, place, hyp, es);
+        }
+        Ok(same)
+    }
+}
