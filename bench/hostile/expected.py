@@ -1,6 +1,10 @@
 """What is measured of each shape, and what is expected of it."""
 
 IN_PROPORTION = "in proportion"
+# What is called in proportion: an exponent, and bytes of memory for each byte beyond what is there for any file.
+EXPONENT, EACH, BASE = 1.15, 64, 8_000_000
+# A distinct expression of a few bytes takes a node, its operands and a place in the store's table.
+DISTINCT = 100
 STREAMS = "inherent: a citation, an unfolding and an end run their stream, within the square of the binary's bytes"
 JOINED = "a coercion within what is joined already goes over what it could reach; users have 128 sorts at most"
 
@@ -12,7 +16,7 @@ ROWS = [
     ("spectree", "verify", 160_000, JOINED),
     ("specgrid", "verify", 1_000_000, JOINED),
     ("fangoal", "verify", 2_000_000, IN_PROPORTION),
-    ("speccoercebomb", "verify", 400_000, IN_PROPORTION),
+    ("speccoercebomb", "verify", 4_000_000, IN_PROPORTION),  # its chain and its term alone have 95 KB
     ("coercebomb", "verify", 1_000_000, IN_PROPORTION),
     ("coerceleaves", "verify", 200_000, IN_PROPORTION),
     ("congbomb", "verify", 200_000, IN_PROPORTION),
@@ -62,6 +66,12 @@ ROWS = [
     ("text:tiny", "compile", 1_000_000, IN_PROPORTION),
     ("text:longname", "compile", 1_000_000, IN_PROPORTION),
 ]
+
+
+def memory_of(shape):
+    """Bytes of memory for each byte up to which a shape is in proportion."""
+    return DISTINCT if shape in ("distinct", "distinctsave") else EACH
+
 
 # Pairs that are refused, the part of the program that does so, and the rule; the others are accepted.
 REFUSED = {

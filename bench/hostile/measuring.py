@@ -6,14 +6,14 @@ import subprocess
 import sys
 
 from pages import put
+from running import instructions, shown
 
 from .command import make
-from .expected import IN_PROPORTION, ROWS, sizes
+from .expected import BASE, EXPONENT, IN_PROPORTION, ROWS, memory_of, sizes
 
 SECONDS = 10
 KILOBYTES = 2_000_000  # of address space
-# What is called in proportion: an exponent, and bytes of memory for each byte beyond what is there for any file.
-EXPONENT, EACH, BASE = 1.15, 64, 8_000_000
+COUNTED = 1  # second up to which instructions are counted, which takes some forty times as long
 FILES = ("s.mm0", "b.mmb", "s.mmu")
 USAGE, MEMORY = 2, 4  # exit numbers
 
@@ -37,7 +37,7 @@ def once(timed, words):
 
 
 def measure(program, work, timed, shape, command, size):
-    """One cell of each column: bytes, the exit number, seconds, memory."""
+    """One cell of each column: bytes, the exit number, seconds, memory, instructions where they are counted."""
     folder = os.path.join(work, "hostile.%s.%d" % (shape.replace(":", "."), size))
     if not any(os.path.exists(os.path.join(folder, name)) for name in FILES[1:]):
         make(shape, size, folder)
@@ -46,7 +46,9 @@ def measure(program, work, timed, shape, command, size):
     while len(runs) < 3 and runs[0][1] < 1:
         runs.append(once(timed, [program, *words]))
     read = sum(os.path.getsize(path) for path in words[1:] if os.path.basename(path) in FILES)
-    return {"bytes": read, "status": runs[0][0], "seconds": min(it[1] for it in runs), "memory": max(it[2] for it in runs)}
+    fewest = min(it[1] for it in runs)
+    counted = instructions([program, *words]) if fewest <= COUNTED else None
+    return {"bytes": read, "status": runs[0][0], "seconds": fewest, "memory": max(it[2] for it in runs), "instructions": counted}
 
 
 def has_ended(cell):
@@ -64,12 +66,18 @@ def row_of(program, work, timed, shape, command, largest, expected):
     return {"shape": shape, "command": command, "expected": expected, "cells": cells}
 
 
-def exponent(row):
-    """Of seconds over bytes, from the smallest to the largest file for which the run ended."""
+def exponent(row, key):
+    """Of seconds or instructions over bytes, from the smallest to the largest file for which the run ended."""
     ended = [it for it in row["cells"] if has_ended(it) and it["seconds"]]
-    if len(ended) < 2 or row["shape"] == "dag":
+    if len(ended) < 2 or row["shape"] == "dag" or not ended[0][key] or not ended[-1][key]:
         return None
-    return math.log(ended[-1]["seconds"] / ended[0]["seconds"]) / math.log(ended[-1]["bytes"] / ended[0]["bytes"])
+    return math.log(ended[-1][key] / ended[0][key]) / math.log(ended[-1]["bytes"] / ended[0]["bytes"])
+
+
+def growth(row):
+    """The exponent that is judged: of instructions where they were counted, which other work doesn't change, else of seconds."""
+    counted = exponent(row, "instructions")
+    return exponent(row, "seconds") if counted is None else counted
 
 
 def each(row):
@@ -80,8 +88,7 @@ def each(row):
 
 def is_more(row):
     """Whether it took more than in proportion, or did not end."""
-    found = exponent(row)
-    return not all(map(has_ended, row["cells"])) or (found or 0) > EXPONENT or each(row) > EACH
+    return not all(map(has_ended, row["cells"])) or (growth(row) or 0) > EXPONENT or each(row) > memory_of(row["shape"])
 
 
 def seconds(cell):
@@ -91,19 +98,20 @@ def seconds(cell):
 
 
 def line(row):
-    cells, found = row["cells"], exponent(row)
+    cells = row["cells"]
     joined = lambda form: " / ".join(map(form, cells)) or "-"
+    grown = lambda key: shown(exponent(row, key), "%.2f")
     memory = "%.0f" % each(row) if cells else "-"
     columns = [
         row["shape"], row["command"], joined(lambda it: "%d" % it["bytes"]), joined(seconds),
-        joined(lambda it: "%.0f" % (it["memory"] / 1e6)), memory, "-" if found is None else "%.2f" % found, row["expected"],
+        joined(lambda it: "%.0f" % (it["memory"] / 1e6)), memory, grown("seconds"), grown("instructions"), row["expected"],
     ]
     return "| %s |" % " | ".join(columns)
 
 
 def table(rows):
-    yield "| Shape | Command | Bytes | Seconds | Memory, MB | Memory, bytes each byte | Exponent | Expected |"
-    yield "|---|---|---|---|---|---|---|---|"
+    yield "| Shape | Command | Bytes | Seconds | Memory, MB | Memory, bytes each byte | Exponent of seconds | of instructions | Expected |"
+    yield "|---|---|---|---|---|---|---|---|---|"
     yield from map(line, rows)
 
 
@@ -111,7 +119,7 @@ def summary(rows):
     """Which rows took more than is expected of them."""
     asked = [row for row in rows if row["expected"] == IN_PROPORTION]
     more = ["%s (%s)" % (row["shape"], row["command"]) for row in asked if is_more(row)]
-    bounds = "an exponent over %.2f, over %d bytes a byte and %d MB, or a limit" % (EXPONENT, EACH, BASE // 10 ** 6)
+    bounds = "an exponent over %.2f, more memory than is said in expected.py, or a limit" % EXPONENT
     return "More than in proportion (%s): %s." % (bounds, ", ".join(more) if more else "none")
 
 

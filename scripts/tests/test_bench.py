@@ -12,6 +12,7 @@ TOP = os.path.dirname(os.path.dirname(os.path.dirname(os.path.abspath(__file__))
 sys.path.insert(0, os.path.join(TOP, "bench"))
 import aims  # noqa: E402
 import heap  # noqa: E402
+from hostile import measuring  # noqa: E402
 import pages  # noqa: E402
 import profiling  # noqa: E402
 import running  # noqa: E402
@@ -130,6 +131,15 @@ class Growth(unittest.TestCase):
         rows = [{"bytes": 10, "count": 7}, {"bytes": 20, "count": 28}]
         self.assertAlmostEqual(running.growth(rows, "count"), 2)
         self.assertIsNone(running.growth(rows[:1], "count"))
+
+    def test_hostile(self):
+        cell = lambda read, seconds, counted: {"bytes": read, "status": 0, "seconds": seconds, "memory": 0, "instructions": counted}
+        row = {"shape": "distinct", "cells": [cell(10, 0.1, 700), cell(20, 0.4, 1400)]}
+        self.assertAlmostEqual(measuring.exponent(row, "seconds"), 2)
+        self.assertAlmostEqual(measuring.growth(row), 1)
+        row["cells"][1]["instructions"] = None
+        self.assertAlmostEqual(measuring.growth(row), 2)
+        self.assertTrue(measuring.is_more(row))
 
     def test_sizes(self):
         self.assertEqual(list(running.sizes(250, 1000)), [250, 500, 1000])

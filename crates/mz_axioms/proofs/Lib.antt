@@ -14,4 +14,6 @@ pub mod Telling
 pub mod Numbering
 pub mod Listing
 pub mod Texting
+pub mod Adding
+pub mod Naming
 pub mod Gapping

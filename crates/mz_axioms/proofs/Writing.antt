@@ -47,13 +47,12 @@ low-within : (b : Bool) (base n : ℕ) → b ≡ true → All (λ A. A < n) (if 
 low-within true base n is all = all 0 0 (omega arith)
 low-within false base n is all = absurd cc
 
-pub put-low : (rows : List Row) (base word : ℕ) (old new : List ℕ) (row : Row) → word % 2 ≡ 1 → base < length rows → row ≡ get_or rows base row → new ≡ old ++ row.place.number ∷ []
-    → new ≡ old ++ map (number_of rows) (low_bit base word)
-put-low rows base word old new row odd lt read pushed =
-    pushed ∙ ap (λ xs. old ++ xs) (sym (low-put (word % 2 == 1) (number_of rows) base row.place.number (eq-eqb (word % 2) 1 odd) (ap number_in_row (slice_get-get_or rows base row lt ∙ ap (λ (r : Row). Some r) (sym read)))))
+pub low-number : (rows : List Row) (base word : ℕ) (row : Row) → word % 2 ≡ 1 → base < length rows → row ≡ get_or rows base row → map (number_of rows) (low_bit base word) ≡ row.place.number ∷ []
+low-number rows base word row odd lt read =
+    low-put (word % 2 == 1) (number_of rows) base row.place.number (eq-eqb (word % 2) 1 odd) (ap number_in_row (slice_get-get_or rows base row lt ∙ ap (λ (r : Row). Some r) (sym read)))
 
-pub put-no-low : (rows : List Row) (base word : ℕ) (old : List ℕ) → (word % 2 ≡ 1 → ⊥) → old ≡ old ++ map (number_of rows) (low_bit base word)
-put-no-low rows base word old even = sym (append-nil old) ∙ ap (λ xs. old ++ xs) (sym (low-left (word % 2 == 1) (number_of rows) base (ne_eqb (word % 2) 1 even)))
+pub low-none : (rows : List Row) (base word : ℕ) → (word % 2 ≡ 1 → ⊥) → map (number_of rows) (low_bit base word) ≡ []
+low-none rows base word even = low-left (word % 2 == 1) (number_of rows) base (ne_eqb (word % 2) 1 even)
 
 pub low-there : (base word n : ℕ) → word % 2 ≡ 1 → All (λ A. A < n) (low_bit base word) → base < n
 low-there base word n odd all = low-within (word % 2 == 1) base n (eq-eqb (word % 2) 1 odd) all
@@ -100,9 +99,8 @@ left-last rows base rest i numbers whole le left =
 
 -- ---- a set's
 
-pub put-none : (nodes : List Node) (rows : List Row) (height base set : ℕ) (old : List ℕ) → IsStore nodes → set ≡ 0 → old ≡ old ++ map (number_of rows) (members nodes height base set)
-put-none nodes rows height base set old starts none =
-    sym (append-nil old) ∙ ap (λ xs. old ++ map (number_of rows) xs) (sym (ap (members nodes height base) none ∙ none-in nodes height base starts))
+pub no-members : (nodes : List Node) (rows : List Row) (height base set : ℕ) → IsStore nodes → set ≡ 0 → map (number_of rows) (members nodes height base set) ≡ []
+no-members nodes rows height base set starts none = ap (map (number_of rows)) (ap (members nodes height base) none ∙ none-in nodes height base starts)
 
 module _ (nodes : List Node) (height set : ℕ) (some : height ≡ 0 → ⊥) (is_set : IsSet nodes height set) where
   lower : IsSet nodes (suc (height - 1)) set
@@ -122,7 +120,3 @@ module _ (nodes : List Node) (height set : ℕ) (some : height ≡ 0 → ⊥) (i
       ap (λ k. members nodes k base set) (sym (above-zero height some))
       ∙ ap (λ (x : Node). members nodes (height - 1) base x.left ++ members nodes (height - 1) (base + span (height - 1)) x.right) (node-read nodes set n lower.0 read)
       ∙ ap (λ k. members nodes (height - 1) base n.left ++ members nodes (height - 1) (base + k) n.right) (sym power)
-
-pub put-both : (f : ℕ → ℕ) (low high whole old mid new : List ℕ) → whole ≡ low ++ high → mid ≡ old ++ map f low → new ≡ mid ++ map f high → new ≡ old ++ map f whole
-put-both f low high whole old mid new is first second =
-    second ∙ ap (λ xs. xs ++ map f high) first ∙ append_assoc old (map f low) (map f high) ∙ ap (λ xs. old ++ xs) (sym (map-append f low high)) ∙ ap (λ xs. old ++ map f xs) (sym is)

@@ -8,4 +8,6 @@ pub mod Kept
 pub mod Lists
 pub mod Reading
 pub mod Text
+pub mod Pieces
+pub mod Printing
 pub mod Gaps

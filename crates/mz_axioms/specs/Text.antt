@@ -1,5 +1,5 @@
 -- What is printed of the supports (this project's own).
-use Rattle.std.specs.Prelude.{◌≡◌, ◌<◌, ◌++◌, ℕ, List, length, All, codes, flat_map}
+use Rattle.std.specs.Prelude.{◌≡◌, ◌++◌, ℕ, List, codes, flat_map}
 use Rattle.mz_spec_theory.specs.State.{Entry}
 use Rattle.mz_spec_theory.specs.Spec.{SpecMakes}
 use Rattle.mz_spec_theory.specs.Names.{name_at}
@@ -16,11 +16,6 @@ support_line text entries s = name_at text entries s.theorem ++ codes ":" ++ axi
 -- a line for each theorem
 abbrev pub supports_text : List ℕ → List Entry → List TheoremSupport → List ℕ
 supports_text text entries supports = flat_map (support_line text entries) supports
-
--- the numbers are those of declarations
-pub record IsNamed (entries : List Entry) (s : TheoremSupport) : Type 0 where
-  pub theorem : s.theorem < length entries
-  pub axioms : All (λ a. a < length entries) s.axioms
 
 -- the text of the supports of a specification's theorems
 abbrev pub IsTextOf : List ℕ → List TheoremSupport → List ℕ → Type 0

@@ -1,81 +1,102 @@
 // The text that says on what theorems rest.
-ghost use Rattle.std.specs.Prelude.{◌≡◌, ◌<◌, ◌++◌, ◌^◌, length, All, IfOk, OnOk};
+ghost use Rattle.std.specs.Prelude.{◌≡◌, ◌≤◌, ◌<◌, ◌^◌, ℕ, List, [], All, length};
+ghost use Rattle.mz_io.specs.Calls.{Grows};
+ghost use Rattle.mz_io.specs.Outside.{Rose};
 ghost use Rattle.mz_axioms.specs.Kept.{IsKept, IsSupport, support_told, supports_told};
-ghost use Rattle.mz_axioms.specs.Text.{AreOfSome, IsNamed, IsTextOf, axiom_names, support_line, supports_text};
+ghost use Rattle.mz_axioms.specs.Pieces.{Adds};
+ghost use Rattle.mz_axioms.specs.Printing.{IsPrinting};
+ghost use Rattle.mz_axioms.specs.Text.{AreOfSome, IsTextOf, support_line, supports_text};
 
+use crate::held::{put, spill};
 use crate::lists::{Lists, Support};
-use crate::numbers::numbers_of;
+use crate::names::put_names;
 use crate::rows::Table;
-use mz_cmd::Mem;
+use mz_io::{Failed, Sink};
 use mz_spec::Hashing;
-use mz_spec_names::{declared_by, put_name};
+use mz_spec_names::{declared_by, declared_name};
 use mz_spec_theory::Spec;
 use mz_store::Seed;
 use std::alloc::Global;
 
-/// A line for each theorem of the specification: its name, a colon, and for each axiom on which it
-/// rests a space and the axiom's name.
-pub fn axioms_text(alloc: Global, seed: Seed, spec: &[u8], lists: &Lists) -> Result<Vec<u8>, Mem>
-    requires small { length spec.now < 2 ^ 32 }
-    requires supports { AreOfSome spec.now lists.now }
-    ensures { IfOk result (λ text. IsTextOf spec.now lists.now text.items) }
-{
-    let declared = declared_by(alloc, Hashing::from(seed), spec)?;
-    lines(alloc, spec, &declared, &lists.table, &lists.supports)
+/// What came of writing the lines.
+#[derive(Clone, Copy, Debug, PartialEq, Eq)]
+pub enum Written {
+    /// They are written whole.
+    Done,
+    /// The sink failed: a prefix is written.
+    Fault,
+    /// Out of memory: nothing is written.
+    Mem,
 }
 
-fn lines(
+/// Writes a line for each theorem of the specification: its name, a colon, and for each axiom on which it
+/// rests a space and the axiom's name.
+pub fn write_axioms<O: Sink>(
+    alloc: Global,
+    seed: Seed,
+    spec: &[u8],
+    lists: &Lists,
+    out: &mut O,
+) -> Written
+    requires small { length spec.now < 2 ^ 32 }
+    requires supports { AreOfSome spec.now lists.now }
+    // What is written is the text, or a prefix of it where the sink fails.
+    ensures log { Grows (O.calls out.old) (O.calls out.new) (IsPrinting spec.now lists.now result) }
+
+    // A failure of the sink was counted.
+    ensures fault { result ≡ Written.Fault → Rose (O.faults out.old) (O.faults out.new) }
+    ensures later { O.faults out.old ≤ O.faults out.new }
+
+    // While no coming call is listed to fail, only a want of room fails.
+    ensures stays_clear { O.is_clear out.old → O.is_clear out.new }
+    ensures only_full { O.is_clear out.old → ((text : List ℕ) → IsTextOf spec.now lists.now text → length text ≤ O.room out.old) → O.faults out.new ≡ O.faults out.old }
+{
+    let Ok(declared) = declared_by(alloc, Hashing::from(seed), spec) else {
+        return Written::Mem;
+    };
+    match write_lines(alloc, spec, &declared, &lists.table, &lists.supports, out) {
+        Ok(()) => Written::Done,
+        Err(_) => Written::Fault,
+    }
+}
+
+/// Writes the lines. No call asks for memory but to hold pieces back, and it goes on where it gets none.
+fn write_lines<O: Sink>(
     alloc: Global,
     spec: &[u8],
     declared: &Spec,
     table: &Table,
     supports: &[Support],
-) -> Result<Vec<u8>, Mem>
+    out: &mut O,
+) -> Result<(), Failed>
     requires kept { IsKept table.now }
     requires each { All (IsSupport table.now) supports.now }
-    requires named { All (IsNamed declared.now) (supports_told table.now supports.now) }
-    ensures { IfOk result (λ text. text.items ≡ supports_text spec.now declared.now (supports_told table.now supports.now)) }
+    ensures { Adds result (O.is_clear out.old) (O.is_clear out.new) (O.room out.old) (O.room out.new) (O.faults out.old) (O.faults out.new) (O.calls out.old) (O.calls out.new)
+        [] [] (supports_text spec.now declared.now (supports_told table.now supports.now)) }
 {
-    let mut text = Vec::new(alloc);
+    let mut held = Vec::new(alloc);
     'supports: for &support in supports {
-        put_line(alloc, &mut text, spec, declared, table, support)?;
+        put_line(spec, declared, table, support, &mut held, out)?;
     }
-    Ok(text)
+    spill(&mut held, out)
 }
 
-fn put_line(
-    alloc: Global,
-    text: &mut Vec<u8>,
+/// Adds a theorem's line.
+fn put_line<O: Sink>(
     spec: &[u8],
     declared: &Spec,
     table: &Table,
     support: Support,
-) -> Result<(), Mem>
+    held: &mut Vec<u8>,
+    out: &mut O,
+) -> Result<(), Failed>
     requires kept { IsKept table.now }
     requires support { IsSupport table.now support }
-    requires named { IsNamed declared.now (support_told table.now support) }
-    ensures { OnOk result (text.new.items ≡ text.old.items ++ support_line spec.now declared.now (support_told table.now support)) }
+    ensures { Adds result (O.is_clear out.old) (O.is_clear out.new) (O.room out.old) (O.room out.new) (O.faults out.old) (O.faults out.new) (O.calls out.old) (O.calls out.new)
+        held.old.items held.new.items (support_line spec.now declared.now (support_told table.now support)) }
 {
-    let axioms = numbers_of(alloc, table, support.set)?;
-    put_name(text, spec, declared, support.theorem)?;
-    text.push(b':')?;
-    put_axioms(text, spec, declared, &axioms)?;
-    text.push(b'\n')?;
-    Ok(())
-}
-
-fn put_axioms(
-    text: &mut Vec<u8>,
-    spec: &[u8],
-    declared: &Spec,
-    axioms: &Vec<u32>,
-) -> Result<(), Mem>
-    requires { All (λ a. a < length declared.now) axioms.now.items }
-    ensures { OnOk result (text.new.items ≡ text.old.items ++ axiom_names spec.now declared.now axioms.now.items) }
-{
-    'axioms: for &axiom in axioms {
-        text.push(b' ')?;
-        put_name(text, spec, declared, axiom)?;
-    }
-    Ok(())
+    put(held, declared_name(spec, declared, support.theorem), out)?;
+    put(held, b":", out)?;
+    put_names(table, support.set, spec, declared, held, out)?;
+    put(held, b"\n", out)
 }

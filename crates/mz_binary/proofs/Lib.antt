@@ -1,3 +1,4 @@
+pub mod SharedWords
 pub mod TakenSoFar
 pub mod Answering
 pub mod Finding

@@ -1,3 +1,4 @@
 pub mod BodyRuns
 pub mod Progress
 pub mod Judging
+pub mod Remembering

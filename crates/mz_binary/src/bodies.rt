@@ -1,9 +1,10 @@
 //! Who runs the bodies of a binary.
-ghost use Rattle.std.specs.Prelude.{◌≡◌, ◌≤◌, ◌+◌, ◌-◌, ◌*◌, length};
+ghost use Rattle.std.specs.Prelude.{◌≡◌, ◌≤◌, ◌+◌, ◌-◌, ◌*◌, ℕ, List, length};
 ghost use Rattle.mz_machine_env.specs.OwnRow.{MayRun, byte_of};
 ghost use Rattle.mz_machine_theory.specs.Headings.{heading_of};
 ghost use Rattle.mz_machine_env.specs.Before.{tables_before};
 ghost use Rattle.mz_machine.specs.BodyAnswers.{UnlessMem};
+ghost use Rattle.mz_machine.specs.Rooms.{IsTidy};
 ghost use Rattle.mz_machine_theory.specs.Bodies.{body_run, body_steps};
 ghost use Rattle.mz_layout_tables.specs.Heads.{body_bytes};
 ghost use Rattle.mz_binary.specs.BodyRuns.{IsBodyRun};
@@ -14,7 +15,7 @@ use mz_base::Mode;
 use mz_binary_theory::Standard;
 use mz_cmd::Steps;
 use mz_layout_tables::{Mmb, Rows};
-use mz_machine::{BodyChecked, Room, check_body_in};
+use mz_machine::{BodyChecked, Room, check_body_after};
 use mz_machine_env::BodyKind;
 use mz_store::Seed;
 use std::alloc::Global;
@@ -29,8 +30,12 @@ pub trait Bodies: Drop {
     /// To what it holds them.
     const STANDARD: Standard;
 
+    /// What is remembered of bodies is so in the file.
+    ghost suits: { Self → List ℕ → Type 0 };
+
     /// With no room yet. The bodies' terms are numbered with the seed.
-    fn new(seed: Seed) -> Self;
+    fn new(seed: Seed) -> Self
+        ensures { (file : List ℕ) → suits result file };
 
     /// Runs the body of a statement: a body of this kind, for this row, after these rows.
     fn check_body<L: Ledger>(
@@ -46,9 +51,11 @@ pub trait Bodies: Drop {
         requires may_run { MayRun mmb.now (byte_of kind) row before }
         requires order { body.0 ≤ body.1 }
         requires within { body.1 ≤ length mmb.now }
+        requires suits { suits self.old mmb.now }
         ensures run { IsBodyRun STANDARD (body_bytes mmb.now body.0 body.1) (body_run (profile_of STANDARD) (tables_before mmb.now before) (heading_of mmb.now (byte_of kind) row) body.0 (body_bytes mmb.now body.0 body.1)) result }
         ensures most { steps.new ≤ steps.old + (body.1 - body.0) * (length mmb.now + 1) }
-        ensures steps { UnlessMem result (steps.new ≡ steps.old + body_steps (profile_of STANDARD) (tables_before mmb.now before) (heading_of mmb.now (byte_of kind) row) body.0 (body_bytes mmb.now body.0 body.1)) };
+        ensures steps { UnlessMem result (steps.new ≡ steps.old + body_steps (profile_of STANDARD) (tables_before mmb.now before) (heading_of mmb.now (byte_of kind) row) body.0 (body_bytes mmb.now body.0 body.1)) }
+        ensures suits { suits self.new mmb.now };
 }
 
 /// Finished proofs by the standard machine: the machine over trees, which lets no gap through.
@@ -59,6 +66,8 @@ pub struct StrictBodies {
 
 impl Bodies for StrictBodies {
     ghost STANDARD = { strict_standard };
+
+    ghost suits = { λ bodies file. IsTidy file bodies.room };
 
     const STANDARD: Standard = Standard::Published(Mode::Strict);
 
@@ -79,7 +88,7 @@ impl Bodies for StrictBodies {
         steps: &mut Steps<L>,
     ) -> BodyChecked {
         let room = &mut self.room;
-        check_body_in(
+        check_body_after(
             alloc,
             room,
             mmb,
@@ -102,6 +111,8 @@ pub struct DraftBodies {
 impl Bodies for DraftBodies {
     ghost STANDARD = { draft_standard };
 
+    ghost suits = { λ bodies file. IsTidy file bodies.room };
+
     const STANDARD: Standard = Standard::Published(Mode::Draft);
 
     fn new(seed: Seed) -> DraftBodies {
@@ -121,7 +132,7 @@ impl Bodies for DraftBodies {
         steps: &mut Steps<L>,
     ) -> BodyChecked {
         let room = &mut self.room;
-        check_body_in(
+        check_body_after(
             alloc,
             room,
             mmb,

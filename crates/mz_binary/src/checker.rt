@@ -9,12 +9,14 @@ ghost use Rattle.mz_machine_theory.specs.Sound.{HasGap};
 ghost use Rattle.mz_layout_tables.specs.Heads.{IsHead, body_bytes};
 ghost use Rattle.mz_binary_theory.specs.FileRun.{after_kind, file_steps, find_at, onward, run_place, RunsBody};
 ghost use Rattle.mz_binary.specs.Progress.{HasPassed, RestsOnGap, found_of, is_assertion_kind, is_theorem_kind, kind_byte, marks_past, next_steps, steps_left, most_left};
+ghost use Rattle.mz_binary.specs.Remembering.{AreRight};
 ghost use Rattle.mz_binary.specs.Judging.{IfTold, IsLeft, IsMost, IsNext};
 ghost use Rattle.mz_binary_theory.specs.Standards.{lets_gaps};
 
 use crate::bodies::Bodies;
 use crate::gaps::cites_marked;
 use crate::statement::{Found, found_at, is_local};
+use crate::words::RightWords;
 use mz_binary_theory::{Standard, Statement};
 use mz_cmd::{Mem, Refusal, StatementCode, Steps};
 use mz_layout_tables::{Fault, Head, Mmb, Rows};
@@ -35,17 +37,19 @@ pub struct Checker<'a, B: Bodies> {
     passed: u32,
     at: u32,
     gapped: Vec<bool>,
+    right: Option<RightWords>,
     bodies: B,
 }
 
 impl<'a, B: Bodies> Model for Checker<'a, B> {
     ghost use Rattle.mz_binary.specs.Progress.{Progress, IsReached};
+    ghost use Rattle.mz_binary.specs.Remembering.{AreRight};
 
     ghost Value = { Progress };
 
     ghost view = { λ c. record { standard = B.STANDARD; file = c.mmb.now; at = c.at; passed = c.passed; rows = c.rows; marks = c.gapped.items } };
 
-    ghost invariant = { λ c. IsReached (record { standard = B.STANDARD; file = c.mmb.now; at = c.at; passed = c.passed; rows = c.rows; marks = c.gapped.items }) };
+    ghost invariant = { λ c. IsReached (record { standard = B.STANDARD; file = c.mmb.now; at = c.at; passed = c.passed; rows = c.rows; marks = c.gapped.items }) × AreRight c.mmb.now c.right × B.suits c.bodies c.mmb.now };
 }
 
 /// What comes next in the list of statements.
@@ -83,6 +87,7 @@ impl<'a, B: Bodies> Checker<'a, B> {
             passed: 0,
             at,
             gapped: Vec::new(alloc),
+            right: None,
             bodies: B::new(seed),
         }
     }
@@ -94,16 +99,23 @@ impl<'a, B: Bodies> Checker<'a, B> {
         ensures most { IsMost self.entry steps.old steps.new result }
         ensures left { IsLeft self.entry result }
     {
-        match found_at(self.mmb, self.rows, self.at) {
+        let mut right = self.right;
+        match found_at(self.mmb, self.rows, self.at, &mut right) {
             Ok(Found::End) => Next::End(self.rows),
-            Ok(Found::Alone(head)) => self.past(head, false),
-            Ok(Found::WithBody(head)) => self.past_body(head, steps),
+            Ok(Found::Alone(head)) => self.past(head, false, right),
+            Ok(Found::WithBody(head)) => self.past_body(head, right, steps),
             Err(fault) => self.refused(fault),
         }
     }
 
     /// Runs the statement's body, and goes past it.
-    fn past_body<L: Ledger>(mut self, head: Head, steps: &mut Steps<L>) -> Next<'a, B>
+    fn past_body<L: Ledger>(
+        mut self,
+        head: Head,
+        right: Option<RightWords>,
+        steps: &mut Steps<L>,
+    ) -> Next<'a, B>
+        requires right { AreRight self.file right }
         requires head { IsHead self.file head }
         requires at { head.at ≡ self.at }
         requires body { find_at self.file (taken_before self.file self.rows) self.at ≡ Ok (found_of self.file self.rows (Found.WithBody head)) }
@@ -122,7 +134,7 @@ impl<'a, B: Bodies> Checker<'a, B> {
         {
             BodyChecked::Good(end) => {
                 let gap = self.rests_on_gap(head, end.sorry);
-                self.past(head, gap)
+                self.past(head, gap, right)
             }
             BodyChecked::Refused { at, rule } => self.refused((at, rule)),
             BodyChecked::Mem => Next::Mem,
@@ -145,7 +157,8 @@ impl<'a, B: Bodies> Checker<'a, B> {
     }
 
     /// Past a statement, whose body runs if it has one: whether it rests on a gap is reported, and kept as a flag.
-    fn past(self, head: Head, gap: bool) -> Next<'a, B>
+    fn past(self, head: Head, gap: bool, right: Option<RightWords>) -> Next<'a, B>
+        requires right { AreRight self.file right }
         requires head { IsHead self.file head }
         requires at { head.at ≡ self.at }
         requires runs { run_place self.standard self.file (taken_before self.file self.rows) self.at ≡ Ok (onward (after_kind self.file (taken_before self.file self.rows) head.code) head.next) }
@@ -181,6 +194,7 @@ impl<'a, B: Bodies> Checker<'a, B> {
             passed: told.number,
             at: head.next,
             gapped,
+            right,
             bodies,
         };
         Next::Statement(after, told)

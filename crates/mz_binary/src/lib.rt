@@ -11,6 +11,7 @@ mod checker;
 mod gaps;
 mod line;
 mod statement;
+mod words;
 
 pub use bodies::{Bodies, DraftBodies, StrictBodies};
 pub use check_file::{Checked, check_all};

@@ -1,13 +1,11 @@
 -- Instances made in a store, one after the other.
-use Rattle.std.proofs.Common.{ℕ, zero, suc, ◌≡◌, ◌<◌, ◌≤◌, ◌+◌, List, [], ◌∷◌, ◌++◌, length, get_or, slice_get, Some, drop, refl, ap, sym, ◌∙◌, subst, arith}
-use Rattle.std.proofs.lemmas.List.{get_or_append_left, length-append, drop_more, append_assoc}
-use Rattle.mz_logic_theory.specs.Tree.{Tree, Trees, app, none, more, followed_by, instance, instances, operand, size, trees_size}
-use Rattle.mz_logic_theory.specs.View.{tree, trees}
+use Rattle.std.proofs.Common.{ℕ, zero, suc, ◌≡◌, ◌<◌, ◌+◌, List, [], ◌∷◌, ◌++◌, length, get_or, slice_get, Some, refl, ap, sym, ◌∙◌, subst, arith}
+use Rattle.std.proofs.lemmas.List.{get_or_append_left, length-append, append_assoc}
+use Rattle.mz_logic_theory.specs.Tree.{Tree, Trees, app, none, more, followed_by, instance, instances, operand}
 use Rattle.mz_logic_theory.specs.Signature.{Signature}
 use Rattle.mz_logic_theory.specs.Sorts.{HasSort, Fits}
 use Rattle.mz_logic_theory.specs.Words.{TermWords, signature_of, signatures_of, term_at}
 use Rattle.mz_logic_theory.specs.declared.binder.Binder.{Binder}
-use Rattle.mz_logic_theory.specs.declared.expr.Expr.{Expr}
 use Rattle.mz_logic_theory.proofs.Offered.{followed_by_push}
 use Rattle.mz_store.specs.Sharing.{Shared, Sharing, tree_of, trees_of, IsIn, AreIn, Holds, IsOver, CanTake}
 use Rattle.mz_store.specs.declared.item.Id.{Id}
@@ -92,13 +90,6 @@ module _ (sigs : List Signature) (s₀ s : Sharing) (f ids : List Id) (left rest
     reach = (subst (AllInReach (length f)) cut m.reach).1;
     sorted = (subst (λ es. AreSorted sigs s₀.context (instances (trees_of s₀ f) es)) cut m.sorted).1;
   }
-
-module _ (xs : List Expr) (i : ℕ) (e : Expr) (below : i < length xs) (is : e ≡ get_or xs i e) where
-  pub trees_cut : trees (drop i xs) ≡ more (tree e) (trees (drop (i + 1) xs))
-  trees_cut = ap trees (drop_more xs i e below) ∙ ap (λ x. more (tree x) (trees (drop (i + 1) xs))) (sym is)
-
-  pub size_step : (m : ℕ) → trees_size (trees (drop i xs)) ≤ m → (size (tree e) ≤ m) × (trees_size (trees (drop (i + 1) xs)) ≤ m)
-  size_step m h = (omega (arith, ap trees_size trees_cut), omega (arith, ap trees_size trees_cut))
 
 -- ---- an operand, and what a term can take
 

@@ -16,7 +16,7 @@ ghost use Rattle.mz_emit_bodies.specs.Variables.{IsShared};
 use crate::shared::Shared;
 use crate::table::TermTable;
 use mz_cmd::Mem;
-use mz_logic_theory::{Expr, Exprs};
+use mz_logic_theory::{Expr, ExprRef, Operands, Shape};
 use mz_store::Id;
 use std::alloc::Global;
 use std::collections::BTreeMap;
@@ -46,24 +46,24 @@ pub struct Instances {
 
 /// What is left of so many nodes when those of the expression's tree are taken off.
 #[cycle(nodes_left)]
-fn nodes_left(expr: &Expr, left: u32) -> u32 {
+fn nodes_left(expr: &ExprRef, left: u32) -> u32 {
     if left == 0 {
         return 0;
     }
-    match expr {
-        Expr::Var(_) => left - 1,
-        Expr::App(_, es) => nodes_left_by_all(es, left - 1),
+    match expr.shape() {
+        Shape::Var(_) => left - 1,
+        Shape::App(_, es) => nodes_left_by_all(&es, left - 1),
     }
 }
 
 #[cycle(nodes_left)]
-fn nodes_left_by_all(es: &Exprs, most: u32) -> u32 {
+fn nodes_left_by_all(es: &Operands, most: u32) -> u32 {
     let mut left = most;
-    for e in es.as_slice() {
+    for i in 0..es.len() {
         if left == 0 {
             return 0;
         }
-        left = nodes_left(e, left);
+        left = nodes_left(&es.at(i), left);
     }
     left
 }
@@ -202,7 +202,7 @@ pub fn conclusion_id(
     ensures instances { OnOk result ((env : List Declaration) → AreInstances env shared.old.store instances.old.items.items → tree conclusion.now ≡ conclusion_of env number
         → AreInstances env shared.new.store instances.new.items.items) }
 {
-    if nodes_left(conclusion, LARGE) == 0 {
+    if nodes_left(&conclusion.lent(), LARGE) == 0 {
         large_instance(shared, table, instances, number, operands, conclusion)
     } else {
         shared.instance(table, operands, conclusion)

@@ -15,7 +15,7 @@ ghost use Rattle.mz_emit_bodies.specs.Variables.{IsShared};
 
 use crate::table::TermTable;
 use mz_cmd::Mem;
-use mz_logic_theory::{Binder, Expr, Exprs, Hyps, Terms, Word};
+use mz_logic_theory::{Binder, Expr, ExprRef, Exprs, Hyps, Operands, Shape, Terms, Word};
 use mz_mmu_theory::Vars;
 use mz_store::{DepsMode, Id, Seed, Store};
 use std::alloc::Global;
@@ -67,21 +67,21 @@ fn instance_id<T: Terms>(
     store: &mut Store,
     terms: &T,
     operands: &[Id],
-    expr: &Expr,
+    expr: &ExprRef,
 ) -> Result<Id, Mem>
     requires over { IsOver (signatures_of (T.all_terms terms.now)) store.old }
     requires ids { AreIn store.old operands.now }
-    requires there { InReach (length operands.now) (tree expr.now) }
-    requires sorted { (s : ℕ) × HasSort (signatures_of (T.all_terms terms.now)) store.old.context (instance (trees_of store.old operands.now) (tree expr.now)) s }
-    ensures holds { IfOk result (λ id. Holds store.new id.0 (instance (trees_of store.old operands.now) (tree expr.now))) }
+    requires there { InReach (length operands.now) expr.now }
+    requires sorted { (s : ℕ) × HasSort (signatures_of (T.all_terms terms.now)) store.old.context (instance (trees_of store.old operands.now) expr.now) s }
+    ensures holds { IfOk result (λ id. Holds store.new id.0 (instance (trees_of store.old operands.now) expr.now)) }
     ensures grows { OnOk result (Grows store.old store.new) }
     ensures over { OnOk result (IsOver (signatures_of (T.all_terms terms.now)) store.new) }
 {
-    match expr {
-        Expr::Var(x) => Ok(operands[*x as usize]),
-        Expr::App(t, es) => {
-            let args = instance_ids(alloc, store, terms, operands, es)?;
-            store.app(terms, *t, &args)
+    match expr.shape() {
+        Shape::Var(x) => Ok(operands[x as usize]),
+        Shape::App(t, es) => {
+            let args = instance_ids(alloc, store, terms, operands, &es)?;
+            store.app(terms, t, &args)
         }
     }
 }
@@ -93,7 +93,7 @@ fn instance_ids<T: Terms>(
     store: &mut Store,
     terms: &T,
     operands: &[Id],
-    es: &Exprs,
+    es: &Operands,
 ) -> Result<Vec<Id>, Mem>
     requires over { IsOver (signatures_of (T.all_terms terms.now)) store.old }
     requires ids { AreIn store.old operands.now }
@@ -105,8 +105,8 @@ fn instance_ids<T: Terms>(
     ensures over { OnOk result (IsOver (signatures_of (T.all_terms terms.now)) store.new) }
 {
     let mut ids = Vec::new(alloc);
-    for e in es.as_slice() {
-        let id = instance_id(alloc, store, terms, operands, e)?;
+    for i in 0..es.len() {
+        let id = instance_id(alloc, store, terms, operands, &es.at(i))?;
         ids.push(id)?;
     }
     Ok(ids)
@@ -131,7 +131,7 @@ fn instance_hyps<T: Terms>(
 {
     let mut ids = Vec::new(alloc);
     for i in 0..hyps.len() {
-        let id = instance_id(alloc, store, terms, operands, hyps.at(i))?;
+        let id = instance_id(alloc, store, terms, operands, &hyps.at(i).lent())?;
         ids.push(id)?;
     }
     Ok(ids)
@@ -180,7 +180,13 @@ impl Shared {
         ensures variables { OnOk result (self.new.variables.items ≡ self.old.variables.items) }
         ensures shared { OnOk result (IsShared (signatures_of (map words_of_row table.now.terms.items)) self.new.store self.new.variables.items) }
     {
-        let id = instance_id(self.alloc, &mut self.store, table, &self.variables, expr)?;
+        let id = instance_id(
+            self.alloc,
+            &mut self.store,
+            table,
+            &self.variables,
+            &expr.lent(),
+        )?;
         Ok(id)
     }
 
@@ -198,7 +204,13 @@ impl Shared {
         ensures variables { OnOk result (self.new.variables.items ≡ self.old.variables.items) }
         ensures shared { OnOk result (IsShared (signatures_of (map words_of_row table.now.terms.items)) self.new.store self.new.variables.items) }
     {
-        let ids = instance_ids(self.alloc, &mut self.store, table, &self.variables, es)?;
+        let ids = instance_ids(
+            self.alloc,
+            &mut self.store,
+            table,
+            &self.variables,
+            &es.lent(),
+        )?;
         Ok(ids)
     }
 
@@ -235,7 +247,7 @@ impl Shared {
         ensures variables { OnOk result (self.new.variables.items ≡ self.old.variables.items) }
         ensures shared { OnOk result (IsShared (signatures_of (map words_of_row table.now.terms.items)) self.new.store self.new.variables.items) }
     {
-        let id = instance_id(self.alloc, &mut self.store, table, operands, expr)?;
+        let id = instance_id(self.alloc, &mut self.store, table, operands, &expr.lent())?;
         Ok(id)
     }
 

@@ -1,1 +1,2 @@
 mod Owning
+mod Paths

@@ -1,6 +1,7 @@
 -- The variables that are the operands of bound parameters, and which operands may name them.
-use Rattle.std.proofs.Common.{◌≡◌, ◌∙◌, ◌<◌, ◌≤◌, ◌+◌, ◌⊎◌, ◌↔◌, ℕ, Bool, true, false, List, [], length, slice_get, Some, Contains, All, IsTrue, sym, refl, subst, inl, inr, arith, eq-or-lt_of_le, true≢false}
-use Rattle.std.specs.Prelude.{not}
+use Rattle.std.proofs.Common.{◌≡◌, ◌∙◌, ◌<◌, ◌≤◌, ◌+◌, ◌++◌, ◌∷◌, ◌⊎◌, ◌↔◌, ℕ, Bool, true, false, List, [], length, slice_get, Some, Contains, All, IsTrue, sym, refl, subst, inl, inr, arith, eq-or-lt_of_le, true≢false}
+use Rattle.std.specs.Prelude.{filter, not}
+use Rattle.std.proofs.lemmas.List.Elements.{AllZip-push}
 use Rattle.std.proofs.lemmas.Option.{slice_get_within}
 use Rattle.mz_base_theory.proofs.Offered.{contains_none, contains-decided}
 use Rattle.mz_logic_theory.specs.Tree.{Trees, var, operand}
@@ -9,7 +10,8 @@ use Rattle.mz_logic_theory.specs.Sorts.{Fits, IsBoundVar}
 use Rattle.mz_logic_theory.specs.Variables.{Apart, InV, IsBoundAt, IsOperandAt}
 use Rattle.mz_logic_theory.specs.declared.binder.Binder.{Binder}
 use Rattle.mz_logic_theory.proofs.Offered.{each_from_all, one_at, bound_operand, same-variable}
-use Rattle.mz_logic_free.proofs.Offered.{IsOther}
+use Rattle.mz_logic_free.specs.Own.{HaveOwners, is_own}
+use Rattle.mz_logic_free.proofs.Offered.{IsOther, own-owned}
 
 -- ---- owners
 
@@ -32,9 +34,24 @@ module _ (params : List Binder) (es : Trees) where
       λ h. (grows y).1 (elim h [ inl had ↦ inl had | inr (_, at) ↦ inr (same-variable y x (sym at ∙ is)) ]),
     )
 
-    pub fresh-by : (b : Bool) → IsTrue b ↔ Contains old x → IsTrue (not b) ↔ ((y : ℕ) → IsBoundAt params j → operand es j ≡ var y → Contains old y → ⊥)
-    fresh-by true (to, from) = (λ no. absurd (true≢false (sym no)), λ out. absurd (out x bound is (to refl)))
-    fresh-by false (to, from) = (λ _ y _ at had. true≢false (sym (from (subst (Contains old) (same-variable y x (sym at ∙ is)) had))), λ _. refl)
+    -- the operand of a bound one isn't there
+    abbrev pub IsFresh : Type 0
+    IsFresh = (y : ℕ) → IsBoundAt params j → operand es j ≡ var y → Contains old y → ⊥
+
+    module _ (had : Contains old x) where
+      pub owns-old : (y : ℕ) → Contains old y ↔ (Contains old y ⊎ Owns j y)
+      owns-old = owns-more old (λ y. (inl, λ h. elim h [ inl at ↦ at | inr same ↦ subst (Contains old) (sym same) had ]))
+
+      pub stale : IsTrue false ↔ IsFresh
+      stale = (λ no. absurd (true≢false (sym no)), λ out. absurd (out x bound is had))
+
+    pub fresh : (Contains old x → ⊥) → IsTrue true ↔ IsFresh
+    fresh off = (λ _ y _ at had. off (subst (Contains old) (same-variable y x (sym at ∙ is)) had), λ _. refl)
+
+    pub have-more : (owners new more : List ℕ) → HaveOwners params es old owners → new ≡ old ++ x ∷ [] → more ≡ owners ++ j ∷ [] → HaveOwners params es new more
+    have-more owners new more have new-is more-is =
+        subst (λ ys. HaveOwners params es ys more) (sym new-is)
+        (subst (HaveOwners params es (old ++ x ∷ [])) (sym more-is) (AllZip-push (λ y k. IsBoundAt params k × (operand es k ≡ var y)) old owners x j have (bound, is)))
 
   -- ---- parameters one after another
 
@@ -117,16 +134,20 @@ module _ (params : List Binder) (es : Trees) where
   abbrev pub IsOwn : Binder → ℕ → ℕ → Type 0
   IsOwn p i x = IsOperandAt params es p.deps x ⊎ Owns i x
 
-  -- gathered from those of the others and its own one
-  pub own-gathered : (i : ℕ) (p : Binder) (old first its : List ℕ) → old ≡ [] → ((x : ℕ) → Contains first x ↔ (Contains old x ⊎ IsOperandAt params es p.deps x))
-      → ((x : ℕ) → Contains its x ↔ (Contains first x ⊎ Owns i x)) → (x : ℕ) → Contains its x ↔ IsOwn p i x
-  own-gathered i p old first its empty covers grows x = (
-    λ has. elim ((grows x).0 has) [
-      | inl had ↦ elim ((covers x).0 had) [ inl absent ↦ absurd (contains_none x (subst (λ (ys : List ℕ). Contains ys x) empty absent)) | inr op ↦ inl op ]
-      | inr owns ↦ inr owns
-    ],
-    λ own. (grows x).1 (elim own [ inl op ↦ inl ((covers x).1 (inr op)) | inr owns ↦ inr owns ]),
-  )
+  -- told by the place of its owner
+  pub own-tested : Single → (i : ℕ) (p : Binder) (owned owners its : List ℕ) → HaveOwners params es owned owners → its ≡ filter (is_own owned owners i p.deps) owned
+      → (x : ℕ) → Contains owned x → Contains its x ↔ IsOwn p i x
+  own-tested single i p owned owners its have is x has =
+      let (q, bound, at, (to, from)) = own-owned owned owners i p.deps x params es have has in (
+        λ own. elim (to (subst (λ (ys : List ℕ). Contains ys x) is own)) [
+          | inl same ↦ inr (subst (λ n. Owns n x) same (bound, at))
+          | inr dep ↦ inl (q, dep, bound, at)
+        ],
+        λ own. subst (λ (ys : List ℕ). Contains ys x) (sym is) (from (elim own [
+          | inl (j, dep, j-bound, j-is) ↦ inr (subst (Contains p.deps) (single j q x j-bound j-is bound at) dep)
+          | inr (i-bound, i-is) ↦ inl (single q i x bound at i-bound i-is)
+        ])),
+      )
 
   module _ (ctx : List Binder) (owned : List ℕ) where
     -- of the variables that are owned, the i-th operand names its own alone
@@ -134,15 +155,15 @@ module _ (params : List Binder) (es : Trees) where
     NamesOwn i = (x : ℕ) (p : Binder) → slice_get params i ≡ Some p → InV ctx x (operand es i) → Contains owned x → IsOwn p i x
 
     -- reported by a set of its own
-    module _ (i : ℕ) (p : Binder) (at : slice_get params i ≡ Some p) (its : List ℕ) (own : (x : ℕ) → Contains its x ↔ IsOwn p i x) where
+    module _ (i : ℕ) (p : Binder) (at : slice_get params i ≡ Some p) (its : List ℕ) (own : (x : ℕ) → Contains owned x → Contains its x ↔ IsOwn p i x) where
       pub own-by : (b : Bool) → IsTrue b ↔ ((x : ℕ) × IsOther owned its x × InV ctx x (operand es i)) → IsTrue (not b) ↔ NamesOwn i
       own-by true (to, from) = (
         λ no. absurd (true≢false (sym no)),
-        λ names. absurd (let (x, other, named) = to refl in other.1 ((own x).1 (names x p at named other.0))),
+        λ names. absurd (let (x, other, named) = to refl in other.1 ((own x other.0).1 (names x p at named other.0))),
       )
       own-by false (to, from) = (
         λ _ x q at' named has. elim (contains-decided its x) [
-          | inl had ↦ subst (λ (r : Binder). IsOwn r i x) (one_at at at') ((own x).0 had)
+          | inl had ↦ subst (λ (r : Binder). IsOwn r i x) (one_at at at') ((own x has).0 had)
           | inr out ↦ absurd (true≢false (sym (from (x, (has, out), named))))
         ],
         λ _. refl,

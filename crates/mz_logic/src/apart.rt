@@ -1,5 +1,7 @@
 // Whether operands are apart, in one walk over each of them.
-ghost use Rattle.std.specs.Prelude.{◌≡◌, ◌↔◌, ◌⊎◌, ◌<◌, [], ℕ, IsTrue, IfOk, OnOk, All, Contains, Some, slice_get, true, length};
+ghost use Rattle.std.specs.Prelude.{◌≡◌, ◌↔◌, ◌⊎◌, ◌<◌, ◌++◌, ◌∷◌, [], ℕ, IsTrue, IfOk, OnOk, All, Contains, Some, slice_get, true, length};
+ghost use Rattle.mz_logic_free.specs.Narrowed.{AreNarrowed};
+ghost use Rattle.mz_logic_free.specs.Own.{HaveOwners};
 ghost use Rattle.mz_logic_theory.specs.Declaration.{signatures};
 ghost use Rattle.mz_logic_theory.specs.Sorts.{Fits};
 ghost use Rattle.mz_logic_theory.specs.Tree.{operand, var};
@@ -7,7 +9,7 @@ ghost use Rattle.mz_logic_theory.specs.Variables.{Apart, InV, IsBoundAt, IsOpera
 ghost use Rattle.mz_logic_theory.specs.declared.binder.Binder.{Binder as Param};
 
 use crate::disjoint::are_apart_by_pairs;
-use mz_logic_free::{VariableSet, add_bound_operands, bound_operand, names_other};
+use mz_logic_free::{Narrowed, Own, VariableSet, bound_operand, names_other};
 use mz_logic_theory::{Binder, Context, Env, Exprs};
 use std::alloc::{AllocError, Global};
 
@@ -28,10 +30,11 @@ pub fn are_apart(
     ensures { IfOk result (λ apart. IsTrue apart ↔ Apart ctx.now es.now params.now) }
 {
     let mut owned = VariableSet::new(alloc);
-    are_apart_with(alloc, env, ctx, es, params, &mut owned)
+    let mut owners = Vec::new(alloc);
+    are_apart_with(alloc, env, ctx, es, params, &mut owned, &mut owners)
 }
 
-/// The same, with a set for the operands of the bound parameters.
+/// The same, with room for the operands of the bound parameters and the places of these.
 fn are_apart_with(
     alloc: Global,
     env: &Env,
@@ -39,14 +42,17 @@ fn are_apart_with(
     es: &Exprs,
     params: &[Binder],
     owned: &mut VariableSet,
+    owners: &mut Vec<u32>,
 ) -> Result<bool, AllocError>
     requires fits { Fits (signatures env.now) ctx.now es.now params.now }
     requires empty { owned.old ≡ [] }
+    requires none { owners.old.items ≡ [] }
     ensures { IfOk result (λ apart. IsTrue apart ↔ Apart ctx.now es.now params.now) }
 {
-    let single = gather_owned(params, es, owned)?;
+    let single = gather_owned(params, es, owned, owners)?;
     if single {
-        return all_name_own(alloc, ctx, es, params, owned);
+        let narrowed = Narrowed::of(alloc, ctx, es, owned)?;
+        return Ok(all_name_own(ctx, es, params, owned, owners.as_slice(), &narrowed));
     }
     if all_stand_alone(params) {
         return Ok(false);
@@ -54,15 +60,23 @@ fn are_apart_with(
     Ok(are_apart_by_pairs(env, ctx, es, params))
 }
 
-/// Gathers the operands of the bound parameters. Whether no two of these have the same one.
-fn gather_owned(params: &[Binder], es: &Exprs, owned: &mut VariableSet) -> Result<bool, AllocError>
-    requires { owned.old ≡ [] }
+/// Gathers the operands of the bound parameters, and beside each the place of its parameter. Whether no two
+/// of these have the same one.
+fn gather_owned(
+    params: &[Binder],
+    es: &Exprs,
+    owned: &mut VariableSet,
+    owners: &mut Vec<u32>,
+) -> Result<bool, AllocError>
+    requires empty { owned.old ≡ [] }
+    requires none { owners.old.items ≡ [] }
     ensures has { IfOk result (λ single. single ≡ true → (x : ℕ) → Contains owned.new x ↔ ((j : ℕ) × IsBoundAt params.now j × (operand es.now j ≡ var x))) }
     ensures single { IfOk result (λ single. IsTrue single
         ↔ ((j k x : ℕ) → IsBoundAt params.now j → operand es.now j ≡ var x → IsBoundAt params.now k → operand es.now k ≡ var x → j ≡ k)) }
+    ensures owners { OnOk result (HaveOwners params.now es.now owned.new owners.new.items) }
 {
     for j in 0..params.len() {
-        let fresh = add_owned(params, es, j, owned)?;
+        let fresh = add_owned(params, es, j, owned, owners)?;
         if !fresh {
             return Ok(false);
         }
@@ -70,24 +84,53 @@ fn gather_owned(params: &[Binder], es: &Exprs, owned: &mut VariableSet) -> Resul
     Ok(true)
 }
 
-/// Adds the operand of the j-th parameter, if this one is bound. Whether it wasn't there.
+/// Adds the operand of the j-th parameter, if this one is bound and it isn't there. Whether it wasn't there.
 fn add_owned(
     params: &[Binder],
     es: &Exprs,
     j: usize,
     owned: &mut VariableSet,
+    owners: &mut Vec<u32>,
 ) -> Result<bool, AllocError>
+    requires { HaveOwners params.now es.now owned.old owners.old.items }
     ensures has { OnOk result ((x : ℕ) → Contains owned.new x ↔ (Contains owned.old x ⊎ (IsBoundAt params.now j × (operand es.now j ≡ var x)))) }
     ensures fresh { IfOk result (λ fresh. IsTrue fresh ↔ ((x : ℕ) → IsBoundAt params.now j → operand es.now j ≡ var x → Contains owned.old x → ⊥)) }
+    ensures owners { OnOk result (HaveOwners params.now es.now owned.new owners.new.items) }
 {
     match bound_operand(params, es, j) {
         None => Ok(true),
         Some(x) => {
             let fresh = !owned.has(x);
-            owned.add(x)?;
-            Ok(fresh)
+            if !fresh {
+                return Ok(false);
+            }
+            add_last(x, j, owned, owners)?;
+            Ok(true)
         }
     }
+}
+
+/// Adds a variable that isn't there, and beside it the place of its owner.
+///
+/// # Errors
+///
+/// Where there is no memory, as there is none for 2^32 parameters.
+fn add_last(
+    x: u32,
+    owner: usize,
+    owned: &mut VariableSet,
+    owners: &mut Vec<u32>,
+) -> Result<(), AllocError>
+    requires { Contains owned.old x → ⊥ }
+    ensures has { OnOk result ((y : ℕ) → Contains owned.new y ↔ (Contains owned.old y ⊎ (y ≡ x))) }
+    ensures owned { OnOk result (owned.new ≡ owned.old ++ x ∷ []) }
+    ensures owners { OnOk result (owners.new.items ≡ owners.old.items ++ owner ∷ []) }
+{
+    let Ok(owner) = u32::try_from(owner) else {
+        return Err(AllocError);
+    };
+    owners.push(owner)?;
+    owned.add(x)
 }
 
 /// Whether no bound parameter depends on others, as in each legal statement.
@@ -112,58 +155,51 @@ fn stands_alone(param: &Binder) -> bool
 /// Whether each operand names, of the variables that bound parameters have as operands, its own
 /// alone: what it is itself, and the operands of those on which its parameter depends.
 fn all_name_own(
-    alloc: Global,
     ctx: &Context,
     es: &Exprs,
     params: &[Binder],
     owned: &VariableSet,
-) -> Result<bool, AllocError>
-    ensures { IfOk result (λ own. IsTrue own
+    owners: &[u32],
+    narrowed: &Narrowed,
+) -> bool
+    requires narrowed { AreNarrowed ctx.now owned.now narrowed.now }
+    requires owners { HaveOwners params.now es.now owned.now owners.now }
+    requires single { (j k x : ℕ) → IsBoundAt params.now j → operand es.now j ≡ var x → IsBoundAt params.now k → operand es.now k ≡ var x → j ≡ k }
+    ensures { IsTrue result
         ↔ ((i x : ℕ) (p : Param) → slice_get params.now i ≡ Some p → InV ctx.now x (operand es.now i) → Contains owned.now x
-        → IsOperandAt params.now es.now p.deps x ⊎ (IsBoundAt params.now i × (operand es.now i ≡ var x)))) }
+        → IsOperandAt params.now es.now p.deps x ⊎ (IsBoundAt params.now i × (operand es.now i ≡ var x))) }
 {
     if owned.is_empty() {
-        return Ok(true);
+        return true;
     }
     for i in 0..params.len() {
-        let alone = names_own(alloc, ctx, es, params, i, owned)?;
-        if !alone {
-            return Ok(false);
+        if !names_own(ctx, es, params, i, owned, owners, narrowed) {
+            return false;
         }
     }
-    Ok(true)
+    true
 }
 
 /// The same of the i-th operand.
 fn names_own(
-    alloc: Global,
     ctx: &Context,
     es: &Exprs,
     params: &[Binder],
     i: usize,
     owned: &VariableSet,
-) -> Result<bool, AllocError>
-    requires { i < length params.now }
-    ensures { IfOk result (λ own. IsTrue own
-        ↔ ((x : ℕ) (p : Param) → slice_get params.now i ≡ Some p → InV ctx.now x (operand es.now i) → Contains owned.now x
-        → IsOperandAt params.now es.now p.deps x ⊎ (IsBoundAt params.now i × (operand es.now i ≡ var x)))) }
-{
-    let mut own = VariableSet::new(alloc);
-    add_own(params, es, i, &mut own)?;
-    Ok(!operand_names_other(ctx, es, i, owned, &own))
-}
-
-/// Adds what the i-th operand may name: what it is itself, if its parameter is bound, and the
-/// operands of the bound ones on which this depends.
-fn add_own(params: &[Binder], es: &Exprs, i: usize, own: &mut VariableSet) -> Result<(), AllocError>
+    owners: &[u32],
+    narrowed: &Narrowed,
+) -> bool
     requires within { i < length params.now }
-    requires empty { own.old ≡ [] }
-    ensures { OnOk result ((p : Param) × (slice_get params.now i ≡ Some p)
-        × ((x : ℕ) → Contains own.new x ↔ (IsOperandAt params.now es.now p.deps x ⊎ (IsBoundAt params.now i × (operand es.now i ≡ var x))))) }
+    requires narrowed { AreNarrowed ctx.now owned.now narrowed.now }
+    requires owners { HaveOwners params.now es.now owned.now owners.now }
+    requires single { (j k x : ℕ) → IsBoundAt params.now j → operand es.now j ≡ var x → IsBoundAt params.now k → operand es.now k ≡ var x → j ≡ k }
+    ensures { IsTrue result
+        ↔ ((x : ℕ) (p : Param) → slice_get params.now i ≡ Some p → InV ctx.now x (operand es.now i) → Contains owned.now x
+        → IsOperandAt params.now es.now p.deps x ⊎ (IsBoundAt params.now i × (operand es.now i ≡ var x))) }
 {
-    add_bound_operands(params, es, &params[i].deps, own)?;
-    add_owned(params, es, i, own)?;
-    Ok(())
+    let own = Own::new(owned, owners, i, &params[i].deps);
+    !operand_names_other(ctx, es, i, owned, &own, narrowed)
 }
 
 /// Whether one of the variables, but for its own ones, is in V of the i-th operand.
@@ -172,12 +208,14 @@ fn operand_names_other(
     es: &Exprs,
     i: usize,
     variables: &VariableSet,
-    own: &VariableSet,
+    own: &Own<'_>,
+    narrowed: &Narrowed,
 ) -> bool
+    requires { AreNarrowed ctx.now variables.now narrowed.now }
     ensures { IsTrue result ↔ ((x : ℕ) × (Contains variables.now x × (Contains own.now x → ⊥)) × InV ctx.now x (operand es.now i)) }
 {
     match es.get(i) {
         None => false,
-        Some(e) => names_other(ctx, e, variables, own),
+        Some(e) => names_other(ctx, e, variables, own, narrowed),
     }
 }

@@ -6,7 +6,7 @@ ghost use Rattle.mz_logic_theory.specs.Variables.{Apart, ApartAt, InV};
 ghost use Rattle.mz_logic_theory.specs.Tree.{listed, operand};
 
 use crate::vars::{has_place, in_tree};
-use mz_logic_theory::{Binder, Context, Env, Expr, Exprs};
+use mz_logic_theory::{Binder, Context, Env, Exprs, Shape};
 
 /// Whether operands that fit the parameters are apart: where the operand of a bound parameter is in
 /// V of another operand, the other one's parameter depends on it. Each pair of operands is looked at.
@@ -63,9 +63,12 @@ fn is_apart_from(
     if !params[j].bound || i == j || has_place(&params[i].deps, j) {
         return true;
     }
-    match es.get(j) {
-        Some(Expr::Var(x)) => !is_in_operand(env, ctx, es, i, *x),
-        _ => true,
+    let Some(operand) = es.get(j) else {
+        return true;
+    };
+    match operand.shape() {
+        Shape::Var(x) => !is_in_operand(env, ctx, es, i, x),
+        Shape::App(_, _) => true,
     }
 }
 

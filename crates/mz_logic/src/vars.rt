@@ -7,7 +7,10 @@ ghost use Rattle.mz_logic_theory.specs.Variables.{InV, InSomeV, InFV, InSomeFV, 
 ghost use Rattle.mz_logic_theory.specs.Tree.{var, operand, listed};
 ghost use Rattle.mz_logic_theory.specs.View.{tree};
 
-use mz_logic_theory::{Binder, Binders, Context, Deps, Env, Expr, Exprs, TermDecl, is_bound_at};
+use mz_logic_theory::{
+    Binder, Binders, Context, Deps, Env, Expr, ExprKind, ExprRef, Exprs, Operands, Shape, TermDecl,
+    is_bound_at,
+};
 
 /// Whether the bound variable `x` of the context is in V, the variables of the expression.
 pub fn in_all_vars(env: &Env, ctx: &Binders, expr: &Expr, x: u32) -> bool
@@ -23,9 +26,10 @@ pub(crate) fn in_tree(env: &Env, ctx: &Context, expr: &Expr, x: usize) -> bool
     requires { InRange (signatures env.now) (length ctx.now) (tree expr.now) }
     ensures { IsTrue result ↔ InV ctx.now x (tree expr.now) }
 {
-    match expr {
-        Expr::Var(y) => in_variable(ctx, *y, x),
-        Expr::App(_, es) => in_some_tree(env, ctx, es, x),
+    match expr.kind() {
+        ExprKind::Var(y) => in_variable(ctx, *y, x),
+        ExprKind::App(_, es) => in_some_tree(env, ctx, es, x),
+        ExprKind::Under(_, e) => in_tree(env, ctx, e, x),
     }
 }
 
@@ -81,37 +85,36 @@ pub fn in_free_vars(env: &Env, ctx: &Binders, expr: &Expr, x: u32) -> bool
     requires { (s : ℕ) × HasSort (signatures env.now) ctx.now (tree expr.now) s }
     ensures { IsTrue result ↔ InFV (signatures env.now) ctx.now x (tree expr.now) }
 {
-    in_free_tree(env, &Context::of(ctx), expr, x as usize)
+    in_free_tree(env, &Context::of(ctx), &expr.lent(), x as usize)
 }
 
 /// The same over a context of parameters and dummies.
 #[cycle(in_free_tree)]
-fn in_free_tree(env: &Env, ctx: &Context, expr: &Expr, x: usize) -> bool
-    requires { InRange (signatures env.now) (length ctx.now) (tree expr.now) }
-    ensures { IsTrue result ↔ InFV (signatures env.now) ctx.now x (tree expr.now) }
+fn in_free_tree(env: &Env, ctx: &Context, expr: &ExprRef, x: usize) -> bool
+    requires { InRange (signatures env.now) (length ctx.now) expr.now }
+    ensures { IsTrue result ↔ InFV (signatures env.now) ctx.now x expr.now }
 {
-    match expr {
-        Expr::Var(y) => in_variable(ctx, *y, x),
-        Expr::App(t, es) => match env.term(*t) {
+    match expr.shape() {
+        Shape::Var(y) => in_variable(ctx, y, x),
+        Shape::App(t, es) => match env.term(t) {
             None => unreachable!(),
             Some(term) => {
                 let params = term.params.as_slice();
-                in_some_free_tree(env, ctx, es, params, x)
-                    || is_operand_at(params, es, &term.result.deps, x)
+                in_some_free_tree(env, ctx, &es, params, x)
+                    || is_operand_at(params, &es, &term.result.deps, x)
             }
         },
     }
 }
 
 #[cycle(in_free_tree)]
-fn in_some_free_tree(env: &Env, ctx: &Context, es: &Exprs, params: &[Binder], x: usize) -> bool
+fn in_some_free_tree(env: &Env, ctx: &Context, es: &Operands, params: &[Binder], x: usize) -> bool
     requires there { AllInRange (signatures env.now) (length ctx.now) es.now }
     requires many { length (listed es.now) ≡ length params.now }
     ensures { IsTrue result ↔ InSomeFV (signatures env.now) ctx.now x params.now es.now params.now es.now }
 {
-    let items = es.as_slice();
-    for i in 0..items.len() {
-        if is_free_operand(env, ctx, es, params, &params[i], &items[i], x) {
+    for i in 0..es.len() {
+        if is_free_operand(env, ctx, es, params, &params[i], &es.at(i), x) {
             return true;
         }
     }
@@ -123,20 +126,20 @@ fn in_some_free_tree(env: &Env, ctx: &Context, es: &Exprs, params: &[Binder], x:
 fn is_free_operand(
     env: &Env,
     ctx: &Context,
-    es: &Exprs,
+    es: &Operands,
     params: &[Binder],
     param: &Binder,
-    operand: &Expr,
+    operand: &ExprRef,
     x: usize,
 ) -> bool
-    requires { InRange (signatures env.now) (length ctx.now) (tree operand.now) }
-    ensures { IsTrue result ↔ IsFreeOperand (signatures env.now) ctx.now x params.now es.now param.now (tree operand.now) }
+    requires { InRange (signatures env.now) (length ctx.now) operand.now }
+    ensures { IsTrue result ↔ IsFreeOperand (signatures env.now) ctx.now x params.now es.now param.now operand.now }
 {
     !param.bound && !is_operand_at(params, es, &param.deps, x) && in_free_tree(env, ctx, operand, x)
 }
 
 /// Whether the variable `x` is the operand of a bound parameter at one of the places.
-fn is_operand_at(params: &[Binder], es: &Exprs, places: &Deps, x: usize) -> bool
+fn is_operand_at(params: &[Binder], es: &Operands, places: &Deps, x: usize) -> bool
     ensures { IsTrue result ↔ IsOperandAt params.now es.now places.now x }
 {
     for place in places.as_slice() {
@@ -148,22 +151,22 @@ fn is_operand_at(params: &[Binder], es: &Exprs, places: &Deps, x: usize) -> bool
 }
 
 /// Whether the variable `x` is the operand at the place.
-fn is_variable_at(es: &Exprs, place: usize, x: usize) -> bool
+fn is_variable_at(es: &Operands, place: usize, x: usize) -> bool
     ensures { IsTrue result ↔ (operand es.now place ≡ var x) }
 {
     match es.get(place) {
         None => false,
-        Some(e) => is_variable(e, x),
+        Some(e) => is_variable(&e, x),
     }
 }
 
 /// Whether the expression is the variable `x`.
-fn is_variable(expr: &Expr, x: usize) -> bool
-    ensures { IsTrue result ↔ (tree expr.now ≡ var x) }
+fn is_variable(expr: &ExprRef, x: usize) -> bool
+    ensures { IsTrue result ↔ (expr.now ≡ var x) }
 {
-    match expr {
-        Expr::Var(y) => *y as usize == x,
-        Expr::App(_, _) => false,
+    match expr.shape() {
+        Shape::Var(y) => y as usize == x,
+        Shape::App(_, _) => false,
     }
 }
 
@@ -204,5 +207,5 @@ fn is_free(env: &Env, ctx: &Context, expr: &Expr, x: usize) -> bool
     if !ctx.is_bound(x) {
         return false;
     }
-    in_free_tree(env, ctx, expr, x)
+    in_free_tree(env, ctx, &expr.lent(), x)
 }

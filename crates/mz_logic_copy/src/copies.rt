@@ -4,7 +4,8 @@ ghost use Rattle.mz_logic_theory.specs.DeclView.{declaration, form, term_view, a
 ghost use Rattle.mz_logic_theory.specs.View.{tree};
 
 use mz_logic_theory::{
-    Binder, Binders, Decl, Expr, Exprs, Hyps, ResultType, TermDecl, TermForm, ThmDecl,
+    Binder, Binders, Decl, Expr, Exprs, Hyps, Operands, ResultType, Shape, TermDecl, TermForm,
+    ThmDecl,
 };
 use std::alloc::{AllocError, Global};
 
@@ -14,7 +15,7 @@ struct Outer<'e> {
     copies: Exprs,
     term: u32,
     // behind the application
-    left: &'e [Expr],
+    left: Operands<'e>,
 }
 
 /// Copies of the expressions.
@@ -25,31 +26,41 @@ struct Outer<'e> {
 pub fn copies_of(alloc: Global, es: &Exprs) -> Result<Exprs, AllocError>
     ensures { IfOk result (λ copies. copies ≡ es.now) }
 {
+    copies_of_operands(alloc, &es.lent())
+}
+
+/// The same of expressions that are lent: paths are written out.
+fn copies_of_operands(alloc: Global, es: &Operands) -> Result<Exprs, AllocError>
+    ensures { IfOk result (λ copies. copies ≡ es.now) }
+{
     let mut outers: Vec<Outer> = Vec::new(alloc);
     let mut copies = Exprs::with_capacity(alloc, es.len())?;
-    let mut left = es.as_slice();
+    let (path, exprs) = es.parts();
+    let mut left = Operands::over(path, exprs);
     'copying: loop {
         match left.split_first() {
-            Some((Expr::Var(x), rest)) => {
-                copies.push(Expr::Var(*x))?;
-                left = rest;
-            }
-            Some((Expr::App(term, operands), rest)) => {
-                outers.push(Outer {
-                    copies,
-                    term: *term,
-                    left: rest,
-                })?;
-                copies = Exprs::with_capacity(alloc, operands.len())?;
-                left = operands.as_slice();
-            }
+            Some((expr, rest)) => match expr.shape() {
+                Shape::Var(x) => {
+                    copies.push(Expr::var(x))?;
+                    left = rest;
+                }
+                Shape::App(term, operands) => {
+                    outers.push(Outer {
+                        copies,
+                        term,
+                        left: rest,
+                    })?;
+                    copies = Exprs::with_capacity(alloc, operands.len())?;
+                    left = operands;
+                }
+            },
             None => {
                 let Some(outer) = outers.pop() else {
                     return Ok(copies);
                 };
                 let operands = copies;
                 copies = outer.copies;
-                copies.push(Expr::App(outer.term, operands))?;
+                copies.push(Expr::app(outer.term, operands))?;
                 left = outer.left;
             }
         }
@@ -64,11 +75,11 @@ pub fn copies_of(alloc: Global, es: &Exprs) -> Result<Exprs, AllocError>
 pub fn copy_of(alloc: Global, expr: &Expr) -> Result<Expr, AllocError>
     ensures { IfOk result (λ copy. tree copy ≡ tree expr.now) }
 {
-    match expr {
-        Expr::Var(x) => Ok(Expr::Var(*x)),
-        Expr::App(term, operands) => {
-            let copies = copies_of(alloc, operands)?;
-            Ok(Expr::App(*term, copies))
+    match expr.shape() {
+        Shape::Var(x) => Ok(Expr::var(x)),
+        Shape::App(term, operands) => {
+            let copies = copies_of_operands(alloc, &operands)?;
+            Ok(Expr::app(term, copies))
         }
     }
 }

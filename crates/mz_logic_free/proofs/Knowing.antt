@@ -1,13 +1,16 @@
 -- What is covered and known while operands are gone through.
-use Rattle.std.proofs.Common.{◌≡◌, ◌∙◌, ◌++◌, ◌⊎◌, ◌↔◌, ℕ, List, [], length, take, slice_get, Some, Contains, Bool, IsTrue, true, false, ap, sym, subst, inl, inr, append_assoc, append-nil}
+use Rattle.std.proofs.Common.{◌≡◌, ◌∙◌, ◌++◌, ◌<◌, ◌+◌, ◌-◌, ◌⊎◌, ◌↔◌, ℕ, List, [], length, take, get_or, slice_get, Some, Contains, Bool, IsTrue, true, false, ap, sym, subst, inl, inr, append_assoc, append-nil, arith, true≢false}
+use Rattle.std.specs.Option.{option_map_or}
 use Rattle.std.proofs.Math.Seq.{take-append_seam}
 use Rattle.std.proofs.lemmas.List.Elements.{Contains-append_left}
+use Rattle.std.proofs.lemmas.Option.{slice_get-get_or}
 use Rattle.mz_base_theory.proofs.Offered.{contains_none}
+use Rattle.mz_logic_theory.specs.Alike.{deps_at}
 use Rattle.mz_logic_theory.specs.Tree.{Trees, var}
 use Rattle.mz_logic_theory.specs.Variables.{InV, IsOperandAt}
 use Rattle.mz_logic_theory.specs.declared.binder.Binder.{Binder}
 use Rattle.mz_logic_theory.proofs.Offered.{one_at}
-use Rattle.mz_logic_free.specs.Known.{AreKnown, BindsAnew, LearntMore}
+use Rattle.mz_logic_free.specs.Known.{AreKnown, BindsAnew, IsBoundBefore, LearntMore}
 
 -- one that was looked at is known too
 pub known-more : (ctx : List Binder) (C K L : List ℕ) (y : ℕ) → AreKnown ctx C K → ((x : ℕ) → InV ctx x (var y) → Contains C x) → ((z : ℕ) → Contains L z ↔ (Contains K z ⊎ (z ≡ y))) → AreKnown ctx C L
@@ -23,6 +26,25 @@ told-by ctx x y b at (c, at', is) = subst (λ (d : Binder). ((d.bound ≡ true) 
 pub told-of : (ctx : List Binder) (y : ℕ) (b : Binder) → Some b ≡ slice_get ctx y → (C : List ℕ) (is : Bool)
     → IsTrue is ↔ ((x : ℕ) → ((b.bound ≡ true) × (x ≡ y)) ⊎ ((b.bound ≡ false) × Contains b.deps x) → Contains C x) → IsTrue is ↔ ((x : ℕ) → InV ctx x (var y) → Contains C x)
 told-of ctx y b at C is (to, from) = (λ yes x free. to yes x (told-by ctx x y b at free), λ all. from (λ x tells. all x (b, sym at, tells)))
+
+-- ---- parameters one after another
+
+-- the one that is read at a place
+pub param-at : (ps qs : List Binder) (i : ℕ) (p : Binder) → qs ≡ ps → i < length qs → p ≡ get_or qs i p → slice_get ps i ≡ Some p
+param-at ps qs i p same below is = ap (λ xs. slice_get xs i) (sym same) ∙ slice_get-get_or qs i p below ∙ ap Some (sym is)
+
+pub deps-of : (ps : List Binder) (i : ℕ) (p : Binder) → slice_get ps i ≡ Some p → deps_at ps i ≡ p.deps
+deps-of ps i p at = ap (λ o. option_map_or (λ (b : Binder). b.deps) o []) at
+
+module _ (ps : List Binder) (i : ℕ) (p : Binder) (at : slice_get ps i ≡ Some p) where
+  back : i + 1 - 1 ≡ i
+  back = omega arith
+
+  pub bound-next : (bound : List ℕ) → bound ≡ p.deps → IsBoundBefore ps (i + 1) bound
+  bound-next bound is b _ before _ = is ∙ ap (λ (c : Binder). c.deps) (one_at at (subst (λ k. slice_get ps k ≡ Some b) back before))
+
+  pub bound-passed : (bound : List ℕ) → p.bound ≡ true → IsBoundBefore ps (i + 1) bound
+  bound-passed bound is b _ before regular = absurd (true≢false (sym is ∙ ap (λ (c : Binder). c.bound) (one_at at (subst (λ k. slice_get ps k ≡ Some b) back before)) ∙ regular))
 
 -- ---- beside what is covered and known outside
 
@@ -55,13 +77,13 @@ module _ (ctx params : List Binder) (es : Trees) (outside before : List ℕ) whe
   first-covered n covered more many is = ap (λ k. take k covered) many ∙ ap (take (length outside)) is ∙ take-append_seam outside more
 
   -- the operand of the next parameter
-  pub inside-bound : (bound places : List ℕ) (n m : ℕ) (covered known covered' known' : List ℕ) → m ≡ length outside → Inside bound n covered known
-      → ((bound ≡ places) × (covered' ≡ covered) × (known' ≡ known)) ⊎ BindsAnew params es places (take m covered) (take n known) covered' known' → Inside places n covered' known'
-  inside-bound bound places n m covered known covered' known' many so (inl (same, covered-is, known-is)) =
-      subst (λ b. Inside b n covered' known') same (subst (λ c. Inside bound n c known') (sym covered-is) (subst (Inside bound n covered) (sym known-is) so))
-  inside-bound bound places n m covered known covered' known' many so (inr (over, has, known-is)) = record {
+  pub inside-bound : (ps : List Binder) → ps ≡ params → (bound places : List ℕ) (alike : Bool) → (IsTrue alike → bound ≡ places) → (n m : ℕ) (covered known covered' known' : List ℕ) → m ≡ length outside
+      → Inside bound n covered known → ((alike ≡ true) × (covered' ≡ covered) × (known' ≡ known)) ⊎ BindsAnew ps es places (take m covered) (take n known) covered' known' → Inside places n covered' known'
+  inside-bound ps ps-is bound places alike says n m covered known covered' known' many so (inl (held, covered-is, known-is)) =
+      subst (λ b. Inside b n covered' known') (says held) (subst (λ c. Inside bound n c known') (sym covered-is) (subst (Inside bound n covered) (sym known-is) so))
+  inside-bound ps ps-is bound places alike says n m covered known covered' known' many so (inr (over, has, known-is)) = record {
     over = (over.0, grown);
-    has = subst (λ c. (x : ℕ) → Contains covered' x ↔ (Contains c x ⊎ IsOperandAt params es places x)) same has;
+    has = subst (λ qs. (x : ℕ) → Contains covered' x ↔ (Contains outside x ⊎ IsOperandAt qs es places x)) ps-is (subst (λ c. (x : ℕ) → Contains covered' x ↔ (Contains c x ⊎ IsOperandAt ps es places x)) same has);
     looked = λ y at x free. subst (λ c. Contains c x) (sym grown) (Contains-append_left outside over.0 x (learnt.0 y (subst (λ k. Contains k y) known-is at) x free));
     kept = (known', [], long, sym (append-nil known'), subst (LearntMore ctx outside before) (sym known-is) learnt);
   }

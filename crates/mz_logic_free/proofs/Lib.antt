@@ -1,4 +1,6 @@
 mod Walking
 mod Knowing
 mod Sharing
+mod Owners
+mod Narrowing
 pub mod Offered

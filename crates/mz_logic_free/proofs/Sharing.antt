@@ -1,12 +1,12 @@
 -- Whether expressions name one of many variables.
 use Rattle.std.proofs.Common.{◌≡◌, ◌∙◌, ◌<◌, ◌+◌, ◌⊎◌, ◌↔◌, ℕ, List, [], ◌∷◌, length, drop, get_or, slice_get, Some, None, Contains, Bool, true, false, IsTrue, ap, sym, subst, inl, inr, arith}
 use Rattle.mz_base_theory.proofs.Offered.{drop-item, contains_tail, contains_head, contains_cases}
-use Rattle.mz_logic_theory.specs.Tree.{Tree, Trees, var, none, more}
+use Rattle.mz_logic_theory.specs.Tree.{Tree, Trees, var, none, more, under}
 use Rattle.mz_logic_theory.specs.Variables.{InV, InSomeV}
 use Rattle.mz_logic_theory.specs.View.{tree, trees}
 use Rattle.mz_logic_theory.specs.declared.binder.Binder.{Binder}
 use Rattle.mz_logic_theory.specs.declared.expr.Expr.{Expr}
-use Rattle.mz_logic_theory.proofs.Offered.{one_at}
+use Rattle.mz_logic_theory.proofs.Offered.{in_v-under, one_at}
 
 -- of the variables that are sought, one is in V of one of the expressions
 abbrev pub SomeName : List Binder → (ℕ → Type 0) → Trees → Type 0
@@ -50,6 +50,13 @@ module _ (ctx : List Binder) (P : ℕ → Type 0) (es fs : Trees) (e : Tree) (cu
     λ (x, has, behind). whole.0 (x, has, inr behind),
     λ w. (let (x, has, free) = whole.1 w in elim free [ inl here ↦ absurd (out (x, has, here)) | inr behind ↦ (x, has, behind) ]),
   )
+
+-- terms of one parameter name nothing
+pub names-under : (ctx : List Binder) (P : ℕ → Type 0) (ts : List ℕ) (e : Tree) (W : Type 0) → W ↔ Names ctx P e → W ↔ Names ctx P (under ts e)
+names-under ctx P ts e W (to, from) = (
+  λ w. (let (x, has, here) = to w in (x, has, (in_v-under ctx x ts e).1 here)),
+  λ (x, has, here). from (x, has, (in_v-under ctx x ts e).0 here),
+)
 
 pub names-none : (ctx : List Binder) (P : ℕ → Type 0) (es : Trees) (W : Type 0) → es ≡ none → SomeName ctx P es ↔ W → W → ⊥
 names-none ctx P es W empty left w = (let (x, has, free) = (subst (λ ys. SomeName ctx P ys ↔ W) empty left).1 w in free)

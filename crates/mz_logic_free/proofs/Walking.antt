@@ -96,6 +96,13 @@ insert-has x p is ks new made y = go (list_any p ks) refl made
       ]),
     )
 
+pub insert-last : (x : ℕ) (p : ℕ → Bool) → ((k : ℕ) → p k ≡ true → x ≡ k) → (ks new : List ℕ) → new ≡ (if list_any p ks then ks else ks ++ x ∷ []) → (Contains ks x → ⊥) → new ≡ ks ++ x ∷ []
+insert-last x p is ks new made out = go (list_any p ks) refl made
+  where
+    go : (b : Bool) → list_any p ks ≡ b → new ≡ (if b then ks else ks ++ x ∷ []) → new ≡ ks ++ x ∷ []
+    go true any made = absurd (out (any-to x p is ks any))
+    go false any made = made
+
 -- ---- an application
 
 module _ (params : List Binder) (es : Trees) (covered : List ℕ) where

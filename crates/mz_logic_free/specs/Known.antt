@@ -1,5 +1,5 @@
 -- What a walk over an expression remembers.
-use Rattle.std.specs.Prelude.{◌≡◌, ◌↔◌, ◌⊎◌, ◌++◌, ℕ, List, Contains}
+use Rattle.std.specs.Prelude.{◌≡◌, ◌↔◌, ◌⊎◌, ◌++◌, ◌<◌, ◌-◌, ℕ, List, Contains, Some, false, slice_get}
 use Rattle.mz_logic_theory.specs.Tree.{Trees, var}
 use Rattle.mz_logic_theory.specs.Variables.{InV, IsOperandAt}
 use Rattle.mz_logic_theory.specs.declared.binder.Binder.{Binder}
@@ -18,3 +18,7 @@ BindsAnew params es places outside known_outside covered known =
     ((more : List ℕ) × (covered ≡ outside ++ more))
     × ((x : ℕ) → Contains covered x ↔ (Contains outside x ⊎ IsOperandAt params es places x))
     × (known ≡ known_outside)
+
+-- where a regular parameter stands before the i-th one, what this depends on is bound
+abbrev pub IsBoundBefore : List Binder → ℕ → List ℕ → Type 0
+IsBoundBefore params i bound = (b : Binder) → 0 < i → slice_get params (i - 1) ≡ Some b → b.bound ≡ false → bound ≡ b.deps

@@ -1,15 +1,19 @@
 // The free variables of an expression, in one walk over it.
 ghost use Rattle.std.specs.Prelude.{◌≡◌, ◌↔◌, ◌⊎◌, ◌<◌, ◌++◌, ℕ, List, true, IsTrue, IfOk, OnOk, All, Contains, MatchOption, [], false, length, take};
+ghost use Rattle.mz_logic_theory.specs.Alike.{deps_at};
 ghost use Rattle.mz_logic_theory.specs.Declaration.{signatures};
 ghost use Rattle.mz_logic_theory.specs.Legality.{InRange, AllInRange};
 ghost use Rattle.mz_logic_theory.specs.Sorts.{HasSort};
 ghost use Rattle.mz_logic_theory.specs.Tree.{listed, operand, var};
 ghost use Rattle.mz_logic_theory.specs.Variables.{InV, InFV, InSomeFV, IsBoundAt, IsFreeOperand, IsOperandAt};
 ghost use Rattle.mz_logic_theory.specs.View.{tree};
-ghost use Rattle.mz_logic_free.specs.Known.{AreKnown, BindsAnew, LearntMore};
+ghost use Rattle.mz_logic_free.specs.Known.{AreKnown, BindsAnew, IsBoundBefore, LearntMore};
 
+use crate::narrowed::is_quick;
 use crate::variables::VariableSet;
-use mz_logic_theory::{Binder, Context, Deps, Env, Expr, Exprs, is_bound_at};
+use mz_logic_theory::{
+    Binder, Binders, Context, Deps, Env, Expr, ExprRef, Exprs, Operands, Shape, is_bound_at,
+};
 use std::alloc::{AllocError, Global};
 
 /// Whether the places hold all variables of FV of the expression.
@@ -28,7 +32,7 @@ pub fn free_vars_are_among(
     ensures { IfOk result (λ are. IsTrue are ↔ ((x : ℕ) → InFV (signatures env.now) ctx.now x (tree expr.now) → Contains places.now x)) }
 {
     let mut covered = Covered::of(alloc, places)?;
-    covers(env, ctx, expr, &mut covered)
+    covers(env, ctx, &expr.lent(), &mut covered)
 }
 
 /// The variables that are covered, and of the regular ones those that were looked at: all on which these
@@ -64,23 +68,28 @@ impl Covered {
 /// Whether all free variables of the expression are covered. Where they are, the same ones are covered
 /// afterwards, and more may be known.
 #[cycle(covers)]
-fn covers(env: &Env, ctx: &Context, expr: &Expr, covered: &mut Covered) -> Result<bool, AllocError>
-    requires there { InRange (signatures env.now) (length ctx.now) (tree expr.now) }
+fn covers(
+    env: &Env,
+    ctx: &Context,
+    expr: &ExprRef,
+    covered: &mut Covered,
+) -> Result<bool, AllocError>
+    requires there { InRange (signatures env.now) (length ctx.now) expr.now }
     requires known { AreKnown ctx.now covered.old.variables covered.old.known }
-    ensures answer { IfOk result (λ b. IsTrue b ↔ ((x : ℕ) → InFV (signatures env.now) ctx.now x (tree expr.now) → Contains covered.old.variables x)) }
+    ensures answer { IfOk result (λ b. IsTrue b ↔ ((x : ℕ) → InFV (signatures env.now) ctx.now x expr.now → Contains covered.old.variables x)) }
     ensures same { IfOk result (λ b. b ≡ true → covered.new.variables ≡ covered.old.variables) }
     ensures known { IfOk result (λ b. b ≡ true → LearntMore ctx.now covered.old.variables covered.old.known covered.new.known) }
 {
-    match expr {
-        Expr::Var(y) => covers_variable(ctx, *y, covered),
-        Expr::App(t, es) => match env.term(*t) {
+    match expr.shape() {
+        Shape::Var(y) => covers_variable(ctx, y, covered),
+        Shape::App(t, es) => match env.term(t) {
             None => unreachable!(),
             Some(term) => {
                 let params = term.params.as_slice();
-                if !covers_bound_operands(params, es, &term.result.deps, &covered.variables) {
+                if !covers_bound_operands(params, &es, &term.result.deps, &covered.variables) {
                     return Ok(false);
                 }
-                covers_operands(env, ctx, es, params, covered)
+                covers_operands(env, ctx, &es, &term.params, covered)
             }
         },
     }
@@ -92,8 +101,8 @@ fn covers(env: &Env, ctx: &Context, expr: &Expr, covered: &mut Covered) -> Resul
 fn covers_operands(
     env: &Env,
     ctx: &Context,
-    es: &Exprs,
-    params: &[Binder],
+    es: &Operands,
+    params: &Binders,
     covered: &mut Covered,
 ) -> Result<bool, AllocError>
     requires there { AllInRange (signatures env.now) (length ctx.now) es.now }
@@ -106,14 +115,15 @@ fn covers_operands(
     let outside = covered.variables.len();
     let mut known = covered.known.len();
     let mut bound: &[u32] = &[];
-    let items = es.as_slice();
-    for i in 0..items.len() {
-        let param = &params[i];
-        let operand = &items[i];
+    let binders = params.as_slice();
+    for i in 0..es.len() {
+        let param = &binders[i];
+        let operand = es.at(i);
         if !param.bound {
-            bind(params, es, bound, &param.deps, outside, known, covered)?;
+            let alike = binds_as_before(params, i, bound, &param.deps);
+            bind(binders, es, alike, &param.deps, outside, known, covered)?;
             bound = param.deps.as_slice();
-            let holds = covers(env, ctx, operand, covered)?;
+            let holds = covers(env, ctx, &operand, covered)?;
             if !holds {
                 return Ok(false);
             }
@@ -124,21 +134,47 @@ fn covers_operands(
     Ok(true)
 }
 
+/// Whether the i-th parameter, which depends on these places, binds what is bound before. Those that share
+/// them aren't compared.
+fn binds_as_before(params: &Binders, i: usize, before: &[u32], places: &Deps) -> bool
+    requires within { i < length params.now }
+    requires before { IsBoundBefore params.now i before.now }
+    requires places { deps_at params.now i ≡ places.now }
+    ensures { IsTrue result → before.now ≡ places.now }
+{
+    if shares_with_regular(params, i) {
+        return true;
+    }
+    before == places.as_slice()
+}
+
+/// Whether the i-th parameter shares what it depends on with the one before it, which is a regular one.
+fn shares_with_regular(params: &Binders, i: usize) -> bool
+    requires { i < length params.now }
+    ensures { IsTrue result → (before : List ℕ) → IsBoundBefore params.now i before → before ≡ deps_at params.now i }
+{
+    if i == 0 {
+        return false;
+    }
+    let previous = &params.as_slice()[i - 1];
+    !previous.bound && params.shares_with_previous(i)
+}
+
 /// Covers the operands of the bound parameters at these places in place of those of others, unless they
-/// are the same.
+/// are alike.
 fn bind(
     params: &[Binder],
-    es: &Exprs,
-    before: &[u32],
+    es: &Operands,
+    alike: bool,
     places: &Deps,
     outside: usize,
     known: usize,
     covered: &mut Covered,
 ) -> Result<(), AllocError>
-    ensures { OnOk result (((before.now ≡ places.now) × (covered.new.variables ≡ covered.old.variables) × (covered.new.known ≡ covered.old.known))
+    ensures { OnOk result (((alike ≡ true) × (covered.new.variables ≡ covered.old.variables) × (covered.new.known ≡ covered.old.known))
         ⊎ BindsAnew params.now es.now places.now (take outside covered.old.variables) (take known covered.old.known) covered.new.variables covered.new.known) }
 {
-    if before == places.as_slice() {
+    if alike {
         return Ok(());
     }
     covered.truncate(outside, known);
@@ -183,11 +219,6 @@ fn covers_variable(ctx: &Context, y: u32, covered: &mut Covered) -> Result<bool,
     }
 }
 
-/// Whether to look at what the variable depends on takes no longer than to remember it.
-fn is_quick(binder: &Binder) -> bool {
-    binder.bound || binder.deps.as_slice().len() < 8
-}
-
 /// Whether a variable with this binder is covered, or all that it depends on.
 fn covers_binder(binder: &Binder, y: u32, covered: &VariableSet) -> bool
     ensures { IsTrue result ↔ ((x : ℕ) → (((binder.now.bound ≡ true) × (x ≡ y)) ⊎ ((binder.now.bound ≡ false) × Contains binder.now.deps x)) → Contains covered.now x) }
@@ -214,7 +245,7 @@ fn covers_places(places: &Deps, covered: &VariableSet) -> bool
 /// Whether the operands of the bound parameters at these places are covered.
 fn covers_bound_operands(
     params: &[Binder],
-    es: &Exprs,
+    es: &Operands,
     places: &Deps,
     covered: &VariableSet,
 ) -> bool
@@ -229,19 +260,24 @@ fn covers_bound_operands(
 }
 
 /// The same at one place.
-fn covers_bound_operand(params: &[Binder], es: &Exprs, place: usize, covered: &VariableSet) -> bool
+fn covers_bound_operand(
+    params: &[Binder],
+    es: &Operands,
+    place: usize,
+    covered: &VariableSet,
+) -> bool
     ensures { IsTrue result ↔ ((x : ℕ) → IsBoundAt params.now place → operand es.now place ≡ var x → Contains covered.now x) }
 {
-    match bound_operand(params, es, place) {
+    match lent_bound_operand(params, es, place) {
         Some(x) => covered.has(x),
         None => true,
     }
 }
 
 /// Adds the operands of the bound parameters at these places.
-pub fn add_bound_operands(
+fn add_bound_operands(
     params: &[Binder],
-    es: &Exprs,
+    es: &Operands,
     places: &Deps,
     variables: &mut VariableSet,
 ) -> Result<(), AllocError>
@@ -249,7 +285,7 @@ pub fn add_bound_operands(
     ensures has { OnOk result ((x : ℕ) → Contains variables.new x ↔ (Contains variables.old x ⊎ IsOperandAt params.now es.now places.now x)) }
 {
     for place in places.as_slice() {
-        if let Some(x) = bound_operand(params, es, *place as usize) {
+        if let Some(x) = lent_bound_operand(params, es, *place as usize) {
             variables.add(x)?;
         }
     }
@@ -260,6 +296,13 @@ pub fn add_bound_operands(
 pub fn bound_operand(params: &[Binder], es: &Exprs, place: usize) -> Option<u32>
     ensures { MatchOption result ((x : ℕ) → IsBoundAt params.now place → operand es.now place ≡ var x → ⊥) (λ x. IsBoundAt params.now place × (operand es.now place ≡ var x)) }
 {
+    lent_bound_operand(params, &es.lent(), place)
+}
+
+/// The same of operands that are lent.
+fn lent_bound_operand(params: &[Binder], es: &Operands, place: usize) -> Option<u32>
+    ensures { MatchOption result ((x : ℕ) → IsBoundAt params.now place → operand es.now place ≡ var x → ⊥) (λ x. IsBoundAt params.now place × (operand es.now place ≡ var x)) }
+{
     if !is_bound_at(params, place) {
         return None;
     }
@@ -267,21 +310,21 @@ pub fn bound_operand(params: &[Binder], es: &Exprs, place: usize) -> Option<u32>
 }
 
 /// The variable that the operand at the place is, if it is one.
-fn variable_at(es: &Exprs, place: usize) -> Option<u32>
+fn variable_at(es: &Operands, place: usize) -> Option<u32>
     ensures { MatchOption result ((x : ℕ) → operand es.now place ≡ var x → ⊥) (λ x. operand es.now place ≡ var x) }
 {
     match es.get(place) {
         None => None,
-        Some(e) => variable_of(e),
+        Some(e) => variable_of(&e),
     }
 }
 
 /// The variable that the expression is, if it is one.
-fn variable_of(expr: &Expr) -> Option<u32>
-    ensures { MatchOption result ((x : ℕ) → tree expr.now ≡ var x → ⊥) (λ x. tree expr.now ≡ var x) }
+fn variable_of(expr: &ExprRef) -> Option<u32>
+    ensures { MatchOption result ((x : ℕ) → expr.now ≡ var x → ⊥) (λ x. expr.now ≡ var x) }
 {
-    match expr {
-        Expr::Var(y) => Some(*y),
-        Expr::App(_, _) => None,
+    match expr.shape() {
+        Shape::Var(y) => Some(y),
+        Shape::App(_, _) => None,
     }
 }

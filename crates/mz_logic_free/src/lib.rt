@@ -4,8 +4,12 @@
 
 mod free;
 mod named;
+mod narrowed;
+mod own;
 mod variables;
 
-pub use free::{add_bound_operands, bound_operand, free_vars_are_among};
+pub use free::{bound_operand, free_vars_are_among};
 pub use named::{names_other, some_name_any};
+pub use narrowed::Narrowed;
+pub use own::Own;
 pub use variables::VariableSet;

@@ -1,11 +1,14 @@
 // Whether expressions name one of many variables, in one walk over them.
-ghost use Rattle.std.specs.Prelude.{◌≡◌, ◌↔◌, ◌⊎◌, ℕ, IsTrue, Contains, true, false};
+ghost use Rattle.std.specs.Prelude.{◌≡◌, ◌↔◌, ◌⊎◌, ℕ, List, IsTrue, Contains, true, false};
 ghost use Rattle.mz_logic_theory.specs.Tree.{var};
 ghost use Rattle.mz_logic_theory.specs.Variables.{InV, InSomeV};
 ghost use Rattle.mz_logic_theory.specs.View.{tree};
+ghost use Rattle.mz_logic_free.specs.Narrowed.{AreNarrowed};
 
+use crate::narrowed::Narrowed;
+use crate::own::Own;
 use crate::variables::VariableSet;
-use mz_logic_theory::{Binder, Context, Deps, Expr, Exprs};
+use mz_logic_theory::{Binder, Context, Deps, Expr, ExprKind, Exprs};
 use std::alloc::Global;
 
 /// Whether one of the variables is in V of one of the expressions.
@@ -15,17 +18,27 @@ pub fn some_name_any(alloc: Global, ctx: &Context, es: &Exprs, variables: &Varia
     if variables.is_empty() {
         return false;
     }
-    let own = VariableSet::new(alloc);
-    some_name_other(ctx, es, variables, &own)
+    let none = VariableSet::new(alloc);
+    let others = Deps::new();
+    let own = Own::new(&none, &[], 0, &others);
+    let narrowed = Narrowed::of_or_none(alloc, ctx, es, variables);
+    some_name_other(ctx, es, variables, &own, &narrowed)
 }
 
 /// Whether one of the variables, but for those that are `own`, is in V of one of the expressions.
 #[cycle(names_other)]
-fn some_name_other(ctx: &Context, es: &Exprs, variables: &VariableSet, own: &VariableSet) -> bool
+fn some_name_other(
+    ctx: &Context,
+    es: &Exprs,
+    variables: &VariableSet,
+    own: &Own<'_>,
+    narrowed: &Narrowed,
+) -> bool
+    requires { AreNarrowed ctx.now variables.now narrowed.now }
     ensures { IsTrue result ↔ ((x : ℕ) × (Contains variables.now x × (Contains own.now x → ⊥)) × InSomeV ctx.now x es.now) }
 {
     for e in es.as_slice() {
-        if names_other(ctx, e, variables, own) {
+        if names_other(ctx, e, variables, own, narrowed) {
             return true;
         }
     }
@@ -34,43 +47,65 @@ fn some_name_other(ctx: &Context, es: &Exprs, variables: &VariableSet, own: &Var
 
 /// The same of one expression.
 #[cycle(names_other)]
-pub fn names_other(ctx: &Context, expr: &Expr, variables: &VariableSet, own: &VariableSet) -> bool
+pub fn names_other(
+    ctx: &Context,
+    expr: &Expr,
+    variables: &VariableSet,
+    own: &Own<'_>,
+    narrowed: &Narrowed,
+) -> bool
+    requires { AreNarrowed ctx.now variables.now narrowed.now }
     ensures { IsTrue result ↔ ((x : ℕ) × (Contains variables.now x × (Contains own.now x → ⊥)) × InV ctx.now x (tree expr.now)) }
 {
-    match expr {
-        Expr::Var(y) => variable_names_other(ctx, *y, variables, own),
-        Expr::App(_, es) => some_name_other(ctx, es, variables, own),
+    match expr.kind() {
+        ExprKind::Var(y) => variable_names_other(ctx, *y, variables, own, narrowed),
+        ExprKind::App(_, es) => some_name_other(ctx, es, variables, own, narrowed),
+        ExprKind::Under(_, e) => names_other(ctx, e, variables, own, narrowed),
     }
 }
 
 /// The same of the variable `y`.
-fn variable_names_other(ctx: &Context, y: u32, variables: &VariableSet, own: &VariableSet) -> bool
+fn variable_names_other(
+    ctx: &Context,
+    y: u32,
+    variables: &VariableSet,
+    own: &Own<'_>,
+    narrowed: &Narrowed,
+) -> bool
+    requires { AreNarrowed ctx.now variables.now narrowed.now }
     ensures { IsTrue result ↔ ((x : ℕ) × (Contains variables.now x × (Contains own.now x → ⊥)) × InV ctx.now x (var y)) }
 {
     match ctx.get(y) {
         None => false,
-        Some(binder) => binder_names_other(binder, y, variables, own),
+        Some(binder) => binder_names_other(binder, y, variables, own, narrowed),
     }
 }
 
 /// The same of the variable `y` with this binder.
-fn binder_names_other(binder: &Binder, y: u32, variables: &VariableSet, own: &VariableSet) -> bool
+fn binder_names_other(
+    binder: &Binder,
+    y: u32,
+    variables: &VariableSet,
+    own: &Own<'_>,
+    narrowed: &Narrowed,
+) -> bool
+    requires { (few : List ℕ) → Contains narrowed.now (y, few) → (x : ℕ) → Contains variables.now x → Contains few x ↔ Contains binder.now.deps x }
     ensures { IsTrue result
         ↔ ((x : ℕ) × (Contains variables.now x × (Contains own.now x → ⊥)) × (((binder.now.bound ≡ true) × (x ≡ y)) ⊎ ((binder.now.bound ≡ false) × Contains binder.now.deps x))) }
 {
     if binder.bound {
         is_other(y, variables, own)
     } else {
-        has_other(&binder.deps, variables, own)
+        has_other(narrowed.places(y, &binder.deps), variables, own)
     }
 }
 
-/// Whether one of the variables, but for those that are `own`, is at one of the places. Of the variables and
-/// the places, those are gone through that are fewer.
-fn has_other(places: &Deps, variables: &VariableSet, own: &VariableSet) -> bool
+/// Whether one of the variables, but for those that are `own`, is at one of the places. The places are gone
+/// through, each looked up in a set, or the variables, each searched for, where they are much fewer.
+fn has_other(places: &Deps, variables: &VariableSet, own: &Own<'_>) -> bool
     ensures { IsTrue result ↔ ((x : ℕ) × (Contains variables.now x × (Contains own.now x → ⊥)) × Contains places.now x) }
 {
-    if variables.len() < places.as_slice().len() {
+    if variables.len() < places.as_slice().len() / 8 {
         return has_one_of(places, variables.as_slice(), own);
     }
     for place in places.as_slice() {
@@ -82,7 +117,7 @@ fn has_other(places: &Deps, variables: &VariableSet, own: &VariableSet) -> bool
 }
 
 /// Whether one of the variables, but for those that are `own`, is at one of the places.
-fn has_one_of(places: &Deps, variables: &[u32], own: &VariableSet) -> bool
+fn has_one_of(places: &Deps, variables: &[u32], own: &Own<'_>) -> bool
     ensures { IsTrue result ↔ ((x : ℕ) × ((Contains own.now x → ⊥) × Contains places.now x) × Contains variables.now x) }
 {
     for x in variables {
@@ -94,14 +129,14 @@ fn has_one_of(places: &Deps, variables: &[u32], own: &VariableSet) -> bool
 }
 
 /// Whether the variable is at one of the places and none that is `own`.
-fn is_at_other(x: u32, places: &Deps, own: &VariableSet) -> bool
+fn is_at_other(x: u32, places: &Deps, own: &Own<'_>) -> bool
     ensures { IsTrue result ↔ ((Contains own.now x → ⊥) × Contains places.now x) }
 {
-    !own.has(x) && places.has(x)
+    places.has(x) && !own.has(x)
 }
 
 /// Whether this is one of the variables, and none that is `own`.
-fn is_other(x: u32, variables: &VariableSet, own: &VariableSet) -> bool
+fn is_other(x: u32, variables: &VariableSet, own: &Own<'_>) -> bool
     ensures { IsTrue result ↔ (Contains variables.now x × (Contains own.now x → ⊥)) }
 {
     variables.has(x) && !own.has(x)

@@ -1,5 +1,5 @@
 // Sets of variables, for what goes over expressions.
-ghost use Rattle.std.specs.Prelude.{◌≡◌, ◌↔◌, ◌⊎◌, ◌++◌, [], ℕ, List, IsTrue, IfOk, OnOk, Contains, length, take};
+ghost use Rattle.std.specs.Prelude.{◌≡◌, ◌==◌, ◌↔◌, ◌⊎◌, ◌++◌, ◌∷◌, [], ℕ, List, IsTrue, IfOk, OnOk, Contains, length, position, take};
 
 use indexmap::IndexSet;
 use mz_logic_theory::Deps;
@@ -62,6 +62,13 @@ impl VariableSet {
         self.places.contains(&x)
     }
 
+    /// Which of them in order the variable is, if it is one.
+    pub(crate) fn place_of(&self, x: u32) -> Option<usize>
+        ensures { result ≡ position (λ y. x == y) self.now }
+    {
+        self.places.get_index_of(&x)
+    }
+
     /// The variables in order.
     pub(crate) fn as_slice(&self) -> &[u32]
         ensures { result.now ≡ self.now }
@@ -77,6 +84,7 @@ impl VariableSet {
     pub fn add(&mut self, x: u32) -> Result<(), AllocError>
         ensures grows { OnOk result ((more : List ℕ) × (self.new ≡ self.old ++ more)) }
         ensures has { OnOk result ((y : ℕ) → Contains self.new y ↔ (Contains self.old y ⊎ (y ≡ x))) }
+        ensures last { OnOk result ((Contains self.old x → ⊥) → self.new ≡ self.old ++ x ∷ []) }
     {
         self.places.insert(x)?;
         Ok(())

@@ -1,5 +1,5 @@
 -- Places among the dependencies, and binders that depend on the same as the ones before them.
-use Rattle.std.proofs.Common.{ℕ, zero, suc, Bool, true, false, ◌≡◌, ◌<◌, ◌+◌, ◌-◌, ◌∙◌, ◌↔◌, List, [], ◌∷◌, ◌++◌, length, get_or, slice_get, Some, None, Result, Ok, Err, is_ok, nat_cmp, Contains, All, ap, refl, sym, subst, inl, inr, arith, eqb}
+use Rattle.std.proofs.Common.{ℕ, Bool, true, false, ◌≡◌, ◌<◌, ◌-◌, ◌∙◌, ◌↔◌, List, [], ◌∷◌, ◌++◌, length, get_or, Some, Result, Ok, Err, is_ok, nat_cmp, Contains, All, ap, refl, sym, subst, inl, inr, arith, eqb}
 use Rattle.std.specs.Prelude.{OnOk, OnErr}
 use Rattle.std.specs.Cmp.{ranks}
 use Rattle.std.specs.List.{IsAnyAnswer, IsAllAdjacentAnswer}

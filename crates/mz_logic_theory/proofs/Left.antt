@@ -1,5 +1,5 @@
 -- A fact of the expressions that a loop has left, with one of them more.
-use Rattle.std.proofs.Common.{◌⊎◌, ◌↔◌, ℕ, inl, inr}
+use Rattle.std.proofs.Common.{◌⊎◌, ◌↔◌, inl, inr}
 
 -- A of what is left is B of the first one and C of the others; or one of these
 module _ {A B C W : Type 0} (so_far : A ↔ W) where

@@ -13,6 +13,8 @@ mod Left
 pub mod Push
 pub mod Lookup
 pub mod Trees
+pub mod Past
+pub mod Under
 pub mod Scoped
 pub mod Bound
 pub mod Follow

@@ -1,17 +1,24 @@
 -- An expression is larger than each expression in it.
-use Rattle.std.specs.Prelude.{◌≤◌, max, List, [], ◌∷◌}
+use Rattle.std.specs.Prelude.{ℕ, ◌≤◌, ◌+◌, max, List, [], ◌∷◌, length}
 use Rattle.std.proofs.Common.{arith}
-use Rattle.mz_logic_theory.specs.Tree.{size, trees_size}
-use Rattle.mz_logic_theory.specs.View.{tree, trees}
-use Rattle.mz_logic_theory.specs.declared.expr.Expr.{Expr}
-use Rattle.mz_logic_theory.specs.declared.expr.Expr.TheVariants.{Var, App}
-use Rattle.mz_logic_theory.specs.declared.expr.Exprs.TheDeep.{deep-Expr}
+use Rattle.mz_logic_theory.specs.Tree.{Tree, app, none, more, under}
+use Rattle.mz_logic_theory.specs.View.{trees}
+use Rattle.mz_logic_theory.specs.Extent.{extent, extents}
+use Rattle.mz_logic_theory.specs.Kinds.{kind_tree, IsKept}
+use Rattle.mz_logic_theory.specs.declared.expr.ExprKind.{ExprKind}
+use Rattle.mz_logic_theory.specs.declared.expr.ExprKind.TheVariants.{Var, App, Under}
+use Rattle.mz_logic_theory.specs.declared.expr.Expr.TheDeep.{deep-ExprKind}
 use denote.Param.Weighed.{most}
 
-deep_le_size : (e : Expr) → deep-Expr e ≤ size (tree e)
-deep_le_size (Var x) = omega arith
-deep_le_size (App t es) = omega arith
+extent_under : (ts : List ℕ) (e : Tree) → extent e + length ts ≤ extent (under ts e)
+extent_under [] e = omega arith
+extent_under (t ∷ ts) e = let ih = extent_under ts (app t (more e none)) in omega (arith, ih)
 
-pub most_deep_le_size : (es : List Expr) → max (most deep-Expr es) 0 ≤ trees_size (trees es)
-most_deep_le_size [] = omega arith
-most_deep_le_size (e ∷ es) = omega (arith, deep_le_size e, most_deep_le_size es)
+pub child_le_extent : (k : ExprKind) → IsKept k → max (deep-ExprKind k) 0 ≤ extent (kind_tree k)
+child_le_extent (Var x) h = omega arith
+child_le_extent (App t es) h = omega arith
+child_le_extent (Under path e) h = let ih = extent_under path e.value in omega (arith, ih, h)
+
+pub most_le_extents : (es : List Tree) → max (most (λ e. extent e + 1) es) 0 ≤ extents (trees es)
+most_le_extents [] = omega arith
+most_le_extents (e ∷ es) = omega (arith, most_le_extents es)

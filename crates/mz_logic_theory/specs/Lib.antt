@@ -4,6 +4,7 @@ pub mod Signature
 pub mod Declaration
 pub mod Places
 pub mod Modifiers
+pub mod PlaceLists
 pub mod Alike
 pub mod Sorts
 pub mod Variables
@@ -14,9 +15,12 @@ pub mod LegalLists
 pub mod Closed
 pub mod Words
 pub mod View
+pub mod Kinds
+pub mod Shapes
 pub mod DeclView
 pub mod TreeCode
 pub mod Codes
+pub mod Extent
 pub mod Falls
 pub mod Laws
 pub mod WordsWritten

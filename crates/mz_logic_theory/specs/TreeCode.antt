@@ -52,3 +52,11 @@ head_trees (es ∷ _) = es
 abbrev pub trees_code : Coded Trees
 trees_code =
     code_by (List (ℕ × ℕ)) (coded_list (coded× coded_ℕ coded_ℕ)) (λ es. put_trees es []) (λ k. head_trees (read_tokens k)) (λ es. ap head_trees (read_put_trees es []))
+
+abbrev pub head_tree : List Trees → Tree
+head_tree (more e _ ∷ _) = e
+head_tree _ = var 0
+
+abbrev pub tree_code : Coded Tree
+tree_code =
+    code_by (List (ℕ × ℕ)) (coded_list (coded× coded_ℕ coded_ℕ)) (λ e. put_tree e []) (λ k. head_tree (read_tokens k)) (λ e. ap head_tree (read_put_tree e []))

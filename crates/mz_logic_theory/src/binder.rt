@@ -51,23 +51,28 @@ impl SortMods {
 /// may share their places.
 #[derive(Drop)]
 pub struct Deps {
-    // none where there are no places
-    places: Option<RcSlice<u32>>,
-    // whether none is below the one before it, as was seen when they were taken over
-    ascend: bool,
+    places: PlaceList,
+}
+
+/// How places are kept.
+#[derive(Drop)]
+enum PlaceList {
+    Empty,
+    /// None is below the one before it, as was seen when they were taken over.
+    Ascending(RcSlice<u32>),
+    Unordered(RcSlice<u32>),
 }
 
 impl Model for Deps {
-    ghost use Rattle.std.specs.Prelude.{◌≡◌, List, ℕ, [], true};
-    ghost use Rattle.std.specs.List.Sorted.{IsNonDecreasing};
-    ghost use Rattle.std.specs.Option.{option_map_or};
-    ghost use Rattle.std.specs.Rc.{rc_slice_items};
+    ghost use Rattle.std.specs.Prelude.{List, ℕ};
 
     ghost Value = { List ℕ };
 
-    ghost view = { λ a. option_map_or rc_slice_items a.places [] };
+    ghost use Rattle.mz_logic_theory.specs.PlaceLists.{places_kept, AscendAsSaid};
 
-    ghost invariant = { λ a. a.ascend ≡ true → IsNonDecreasing (option_map_or rc_slice_items a.places []) };
+    ghost view = { λ a. places_kept a.places };
+
+    ghost invariant = { λ a. AscendAsSaid a.places };
 }
 
 impl Deps {
@@ -76,8 +81,7 @@ impl Deps {
         ensures { result ≡ [] }
     {
         Deps {
-            places: None,
-            ascend: true,
+            places: PlaceList::Empty,
         }
     }
 
@@ -93,10 +97,14 @@ impl Deps {
             return Ok(Deps::new());
         }
         let ascend = places.is_sorted();
-        let places = RcSlice::from_vec(places)?;
+        let shared = RcSlice::from_vec(places)?;
+        if ascend {
+            return Ok(Deps {
+                places: PlaceList::Ascending(shared),
+            });
+        }
         Ok(Deps {
-            places: Some(places),
-            ascend,
+            places: PlaceList::Unordered(shared),
         })
     }
 
@@ -108,16 +116,12 @@ impl Deps {
     pub fn share(&self) -> Result<Deps, AllocError>
         ensures { IfOk result (λ deps. deps ≡ self.now) }
     {
-        match &self.places {
-            None => Ok(Deps::new()),
-            Some(places) => {
-                let shared = places.clone()?;
-                Ok(Deps {
-                    places: Some(shared),
-                    ascend: self.ascend,
-                })
-            }
-        }
+        let places = match &self.places {
+            PlaceList::Empty => PlaceList::Empty,
+            PlaceList::Ascending(places) => PlaceList::Ascending(places.clone()?),
+            PlaceList::Unordered(places) => PlaceList::Unordered(places.clone()?),
+        };
+        Ok(Deps { places })
     }
 
     /// The places in order.
@@ -125,8 +129,9 @@ impl Deps {
         ensures { result.now ≡ self.now }
     {
         match &self.places {
-            None => &[],
-            Some(places) => places.as_slice(),
+            PlaceList::Empty => &[],
+            PlaceList::Ascending(places) => places.as_slice(),
+            PlaceList::Unordered(places) => places.as_slice(),
         }
     }
 
@@ -135,8 +140,9 @@ impl Deps {
         ensures { IsTrue result ↔ Contains self.now place }
     {
         match &self.places {
-            None => false,
-            Some(places) => is_among(place, places.as_slice(), self.ascend),
+            PlaceList::Empty => false,
+            PlaceList::Ascending(places) => is_among(place, places.as_slice(), true),
+            PlaceList::Unordered(places) => is_among(place, places.as_slice(), false),
         }
     }
 }
@@ -162,11 +168,14 @@ pub struct Binder {
     pub deps: Deps,
 }
 
+/// So many binders are quick to compare one by one, so that nothing is noted of them.
+const LONG: usize = 16;
+
 /// A list of binders.
 #[derive(Drop)]
 pub struct Binders {
     items: Vec<Binder>,
-    // places where the dependencies are known to be those of the binder before
+    // places, in long lists alone, where the dependencies are known to be those of the binder before
     alike: Vec<usize>,
 }
 
@@ -240,9 +249,22 @@ impl Binders {
         ensures err { OnErr result (self.new ≡ self.old) }
     {
         let deps = self.last_deps()?;
+        let binder = Binder { sort, bound, deps };
+        if self.items.len() < LONG {
+            return Ok(self.push(binder)?);
+        }
+        self.push_marked(binder)
+    }
+
+    /// Appends a binder that depends on what the last one does, and notes that it does.
+    fn push_marked(&mut self, binder: Binder) -> Result<(), AllocError>
+        requires { binder.deps ≡ deps_at self.old (length self.old - 1) }
+        ensures ok { OnOk result (self.new ≡ self.old ++ binder ∷ []) }
+        ensures err { OnErr result (self.new ≡ self.old) }
+    {
         let place = self.items.len();
         push_tightly(&mut self.alike, place)?;
-        match push_tightly(&mut self.items, Binder { sort, bound, deps }) {
+        match push_tightly(&mut self.items, binder) {
             Ok(()) => Ok(()),
             Err(failed) => {
                 self.alike.pop();

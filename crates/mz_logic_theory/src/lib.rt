@@ -27,7 +27,7 @@ pub use examples::{
     definition_unfolds, dependencies_come_before, four_statements_are_legal,
     implication_is_derived, operands_are_apart,
 };
-pub use expr::{Expr, Exprs, same_expr, same_exprs};
+pub use expr::{Expr, ExprKind, ExprRef, Exprs, Operands, Shape, TermPath};
 pub use hyps::Hyps;
 pub use laws::{
     conversions_keep_sorts, derived_is_provable, instances_have_what_is_put_in,
@@ -38,6 +38,8 @@ pub use laws::{
 pub use room::push_tightly;
 pub use sorts::{
     all_are_claims, all_have_bound_operands, all_have_operand_sorts, has_bound_operands,
-    has_operand_sorts, hyps_are_in_range, in_range, is_bound_var, is_claim, sort_of, sort_of_term,
+    has_operand_sorts, hyps_are_in_range, in_range, is_bound_var, is_claim,
+    lent_has_bound_operands, lent_has_operand_sorts, lent_in_range, lent_is_bound_var,
+    lent_is_claim, lent_sort_of, sort_of, sort_of_term,
 };
 pub use word::{Terms, Word};

@@ -9,31 +9,38 @@ ghost use Rattle.mz_logic_theory.specs.View.{tree};
 use crate::binder::Binder;
 use crate::context::Context;
 use crate::env::Env;
-use crate::expr::{Expr, Exprs};
+use crate::expr::{Expr, ExprRef, Operands, Shape};
 use crate::hyps::Hyps;
 
 /// Whether all terms of the expression are there, with as many operands as parameters, and its
 /// variables are places below `end`.
-#[cycle(in_range)]
 pub fn in_range(env: &Env, end: usize, expr: &Expr) -> bool
     ensures { IsTrue result ↔ InRange (signatures env.now) end (tree expr.now) }
 {
-    match expr {
-        Expr::Var(x) => (*x as usize) < end,
-        Expr::App(t, es) => match env.term(*t) {
+    lent_in_range(env, end, &expr.lent())
+}
+
+/// The same of an expression that is lent.
+#[cycle(in_range)]
+pub fn lent_in_range(env: &Env, end: usize, expr: &ExprRef) -> bool
+    ensures { IsTrue result ↔ InRange (signatures env.now) end expr.now }
+{
+    match expr.shape() {
+        Shape::Var(x) => (x as usize) < end,
+        Shape::App(t, es) => match env.term(t) {
             None => false,
-            Some(term) => es.len() == term.params.len() && all_in_range(env, end, es),
+            Some(term) => es.len() == term.params.len() && all_in_range(env, end, &es),
         },
     }
 }
 
 /// The same of each expression.
 #[cycle(in_range)]
-fn all_in_range(env: &Env, end: usize, es: &Exprs) -> bool
+fn all_in_range(env: &Env, end: usize, es: &Operands) -> bool
     ensures { IsTrue result ↔ AllInRange (signatures env.now) end es.now }
 {
-    for e in es.as_slice() {
-        if !in_range(env, end, e) {
+    for i in 0..es.len() {
+        if !lent_in_range(env, end, &es.at(i)) {
             return false;
         }
     }
@@ -44,7 +51,7 @@ fn all_in_range(env: &Env, end: usize, es: &Exprs) -> bool
 pub fn hyps_are_in_range(env: &Env, end: usize, hyps: &Hyps) -> bool
     ensures { IsTrue result ↔ AllInRange (signatures env.now) end hyps.now }
 {
-    all_in_range(env, end, hyps.formulas())
+    all_in_range(env, end, &hyps.formulas().lent())
 }
 
 /// The sort of a variable, 0 where it isn't there.
@@ -71,38 +78,52 @@ pub fn sort_of_term(env: &Env, term: u32) -> u32
 pub fn sort_of(env: &Env, ctx: &Context, expr: &Expr) -> u32
     ensures { result ≡ Legality.sort_of (signatures env.now) ctx.now (tree expr.now) }
 {
-    match expr {
-        Expr::Var(x) => sort_of_variable(ctx, *x),
-        Expr::App(t, _) => sort_of_term(env, *t),
+    lent_sort_of(env, ctx, &expr.lent())
+}
+
+/// The same of an expression that is lent.
+pub fn lent_sort_of(env: &Env, ctx: &Context, expr: &ExprRef) -> u32
+    ensures { result ≡ Legality.sort_of (signatures env.now) ctx.now expr.now }
+{
+    match expr.shape() {
+        Shape::Var(x) => sort_of_variable(ctx, x),
+        Shape::App(t, _) => sort_of_term(env, t),
     }
 }
 
 /// Whether each operand in the expression has its parameter's sort.
-#[cycle(have_operand_sorts)]
 pub fn has_operand_sorts(env: &Env, ctx: &Context, expr: &Expr) -> bool
     requires { InRange (signatures env.now) (length ctx.now) (tree expr.now) }
     ensures { IsTrue result ↔ HasOperandSorts (signatures env.now) ctx.now (tree expr.now) }
 {
-    match expr {
-        Expr::Var(_) => true,
-        Expr::App(t, es) => match env.term(*t) {
+    lent_has_operand_sorts(env, ctx, &expr.lent())
+}
+
+/// The same of an expression that is lent.
+#[cycle(have_operand_sorts)]
+pub fn lent_has_operand_sorts(env: &Env, ctx: &Context, expr: &ExprRef) -> bool
+    requires { InRange (signatures env.now) (length ctx.now) expr.now }
+    ensures { IsTrue result ↔ HasOperandSorts (signatures env.now) ctx.now expr.now }
+{
+    match expr.shape() {
+        Shape::Var(_) => true,
+        Shape::App(t, es) => match env.term(t) {
             None => unreachable!(),
-            Some(term) => have_operand_sorts(env, ctx, es, term.params.as_slice()),
+            Some(term) => have_operand_sorts(env, ctx, &es, term.params.as_slice()),
         },
     }
 }
 
 /// Whether each of these operands has its parameter's sort, and each operand in them too.
 #[cycle(have_operand_sorts)]
-fn have_operand_sorts(env: &Env, ctx: &Context, es: &Exprs, params: &[Binder]) -> bool
+fn have_operand_sorts(env: &Env, ctx: &Context, es: &Operands, params: &[Binder]) -> bool
     requires there { AllInRange (signatures env.now) (length ctx.now) es.now }
     requires many { length (listed es.now) ≡ length params.now }
     ensures { IsTrue result ↔ OperandsOf (signatures env.now) (SortsFit (signatures env.now) ctx.now) es.now params.now }
 {
-    let items = es.as_slice();
-    for i in 0..items.len() {
-        let e = &items[i];
-        if !(sort_of(env, ctx, e) == params[i].sort && has_operand_sorts(env, ctx, e)) {
+    for i in 0..es.len() {
+        let e = es.at(i);
+        if !(lent_sort_of(env, ctx, &e) == params[i].sort && lent_has_operand_sorts(env, ctx, &e)) {
             return false;
         }
     }
@@ -110,16 +131,24 @@ fn have_operand_sorts(env: &Env, ctx: &Context, es: &Exprs, params: &[Binder]) -
 }
 
 /// Whether each operand of a bound parameter in the expression is a bound variable.
-#[cycle(have_bound_operands)]
 pub fn has_bound_operands(env: &Env, ctx: &Context, expr: &Expr) -> bool
     requires { InRange (signatures env.now) (length ctx.now) (tree expr.now) }
     ensures { IsTrue result ↔ HasBoundOperands (signatures env.now) ctx.now (tree expr.now) }
 {
-    match expr {
-        Expr::Var(_) => true,
-        Expr::App(t, es) => match env.term(*t) {
+    lent_has_bound_operands(env, ctx, &expr.lent())
+}
+
+/// The same of an expression that is lent.
+#[cycle(have_bound_operands)]
+pub fn lent_has_bound_operands(env: &Env, ctx: &Context, expr: &ExprRef) -> bool
+    requires { InRange (signatures env.now) (length ctx.now) expr.now }
+    ensures { IsTrue result ↔ HasBoundOperands (signatures env.now) ctx.now expr.now }
+{
+    match expr.shape() {
+        Shape::Var(_) => true,
+        Shape::App(t, es) => match env.term(t) {
             None => unreachable!(),
-            Some(term) => have_bound_operands(env, ctx, es, term.params.as_slice()),
+            Some(term) => have_bound_operands(env, ctx, &es, term.params.as_slice()),
         },
     }
 }
@@ -127,15 +156,14 @@ pub fn has_bound_operands(env: &Env, ctx: &Context, expr: &Expr) -> bool
 /// Whether each of these operands is a bound variable where its parameter is bound, and each in
 /// them too.
 #[cycle(have_bound_operands)]
-fn have_bound_operands(env: &Env, ctx: &Context, es: &Exprs, params: &[Binder]) -> bool
+fn have_bound_operands(env: &Env, ctx: &Context, es: &Operands, params: &[Binder]) -> bool
     requires there { AllInRange (signatures env.now) (length ctx.now) es.now }
     requires many { length (listed es.now) ≡ length params.now }
     ensures { IsTrue result ↔ OperandsOf (signatures env.now) (BoundFit ctx.now) es.now params.now }
 {
-    let items = es.as_slice();
-    for i in 0..items.len() {
-        let e = &items[i];
-        if !(fits_bound(ctx, e, &params[i]) && has_bound_operands(env, ctx, e)) {
+    for i in 0..es.len() {
+        let e = es.at(i);
+        if !(fits_bound(ctx, &e, &params[i]) && lent_has_bound_operands(env, ctx, &e)) {
             return false;
         }
     }
@@ -143,19 +171,26 @@ fn have_bound_operands(env: &Env, ctx: &Context, es: &Exprs, params: &[Binder]) 
 }
 
 /// Whether the operand is a bound variable if the parameter is bound.
-fn fits_bound(ctx: &Context, operand: &Expr, param: &Binder) -> bool
-    ensures { IsTrue result ↔ BoundFit ctx.now (tree operand.now) param.now }
+fn fits_bound(ctx: &Context, operand: &ExprRef, param: &Binder) -> bool
+    ensures { IsTrue result ↔ BoundFit ctx.now operand.now param.now }
 {
-    !param.bound || is_bound_var(ctx, operand)
+    !param.bound || lent_is_bound_var(ctx, operand)
 }
 
 /// Whether the expression is a bound variable.
 pub fn is_bound_var(ctx: &Context, expr: &Expr) -> bool
     ensures { IsTrue result ↔ IsBoundVar ctx.now (tree expr.now) }
 {
-    match expr {
-        Expr::App(_, _) => false,
-        Expr::Var(x) => match ctx.get(*x) {
+    lent_is_bound_var(ctx, &expr.lent())
+}
+
+/// The same of an expression that is lent.
+pub fn lent_is_bound_var(ctx: &Context, expr: &ExprRef) -> bool
+    ensures { IsTrue result ↔ IsBoundVar ctx.now expr.now }
+{
+    match expr.shape() {
+        Shape::App(_, _) => false,
+        Shape::Var(x) => match ctx.get(x) {
             None => false,
             Some(binder) => binder.bound,
         },
@@ -204,6 +239,13 @@ pub fn all_are_claims(env: &Env, ctx: &Context, hyps: &Hyps) -> bool
 pub fn is_claim(env: &Env, ctx: &Context, expr: &Expr) -> bool
     ensures { IsTrue result ↔ IsClaim env.now ctx.now (tree expr.now) }
 {
-    env.mods(sort_of(env, ctx, expr))
+    lent_is_claim(env, ctx, &expr.lent())
+}
+
+/// The same of an expression that is lent.
+pub fn lent_is_claim(env: &Env, ctx: &Context, expr: &ExprRef) -> bool
+    ensures { IsTrue result ↔ IsClaim env.now ctx.now expr.now }
+{
+    env.mods(lent_sort_of(env, ctx, expr))
         .is_some_and(|mods| mods.is_provable())
 }

@@ -1,12 +1,10 @@
 -- The rows on conversions in any machine, case by case.
-use Rattle.std.proofs.Common.{◌≡◌, ◌≤◌, ◌⊎◌, inl, inr, ℕ, suc, Bool, true, false, List, [], ◌∷◌, length, map, drop, Option, Some, None, Result, Ok, Err, slice_get, refl, sym, ap, ◌∙◌, eq-eqb}
+use Rattle.std.proofs.Common.{◌≡◌, ℕ, Bool, true, false, List, [], ◌∷◌, Option, Some, None, Result, Ok, Err, slice_get, refl, sym, ap, ◌∙◌, eq-eqb}
 use Rattle.std.specs.Prelude.{⊤, if◌then◌else◌, ◌==◌, OnOk, MatchResult}
 use Rattle.std.proofs.lemmas.Bool.{eqb-true}
-use Rattle.mz_base_theory.proofs.Offered.{drop-past}
 use Rattle.mz_cmd.specs.declared.rule.K.{K}
 use Rattle.mz_cmd.specs.declared.rule.K.TheVariants as k
 use Rattle.mz_cmd.specs.declared.code.ProofCode.TheVariants as code
-use Rattle.mz_store.specs.declared.item.Id.{Id}
 use Rattle.mz_unify_theory.specs.Steps.{◌>>=◌, want}
 use Rattle.mz_unify_theory.specs.Profile.{Profile, Item, proof, obligation}
 use Rattle.mz_unify_theory.specs.UnifyMachine.{in_definition, Matching, UnifyState, unify, unify_steps}
@@ -18,7 +16,6 @@ use Rattle.mz_machine_theory.specs.MachineState.{RowsBefore, State, signatures_i
 use Rattle.mz_machine_theory.specs.Premises.{pop_expr, pop_obligation, pop_proof, pop_sides}
 use Rattle.mz_machine_theory.specs.ProofMachine.{proof_step, sides, same_term, stream_of, unfolding_of}
 use Rattle.mz_machine_theory.specs.Bodies.{row_steps}
-use Rattle.mz_machine_env.proofs.Offered.{next-at}
 use Rattle.mz_machine.specs.OverStore.{Gives}
 
 -- ---- Refl and Cong
@@ -99,18 +96,6 @@ module _ (P : Profile) (tables : RowsBefore) (at n : ℕ) (st : State P.T) where
 pub no-right : {T : Type 0} (es : List T) (xs : List (Item T)) → sides es [] xs ≡ xs
 no-right [] xs = refl
 no-right (e ∷ es) xs = refl
-
-module _ {T : Type 0} (expr : Id → T) (ls rs : List Id) (xs : List (Item T)) where
-  -- the obligations between the operands from the n-th on
-  abbrev pub sides_from : ℕ → List (Item T)
-  sides_from n = sides (map expr (drop n ls)) (map expr (drop n rs)) xs
-
-  pub no-sides : (n : ℕ) → (length ls ≤ n) ⊎ (length rs ≤ n) → sides_from n ≡ xs
-  no-sides n (inl h) = rw (drop-past ls n h) refl
-  no-sides n (inr h) = rw (drop-past rs n h) (no-right (map expr (drop n ls)) xs)
-
-  pub next-side : (n : ℕ) (l r : Id) → slice_get ls n ≡ Some l → slice_get rs n ≡ Some r → sides_from n ≡ obligation (expr l) (expr r) ∷ sides_from (suc n)
-  next-side n l r at bt = rw (next-at ls n l at, next-at rs n r bt) refl
 
 -- ---- what an unfolding takes
 

@@ -1,7 +1,5 @@
 -- Conversions over a store.
-use Rattle.std.proofs.Common.{◌≡◌, ◌≤◌, ◌⊎◌, inl, inr, arith, ℕ, suc, ◌-◌, ◌<◌, Bool, true, false, List, [], ◌∷◌, ◌++◌, min, leb-true, leb-false, Ok, Err, refl, sym, ap, ◌∙◌, subst}
-use Rattle.std.specs.Prelude.{nat_le}
-use Rattle.std.proofs.Math.Nat.{min-le_left, min-le_right, min-eq_left, min-eq_right}
+use Rattle.std.proofs.Common.{◌≡◌, true, false, List, [], ◌∷◌, ◌++◌, Ok, Err, refl, sym, ap, ◌∙◌, subst}
 use Rattle.mz_cmd.specs.declared.rule.K.{K}
 use Rattle.mz_cmd.specs.declared.rule.K.TheVariants as k
 use Rattle.mz_logic_theory.specs.Tree.{Tree, listed}
@@ -43,16 +41,6 @@ module _ (xs ys : List (Item Tree)) (m l r : Tree) (zs : List (Item Tree)) (is :
 
   pub sides-other : (m ≡ l → ⊥) → pop_sides strict xs ≡ Err k.Unfold
   sides-other h = let not-both : same_tree m l ≡ false = differ of-trees m l h in rw (is, taken, not-both) refl
-
-pub least : (m n : ℕ) → (min m n ≤ m) × (min m n ≤ n) × ((m ≤ min m n) ⊎ (n ≤ min m n))
-least m n = (min-le_left m n, min-le_right m n, go (nat_le m n) refl)
-  where
-    go : (b : Bool) → nat_le m n ≡ b → (m ≤ min m n) ⊎ (n ≤ min m n)
-    go true is = inl (let same = min-eq_left (leb-true m n is) in omega (arith, same))
-    go false is = inr (let same = min-eq_right {n = n} {m = m} (omega (arith, leb-false m n is)) in omega (arith, same))
-
-pub one-before : (n : ℕ) → 0 < n → suc (n - 1) ≡ n
-one-before n h = omega (arith, h)
 
 -- the operands of an application, as trees
 pub operand-trees : (s : Sharing) (args : List Id) (e : Tree) → trees_of s args ≡ operands_of e → trees_at s args ≡ listed (operands_of e)

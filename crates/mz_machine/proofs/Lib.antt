@@ -23,6 +23,7 @@ pub mod BodyRunning
 pub mod Dummies
 pub mod Machines
 pub mod Beginning
+mod KnownParams
 mod Barred
 mod UnifyBelow
 mod BarredRows

@@ -24,3 +24,9 @@ abbrev pub UnlessMem : BodyChecked → Type 0 → Type 0
 UnlessMem (Good end) P = P
 UnlessMem (Refused at rule) P = P
 UnlessMem Mem P = ⊤
+
+-- where it has run, this holds
+abbrev pub WhereGood : BodyChecked → Type 0 → Type 0
+WhereGood (Good end) P = P
+WhereGood (Refused at rule) P = ⊤
+WhereGood Mem P = ⊤

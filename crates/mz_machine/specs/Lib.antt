@@ -7,4 +7,5 @@ pub mod Endings
 pub mod Stepping
 pub mod UnderwayCode
 pub mod Running
+pub mod Parameters
 pub mod Rooms

@@ -1,5 +1,5 @@
 //! A whole body, read in place.
-ghost use Rattle.std.specs.Prelude.{◌≡◌, ◌≤◌, ◌<◌, ◌^◌, ◌+◌, ◌-◌, ◌*◌, false, length};
+ghost use Rattle.std.specs.Prelude.{◌≡◌, ◌≤◌, ◌<◌, ◌^◌, ◌+◌, ◌-◌, ◌*◌, false, IfSome, length};
 ghost use Rattle.mz_base.specs.Gaps.{gaps_of};
 ghost use Rattle.mz_unify_theory.specs.Profile.{plain};
 ghost use Rattle.mz_machine_theory.specs.Bodies.{body_run, body_steps, body_from, body_steps_from};
@@ -8,12 +8,14 @@ ghost use Rattle.mz_layout_tables.specs.Heads.{body_bytes};
 ghost use Rattle.mz_machine_env.specs.OwnRow.{MayRun, byte_of};
 ghost use Rattle.mz_machine_theory.specs.Headings.{heading_of};
 ghost use Rattle.mz_machine_env.specs.Before.{tables_before};
-ghost use Rattle.mz_machine.specs.BodyAnswers.{IsBodyRun, UnlessMem};
-ghost use Rattle.mz_machine.specs.Rooms.{HoldsAtMost, OneACommand};
+ghost use Rattle.mz_machine.specs.BodyAnswers.{IsBodyRun, UnlessMem, WhereGood};
+ghost use Rattle.mz_machine.specs.Parameters.{Remembers};
+ghost use Rattle.mz_machine.specs.Rooms.{HoldsAtMost, IsTidy, IsTidyDesk, OneACommand};
 ghost use Rattle.mz_machine.specs.Running.{IsRunning, machine_of};
 ghost use Rattle.mz_machine.specs.Stepping.{ended_at, stopped_at};
 
 use crate::machine::{Finished, Parts, Setting};
+use crate::params::Entered;
 use crate::scratch::{Desk, Room};
 use mz_base::Mode;
 use mz_cmd::{END, K, Steps, cmd_at};
@@ -124,6 +126,40 @@ pub fn check_body_in<L: Ledger>(
     let Ok(mut desk) = room.take(alloc) else {
         return BodyChecked::Mem;
     };
+    desk.last = None;
+    let checked = check_on(&mut desk, mmb, mode, kind, row, before, body, steps);
+    room.keep(desk);
+    checked
+}
+
+/// Runs the body of a statement as `check_body_in` does, in room that earlier bodies of the same file may
+/// have left: parameters that a row shares with the one before are gone over once. Unless out of memory,
+/// the room keeps at most an expression for each parameter and for each command that comes before the
+/// END.
+pub fn check_body_after<L: Ledger>(
+    alloc: Global,
+    room: &mut Room,
+    mmb: &Mmb,
+    mode: Mode,
+    kind: BodyKind,
+    row: u32,
+    before: Rows,
+    body: (u32, u32),
+    steps: &mut Steps<L>,
+) -> BodyChecked
+    requires may_run { MayRun mmb.now (byte_of kind) row before }
+    requires order { body.0 ≤ body.1 }
+    requires within { body.1 ≤ length mmb.now }
+    requires tidy { IsTidy mmb.now room.old }
+    ensures run { IsBodyRun (heading_of mmb.now (byte_of kind) row) (body_bytes mmb.now body.0 body.1) (body_run (plain (gaps_of mode)) (tables_before mmb.now before) (heading_of mmb.now (byte_of kind) row) body.0 (body_bytes mmb.now body.0 body.1)) result }
+    ensures most { steps.new ≤ steps.old + (body.1 - body.0) * (length mmb.now + 1) }
+    ensures steps { UnlessMem result (steps.new ≡ steps.old + body_steps (plain (gaps_of mode)) (tables_before mmb.now before) (heading_of mmb.now (byte_of kind) row) body.0 (body_bytes mmb.now body.0 body.1)) }
+    ensures tidy { IsTidy mmb.now room.new }
+    ensures nodes { UnlessMem result (HoldsAtMost (length (heading_of mmb.now (byte_of kind) row).params) (body_bytes mmb.now body.0 body.1) room.new) }
+{
+    let Ok(mut desk) = room.take(alloc) else {
+        return BodyChecked::Mem;
+    };
     let checked = check_on(&mut desk, mmb, mode, kind, row, before, body, steps);
     room.keep(desk);
     checked
@@ -143,24 +179,42 @@ fn check_on<L: Ledger>(
     requires may_run { MayRun mmb.now (byte_of kind) row before }
     requires order { body.0 ≤ body.1 }
     requires within { body.1 ≤ length mmb.now }
+    requires tidy { IsTidyDesk mmb.now desk.old }
     ensures run { IsBodyRun (heading_of mmb.now (byte_of kind) row) (body_bytes mmb.now body.0 body.1) (body_run (plain (gaps_of mode)) (tables_before mmb.now before) (heading_of mmb.now (byte_of kind) row) body.0 (body_bytes mmb.now body.0 body.1)) result }
     ensures most { steps.new ≤ steps.old + (body.1 - body.0) * (length mmb.now + 1) }
     ensures steps { UnlessMem result (steps.new ≡ steps.old + body_steps (plain (gaps_of mode)) (tables_before mmb.now before) (heading_of mmb.now (byte_of kind) row) body.0 (body_bytes mmb.now body.0 body.1)) }
+    ensures tidy { IsTidyDesk mmb.now desk.new }
     ensures nodes { UnlessMem result (OneACommand (length (heading_of mmb.now (byte_of kind) row).params) (body_bytes mmb.now body.0 body.1) (length desk.new.parts.store.entries)) }
 {
+    let last = desk.last;
+    desk.last = None;
     let Ok(setting) = Setting::begin(
         mmb,
         mode,
         kind,
         row,
         before,
+        last,
         &mut desk.words,
         &mut desk.parts,
     ) else {
         return BodyChecked::Mem;
     };
     let bytes = &mmb.file()[body.0 as usize..body.1 as usize];
-    run(&setting, &mut desk.parts, bytes, body.0, steps)
+    let checked = run(&setting, &mut desk.parts, bytes, body.0, steps);
+    desk.last = left(&setting, &desk.parts, checked);
+    checked
+}
+
+/// The parameters that are known to stand in the store after a body that has come to this answer.
+fn left(setting: &Setting, parts: &Parts, checked: BodyChecked) -> Option<Entered>
+    requires { WhereGood checked (IsRunning setting.now parts.now) }
+    ensures { IfSome result (λ last. Remembers setting.now.earlier.file last parts.now.store) }
+{
+    match checked {
+        BodyChecked::Good(_) => Some(setting.entered(parts)),
+        BodyChecked::Refused { .. } | BodyChecked::Mem => None,
+    }
 }
 
 /// Runs the commands of a body, whose first byte stands at a place of the file, on the parts before
@@ -179,6 +233,7 @@ fn run<L: Ledger>(
     ensures steps { UnlessMem result (steps.new ≡ steps.old + body_steps_from (plain (gaps_of setting.now.mode)) (tables_for (machine_of setting.now parts.old)) (heading_for (machine_of setting.now parts.old)) (length bytes.now) from bytes.now (machine_of setting.now parts.old).state) }
     ensures most { steps.new ≤ steps.old + length bytes.now * (length setting.now.earlier.file + 1) }
     ensures nodes { UnlessMem result (OneACommand (length parts.old.store.entries) bytes.now (length parts.new.store.entries)) }
+    ensures running { WhereGood result (IsRunning setting.now parts.new) }
 {
     let mut at = 0;
     'commands: loop {

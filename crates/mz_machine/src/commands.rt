@@ -28,7 +28,7 @@ use gaps::gap;
 use heap::{conv_refer, dummy, hyp, refer, save};
 use mz_base::Mode;
 use mz_cmd::{Cmd, K, Steps};
-use mz_machine_env::{BodyKind, Converting, Earlier, Making, Spare};
+use mz_machine_env::{BodyKind, Converting, Earlier, Heap, Making, Spare};
 use mz_store::{Id, Item, Store};
 use mz_unify::{Stop, push};
 use std::sync::ledger::Ledger;
@@ -41,7 +41,7 @@ fn make<L: Ledger>(
     command: Making,
     value: u32,
     store: &mut Store,
-    heap: &mut Vec<Item>,
+    heap: &mut Heap,
     stack: &mut Vec<Item>,
     spare: &mut Spare,
     steps: &mut Steps<L>,
@@ -72,12 +72,24 @@ fn make<L: Ledger>(
     }
 }
 
+/// Puts an item in the heap.
+#[inline(always)]
+fn put(heap: &mut Heap, item: Item) -> Result<(), Stop>
+    ensures ok { OnOk result (heap.new.items ≡ heap.old.items ++ item ∷ []) }
+    ensures err { MatchResult result (λ _. ⊤) (λ stop. StopsBy stop (λ _. ⊥)) }
+{
+    match heap.push(item) {
+        Ok(()) => Ok(()),
+        Err(_) => Err(Stop::Mem),
+    }
+}
+
 /// Puts an item on both lists.
 #[inline(always)]
-fn push_both(heap: &mut Vec<Item>, stack: &mut Vec<Item>, item: Item) -> Result<(), Stop>
+fn push_both(heap: &mut Heap, stack: &mut Vec<Item>, item: Item) -> Result<(), Stop>
     ensures { MatchResult result (λ _. (heap.new.items ≡ heap.old.items ++ item ∷ []) × (stack.new.items ≡ stack.old.items ++ item ∷ [])) (λ stop. StopsBy stop (λ _. ⊥)) }
 {
-    match push(heap, item) {
+    match put(heap, item) {
         Ok(()) => push(stack, item),
         Err(stop) => Err(stop),
     }
@@ -90,7 +102,7 @@ fn keep(
     command: Keeping,
     value: u32,
     store: &mut Store,
-    heap: &mut Vec<Item>,
+    heap: &mut Heap,
     stack: &mut Vec<Item>,
     hyps: &mut Vec<Id>,
 ) -> Result<(), Stop>
@@ -100,18 +112,18 @@ fn keep(
     ensures nodes { length store.new.entries ≤ length store.old.entries + 1 }
 {
     match command {
-        Keeping::Ref => refer(store, value, heap, stack),
-        Keeping::ConvRef => by_rule(conv_refer(store, value, heap, stack)),
+        Keeping::Ref => refer(store, value, heap.as_slice(), stack),
+        Keeping::ConvRef => by_rule(conv_refer(store, value, heap.as_slice(), stack)),
         Keeping::Dummy => match dummy(earlier, value, store) {
             Ok(made) => push_both(heap, stack, Item::Expr(made)),
             Err(stop) => Err(stop),
         },
         Keeping::Hyp => match hyp(earlier, store, stack) {
-            Ok(claim) => assume(claim, heap, hyps),
+            Ok(claim) => take_hyp(claim, heap, hyps),
             Err(rule) => Err(Stop::Rule(rule)),
         },
         Keeping::Save => match save(store, stack) {
-            Ok(item) => push(heap, item),
+            Ok(item) => put(heap, item),
             Err(rule) => Err(Stop::Rule(rule)),
         },
     }
@@ -137,6 +149,22 @@ pub fn assume(claim: Id, heap: &mut Vec<Item>, hyps: &mut Vec<Id>) -> Result<(),
     Ok(())
 }
 
+/// The same in the heap of a body over a store.
+fn take_hyp(claim: Id, heap: &mut Heap, hyps: &mut Vec<Id>) -> Result<(), Stop>
+    requires few { length hyps.old.items < 2 ^ 32 }
+    ensures heap { OnOk result (heap.new.items ≡ heap.old.items ++ Proof claim ∷ []) }
+    ensures hyps { OnOk result (hyps.new.items ≡ hyps.old.items ++ claim ∷ []) }
+    ensures few { OnOk result (length hyps.new.items < 2 ^ 32) }
+    ensures err { MatchResult result (λ _. ⊤) (λ stop. StopsBy stop (λ _. ⊥)) }
+{
+    if hyps.len() >= u32::MAX as usize {
+        return Err(Stop::Mem);
+    }
+    put(heap, Item::Proof(claim))?;
+    push(hyps, claim)?;
+    Ok(())
+}
+
 /// The same answer of a command that takes no memory.
 pub fn by_rule(answer: Result<(), K>) -> Result<(), Stop>
     ensures { MatchResult answer (λ done. result ≡ Ok done) (λ rule. result ≡ Err (Rule rule)) }
@@ -152,7 +180,7 @@ fn convert<L: Ledger>(
     earlier: &Earlier,
     command: Converting,
     store: &Store,
-    heap: &mut Vec<Item>,
+    heap: &mut Heap,
     stack: &mut Vec<Item>,
     spare: &mut Spare,
     steps: &mut Steps<L>,
@@ -171,7 +199,7 @@ fn convert<L: Ledger>(
         Converting::Unfold => unfold(earlier, store, stack, spare, steps),
         Converting::ConvCut => conv_cut(store, stack),
         Converting::ConvSave => match conv_save(store, stack) {
-            Ok(item) => push(heap, item),
+            Ok(item) => put(heap, item),
             Err(rule) => Err(Stop::Rule(rule)),
         },
         Converting::Sorry => Err(Stop::Rule(K::Sorry)),
@@ -218,7 +246,7 @@ pub(crate) fn obey<L: Ledger>(
     kind: BodyKind,
     cmd: Cmd,
     store: &mut Store,
-    heap: &mut Vec<Item>,
+    heap: &mut Heap,
     stack: &mut Vec<Item>,
     hyps: &mut Vec<Id>,
     spare: &mut Spare,

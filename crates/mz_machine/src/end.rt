@@ -13,7 +13,7 @@ ghost use Rattle.mz_machine_theory.specs.FreeVars.{free_within};
 ghost use Rattle.mz_machine_theory.specs.ProofMachine.{proof_end, ends_with, ending, last_item};
 ghost use Rattle.mz_machine_theory.specs.Bodies.{match_steps};
 ghost use Rattle.mz_machine_env.specs.Before.{tables_of, signatures_of};
-ghost use Rattle.mz_machine_env.specs.OwnRow.{IsNextRow, kind_of, mode_for};
+ghost use Rattle.mz_machine_env.specs.OwnRow.{IsNextRow, first_ids, kind_of, mode_for};
 ghost use Rattle.mz_machine_theory.specs.Headings.{heading_by};
 ghost use Rattle.mz_machine.specs.OverStore.{state_at, AreFirst, IsContextOf, Gives, GivesRule, UnlessMem};
 ghost use Rattle.mz_machine.specs.Endings.{mode_at, ended, IsOwnRun};
@@ -21,7 +21,7 @@ ghost use Rattle.mz_machine.specs.Endings.{mode_at, ended, IsOwnRun};
 use crate::commands::heap::is_provable;
 use mz_cmd::{K, Steps};
 use mz_logic_theory::Word;
-use mz_machine_env::{BodyKind, Earlier, Spare, first_ids, own_arity, own_proofs, own_stream};
+use mz_machine_env::{BodyKind, Earlier, Spare, own_arity, own_proofs, own_stream};
 use mz_store::{Id, Item, Store};
 use mz_unify::{Stop, UnifyMode, kept_apart, unify_in};
 use std::sync::ledger::Ledger;
@@ -56,22 +56,24 @@ pub(crate) fn end<L: Ledger>(
     if let Err(rule) = check_target(earlier, kind, row, store, target) {
         return Err(Stop::Rule(rule));
     }
-    let Ok(()) = first_ids(&mut spare.operands, own_arity(earlier, kind, row)) else {
+    let params = own_arity(earlier, kind, row);
+    let Ok(()) = spare.ids.reach(params) else {
         return Err(Stop::Mem);
     };
     let Ok(()) = own_proofs(&mut spare.hyps, kind, hyps) else {
         return Err(Stop::Mem);
     };
     let stream = own_stream(earlier, kind, row);
-    run_own(earlier, kind, stream, target, store, spare, steps)
+    run_own(earlier, kind, stream, params, target, store, spare, steps)
 }
 
-/// Runs the row's own stream on the operands and the hypotheses of these lists: at an assertion's end
+/// Runs the row's own stream on its parameters and on the hypotheses of the list: at an assertion's end
 /// its hypotheses are taken too.
 fn run_own<L: Ledger>(
     earlier: &Earlier,
     kind: BodyKind,
     stream: &[u8],
+    params: u32,
     target: Id,
     store: &Store,
     spare: &mut Spare,
@@ -79,16 +81,17 @@ fn run_own<L: Ledger>(
 ) -> Result<(), Stop>
     requires stream { length stream.now < 2 ^ 32 }
     requires over { IsOver (signatures_of earlier.now) store.now }
-    requires operands { AreIn store.now spare.old.operands.items }
-    requires variables { AreVariables store.now spare.old.operands.items }
+    requires ids { params ≤ spare.old.ids }
+    requires operands { AreIn store.now (first_ids params) }
+    requires variables { AreVariables store.now (first_ids params) }
     requires target { IsIn store.now target.0 }
     requires proofs { AreItemsIn store.now spare.old.hyps.items }
-    ensures run { IsOwnRun (unify strict (signatures_of earlier.now) store.now.context (matching_at store.now (mode_at (kind_of kind)) stream.now spare.old.operands.items target spare.old.hyps.items)) result }
-    ensures steps { UnlessMem result (steps.new ≡ steps.old + unify_steps strict (signatures_of earlier.now) store.now.context (matching_at store.now (mode_at (kind_of kind)) stream.now spare.old.operands.items target spare.old.hyps.items)) }
+    ensures run { IsOwnRun (unify strict (signatures_of earlier.now) store.now.context (matching_at store.now (mode_at (kind_of kind)) stream.now (first_ids params) target spare.old.hyps.items)) result }
+    ensures steps { UnlessMem result (steps.new ≡ steps.old + unify_steps strict (signatures_of earlier.now) store.now.context (matching_at store.now (mode_at (kind_of kind)) stream.now (first_ids params) target spare.old.hyps.items)) }
     ensures most { steps.new ≤ steps.old + length stream.now }
 {
     let mode = mode_of(kind);
-    let operands: &[Id] = &spare.operands;
+    let operands = spare.ids.first(params);
     let apart = kept_apart(store, mode, operands);
     unify_in(
         earlier,

@@ -1,5 +1,5 @@
 //! A machine that takes the commands of one body.
-ghost use Rattle.std.specs.Prelude.{◌≡◌, ◌≤◌, ◌<◌, ◌+◌, ◌^◌, ◌||◌, ℕ, Ok, Err, IfOk, MatchResult, OnOk, length, reverse};
+ghost use Rattle.std.specs.Prelude.{◌≡◌, ◌≤◌, ◌<◌, ◌+◌, ◌^◌, ◌||◌, ℕ, Ok, Err, IfOk, IfSome, MatchResult, OnOk, length, reverse};
 ghost use Rattle.mz_base.specs.Gaps.{gaps_of};
 ghost use Rattle.mz_cmd.specs.Codes.{proof_code};
 ghost use Rattle.mz_store.specs.Bits.{bound_vars};
@@ -14,24 +14,26 @@ ghost use Rattle.mz_machine.specs.Steps.{heading_for, tables_for, steps_for, row
 ghost use Rattle.mz_machine.specs.Stepping.{IsBegun, IsStepped, IsFinished, stepped_to, UnlessMem, UnlessEndMem};
 ghost use Rattle.mz_machine.specs.OpenEquations.{stored, AreSettled, whole_state};
 ghost use Rattle.mz_machine.specs.Running.{IsRunning, machine_of};
+ghost use Rattle.mz_machine.specs.Parameters.{Remembers};
 
 use crate::body::BodyEnd;
 use crate::commands::obey;
 use crate::end::end;
 use crate::equations::{Equation, resume};
 use crate::lack::lack;
+use crate::params::{Entered, enter};
 use mz_base::Mode;
 use mz_cmd::{Cmd, K, ProofCode, Steps};
 use mz_layout_tables::{Mmb, Rows};
 use mz_logic_theory::Word;
-use mz_machine_env::{BodyKind, Earlier, Spare, deps_mode, first_items, kind_by, read_words};
+use mz_machine_env::{BodyKind, Earlier, Heap, Spare, deps_mode, kind_by, own_arity, own_words_at};
 use mz_store::{Id, Item, Seed, Store};
 use mz_unify::Stop;
 use std::alloc::{AllocError, Global};
 use std::marker::Model;
 use std::sync::ledger::Ledger;
 
-/// So many expressions a body may have whose parts the next one uses again.
+/// So many expressions beside those of its parameters a body may have whose parts the next one uses again.
 const MOST_KEPT: usize = 1_000;
 
 /// The statement whose body runs, and the rows before it.
@@ -48,7 +50,7 @@ pub(crate) struct Setting<'a> {
 #[derive(Drop)]
 pub(crate) struct Parts {
     store: Store,
-    heap: Vec<Item>,
+    heap: Heap,
     stack: Vec<Item>,
     equations: Vec<Equation>,
     hyps: Vec<Id>,
@@ -123,7 +125,7 @@ impl<'a> Machine<'a> {
         let mut words = Vec::new(alloc);
         let mut parts = Parts::new(alloc, Seed::FIXED);
         let kind = kind_by(kind);
-        let setting = Setting::begin(mmb, mode, kind, row, before, &mut words, &mut parts);
+        let setting = Setting::begin(mmb, mode, kind, row, before, None, &mut words, &mut parts);
         begun(setting, parts)
     }
 
@@ -184,7 +186,7 @@ impl Parts {
     pub(crate) fn new(alloc: Global, seed: Seed) -> Parts {
         Parts {
             store: Store::seeded(alloc, seed),
-            heap: Vec::new(alloc),
+            heap: Heap::new(alloc),
             stack: Vec::new(alloc),
             equations: Vec::new(alloc),
             hyps: Vec::new(alloc),
@@ -194,15 +196,16 @@ impl Parts {
     }
 
     /// Whether they are few enough to be used again for the next body: it costs as much to take them
-    /// out as there are.
-    pub(crate) fn are_few(&self) -> bool {
-        self.store.len() <= MOST_KEPT
+    /// out as there are beside the parameters, which are so many.
+    pub(crate) fn are_few(&self, params: usize) -> bool {
+        self.store.len().saturating_sub(params) <= MOST_KEPT
     }
 }
 
 impl<'a> Setting<'a> {
-    /// The setting of a statement's body, as `Machine::begin` says. The words become those of the row,
-    /// and the parts those before the first command, whatever they were.
+    /// The setting of a statement's body, as `Machine::begin` says. The parts become those before the
+    /// first command, whatever they were; `last` are the parameters that stand in their store, if it is
+    /// known. The words may become those of the row.
     ///
     /// # Errors
     ///
@@ -213,17 +216,18 @@ impl<'a> Setting<'a> {
         kind: BodyKind,
         row: u32,
         before: Rows,
+        last: Option<Entered>,
         words: &mut Vec<Word>,
         parts: &mut Parts,
     ) -> Result<Setting<'a>, AllocError>
-        requires { MayRun mmb.now (byte_of kind) row before }
+        requires may_run { MayRun mmb.now (byte_of kind) row before }
+        requires last { IfSome last (λ last. Remembers mmb.now last parts.old.store) }
         ensures running { IfOk result (λ setting. IsRunning setting parts.new) }
         ensures begun { IfOk result (λ setting. IsBegun (gaps_of mode) mmb.now (byte_of kind) row before (machine_of setting parts.new)) }
     {
         let earlier = Earlier::new(mmb, before);
-        read_words(words, &earlier, kind, row)?;
-        parts.store.begin(words.as_slice(), deps_mode(kind))?;
-        first_items(&mut parts.heap, words.len())?;
+        enter(&earlier, kind, row, last, words, &mut parts.store)?;
+        parts.heap.begin(own_arity(&earlier, kind, row) as usize)?;
         parts.stack.clear();
         parts.equations.clear();
         parts.hyps.clear();
@@ -270,6 +274,19 @@ impl<'a> Setting<'a> {
         )
     }
 
+    /// The parameters that stand in the store.
+    pub(crate) fn entered(&self, parts: &Parts) -> Entered
+        requires { IsRunning self.now parts.now }
+        ensures { Remembers self.now.earlier.file result parts.now.store }
+    {
+        Entered {
+            at: own_words_at(&self.earlier, self.kind, self.row),
+            params: own_arity(&self.earlier, self.kind, self.row),
+            bound: self.bound_params,
+            mode: deps_mode(self.kind),
+        }
+    }
+
     /// Ends the body, and counts the steps of its END.
     pub(crate) fn finish<L: Ledger>(&self, parts: &mut Parts, steps: &mut Steps<L>) -> Finished
         requires { IsRunning self.now parts.old }
@@ -277,6 +294,7 @@ impl<'a> Setting<'a> {
         ensures steps { UnlessEndMem result (steps.new ≡ steps.old + end_steps (gaps_of self.now.mode) (tables_of self.now.earlier) (heading_for (machine_of self.now parts.old)) (machine_of self.now parts.old).state) }
         ensures most { steps.new ≤ steps.old + (1 + length self.now.earlier.file) }
         ensures store { parts.new.store ≡ parts.old.store }
+        ensures running { IsRunning self.now parts.new }
     {
         steps.tick();
         match end(
@@ -310,7 +328,7 @@ fn proceed<L: Ledger>(
     kind: BodyKind,
     cmd: Cmd,
     store: &mut Store,
-    heap: &mut Vec<Item>,
+    heap: &mut Heap,
     stack: &mut Vec<Item>,
     equations: &mut Vec<Equation>,
     hyps: &mut Vec<Id>,

@@ -1,7 +1,9 @@
 //! Room that one body leaves to the next.
-ghost use Rattle.std.specs.Prelude.{◌≡◌, Some};
+ghost use Rattle.std.specs.Prelude.{◌≡◌, ℕ, List, IfOk, None, Some};
+ghost use Rattle.mz_machine.specs.Rooms.{IsTidy, IsTidyDesk};
 
 use crate::machine::Parts;
+use crate::params::Entered;
 use mz_logic_theory::Word;
 use mz_store::Seed;
 use std::alloc::{AllocError, Global};
@@ -13,23 +15,29 @@ pub struct Room {
     desk: Option<Box<Desk>>,
 }
 
-/// The words of the row whose body runs, and what its commands change.
+/// What a body's commands change, and whose parameters its store begins with, where the body has run.
 #[derive(Drop)]
 pub(crate) struct Desk {
     pub(crate) words: Vec<Word>,
     pub(crate) parts: Parts,
+    pub(crate) last: Option<Entered>,
 }
 
 impl Room {
     /// No room yet. The bodies' terms are numbered with the seed.
-    pub fn new(seed: Seed) -> Room {
+    pub fn new(seed: Seed) -> Room
+        ensures { (file : List ℕ) → IsTidy file result }
+    {
         Room { seed, desk: None }
     }
 
     /// The desk of the last body, or a new one where that one is large.
-    pub(crate) fn take(&mut self, alloc: Global) -> Result<Box<Desk>, AllocError> {
+    pub(crate) fn take(&mut self, alloc: Global) -> Result<Box<Desk>, AllocError>
+        ensures tidy { IfOk result (λ desk. (file : List ℕ) → IsTidy file self.old → IsTidyDesk file desk.value) }
+        ensures empty { self.new.desk ≡ None }
+    {
         if let Some(desk) = self.desk.take() {
-            if desk.parts.are_few() {
+            if desk.parts.are_few(desk.words.len()) {
                 return Ok(desk);
             }
         }
@@ -45,10 +53,13 @@ impl Room {
 }
 
 impl Desk {
-    fn new(alloc: Global, seed: Seed) -> Desk {
+    fn new(alloc: Global, seed: Seed) -> Desk
+        ensures { (file : List ℕ) → IsTidyDesk file result }
+    {
         Desk {
             words: Vec::new(alloc),
             parts: Parts::new(alloc, seed),
+            last: None,
         }
     }
 }

@@ -5,4 +5,5 @@ pub mod ApartWords
 pub mod BodyUnderway
 mod FreeWords
 mod OwnWords
+mod FirstItems
 pub mod Offered

@@ -1,7 +1,8 @@
 -- A statement's own row, and what its body is run for (the .mmb format, its list of statements).
-use Rattle.std.specs.Prelude.{◌≡◌, ◌<◌, ◌≤◌, ◌⊎◌, ℕ, true, List, [], map}
+use Rattle.std.specs.Prelude.{◌≡◌, ◌<◌, ◌≤◌, ◌+◌, ◌*◌, ◌⊎◌, ℕ, true, List, [], map}
 use Rattle.std.specs.List.{range_with_len}
 use Rattle.mz_logic_theory.specs.declared.word.Word.{Word}
+use Rattle.mz_layout_tables.specs.Numbers.{number_at}
 use Rattle.mz_layout_tables.specs.Tables.{term_count, thm_count, term_row, thm_row}
 use Rattle.mz_store.specs.declared.item.Item.{Item as Kept}
 use Rattle.mz_store.specs.declared.item.Id.{Id}
@@ -41,6 +42,10 @@ abbrev pub own_words : List ℕ → ℕ → Kind → List Word
 own_words file row is_axiom = (thm_row file row).params
 own_words file row is_theorem = (thm_row file row).params
 own_words file row is_definition = (term_row file row).words.params
+
+-- so many words, of which the first stands at a place of the file
+abbrev pub words_from : List ℕ → (at count : ℕ) → List Word
+words_from file at count = map (λ i. record { 0 = number_at 8 file (at + 8 * i) }) (range_with_len 0 count)
 
 -- the first n ids
 abbrev pub id_at : ℕ → Id

@@ -5,6 +5,7 @@
 #![tactic(auto)]
 
 mod command;
+mod heap;
 mod items;
 mod own;
 mod places;
@@ -12,10 +13,11 @@ mod rows_before;
 mod scratch;
 
 pub use command::{Converting, Making};
+pub use heap::{FirstIds, Heap};
 pub use items::{is_obligation, kept_at, put_back, top};
 pub use own::{
     BodyKind, deps_mode, first_ids, first_items, kind_by, own_arity, own_proofs, own_stream,
-    read_words,
+    own_words_at, read_words,
 };
 pub use places::{dependencies, may_meet};
 pub use rows_before::Earlier;

@@ -1,7 +1,7 @@
 //! A statement's own row, which comes right after the rows before it, and the kind of its body.
 ghost use Rattle.std.specs.Prelude.{◌≡◌, ◌≤◌, ◌<◌, ◌^◌, OnOk, length, map, slice_get, Some};
 ghost use Rattle.mz_store.specs.declared.item.Item.TheVariants.{Proof};
-ghost use Rattle.mz_machine_env.specs.OwnRow.{IsNextRow, kind_of, mode_for, own_words, own_proofs, first_ids, first_items};
+ghost use Rattle.mz_machine_env.specs.OwnRow.{IsNextRow, kind_of, mode_for, own_words, own_proofs, first_ids, first_items, words_from};
 ghost use Rattle.mz_machine_theory.specs.Headings.{kind_at, heading_by};
 
 use crate::rows_before::Earlier;
@@ -51,6 +51,17 @@ pub fn own_arity(earlier: &Earlier, kind: BodyKind, row: u32) -> u32
     match kind {
         BodyKind::Axiom | BodyKind::Theorem => earlier.own_thm_arity(row),
         BodyKind::Definition => earlier.own_term_arity(row),
+    }
+}
+
+/// Where the words of its parameters begin in the file, in bytes.
+pub fn own_words_at(earlier: &Earlier, kind: BodyKind, row: u32) -> u32
+    requires { IsNextRow earlier.now.file earlier.now.rows row (kind_of kind) }
+    ensures { own_words earlier.now.file row (kind_of kind) ≡ words_from earlier.now.file result (length (own_words earlier.now.file row (kind_of kind))) }
+{
+    match kind {
+        BodyKind::Axiom | BodyKind::Theorem => earlier.own_thm_words_at(row),
+        BodyKind::Definition => earlier.own_term_words_at(row),
     }
 }
 

@@ -107,6 +107,14 @@ impl<'a> Earlier<'a> {
         self.mmb.thm_arity(row)
     }
 
+    /// Where the words of its parameters begin in the file, in bytes.
+    pub fn own_thm_words_at(&self, row: u32) -> u32
+        requires { row < thm_count self.now.file }
+        ensures { result ≡ (thm_row self.now.file row).words_at }
+    {
+        self.mmb.thm_words_at(row)
+    }
+
     /// The word of the j-th parameter of the axiom or theorem of a row of the file, be it before or
     /// not.
     pub fn own_thm_param(&self, row: u32, j: u32) -> Word
@@ -123,6 +131,14 @@ impl<'a> Earlier<'a> {
         ensures { result ≡ length (term_row self.now.file row).words.params }
     {
         self.mmb.arity(row)
+    }
+
+    /// Where the words of its parameters begin in the file, in bytes.
+    pub fn own_term_words_at(&self, row: u32) -> u32
+        requires { row < term_count self.now.file }
+        ensures { result ≡ (term_row self.now.file row).words_at }
+    {
+        self.mmb.term_word_at(row, 0)
     }
 
     /// The word of its j-th parameter.

@@ -1,13 +1,17 @@
 //! Lists that a command fills, kept from one to the next.
 
+use crate::heap::FirstIds;
 use mz_store::{Id, Item};
 use std::alloc::Global;
 
-/// Lists that a command fills and no other command reads: each begins with whatever they hold.
+/// Lists that a command fills and no other command reads: each begins with whatever they hold. The first
+/// ids alone stay what they are.
 #[derive(Drop)]
 pub struct Spare {
     /// The operands of a row, with which the heap of its stream begins.
     pub operands: Vec<Id>,
+    /// The ids with which the heap of the statement's own stream begins.
+    pub ids: FirstIds,
     /// What the stream adds to its heap.
     pub saved: Vec<Id>,
     /// The places of the row's bound parameters.
@@ -23,6 +27,7 @@ impl Spare {
     pub fn new(alloc: Global) -> Spare {
         Spare {
             operands: Vec::new(alloc),
+            ids: FirstIds::new(alloc),
             saved: Vec::new(alloc),
             bound: Vec::new(alloc),
             targets: Vec::new(alloc),

@@ -8,7 +8,6 @@ use Rattle.mz_base_theory.specs.Checks.{AllHold, FailsFirst}
 use Rattle.mz_logic_theory.specs.Declaration.{Assertion, Term, Form, plain_form, abstract_form, defined, is_defined}
 use Rattle.mz_logic_theory.specs.DeclView.{form}
 use Rattle.mz_logic_theory.specs.declared.binder.Binder.{Binder}
-use Rattle.mz_logic_theory.specs.declared.expr.Expr.{Expr}
 use Rattle.mz_logic_theory.specs.declared.decl.TermForm.{TermForm}
 use Rattle.mz_logic_theory.specs.declared.decl.TermForm.TheVariants.{Plain, Abstract, Body}
 use Rattle.mz_layout_tables.specs.Tables.{term_row}
@@ -41,7 +40,7 @@ exact-yes b P exact is = exact.0 is
 
 -- ---- bodies
 
-pub not-body : (f : TermForm) → ((ds : List Binder) (e : Expr) → f ≡ Body ds e → ⊥) → is_defined (form f) ≡ false
+pub not-body : (f : TermForm) → ((ds : List Binder) (e : Tree) → f ≡ Body ds e → ⊥) → is_defined (form f) ≡ false
 not-body Plain other = refl
 not-body Abstract other = refl
 not-body (Body ds e) other = absurd (other ds e refl)

@@ -1,13 +1,10 @@
 -- One step of a comparison: what the stream says at a place, beside an expression.
-use Rattle.std.proofs.Common.{◌≡◌, ◌≤◌, ◌<◌, ◌+◌, ◌-◌, ℕ, suc, Bool, true, false, cond, ltb, eqb, List, length, drop, Option, Some, None, slice_get, get_or, refl, ap, sym, ◌∙◌, subst, arith, inl, inr}
+use Rattle.std.proofs.Common.{◌≡◌, ◌≤◌, ◌<◌, ◌+◌, ◌-◌, ℕ, suc, Bool, true, false, cond, ltb, eqb, List, length, Option, Some, None, slice_get, refl, ap, sym, ◌∙◌, subst, arith, inl, inr}
 use Rattle.std.specs.Prelude.{IsTrue, MatchBool, ◌↔◌, is_some}
-use Rattle.std.proofs.lemmas.List.{drop_more}
 use Rattle.std.proofs.lemmas.Bool.{true≢false, false≢true, ltb-true, ltb-false, eqb-true, eqb-false}
 use Rattle.mz_cmd.specs.declared.code.UnifyCode.{UnifyCode}
 use Rattle.mz_cmd.specs.declared.code.UnifyCode.TheVariants as codes
 use Rattle.mz_logic_theory.specs.Tree.{Tree, Trees, var, app, none, more, listed}
-use Rattle.mz_logic_theory.specs.declared.expr.Expr.{Expr}
-use Rattle.mz_logic_theory.specs.View.{tree, trees}
 use Rattle.mz_layout_tables.specs.Tables.{term_row}
 use Rattle.mz_unify_theory.specs.Spells.{Marks, dummy_of}
 use Rattle.mz_match_rows.specs.declared.stream.Step.{Step}
@@ -213,6 +210,9 @@ differs-app file n m b pairs k es at d f to d' s stands made other = go (makes_t
 
 -- ---- operands, one after another
 
+abbrev pub many-of : Trees → ℕ
+many-of es = length (listed es)
+
 module _ (file : List ℕ) (n : ℕ) (m : Marks) (b : Beside) where
   -- the next one of as many
   pub all-next : (k : ℕ) (fs : Trees) (at d to d' : ℕ) → suc k ≡ length (listed fs) → AreSaid file n m at d fs to d'
@@ -231,11 +231,3 @@ module _ (file : List ℕ) (n : ℕ) (m : Marks) (b : Beside) where
       → (all_compared b pairs none fs ≡ Some pairs) × (place ≡ to)
   all-done pairs none place to many (p, q) = (refl, cursor-is to place.at place.dummies p q)
   all-done pairs (more f fs) place to many all = absurd cc
-
--- the rest of the expressions begins with the next
-pub next-of : (xs : List Expr) (i : ℕ) (e : Expr) → i < length xs → e ≡ get_or xs i e
-    → (trees (drop i xs) ≡ more (tree e) (trees (drop (i + 1) xs))) × (length (drop i xs) ≡ suc (length (drop (i + 1) xs)))
-next-of xs i e below read = (
-  ap trees (drop_more xs i e below) ∙ ap (λ d. more (tree d) (trees (drop (i + 1) xs))) (sym read),
-  ap length (drop_more xs i e below),
-)

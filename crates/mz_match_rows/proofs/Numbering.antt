@@ -1,11 +1,9 @@
 -- Trees by numbers: a number is one tree's, and stays where more pieces are added.
-use Rattle.std.proofs.Common.{◌≡◌, ◌<◌, ◌≤◌, ◌++◌, ◌∷◌, [], ℕ, zero, suc, Bool, false, List, Option, Some, None, append_assoc, length, get_or, slice_get, refl, ap, sym, ◌∙◌, subst, arith}
+use Rattle.std.proofs.Common.{◌≡◌, ◌<◌, ◌++◌, ◌∷◌, [], ℕ, Bool, false, List, Option, Some, None, append_assoc, length, slice_get, refl, ap, sym, ◌∙◌, subst}
 use Rattle.std.specs.Prelude.{IsTrue, ◌↔◌, is_some}
 use Rattle.std.proofs.lemmas.Bool.{false≢true}
 use Rattle.mz_base_theory.proofs.Offered.{slice_get-append}
-use Rattle.mz_logic_theory.specs.Tree.{Tree, Trees, var, app, none, more, listed, size, trees_size}
-use Rattle.mz_logic_theory.specs.declared.expr.Expr.{Expr}
-use Rattle.mz_logic_theory.specs.View.{tree, trees}
+use Rattle.mz_logic_theory.specs.Tree.{Tree, Trees, var, app, none, more, listed}
 use Rattle.mz_logic_theory.specs.declared.binder.Binder.{Binder}
 use Rattle.mz_logic_theory.proofs.Offered.{same-first, same-rest}
 use Rattle.mz_unify_theory.specs.Spells.{Marks, dummy_of}
@@ -21,11 +19,6 @@ use Rattle.mz_match_rows.specs.Streams.{step_at, AreSaid, IsMade}
 use Rattle.mz_match_rows.specs.TermCodes.{makes_term}
 use Rattle.mz_match_rows.proofs.Compared.{made-variable}
 use Rattle.mz_match_rows.proofs.KeptMarks.{each-more}
-
-pub size-within : (xs : List Expr) (i : ℕ) (e : Expr) → i < length xs → e ≡ get_or xs i e → size (tree e) ≤ trees_size (trees xs)
-size-within [] i e below read = absurd (omega (arith, below))
-size-within (x ∷ xs) zero e below read = let same = ap (λ (d : Expr). size (tree d)) read in omega (arith, same)
-size-within (x ∷ xs) (suc i) e below read = let rest = size-within xs i e (omega (arith, below)) read in omega (arith, rest)
 
 -- ---- one tree
 

@@ -7,7 +7,6 @@ use Rattle.mz_cmd.specs.declared.code.UnifyCode.{UnifyCode}
 use Rattle.mz_cmd.specs.declared.code.UnifyCode.TheVariants as codes
 use Rattle.mz_logic_theory.specs.Tree.{Tree, Trees, var, app, none, more}
 use Rattle.mz_logic_theory.specs.View.{tree, trees}
-use Rattle.mz_logic_theory.specs.declared.expr.Expr.{Expr}
 use Rattle.mz_unify_theory.specs.Spells.{Marks, dummy_of, trees_of}
 use Rattle.mz_match_rows.specs.declared.stream.Cursor.{Cursor}
 use Rattle.mz_match_rows.specs.Streams.{step_at, Says, Passes, IsSaid, AreSaid, IsMade, AreMarks, HypsAreSaid}
@@ -132,7 +131,7 @@ module _ (file : List ℕ) (n : ℕ) (m : Marks) where
 -- ---- lists, from the end
 
 -- one more at the end of both
-pub last-same : (rows : List ℕ) (xs : List Expr) (e : Expr) (hs : List Tree) (h : Tree)
+pub last-same : (rows : List ℕ) (xs : List Tree) (e : Tree) (hs : List Tree) (h : Tree)
     → SameTrees rows (trees (xs ++ e ∷ [])) (trees_of (hs ++ h ∷ [])) ↔ (SameTrees rows (trees xs) (trees_of hs) × SameTree rows (tree e) h)
 last-same rows [] e [] h = ((λ s. (tt, s.0)), λ s. (s.1, tt))
 last-same rows [] e (g ∷ []) h = ((λ s. absurd s.1), λ s. absurd s.0)
@@ -145,16 +144,16 @@ last-same rows (x ∷ xs) e (g ∷ hs) h =
 
 -- ---- hypotheses, of which so many of the first are left
 
-pub take-last : (xs : List Expr) (k : ℕ) (e : Expr) → k < length xs → e ≡ get_or xs k e → take (suc k) xs ≡ take k xs ++ e ∷ []
+pub take-last : (xs : List Tree) (k : ℕ) (e : Tree) → k < length xs → e ≡ get_or xs k e → take (suc k) xs ≡ take k xs ++ e ∷ []
 take-last [] k e below read = absurd (omega arith)
-take-last (x ∷ xs) zero e below read = ap (λ (y : Expr). y ∷ []) (sym read)
+take-last (x ∷ xs) zero e below read = ap (λ (y : Tree). y ∷ []) (sym read)
 take-last (x ∷ xs) (suc k) e below read = ap (λ ys. x ∷ ys) (take-last xs k e (omega arith) read)
 
 more-same : (rows : List ℕ) (hs : List Tree) (h : Tree) → SameTrees rows none (trees_of (hs ++ h ∷ [])) → ⊥
 more-same rows [] h same = same
 more-same rows (g ∷ hs) h same = same
 
-fewer-same : (rows : List ℕ) (xs : List Expr) → SameTrees rows (trees xs) none → length xs ≡ 0
+fewer-same : (rows : List ℕ) (xs : List Tree) → SameTrees rows (trees xs) none → length xs ≡ 0
 fewer-same rows [] same = refl
 fewer-same rows (x ∷ xs) same = absurd same
 
@@ -162,20 +161,20 @@ reverse-more : (h : Tree) (hs : List Tree) → reverse (h ∷ hs) ≡ reverse hs
 reverse-more h hs = reverse-append (h ∷ []) hs
 
 -- the next hypothesis of the stream is the last that is left
-pub next-hyp-same : (rows : List ℕ) (xs : List Expr) (k : ℕ) (e : Expr) (h : Tree) (rest : List Tree) → k < length xs → e ≡ get_or xs k e
+pub next-hyp-same : (rows : List ℕ) (xs : List Tree) (k : ℕ) (e : Tree) (h : Tree) (rest : List Tree) → k < length xs → e ≡ get_or xs k e
     → SameTrees rows (trees (take (suc k) xs)) (trees_of (reverse (h ∷ rest))) ↔ (SameTrees rows (trees (take k xs)) (trees_of (reverse rest)) × SameTree rows (tree e) h)
 next-hyp-same rows xs k e h rest below read =
     let both = last-same rows (take k xs) e (reverse rest) h in
-    subst (λ (ys : List Expr). SameTrees rows (trees ys) (trees_of (reverse (h ∷ rest))) ↔ (SameTrees rows (trees (take k xs)) (trees_of (reverse rest)) × SameTree rows (tree e) h)) (sym (take-last xs k e below read))
+    subst (λ (ys : List Tree). SameTrees rows (trees ys) (trees_of (reverse (h ∷ rest))) ↔ (SameTrees rows (trees (take k xs)) (trees_of (reverse rest)) × SameTree rows (tree e) h)) (sym (take-last xs k e below read))
     (subst (λ (gs : List Tree). SameTrees rows (trees (take k xs ++ e ∷ [])) (trees_of gs) ↔ (SameTrees rows (trees (take k xs)) (trees_of (reverse rest)) × SameTree rows (tree e) h)) (sym (reverse-more h rest)) both)
 
-pub none-beside-more : (rows : List ℕ) (xs : List Expr) (h : Tree) (rest : List Tree) → SameTrees rows (trees (take 0 xs)) (trees_of (reverse (h ∷ rest))) → ⊥
+pub none-beside-more : (rows : List ℕ) (xs : List Tree) (h : Tree) (rest : List Tree) → SameTrees rows (trees (take 0 xs)) (trees_of (reverse (h ∷ rest))) → ⊥
 none-beside-more rows xs h rest same = more-same rows (reverse rest) h (subst (λ (gs : List Tree). SameTrees rows none (trees_of gs)) (reverse-more h rest) same)
 
-pub some-beside-none : (rows : List ℕ) (xs : List Expr) (k : ℕ) → k ≤ length xs → SameTrees rows (trees (take k xs)) none → k ≡ 0
+pub some-beside-none : (rows : List ℕ) (xs : List Tree) (k : ℕ) → k ≤ length xs → SameTrees rows (trees (take k xs)) none → k ≡ 0
 some-beside-none rows xs k within same = let many = fewer-same rows (take k xs) same in omega (arith, many, length-take-le k xs within)
 
-pub all-left : (rows : List ℕ) (xs : List Expr) (es : Trees) (hs : List Tree) → trees xs ≡ es
+pub all-left : (rows : List ℕ) (xs : List Tree) (es : Trees) (hs : List Tree) → trees xs ≡ es
     → SameTrees rows es (trees_of (reverse hs)) ↔ SameTrees rows (trees (take (length xs) xs)) (trees_of (reverse hs))
 all-left rows xs es hs is =
     let all : trees (take (length xs) xs) ≡ es = ap trees (take_all (length xs) xs (omega arith)) ∙ is in
@@ -183,7 +182,7 @@ all-left rows xs es hs is =
 
 module _ (file : List ℕ) (n : ℕ) (m : Marks) where
   -- at the END all are compared exactly where none is left
-  pub left-answer : (rows : List ℕ) (xs : List Expr) (k q : ℕ) (rest : List Tree) (S : Type 0) → k ≤ length xs → HypsAreSaid file n m q rest
+  pub left-answer : (rows : List ℕ) (xs : List Tree) (k q : ℕ) (rest : List Tree) (S : Type 0) → k ≤ length xs → HypsAreSaid file n m q rest
       → ((v next : ℕ) → Says file q codes.Hyp v next → ⊥) → S ↔ SameTrees rows (trees (take k xs)) (trees_of (reverse rest)) → IsTrue (eqb k 0) ↔ S
   left-answer rows xs k q [] S within hyps no-hyp exact = (
     (λ is. exact.1 (subst (λ (j : ℕ). SameTrees rows (trees (take j xs)) none) (sym (eqb-true k 0 is)) tt)),
@@ -192,7 +191,7 @@ module _ (file : List ℕ) (n : ℕ) (m : Marks) where
   left-answer rows xs k q (h ∷ rest) S within (v, next, to, says, said, later) no-hyp exact = absurd (no-hyp v next says)
 
   -- where a hypothesis stands and none is left, they differ
-  pub hyp-left : (rows : List ℕ) (xs : List Expr) (q : ℕ) (rest : List Tree) → HypsAreSaid file n m q rest → (step_at file q ≡ None → ⊥)
+  pub hyp-left : (rows : List ℕ) (xs : List Tree) (q : ℕ) (rest : List Tree) → HypsAreSaid file n m q rest → (step_at file q ≡ None → ⊥)
       → SameTrees rows (trees (take 0 xs)) (trees_of (reverse rest)) → ⊥
   hyp-left rows xs q [] ends stands same = stands ends
   hyp-left rows xs q (h ∷ rest) hyps stands same = none-beside-more rows xs h rest same

@@ -20,7 +20,7 @@ use crate::publics::Publics;
 use crate::stream::{Cursor, Step, next_hyp, step_at};
 use mz_cmd::UnifyCode;
 use mz_layout_tables::Mmb;
-use mz_logic_theory::{Binder, Expr, Exprs, Hyps, Terms};
+use mz_logic_theory::{Binder, Expr, ExprRef, Hyps, Operands, Shape, Terms};
 
 /// What is compared: a unify stream of the file, that begins at `start` and is over so many
 /// parameters, beside expressions of a specification over as many and these dummies. `places` has
@@ -59,7 +59,7 @@ pub fn same_body(sides: &Sides, body: &Expr) -> bool
         at: sides.start,
         dummies: 0,
     };
-    same_at(sides, body, start, &mut pairs).is_some()
+    same_at(sides, &body.lent(), start, &mut pairs).is_some()
 }
 
 /// Whether the expression is the one that the stream says first.
@@ -169,7 +169,7 @@ fn same_tree(sides: &Sides, expr: &Expr, from: Cursor) -> bool
         → (IsTrue result ↔ SameTree sides.now.publics.now (tree expr.now) f) }
 {
     let mut pairs = no_pairs();
-    same_at(sides, expr, from, &mut pairs).is_some()
+    same_at(sides, &expr.lent(), from, &mut pairs).is_some()
 }
 
 fn no_pairs() -> [Option<u32>; 55]
@@ -183,14 +183,9 @@ fn no_pairs() -> [Option<u32>; 55]
 ///
 /// Where they are the same, gives the place behind.
 #[cycle(same_at)]
-pub fn same_at(
-    sides: &Sides,
-    expr: &Expr,
-    from: Cursor,
-    pairs: &mut [Option<u32>],
-) -> Option<Cursor>
+fn same_at(sides: &Sides, expr: &ExprRef, from: Cursor, pairs: &mut [Option<u32>]) -> Option<Cursor>
     requires { (m : Marks) × (f : Tree) × (to : Cursor) × IsStream sides.now m × SaidAt sides.now m from f to }
-    ensures { (m : Marks) (f : Tree) (to : Cursor) → IsStream sides.now m → SaidAt sides.now m from f to → Answers result pairs.new (compared (beside sides.now m) pairs.old (tree expr.now) f) to }
+    ensures { (m : Marks) (f : Tree) (to : Cursor) → IsStream sides.now m → SaidAt sides.now m from f to → Answers result pairs.new (compared (beside sides.now m) pairs.old expr.now f) to }
 {
     let Some(step) = step_at(sides.mmb.file(), from.at) else {
         return None;
@@ -209,10 +204,10 @@ pub fn same_at(
 
 /// The same of a mark: of a parameter, or of what the stream says where it makes the mark.
 #[cycle(same_at)]
-fn same_mark(sides: &Sides, expr: &Expr, mark: u32, pairs: &mut [Option<u32>]) -> bool
+fn same_mark(sides: &Sides, expr: &ExprRef, mark: u32, pairs: &mut [Option<u32>]) -> bool
     requires { (m : Marks) × (f : Tree) × IsStream sides.now m × (slice_get m.trees mark ≡ Some f) }
     ensures { (m : Marks) (f : Tree) → IsStream sides.now m → slice_get m.trees mark ≡ Some f
-        → MatchBool result (compared (beside sides.now m) pairs.old (tree expr.now) f ≡ Some pairs.new) (compared (beside sides.now m) pairs.old (tree expr.now) f ≡ None) }
+        → MatchBool result (compared (beside sides.now m) pairs.old expr.now f ≡ Some pairs.new) (compared (beside sides.now m) pairs.old expr.now f ≡ None) }
 {
     if mark < sides.params {
         return is_variable(expr, mark);
@@ -230,17 +225,17 @@ fn same_mark(sides: &Sides, expr: &Expr, mark: u32, pairs: &mut [Option<u32>]) -
 #[cycle(same_at)]
 fn same_made(
     sides: &Sides,
-    expr: &Expr,
+    expr: &ExprRef,
     from: Cursor,
     step: Step,
     pairs: &mut [Option<u32>],
 ) -> Option<Cursor>
     requires { (step_lem sides.now.mmb.now from.at ≡ Some step) × (m : Marks) × (f : Tree) × (to : Cursor) × IsStream sides.now m × MadeAt sides.now m from f to }
-    ensures { (m : Marks) (f : Tree) (to : Cursor) → IsStream sides.now m → MadeAt sides.now m from f to → Answers result pairs.new (compared (beside sides.now m) pairs.old (tree expr.now) f) to }
+    ensures { (m : Marks) (f : Tree) (to : Cursor) → IsStream sides.now m → MadeAt sides.now m from f to → Answers result pairs.new (compared (beside sides.now m) pairs.old expr.now f) to }
 {
-    match expr {
-        Expr::Var(x) => {
-            if !is_dummy(sides, *x, from.dummies, step, pairs) {
+    match expr.shape() {
+        Shape::Var(x) => {
+            if !is_dummy(sides, x, from.dummies, step, pairs) {
                 return None;
             }
             Some(Cursor {
@@ -248,29 +243,34 @@ fn same_made(
                 dummies: from.dummies + 1,
             })
         }
-        Expr::App(k, es) => {
-            if !is_term(sides, *k, es, step) {
+        Shape::App(k, es) => {
+            if !is_term(sides, k, &es, step) {
                 return None;
             }
             let place = Cursor {
                 at: step.next,
                 dummies: from.dummies,
             };
-            same_all(sides, es, place, pairs)
+            same_all(sides, &es, place, pairs)
         }
     }
 }
 
 /// Compares expressions with as many that the stream says one after another.
 #[cycle(same_at)]
-fn same_all(sides: &Sides, exprs: &Exprs, from: Cursor, pairs: &mut [Option<u32>]) -> Option<Cursor>
+fn same_all(
+    sides: &Sides,
+    exprs: &Operands,
+    from: Cursor,
+    pairs: &mut [Option<u32>],
+) -> Option<Cursor>
     requires { (m : Marks) × (fs : Trees) × (to : Cursor) × IsStream sides.now m × AllSaidAt sides.now m from fs to × (length (listed exprs.now) ≡ length (listed fs)) }
     ensures { (m : Marks) (fs : Trees) (to : Cursor) → IsStream sides.now m → AllSaidAt sides.now m from fs to → length (listed exprs.now) ≡ length (listed fs)
         → Answers result pairs.new (all_compared (beside sides.now m) pairs.old exprs.now fs) to }
 {
     let mut place = from;
-    for e in exprs.as_slice() {
-        let Some(next) = same_at(sides, e, place, pairs) else {
+    for i in 0..exprs.len() {
+        let Some(next) = same_at(sides, &exprs.at(i), place, pairs) else {
             return None;
         };
         place = next;
@@ -278,18 +278,18 @@ fn same_all(sides: &Sides, exprs: &Exprs, from: Cursor, pairs: &mut [Option<u32>
     Some(place)
 }
 
-fn is_variable(expr: &Expr, x: u32) -> bool
-    ensures { IsTrue result ↔ (tree expr.now ≡ var x) }
+fn is_variable(expr: &ExprRef, x: u32) -> bool
+    ensures { IsTrue result ↔ (expr.now ≡ var x) }
 {
-    match expr {
-        Expr::Var(y) => *y == x,
-        Expr::App(_, _) => false,
+    match expr.shape() {
+        Shape::Var(y) => y == x,
+        Shape::App(_, _) => false,
     }
 }
 
 /// Whether the command makes an application of the partner of the specification's k-th term, to so
 /// many operands.
-fn is_term(sides: &Sides, k: u32, operands: &Exprs, step: Step) -> bool
+fn is_term(sides: &Sides, k: u32, operands: &Operands, step: Step) -> bool
     requires { term_lem step.code ≡ true → step.value < term_count sides.now.mmb.now }
     ensures { IsTrue result ↔ ((term_lem step.code ≡ true) × (number_lem step.value (slice_get sides.now.publics.now k) ≡ true) × (length (listed operands.now) ≡ length (term_row sides.now.mmb.now step.value).words.params)) }
 {

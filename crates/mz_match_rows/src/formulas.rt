@@ -51,7 +51,7 @@ impl Formulas {
         if let Some(number) = self.number {
             return Some(number);
         }
-        let number = self.pieces.enter(publics, hyps.at(i - 1));
+        let number = self.pieces.enter(publics, &hyps.at(i - 1).lent());
         self.number = number;
         number
     }

@@ -2,12 +2,11 @@
 // two numbers.
 ghost use Rattle.std.specs.Prelude.{◌≡◌, ◌<◌, ◌++◌, ◌↔◌, [], ℕ, List, Some, IfSome, IsTrue, MatchOption, slice_get};
 ghost use Rattle.mz_logic_theory.specs.Tree.{Tree, Trees};
-ghost use Rattle.mz_logic_theory.specs.View.{tree, trees};
 ghost use Rattle.mz_spec_proved_theory.specs.AlphaTrees.{SameTree, SameTrees};
 ghost use Rattle.mz_match_rows.specs.Numbers.{AreNumbered, IsNumbered};
 
 use crate::publics::Publics;
-use mz_logic_theory::{Expr, Exprs};
+use mz_logic_theory::{ExprRef, Operands, Shape};
 use std::alloc::Global;
 use std::collections::BTreeMap;
 use std::marker::Model;
@@ -55,17 +54,17 @@ impl Pieces {
     /// Enters the tree that the expression is over the binary's terms, and gives its number. None where a
     /// term has no partner there, or memory runs out.
     #[cycle(enter)]
-    pub fn enter(&mut self, publics: &Publics, expr: &Expr) -> Option<usize>
+    pub fn enter(&mut self, publics: &Publics, expr: &ExprRef) -> Option<usize>
         ensures grows { (more : List Piece) × (self.new ≡ self.old ++ more) }
-        ensures number { IfSome result (λ i. (f : Tree) × SameTree publics.now (tree expr.now) f × IsNumbered self.new f i) }
+        ensures number { IfSome result (λ i. (f : Tree) × SameTree publics.now expr.now f × IsNumbered self.new f i) }
     {
-        match expr {
-            Expr::Var(x) => self.number(Piece::Variable(*x)),
-            Expr::App(k, es) => {
-                let Some(term) = publics.row(*k) else {
+        match expr.shape() {
+            Shape::Var(x) => self.number(Piece::Variable(x)),
+            Shape::App(k, es) => {
+                let Some(term) = publics.row(k) else {
                     return None;
                 };
-                let Some(operands) = self.enter_all(publics, es.as_slice()) else {
+                let Some(operands) = self.enter_all(publics, &es) else {
                     return None;
                 };
                 self.number_of_application(term, operands)
@@ -75,9 +74,9 @@ impl Pieces {
 
     /// Enters the list of the trees that the expressions are.
     #[cycle(enter)]
-    fn enter_all(&mut self, publics: &Publics, exprs: &[Expr]) -> Option<usize>
+    fn enter_all(&mut self, publics: &Publics, exprs: &Operands) -> Option<usize>
         ensures grows { (more : List Piece) × (self.new ≡ self.old ++ more) }
-        ensures number { IfSome result (λ i. (fs : Trees) × SameTrees publics.now (trees exprs.now) fs × AreNumbered self.new fs i) }
+        ensures number { IfSome result (λ i. (fs : Trees) × SameTrees publics.now exprs.now fs × AreNumbered self.new fs i) }
     {
         let Some(empty) = self.number(Piece::Empty) else {
             return None;
@@ -86,7 +85,7 @@ impl Pieces {
         let mut left = exprs.len();
         'exprs: while left > 0 {
             left -= 1;
-            let Some(first) = self.enter(publics, &exprs[left]) else {
+            let Some(first) = self.enter(publics, &exprs.at(left)) else {
                 return None;
             };
             let Some(more) = self.number_of_list(first, list) else {

@@ -3,4 +3,5 @@ pub mod Claiming
 pub mod Picking
 pub mod Waiting
 pub mod Example
+pub mod Found
 pub mod Uncoerced

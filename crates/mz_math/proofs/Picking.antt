@@ -7,7 +7,6 @@ use Rattle.std.proofs.lemmas.List.{drop_all, get_or-set_same, get_or-set_other}
 use Rattle.std.proofs.lemmas.Option.{same_Some, none-some}
 use Rattle.mz_logic_theory.specs.Tree.{Tree, Trees, app, none, more, operand, followed_by}
 use Rattle.mz_logic_theory.specs.View.{trees}
-use Rattle.mz_logic_theory.specs.declared.expr.Expr.{Expr}
 use Rattle.mz_logic_theory.proofs.Offered.{followed_by_none, followed_by_push}
 use Rattle.mz_math.specs.Arrange.{AreDistinct, Differs, earlier_or, first_of, picked, picked_one}
 use Rattle.mz_math_theory.specs.Grammar.{operand_for, arranged}
@@ -147,7 +146,7 @@ with-more s i next old now js is = ap (λ o. first_with o (next + 1) (first_of j
 
 -- ---- operands that are taken
 
-pub operand-other : (xs : List Expr) (k j : ℕ) (x : Expr) → (j ≡ k → ⊥) → operand (trees (slice_set xs k x)) j ≡ operand (trees xs) j
+pub operand-other : (xs : List Tree) (k j : ℕ) (x : Tree) → (j ≡ k → ⊥) → operand (trees (slice_set xs k x)) j ≡ operand (trees xs) j
 operand-other [] k j x other = refl
 operand-other (y ∷ xs) zero zero x other = absurd (other refl)
 operand-other (y ∷ xs) zero (suc j) x other = refl

@@ -1,4 +1,4 @@
--- Without coercions a tree stands for itself.
+-- Without coercions a tree stands for itself; nothing has no height.
 use Rattle.std.proofs.Common.{◌≡◌, ◌∙◌, ◌<◌, ◌≤◌, ℕ, List, [], ◌∷◌, ap, refl, subst, inl, inr, arith}
 use Rattle.std.proofs.lemmas.Bool.{cases_lt}
 use Rattle.std.proofs.lemmas.Option.{none-some}
@@ -37,3 +37,7 @@ module _ (sigs : List Signature) (cs : List Coercion) (ctx : List Binder) (no_co
   high-itself high not_low e s has =
       let as_high = ap height (same e s has) in
       elim (cases_lt high (height t)) [ inl above ↦ omega (arith, as_high, above) | inr low ↦ absurd (not_low low) ]
+
+pub no-height : (e : Tree) (most : ℕ) → most ≡ 0 → most < height e
+no-height (var x) most is = omega (arith, is)
+no-height (app t es) most is = omega (arith, is)

@@ -6,10 +6,13 @@ ghost use Rattle.mz_logic_theory.specs.View.{tree as tree_lem};
 ghost use Rattle.mz_math_theory.specs.FormulaAnswers.{FitsParam, IsBuilt, IsAdded, AreAdded, AddsWrapped};
 ghost use Rattle.mz_math_theory.specs.Coercions.{OnePath, Reaches};
 ghost use Rattle.mz_math_theory.specs.Meaning.{Coerced, CoercedAll};
+ghost use Rattle.mz_math_coercions.specs.Found.{AreFound};
 
 use crate::height::is_low;
-use mz_logic_theory::{Binder, Context, Env, Expr, Exprs, is_bound_var};
-use mz_math_coercions::{Coercions, distance, reaches, wrap};
+use mz_logic_theory::{
+    Binder, Context, Env, Expr, ExprRef, Exprs, Operands, Shape, lent_is_bound_var,
+};
+use mz_math_coercions::{Coercions, Paths, distance, reaches, wrap};
 use mz_math_theory::{Added, Built};
 use std::alloc::{AllocError, Global};
 
@@ -23,22 +26,33 @@ pub fn sort_of(
     alloc: Global,
     env: &Env,
     coercions: &Coercions,
+    paths: &mut Paths,
     ctx: &Context<'_>,
-    tree: &Expr,
+    tree: &ExprRef<'_>,
 ) -> Result<Option<u32>, AllocError>
-    requires { OnePath coercions.now }
-    ensures { IfOk result (λ found. MatchOption found ((e : Tree) (s : ℕ) → Coerced (signatures env.now) coercions.now ctx.now (tree_lem tree.now) e s → ⊥)
-        (λ s. (e : Tree) × Coerced (signatures env.now) coercions.now ctx.now (tree_lem tree.now) e s)) }
+    requires one { OnePath coercions.now }
+    requires found { AreFound coercions.now paths.old }
+    ensures found { AreFound coercions.now paths.new }
+    ensures sort { IfOk result (λ found. MatchOption found ((e : Tree) (s : ℕ) → Coerced (signatures env.now) coercions.now ctx.now tree.now e s → ⊥)
+        (λ s. (e : Tree) × Coerced (signatures env.now) coercions.now ctx.now tree.now e s)) }
 {
-    match tree {
-        Expr::Var(x) => match ctx.get(*x) {
+    match tree.shape() {
+        Shape::Var(x) => match ctx.get(x) {
             None => Ok(None),
             Some(binder) => Ok(Some(binder.sort)),
         },
-        Expr::App(t, operands) => match env.term(*t) {
+        Shape::App(t, operands) => match env.term(t) {
             None => Ok(None),
             Some(term) => {
-                if all_fit(alloc, env, coercions, ctx, operands, term.params.as_slice())? {
+                if all_fit(
+                    alloc,
+                    env,
+                    coercions,
+                    paths,
+                    ctx,
+                    &operands,
+                    term.params.as_slice(),
+                )? {
                     Ok(Some(term.result.sort))
                 } else {
                     Ok(None)
@@ -58,19 +72,29 @@ fn all_fit(
     alloc: Global,
     env: &Env,
     coercions: &Coercions,
+    paths: &mut Paths,
     ctx: &Context<'_>,
-    operands: &Exprs,
+    operands: &Operands<'_>,
     params: &[Binder],
 ) -> Result<bool, AllocError>
-    requires { OnePath coercions.now }
-    ensures { IfOk result (λ fit. IsTrue fit ↔ ((fs : Trees) × CoercedAll (signatures env.now) coercions.now ctx.now operands.now params.now fs)) }
+    requires one { OnePath coercions.now }
+    requires found { AreFound coercions.now paths.old }
+    ensures found { AreFound coercions.now paths.new }
+    ensures fit { IfOk result (λ fit. IsTrue fit ↔ ((fs : Trees) × CoercedAll (signatures env.now) coercions.now ctx.now operands.now params.now fs)) }
 {
-    let items = operands.as_slice();
-    if items.len() != params.len() {
+    if operands.len() != params.len() {
         return Ok(false);
     }
-    for i in 0..items.len() {
-        if !fits(alloc, env, coercions, ctx, &items[i], &params[i])? {
+    for i in 0..operands.len() {
+        if !fits(
+            alloc,
+            env,
+            coercions,
+            paths,
+            ctx,
+            &operands.at(i),
+            &params[i],
+        )? {
             return Ok(false);
         }
     }
@@ -87,23 +111,26 @@ fn fits(
     alloc: Global,
     env: &Env,
     coercions: &Coercions,
+    paths: &mut Paths,
     ctx: &Context<'_>,
-    operand: &Expr,
+    operand: &ExprRef<'_>,
     param: &Binder,
 ) -> Result<bool, AllocError>
-    requires { OnePath coercions.now }
-    ensures { IfOk result (λ fit. IsTrue fit ↔ ((f : Tree) × FitsParam (signatures env.now) coercions.now ctx.now (tree_lem operand.now) param.now f)) }
+    requires one { OnePath coercions.now }
+    requires found { AreFound coercions.now paths.old }
+    ensures found { AreFound coercions.now paths.new }
+    ensures fit { IfOk result (λ fit. IsTrue fit ↔ ((f : Tree) × FitsParam (signatures env.now) coercions.now ctx.now operand.now param.now f)) }
 {
-    let Some(sort) = sort_of(alloc, env, coercions, ctx, operand)? else {
+    let Some(sort) = sort_of(alloc, env, coercions, paths, ctx, operand)? else {
         return Ok(false);
     };
     if !param.bound {
-        return reaches(alloc, coercions, sort, param.sort);
+        return reaches(alloc, coercions, paths, sort, param.sort);
     }
     if sort != param.sort {
         return Ok(false);
     }
-    Ok(is_bound_var(ctx, operand))
+    Ok(lent_is_bound_var(ctx, operand))
 }
 
 /// The tree with its operands wrapped, where it is at most so high. Without coercions it is the tree
@@ -112,18 +139,21 @@ pub fn coerced(
     alloc: Global,
     env: &Env,
     coercions: &Coercions,
+    paths: &mut Paths,
     ctx: &Context<'_>,
     tree: Expr,
     most: usize,
 ) -> Built
     requires one { OnePath coercions.now }
+    requires found { AreFound coercions.now paths.old }
     requires there { (e : Tree) × (s : ℕ) × Coerced (signatures env.now) coercions.now ctx.now (tree_lem tree) e s }
-    ensures { IsBuilt (signatures env.now) coercions.now ctx.now (tree_lem tree) most result }
+    ensures found { AreFound coercions.now paths.new }
+    ensures built { IsBuilt (signatures env.now) coercions.now ctx.now (tree_lem tree) most result }
 {
     if !are_none(coercions) {
-        return build(alloc, env, coercions, ctx, &tree, most);
+        return build(alloc, env, coercions, paths, ctx, &tree.lent(), most);
     }
-    if is_low(&tree, most) {
+    if is_low(&tree.lent(), most) {
         return Built::Tree(tree);
     }
     Built::High
@@ -140,20 +170,23 @@ fn build(
     alloc: Global,
     env: &Env,
     coercions: &Coercions,
+    paths: &mut Paths,
     ctx: &Context<'_>,
-    tree: &Expr,
+    tree: &ExprRef<'_>,
     most: usize,
 ) -> Built
     requires one { OnePath coercions.now }
-    requires there { (e : Tree) × (s : ℕ) × Coerced (signatures env.now) coercions.now ctx.now (tree_lem tree.now) e s }
-    ensures { IsBuilt (signatures env.now) coercions.now ctx.now (tree_lem tree.now) most result }
+    requires found { AreFound coercions.now paths.old }
+    requires there { (e : Tree) × (s : ℕ) × Coerced (signatures env.now) coercions.now ctx.now tree.now e s }
+    ensures found { AreFound coercions.now paths.new }
+    ensures built { IsBuilt (signatures env.now) coercions.now ctx.now tree.now most result }
 {
     if most == 0 {
         return Built::High;
     }
-    match tree {
-        Expr::Var(x) => Built::Tree(Expr::Var(*x)),
-        Expr::App(t, operands) => match env.term(*t) {
+    match tree.shape() {
+        Shape::Var(x) => Built::Tree(Expr::var(x)),
+        Shape::App(t, operands) => match env.term(t) {
             None => unreachable!(),
             Some(term) => {
                 let Ok(mut all) = Exprs::with_capacity(alloc, operands.len()) else {
@@ -163,13 +196,14 @@ fn build(
                     alloc,
                     env,
                     coercions,
+                    paths,
                     ctx,
-                    operands,
+                    &operands,
                     term.params.as_slice(),
                     most - 1,
                     &mut all,
                 ) {
-                    Added::Done => Built::Tree(Expr::App(*t, all)),
+                    Added::Done => Built::Tree(Expr::app(t, all)),
                     Added::High => Built::High,
                     Added::Mem => Built::Mem,
                 }
@@ -184,20 +218,32 @@ fn add_operands(
     alloc: Global,
     env: &Env,
     coercions: &Coercions,
+    paths: &mut Paths,
     ctx: &Context<'_>,
-    operands: &Exprs,
+    operands: &Operands<'_>,
     params: &[Binder],
     most: usize,
     all: &mut Exprs,
 ) -> Added
     requires one { OnePath coercions.now }
+    requires found { AreFound coercions.now paths.old }
     requires there { (fs : Trees) × CoercedAll (signatures env.now) coercions.now ctx.now operands.now params.now fs }
     requires empty { all.old ≡ none }
-    ensures { AreAdded (signatures env.now) coercions.now ctx.now operands.now params.now most all.new result }
+    ensures found { AreFound coercions.now paths.new }
+    ensures added { AreAdded (signatures env.now) coercions.now ctx.now operands.now params.now most all.new result }
 {
-    let items = operands.as_slice();
-    for i in 0..items.len() {
-        match add_operand(alloc, env, coercions, ctx, &items[i], &params[i], most, all) {
+    for i in 0..operands.len() {
+        match add_operand(
+            alloc,
+            env,
+            coercions,
+            paths,
+            ctx,
+            &operands.at(i),
+            &params[i],
+            most,
+            all,
+        ) {
             Added::Done => {}
             Added::High => return Added::High,
             Added::Mem => return Added::Mem,
@@ -212,27 +258,30 @@ fn add_operand(
     alloc: Global,
     env: &Env,
     coercions: &Coercions,
+    paths: &mut Paths,
     ctx: &Context<'_>,
-    operand: &Expr,
+    operand: &ExprRef<'_>,
     param: &Binder,
     most: usize,
     all: &mut Exprs,
 ) -> Added
     requires one { OnePath coercions.now }
-    requires there { (f : Tree) × FitsParam (signatures env.now) coercions.now ctx.now (tree_lem operand.now) param.now f }
-    ensures { IsAdded (signatures env.now) coercions.now ctx.now (tree_lem operand.now) param.now most all.old all.new result }
+    requires found { AreFound coercions.now paths.old }
+    requires there { (f : Tree) × FitsParam (signatures env.now) coercions.now ctx.now operand.now param.now f }
+    ensures found { AreFound coercions.now paths.new }
+    ensures added { IsAdded (signatures env.now) coercions.now ctx.now operand.now param.now most all.old all.new result }
 {
     let sort = head_sort(env, coercions, ctx, operand);
-    let Ok(path) = distance(alloc, coercions, sort, param.sort) else {
+    let Ok(path) = distance(alloc, coercions, paths, sort, param.sort) else {
         return Added::Mem;
     };
     let Some(many) = path else { unreachable!() };
     if many >= most {
         return Added::High;
     }
-    match operand {
-        Expr::Var(x) => add_variable(alloc, coercions, sort, param.sort, *x, all),
-        Expr::App(t, operands) => match env.term(*t) {
+    match operand.shape() {
+        Shape::Var(x) => add_variable(alloc, coercions, paths, sort, param.sort, x, all),
+        Shape::App(t, operands) => match env.term(t) {
             None => unreachable!(),
             Some(term) => {
                 let Ok(mut own) = Exprs::with_capacity(alloc, operands.len()) else {
@@ -242,8 +291,9 @@ fn add_operand(
                     alloc,
                     env,
                     coercions,
+                    paths,
                     ctx,
-                    operands,
+                    &operands,
                     term.params.as_slice(),
                     most - many - 1,
                     &mut own,
@@ -251,7 +301,15 @@ fn add_operand(
                     Added::High => Added::High,
                     Added::Mem => Added::Mem,
                     Added::Done => {
-                        add_wrapped(alloc, coercions, sort, param.sort, Expr::App(*t, own), all)
+                        add_wrapped(
+                            alloc,
+                            coercions,
+                            paths,
+                            sort,
+                            param.sort,
+                            Expr::app(t, own),
+                            all,
+                        )
                     }
                 }
             }
@@ -264,15 +322,18 @@ fn add_operand(
 fn add_variable(
     alloc: Global,
     coercions: &Coercions,
+    paths: &mut Paths,
     from: u32,
     to: u32,
     x: u32,
     all: &mut Exprs,
 ) -> Added
-    requires { Reaches coercions.now (length coercions.now) from to }
-    ensures { AddsWrapped coercions.now from to (var x) all.old all.new result }
+    requires found { AreFound coercions.now paths.old }
+    requires there { Reaches coercions.now (length coercions.now) from to }
+    ensures found { AreFound coercions.now paths.new }
+    ensures added { AddsWrapped coercions.now from to (var x) all.old all.new result }
 {
-    add_wrapped(alloc, coercions, from, to, Expr::Var(x), all)
+    add_wrapped(alloc, coercions, paths, from, to, Expr::var(x), all)
 }
 
 /// Adds an expression of a sort, wrapped to another, where there is memory.
@@ -283,15 +344,18 @@ fn add_variable(
 fn add_wrapped(
     alloc: Global,
     coercions: &Coercions,
+    paths: &mut Paths,
     from: u32,
     to: u32,
     expr: Expr,
     all: &mut Exprs,
 ) -> Added
-    requires { Reaches coercions.now (length coercions.now) from to }
-    ensures { AddsWrapped coercions.now from to (tree_lem expr) all.old all.new result }
+    requires found { AreFound coercions.now paths.old }
+    requires there { Reaches coercions.now (length coercions.now) from to }
+    ensures found { AreFound coercions.now paths.new }
+    ensures added { AddsWrapped coercions.now from to (tree_lem expr) all.old all.new result }
 {
-    match wrap(alloc, coercions, from, to, expr) {
+    match wrap(alloc, coercions, paths, from, to, expr) {
         Err(_) => Added::Mem,
         Ok(expr) => match all.push(expr) {
             Err(_) => Added::Mem,
@@ -304,16 +368,16 @@ fn add_wrapped(
 ///
 /// It isn't inlined, for the reason that `add_wrapped` isn't.
 #[inline(never)]
-fn head_sort(env: &Env, coercions: &Coercions, ctx: &Context<'_>, tree: &Expr) -> u32
-    requires { (e : Tree) × (s : ℕ) × Coerced (signatures env.now) coercions.now ctx.now (tree_lem tree.now) e s }
-    ensures { (e : Tree) (s : ℕ) → Coerced (signatures env.now) coercions.now ctx.now (tree_lem tree.now) e s → result ≡ s }
+fn head_sort(env: &Env, coercions: &Coercions, ctx: &Context<'_>, tree: &ExprRef<'_>) -> u32
+    requires { (e : Tree) × (s : ℕ) × Coerced (signatures env.now) coercions.now ctx.now tree.now e s }
+    ensures { (e : Tree) (s : ℕ) → Coerced (signatures env.now) coercions.now ctx.now tree.now e s → result ≡ s }
 {
-    match tree {
-        Expr::Var(x) => match ctx.get(*x) {
+    match tree.shape() {
+        Shape::Var(x) => match ctx.get(x) {
             None => unreachable!(),
             Some(binder) => binder.sort,
         },
-        Expr::App(t, _) => match env.term(*t) {
+        Shape::App(t, _) => match env.term(t) {
             None => unreachable!(),
             Some(term) => term.result.sort,
         },

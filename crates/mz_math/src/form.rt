@@ -78,7 +78,7 @@ impl<'w> Form<'w> {
         ensures { IfSome result (λ e. tree e ≡ tree_made self.entry operands) }
     {
         match self {
-            Form::Term(term, _) => Some(Expr::App(term, operands)),
+            Form::Term(term, _) => Some(Expr::app(term, operands)),
             Form::Leading(notation) | Form::Infix(notation) => notated(alloc, notation, operands),
         }
     }
@@ -147,13 +147,13 @@ fn notated(alloc: Global, notation: &Notation, operands: Exprs) -> Option<Expr>
 {
     if let Some(many) = many_in_order(&notation.elements) {
         if many == operands.len() {
-            return Some(Expr::App(notation.term, operands));
+            return Some(Expr::app(notation.term, operands));
         }
     }
     let many = slots(&notation.elements);
     match arranged(alloc, &notation.elements, operands, many) {
         Err(_) => None,
-        Ok(all) => Some(Expr::App(notation.term, all)),
+        Ok(all) => Some(Expr::app(notation.term, all)),
     }
 }
 

@@ -11,6 +11,7 @@ ghost use Rattle.mz_math_theory.specs.declared.wanted.Wanted.{Wanted};
 ghost use Rattle.mz_math_theory.specs.Readable.{IsReadable};
 ghost use Rattle.mz_math_theory.specs.Kept.{AreVariables};
 ghost use Rattle.mz_math.specs.Claims.{IsOnlyClaim};
+ghost use Rattle.mz_math_coercions.specs.Found.{AreFound};
 ghost use Rattle.mz_math_tokens.specs.MathTokens.{MathTokens, token_texts};
 
 use crate::elaborate::{coerced, sort_of};
@@ -18,7 +19,7 @@ use crate::parser::parse;
 use crate::vocabulary::Vocabulary;
 use mz_lex::S;
 use mz_logic_theory::{Context, Env, Expr};
-use mz_math_coercions::{Coercions, Reached, distance, reached_from, wrap};
+use mz_math_coercions::{Coercions, Paths, Reached, distance, reached_from, wrap};
 use mz_math_notation::{Notations, Scope};
 use mz_math_theory::{Built, Parsed, Syntax, Wanted};
 use mz_math_tokens::{MathToken, Tokens};
@@ -126,14 +127,15 @@ fn meaning_of(
     ensures { IsJudged (record { env = env.now; table = notations.now; scope = scope.now }) wanted (tree syntax) result }
 {
     let coercions = notations.coercions();
-    let Ok(found) = sort_of(alloc, env, coercions, ctx, &syntax) else {
+    let mut paths = Paths::new(alloc);
+    let Ok(found) = sort_of(alloc, env, coercions, &mut paths, ctx, &syntax.lent()) else {
         return Parsed::Mem;
     };
     let Some(sort) = found else {
         return refused(S::NoCoercion);
     };
     let goal = settled_sort(wanted, sort);
-    let Ok(path) = distance(alloc, coercions, sort, goal) else {
+    let Ok(path) = distance(alloc, coercions, &mut paths, sort, goal) else {
         return Parsed::Mem;
     };
     let Some(many) = path else {
@@ -142,12 +144,12 @@ fn meaning_of(
     if many > MOST {
         return refused(S::Depth);
     }
-    match coerced(alloc, env, coercions, ctx, syntax, MOST - many) {
+    match coerced(alloc, env, coercions, &mut paths, ctx, syntax, MOST - many) {
         Built::Mem => Parsed::Mem,
         Built::High => refused(S::Depth),
-        Built::Tree(expr) => match wrap(alloc, coercions, sort, goal, expr) {
+        Built::Tree(expr) => match wrap(alloc, coercions, &mut paths, sort, goal, expr) {
             Err(_) => Parsed::Mem,
-            Ok(expr) => claimed(alloc, env, coercions, sort, expr, wanted),
+            Ok(expr) => claimed(alloc, env, coercions, &mut paths, sort, expr, wanted),
         },
     }
 }
@@ -167,11 +169,13 @@ fn claimed(
     alloc: Global,
     env: &Env,
     coercions: &Coercions,
+    paths: &mut Paths,
     sort: u32,
     expr: Expr,
     wanted: Wanted,
 ) -> Parsed
-    requires { OnePath coercions.now }
+    requires one { OnePath coercions.now }
+    requires found { AreFound coercions.now paths.old }
     ensures { IsClaimRead env.now coercions.now wanted (tree expr) sort result }
 {
     match wanted {
@@ -180,7 +184,7 @@ fn claimed(
             Err(_) => Parsed::Mem,
             Ok(found) => match found {
                 None => refused(S::NotProvable),
-                Some(goal) => match wrap(alloc, coercions, sort, goal, expr) {
+                Some(goal) => match wrap(alloc, coercions, paths, sort, goal, expr) {
                     Err(_) => Parsed::Mem,
                     Ok(expr) => Parsed::Tree(expr),
                 },

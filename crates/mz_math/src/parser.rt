@@ -147,7 +147,7 @@ fn begin<'w>(
     };
     if let Some(place) = words.variable(token) {
         let found = Found {
-            tree: Expr::Var(place),
+            tree: Expr::var(place),
             level: MAX,
             is_left: false,
             next: at + 1,

@@ -119,5 +119,5 @@ fn taken_at(alloc: Global, operands: &mut [Expr], k: usize) -> Expr
 fn absent(alloc: Global) -> Expr
     ensures { tree result ≡ app 0 none }
 {
-    Expr::App(0, Exprs::new(alloc))
+    Expr::app(0, Exprs::new(alloc))
 }

@@ -1,21 +1,20 @@
 -- A path that is read off from its end.
-use Rattle.std.proofs.Common.{◌≡◌, ◌<◌, ◌≤◌, ◌+◌, ◌-◌, ◌++◌, ◌∙◌, ℕ, List, [], ◌∷◌, length, Some, slice_get, ap, sym, refl, subst, inl, inr, arith, Contains, length-append, reverse}
+use Rattle.std.proofs.Common.{◌≡◌, ◌<◌, ◌≤◌, ◌+◌, ◌-◌, ◌++◌, ◌∙◌, ℕ, List, [], ◌∷◌, length, Some, slice_get, ap, sym, refl, subst, inl, inr, arith, Contains, length-append, map, append_assoc, reverse}
 use Rattle.std.proofs.lemmas.List.{length-reverse, reverse-append}
 use Rattle.std.proofs.lemmas.Option.{same_Some}
 use Rattle.mz_base_theory.proofs.Offered.{contains_head}
-use Rattle.mz_logic_theory.specs.Tree.{Tree, app, none, more}
 use Rattle.mz_math_theory.specs.declared.coercion.Coercion.{Coercion}
-use Rattle.mz_math_theory.specs.Coercions.{IsPath, OnePath, Reaches, wrapped}
-use Rattle.mz_math_theory.specs.CoercionAnswers.{HasLength}
+use Rattle.mz_math_theory.specs.Coercions.{IsPath, OnePath, coercion_term}
+use Rattle.mz_math_theory.specs.CoercionAnswers.{HasPath}
 use Rattle.mz_math_coercions.specs.Reached.{AreReached, Has, IsStep}
 use Rattle.mz_math_theory.proofs.Offered.{path-short}
-use Rattle.mz_math_coercions.proofs.Leading.{term-at}
+use Rattle.mz_math_coercions.proofs.Terms.{term-at}
 use Rattle.mz_math_coercions.proofs.Walks.{one-first}
 
 -- ---- one coercion back
 
-pub reach-has : (cs : List Coercion) (most from to n : ℕ) (steps : List (ℕ × ℕ)) → AreReached cs ((from, n) ∷ []) steps → Reaches cs most from to → Has steps to
-reach-has cs most from to n steps reached (path, on, le) = reached.all from to (n, contains_head (from, n) []) (path, on)
+pub path-has : (cs : List Coercion) (from to n : ℕ) (steps : List (ℕ × ℕ)) → AreReached cs ((from, n) ∷ []) steps → HasPath cs from to → Has steps to
+path-has cs from to n steps reached path = reached.all from to (n, contains_head (from, n) []) path
 
 module _ (cs : List Coercion) (from n : ℕ) (steps : List (ℕ × ℕ)) (reached : AreReached cs ((from, n) ∷ []) steps) (sort p : ℕ) (other : sort ≡ from → ⊥) (has : Contains steps (sort, p)) where
   -- the place beside a sort is that of the last coercion of the path to it
@@ -45,10 +44,7 @@ back-smaller cs one from to p places longer is on =
     let many : length longer ≡ length places + 1 = ap length is ∙ length-append places (p ∷ []) in
     omega (arith, short, many)
 
-pub back-length : (cs : List Coercion) → OnePath cs → (from to n : ℕ) (places : List ℕ) → IsPath cs from (reverse places) to → n ≡ length places → HasLength cs (length cs) from to n
-back-length cs one from to n places on is = (reverse places, on, length-reverse places ∙ sym is, (let short = back-short cs one from to places on in omega (arith, short, is)))
-
--- ---- an expression under the terms of a path
+-- ---- the terms in order
 
 module _ (cs : List Coercion) (p : ℕ) (places left : List ℕ) (is : places ≡ left ++ p ∷ []) where
   next-is : reverse places ≡ p ∷ reverse left
@@ -57,5 +53,10 @@ module _ (cs : List Coercion) (p : ℕ) (places left : List ℕ) (is : places �
   pub next-there : (from to : ℕ) → IsPath cs from (reverse places) to → IsPath cs from (p ∷ reverse left) to
   next-there from to on = subst (λ path. IsPath cs from path to) next-is on
 
-  pub next-wrapped : (c : Coercion) (e f : Tree) → slice_get cs p ≡ Some c → f ≡ app c.term (more e none) → wrapped cs (reverse left) f ≡ wrapped cs (reverse places) e
-  next-wrapped c e f at made = ap (wrapped cs (reverse left)) (made ∙ ap (λ t. app t (more e none)) (sym (term-at cs p c at))) ∙ ap (λ path. wrapped cs path e) (sym next-is)
+  pub next-term : (c : Coercion) (ts new : List ℕ) → slice_get cs p ≡ Some c → new ≡ ts ++ c.term ∷ []
+      → new ++ map (coercion_term cs) (reverse left) ≡ ts ++ map (coercion_term cs) (reverse places)
+  next-term c ts new at made =
+      ap (λ us. us ++ map (coercion_term cs) (reverse left)) made
+      ∙ append_assoc ts (c.term ∷ []) (map (coercion_term cs) (reverse left))
+      ∙ ap (λ t. ts ++ t ∷ map (coercion_term cs) (reverse left)) (sym (term-at cs p c at))
+      ∙ ap (λ path. ts ++ map (coercion_term cs) path) (sym next-is)

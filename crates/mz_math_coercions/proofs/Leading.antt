@@ -3,21 +3,22 @@ use Rattle.std.proofs.Common.{◌≡◌, ◌<◌, ◌≤◌, ◌+◌, ◌-◌, �
 use Rattle.std.specs.Prelude.{IsTrue, MatchOption}
 use Rattle.std.specs.Option.{is_some}
 use Rattle.std.proofs.lemmas.Bool.{cases_order, true≢false}
-use Rattle.std.proofs.lemmas.Option.{get_or_from_slice_get, same_Some, none-some, slice_get_within}
+use Rattle.std.proofs.lemmas.Option.{same_Some, none-some, slice_get_within}
 use Rattle.std.proofs.lemmas.List.{get_or_past}
 use Rattle.mz_base_theory.proofs.Offered.{contains_at, place-of, slice_get-append, slice_get-last, same-head}
-use Rattle.mz_logic_theory.specs.Tree.{Tree, app, none, more}
 use Rattle.mz_math_theory.specs.declared.coercion.Coercion.{Coercion}
 use Rattle.mz_math_coercions.specs.declared.hops.FirstSteps.{FirstSteps}
-use Rattle.mz_math_theory.specs.Coercions.{IsPath, OnePath, Reaches, coercion_term, wrapped}
-use Rattle.mz_math_theory.specs.CoercionAnswers.{HasLength, HasPath, IsNext}
+use Rattle.mz_math_theory.specs.Coercions.{IsPath, OnePath}
+use Rattle.mz_math_theory.specs.CoercionAnswers.{HasPath, IsNext}
 use Rattle.mz_math_coercions.specs.Firsts.{first_of, AreLed, IsChanged, IsOfStart, IsOfStarts, IsPut}
+use Rattle.mz_math_coercions.specs.Found.{AreTermsOf}
 use Rattle.mz_math_coercions.specs.Graph.{all_turned}
 use Rattle.mz_math_coercions.specs.Groups.{AreGrouped}
 use Rattle.mz_math_coercions.specs.Kept.{AreKept}
 use Rattle.mz_math_coercions.specs.Reached.{AreReached, Has, IsStep}
-use Rattle.mz_math_theory.proofs.Offered.{contains-middle, path-join, path-more, never-reach, no-return, taken}
+use Rattle.mz_math_theory.proofs.Offered.{contains-middle, path-join, path-more, no-return, taken}
 use Rattle.mz_math_coercions.proofs.Clashes.{reached-back, step-back}
+use Rattle.mz_math_coercions.proofs.Terms.{terms-more, terms-short}
 use Rattle.mz_math_coercions.proofs.Walks.{from-one, one-first}
 
 -- ---- the first coercion of a path
@@ -44,43 +45,34 @@ led-reaches cs m from to None led other at b e = (λ t. absurd (true≢false (sy
     go (p ∷ path) on = none-some _ (at ∙ (led from to).0 p path on)
 led-reaches cs m from to (Some p) led other at b e = (λ t. let (path, on) = (led from to).1 p (sym at) in (p ∷ path, on), λ has. e)
 
-pub stuck : (cs : List Coercion) (most from to : ℕ) → (from ≡ to → ⊥) → ((p : ℕ) (path : List ℕ) → IsPath cs from (p ∷ path) to → ⊥) → Reaches cs most from to → ⊥
-stuck cs most from to other never ([], on, le) = other on
-stuck cs most from to other never (p ∷ path, on, le) = never p path on
+pub stuck : (cs : List Coercion) (from to : ℕ) → (from ≡ to → ⊥) → ((p : ℕ) (path : List ℕ) → IsPath cs from (p ∷ path) to → ⊥) → HasPath cs from to → ⊥
+stuck cs from to other never ([], on) = other on
+stuck cs from to other never (p ∷ path, on) = never p path on
 
-pub next-reach : (cs : List Coercion) (most from to p : ℕ) (c : Coercion) → IsNext cs from to p c → (from ≡ to → ⊥) → Reaches cs most from to → Reaches cs (most - 1) c.to to
-next-reach cs most from to p c next other ([], on, le) = absurd (other on)
-next-reach cs most from to p c (at-p, begins-p, there, one) other (q ∷ path, (d, at, begins, rest), le) =
-    let here : q ≡ p = one q path (d, at, begins, rest) in
-    let same : d ≡ c = same_Some _ _ (sym at ∙ ap (slice_get cs) here ∙ at-p) in
-    (path, subst (λ x. IsPath cs x.to path to) same rest, omega (arith, le))
+-- what is known when the coercions with these terms have been taken
+pub record IsAlong (cs : List Coercion) (from to sort : ℕ) (ts : List ℕ) : Type 0 where
+  pub so_far : AreTermsOf cs from sort ts
+  pub left : HasPath cs from to → HasPath cs sort to
 
--- what is known when so many coercions of a path have been taken, of at most so many
-pub record IsAlong (cs : List Coercion) (most from to sort many : ℕ) : Type 0 where
-  pub within : many ≤ most
-  pub taken_so_far : (path : List ℕ) × IsPath cs from path sort × (length path ≡ many)
-  pub left : Reaches cs most from to → Reaches cs (most - many) sort to
+pub none-along : (cs : List Coercion) (from to : ℕ) (ts : List ℕ) → ts ≡ [] → IsAlong cs from to from ts
+none-along cs from to ts is = record { so_far = ([], refl, is, omega arith); left = λ has. has }
 
-pub none-along : (cs : List Coercion) (most from to : ℕ) → IsAlong cs most from to from 0
-none-along cs most from to = record { within = omega arith; taken_so_far = ([], refl, refl); left = λ reach. subst (λ n. Reaches cs n from to) (let e : most ≡ most - 0 = omega arith in e) reach }
+module _ (cs : List Coercion) (from to sort : ℕ) (ts : List ℕ) (along : IsAlong cs from to sort ts) where
+  pub all-along : sort ≡ to → AreTermsOf cs from to ts
+  all-along there = subst (λ s. AreTermsOf cs from s ts) there along.so_far
 
-module _ (cs : List Coercion) (most from to sort many : ℕ) (along : IsAlong cs most from to sort many) where
-  pub one-along : (p : ℕ) (c : Coercion) → IsNext cs sort to p c → (sort ≡ to → ⊥) → (many ≡ most → ⊥) → IsAlong cs most from to c.to (many + 1)
-  one-along p c next other under =
-      let (path, on, long) = along.taken_so_far in record {
-        within = omega (arith, along.within, under);
-        taken_so_far = (path ++ p ∷ [], path-join cs from sort c.to path (p ∷ []) on (c, next.0, next.1, refl), length-append path (p ∷ []) ∙ ap (λ n. n + 1) long);
-        left = λ reach. subst (λ n. Reaches cs n c.to to) (let e : (most - many) - 1 ≡ most - (many + 1) = omega arith in e) (next-reach cs (most - many) sort to p c next other (along.left reach));
-      }
+  pub no-further : (sort ≡ to → ⊥) → ((p : ℕ) (path : List ℕ) → IsPath cs sort (p ∷ path) to → ⊥) → HasPath cs from to → ⊥
+  no-further other never has = stuck cs sort to other never (along.left has)
 
-  pub all-along : sort ≡ to → HasLength cs most from to many
-  all-along there = let (path, on, long) = along.taken_so_far in (path, subst (IsPath cs from path) there on, long, along.within)
+  module _ (one : OnePath cs) (p : ℕ) (c : Coercion) (next : IsNext cs sort to p c) (new : List ℕ) (is : new ≡ ts ++ c.term ∷ []) where
+    pub one-along : IsAlong cs from to c.to new
+    one-along = record { so_far = subst (AreTermsOf cs from c.to) (sym is) (terms-more cs one from sort ts p c next.0 next.1 along.so_far); left = λ has. next.2 }
 
-  pub too-long : (sort ≡ to → ⊥) → many ≡ most → Reaches cs most from to → ⊥
-  too-long other whole reach = never-reach cs sort to other (subst (λ n. Reaches cs n sort to) (let e : most - many ≡ 0 = omega (arith, whole) in e) (along.left reach))
-
-  pub no-further : (sort ≡ to → ⊥) → ((p : ℕ) (path : List ℕ) → IsPath cs sort (p ∷ path) to → ⊥) → Reaches cs most from to → ⊥
-  no-further other never reach = stuck cs (most - many) sort to other never (along.left reach)
+    pub along-smaller : length cs - length new < length cs - length ts
+    along-smaller =
+        let short = terms-short cs from c.to new one-along.so_far in
+        let many : length new ≡ length ts + 1 = ap length is ∙ length-append ts (c.term ∷ []) in
+        omega (arith, short, many)
 
 -- ---- what is kept for a pair
 
@@ -236,23 +228,3 @@ none-kept cs back ups m cs-is back-is ups-is gone =
 -- where memory has run out
 pub torn-kept : (cs back : List Coercion) (ups : List ℕ) (m : FirstSteps) → OnePath cs → AreGrouped cs ups → AreKept cs back ups m false false
 torn-kept cs back ups m one grouped = record { one = one; grouped = grouped; led = λ t. absurd (true≢false (sym t)); turned = λ t. absurd (true≢false (sym t)) }
-
--- ---- an expression under the terms of a path
-
-pub term-at : (cs : List Coercion) (p : ℕ) (c : Coercion) → slice_get cs p ≡ Some c → coercion_term cs p ≡ c.term
-term-at cs p c at = ap (λ d. d.term) (get_or_from_slice_get cs p c (record { term = 0; from = 0; to = 0 }) at)
-
-wrapped-last : (cs : List Coercion) (path : List ℕ) (p : ℕ) (e : Tree) → wrapped cs (path ++ p ∷ []) e ≡ app (coercion_term cs p) (more (wrapped cs path e) none)
-wrapped-last cs [] p e = refl
-wrapped-last cs (q ∷ path) p e = wrapped-last cs path p (app (coercion_term cs q) (more e none))
-
--- what a way along the path has made of it
-abbrev pub IsWrapped : List Coercion → ℕ → ℕ → Tree → Tree → Type 0
-IsWrapped cs from to e f = (path : List ℕ) × IsPath cs from path to × (f ≡ wrapped cs path e)
-
-pub wrapped-more : (cs : List Coercion) (from at to p : ℕ) (c : Coercion) (e f g : Tree) → IsNext cs at to p c → IsWrapped cs from at e f → g ≡ app c.term (more f none) → IsWrapped cs from c.to e g
-wrapped-more cs from at to p c e f g (there, begins, rest, one) (path, on, was) is = (
-  path ++ p ∷ [],
-  path-join cs from at c.to path (p ∷ []) on (c, there, begins, refl),
-  is ∙ ap (λ t. app t (more f none)) (sym (term-at cs p c there)) ∙ ap (λ x. app (coercion_term cs p) (more x none)) was ∙ sym (wrapped-last cs path p e),
-)

@@ -3,4 +3,5 @@ mod Cells
 mod Clashes
 mod Leading
 mod Naming
+mod Terms
 mod Walks

@@ -1,4 +1,5 @@
 pub mod Firsts
+pub mod Found
 pub mod Graph
 pub mod Groups
 pub mod Kept

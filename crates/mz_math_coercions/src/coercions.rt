@@ -1,11 +1,11 @@
 // Coercions in the order in which they were declared, and their paths.
-ghost use Rattle.std.specs.Prelude.{◌≡◌, ◌↔◌, ◌≤◌, ◌++◌, ◌∷◌, [], ℕ, List, IsTrue, IfOk, OnErr, MatchBool, MatchOption, length, reverse, true};
-ghost use Rattle.mz_logic_theory.specs.Tree.{app, more, none};
+ghost use Rattle.std.specs.Prelude.{◌≡◌, ◌↔◌, ◌≤◌, ◌++◌, ◌∷◌, [], ℕ, List, IsTrue, IfOk, OnErr, MatchBool, MatchOption, length, true};
 ghost use Rattle.mz_logic_theory.specs.View.{tree};
 ghost use Rattle.mz_math_theory.specs.Coercions.{IsPath, OnePath, Reaches, wrapped};
 ghost use Rattle.mz_math_theory.specs.declared.coercion.Coercion.{Coercion};
 ghost use Rattle.mz_math_theory.specs.CoercionAnswers.{HasLength, HasPath};
 ghost use Rattle.mz_math_coercions.specs.Firsts.{AreLed};
+ghost use Rattle.mz_math_coercions.specs.Found.{AreFound, AreTermsOf};
 ghost use Rattle.mz_math_coercions.specs.Graph.{all_turned, turned as turned_lem};
 ghost use Rattle.mz_math_coercions.specs.Reached.{Has};
 ghost use Rattle.mz_math_coercions.specs.declared.hops.FirstSteps.{FirstSteps};
@@ -14,10 +14,11 @@ use crate::clash::is_clash;
 use crate::graph::Graph;
 use crate::groups::Groups;
 use crate::hops::FirstSteps;
-use crate::next_hop::{coercion_at, lead, next_coercion, steps_between};
-use crate::path_back::path_back;
+use crate::next_hop::{lead, terms_along};
+use crate::path_back::{path_back, terms_back};
+use crate::paths::Paths;
 use crate::reached::Reached;
-use mz_logic_theory::{Expr, Exprs};
+use mz_logic_theory::{Expr, TermPath};
 use mz_math_theory::Coercion;
 use std::alloc::{AllocError, Global};
 use std::marker::Model;
@@ -160,24 +161,21 @@ fn lead_on(
 pub fn distance(
     alloc: Global,
     coercions: &Coercions,
+    paths: &mut Paths,
     from: u32,
     to: u32,
 ) -> Result<Option<usize>, AllocError>
-    ensures { IfOk result (λ o. MatchOption o (Reaches coercions.now (length coercions.now) from to → ⊥) (HasLength coercions.now (length coercions.now) from to)) }
+    requires { AreFound coercions.now paths.old }
+    ensures found { AreFound coercions.now paths.new }
+    ensures many { IfOk result (λ o. MatchOption o (Reaches coercions.now (length coercions.now) from to → ⊥) (HasLength coercions.now (length coercions.now) from to)) }
 {
     if from == to {
         return Ok(Some(0));
     }
-    let items = coercions.graph.as_slice();
-    if coercions.is_led {
-        return Ok(steps_between(items, &coercions.firsts, from, to, items.len()));
+    match terms_between(alloc, coercions, paths, from, to)? {
+        None => Ok(None),
+        Some(terms) => Ok(Some(terms.as_slice().len())),
     }
-    let reached = coercions.graph.reached_from(alloc, from)?;
-    if !reached.has(to) {
-        return Ok(None);
-    }
-    let places = path_back(alloc, items, &reached, from, to)?;
-    Ok(Some(places.len()))
 }
 
 /// Whether there is a path from a sort to another.
@@ -186,8 +184,16 @@ pub fn distance(
 ///
 /// Where there is no memory.
 #[inline(never)]
-pub fn reaches(alloc: Global, coercions: &Coercions, from: u32, to: u32) -> Result<bool, AllocError>
-    ensures { IfOk result (λ b. IsTrue b ↔ ((path : List ℕ) × IsPath coercions.now from path to)) }
+pub fn reaches(
+    alloc: Global,
+    coercions: &Coercions,
+    paths: &mut Paths,
+    from: u32,
+    to: u32,
+) -> Result<bool, AllocError>
+    requires { AreFound coercions.now paths.old }
+    ensures found { AreFound coercions.now paths.new }
+    ensures there { IfOk result (λ b. IsTrue b ↔ HasPath coercions.now from to) }
 {
     if from == to {
         return Ok(true);
@@ -195,8 +201,8 @@ pub fn reaches(alloc: Global, coercions: &Coercions, from: u32, to: u32) -> Resu
     if coercions.is_led {
         return Ok(coercions.firsts.get(from, to).is_some());
     }
-    let reached = coercions.graph.reached_from(alloc, from)?;
-    Ok(reached.has(to))
+    let terms = terms_between(alloc, coercions, paths, from, to)?;
+    Ok(terms.is_some())
 }
 
 /// The sorts to which a path leads from a sort.
@@ -218,80 +224,67 @@ pub fn reached_from(alloc: Global, coercions: &Coercions, from: u32) -> Result<R
 pub fn wrap(
     alloc: Global,
     coercions: &Coercions,
+    paths: &mut Paths,
     from: u32,
     to: u32,
     expr: Expr,
 ) -> Result<Expr, AllocError>
-    requires { Reaches coercions.now (length coercions.now) from to }
-    ensures { IfOk result (λ e. (path : List ℕ) × IsPath coercions.now from path to × (tree e ≡ wrapped coercions.now path (tree expr))) }
+    requires found { AreFound coercions.now paths.old }
+    requires there { Reaches coercions.now (length coercions.now) from to }
+    ensures found { AreFound coercions.now paths.new }
+    ensures wrapped { IfOk result (λ e. (path : List ℕ) × IsPath coercions.now from path to × (tree e ≡ wrapped coercions.now path (tree expr))) }
 {
     if from == to {
         return Ok(expr);
     }
-    let items = coercions.graph.as_slice();
-    if coercions.is_led {
-        return wrap_along(alloc, items, &coercions.firsts, from, to, expr);
-    }
-    let reached = coercions.graph.reached_from(alloc, from)?;
-    let places = path_back(alloc, items, &reached, from, to)?;
-    wrap_back(alloc, items, places, expr)
+    let Some(terms) = terms_between(alloc, coercions, paths, from, to)? else {
+        unreachable!()
+    };
+    Expr::under(alloc, terms, expr)
 }
 
-/// The same, where the first coercions of all paths are kept.
-fn wrap_along(
+/// The terms of the path from a sort to another, if there is one. It is kept from now on, where it
+/// wasn't yet.
+fn terms_between(
     alloc: Global,
-    items: &[Coercion],
-    firsts: &FirstSteps,
+    coercions: &Coercions,
+    paths: &mut Paths,
     from: u32,
     to: u32,
-    expr: Expr,
-) -> Result<Expr, AllocError>
-    requires one { OnePath items.now }
-    requires led { AreLed items.now firsts.now }
-    requires there { Reaches items.now (length items.now) from to }
-    ensures { IfOk result (λ e. (path : List ℕ) × IsPath items.now from path to × (tree e ≡ wrapped items.now path (tree expr))) }
+) -> Result<Option<TermPath>, AllocError>
+    requires { AreFound coercions.now paths.old }
+    ensures found { AreFound coercions.now paths.new }
+    ensures terms { IfOk result (λ o. MatchOption o (HasPath coercions.now from to → ⊥) (λ terms. AreTermsOf coercions.now from to terms)) }
 {
-    let mut sort = from;
-    let mut built = expr;
-    // so many coercions are left at most
-    let mut most = items.len();
-    'steps: while sort != to {
-        let Some(coercion) = next_coercion(items, firsts, sort, to) else {
-            unreachable!()
-        };
-        built = applied(alloc, coercion.term, built)?;
-        sort = coercion.to;
-        most -= 1;
+    if let Some(terms) = paths.get(from, to)? {
+        return Ok(Some(terms));
     }
-    Ok(built)
+    let Some(terms) = find_terms(alloc, coercions, from, to)? else {
+        return Ok(None);
+    };
+    let terms = TermPath::from_vec(terms)?;
+    paths.keep(from, to, terms.share()?)?;
+    Ok(Some(terms))
 }
 
-/// The same, where the places of the path's coercions are known, the last one first.
-fn wrap_back(
+/// The terms of the path from a sort to another in order, if there is one.
+fn find_terms(
     alloc: Global,
-    items: &[Coercion],
-    places: Vec<usize>,
-    expr: Expr,
-) -> Result<Expr, AllocError>
-    requires { (from to : ℕ) × IsPath items.now from (reverse places.items) to }
-    ensures { IfOk result (λ e. tree e ≡ wrapped items.now (reverse places.items) (tree expr)) }
+    coercions: &Coercions,
+    from: u32,
+    to: u32,
+) -> Result<Option<Vec<u32>>, AllocError>
+    ensures { IfOk result (λ o. MatchOption o (HasPath coercions.now from to → ⊥) (λ terms. AreTermsOf coercions.now from to terms.items)) }
 {
-    let mut left = places;
-    let mut built = expr;
-    'steps: while let Some(place) = left.pop() {
-        let Some(coercion) = coercion_at(items, place) else {
-            unreachable!()
-        };
-        built = applied(alloc, coercion.term, built)?;
+    let items = coercions.graph.as_slice();
+    if coercions.is_led {
+        return terms_along(alloc, items, &coercions.firsts, from, to);
     }
-    Ok(built)
-}
-
-/// A term applied to one operand.
-fn applied(alloc: Global, term: u32, operand: Expr) -> Result<Expr, AllocError>
-    ensures { IfOk result (λ e. tree e ≡ app term (more (tree operand) none)) }
-{
-    let mut operands = Exprs::with_capacity(alloc, 1)?;
-    operands.push(operand)?;
-    Ok(Expr::App(term, operands))
+    let reached = coercions.graph.reached_from(alloc, from)?;
+    if !reached.has(to) {
+        return Ok(None);
+    }
+    let places = path_back(alloc, items, &reached, from, to)?;
+    let terms = terms_back(alloc, items, places)?;
+    Ok(Some(terms))
 }

@@ -82,7 +82,7 @@ impl Graph {
         Ok(())
     }
 
-    /// The sorts to which a path leads from a sort.
+    /// The sorts to which a path leads from a sort, each with the coercion by which it was met.
     ///
     /// # Errors
     ///

@@ -1,8 +1,9 @@
 // The first coercion of each path, by the two sorts between which it leads.
 ghost use Rattle.std.specs.Prelude.{◌≡◌, ◌++◌, ◌∷◌, [], ℕ, List, Contains, IfOk, MatchOption, Some, slice_get, true};
-ghost use Rattle.mz_math_theory.specs.Coercions.{IsPath, OnePath, Reaches};
-ghost use Rattle.mz_math_theory.specs.CoercionAnswers.{HasLength, IsNext};
+ghost use Rattle.mz_math_theory.specs.Coercions.{IsPath, OnePath};
+ghost use Rattle.mz_math_theory.specs.CoercionAnswers.{HasPath, IsNext};
 ghost use Rattle.mz_math_coercions.specs.Firsts.{AreLed, IsChanged, IsOfStart, IsOfStarts, first_of};
+ghost use Rattle.mz_math_coercions.specs.Found.{AreTermsOf};
 ghost use Rattle.mz_math_coercions.specs.Graph.{all_turned};
 ghost use Rattle.mz_math_coercions.specs.Reached.{Has};
 ghost use Rattle.mz_math_theory.specs.declared.coercion.Coercion.{Coercion};
@@ -37,31 +38,32 @@ pub fn next_coercion(
     }
 }
 
-/// The length of the path from a sort to another, if it is of at most so many coercions.
-pub fn steps_between(
+/// The terms of the path from a sort to another in order, if there is one.
+///
+/// # Errors
+///
+/// Where there is no memory.
+pub fn terms_along(
+    alloc: Global,
     items: &[Coercion],
     firsts: &FirstSteps,
     from: u32,
     to: u32,
-    most: usize,
-) -> Option<usize>
+) -> Result<Option<Vec<u32>>, AllocError>
     requires one { OnePath items.now }
     requires led { AreLed items.now firsts.now }
-    ensures { MatchOption result (Reaches items.now most from to → ⊥) (HasLength items.now most from to) }
+    ensures { IfOk result (λ o. MatchOption o (HasPath items.now from to → ⊥) (λ terms. AreTermsOf items.now from to terms.items)) }
 {
+    let mut terms = Vec::new(alloc);
     let mut sort = from;
-    let mut many = 0;
     'steps: while sort != to {
-        if many == most {
-            return None;
-        }
         let Some(coercion) = next_coercion(items, firsts, sort, to) else {
-            return None;
+            return Ok(None);
         };
+        terms.push(coercion.term)?;
         sort = coercion.to;
-        many += 1;
     }
-    Some(many)
+    Ok(Some(terms))
 }
 
 /// Keeps the first coercions of the paths that go by a new coercion, where its sorts and all that

@@ -1,6 +1,6 @@
 // The path to a sort that a walk has reached, read off from its end.
-ghost use Rattle.std.specs.Prelude.{◌∷◌, [], IfOk, reverse};
-ghost use Rattle.mz_math_theory.specs.Coercions.{IsPath, OnePath};
+ghost use Rattle.std.specs.Prelude.{◌≡◌, ◌∷◌, [], ℕ, IfOk, map, reverse};
+ghost use Rattle.mz_math_theory.specs.Coercions.{IsPath, OnePath, coercion_term};
 ghost use Rattle.mz_math_coercions.specs.Reached.{AreReached, Has};
 
 use crate::next_hop::coercion_at;
@@ -39,4 +39,28 @@ pub fn path_back(
         sort = coercion.from;
     }
     Ok(places)
+}
+
+/// The terms of the coercions of a path in order, whose places are these, the last one first.
+///
+/// # Errors
+///
+/// Where there is no memory.
+pub fn terms_back(
+    alloc: Global,
+    items: &[Coercion],
+    places: Vec<usize>,
+) -> Result<Vec<u32>, AllocError>
+    requires { (from to : ℕ) × IsPath items.now from (reverse places.items) to }
+    ensures { IfOk result (λ terms. terms.items ≡ map (coercion_term items.now) (reverse places.items)) }
+{
+    let mut left = places;
+    let mut terms = Vec::with_capacity(alloc, left.len())?;
+    'steps: while let Some(place) = left.pop() {
+        let Some(coercion) = coercion_at(items, place) else {
+            unreachable!()
+        };
+        terms.push(coercion.term)?;
+    }
+    Ok(terms)
 }

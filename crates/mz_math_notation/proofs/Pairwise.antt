@@ -1,5 +1,5 @@
 -- Lists of binders that are the same one by one.
-use Rattle.std.proofs.Common.{◌≡◌, ◌<◌, ℕ, zero, suc, List, [], ◌∷◌, length, slice_get, ap₂, refl, arith}
+use Rattle.std.proofs.Common.{◌≡◌, ◌<◌, ℕ, suc, List, [], ◌∷◌, length, slice_get, ap₂, refl, arith}
 use Rattle.std.proofs.lemmas.Option.{same_Some}
 use Rattle.mz_logic_theory.specs.declared.binder.Binder.{Binder}
 

@@ -71,7 +71,8 @@ impl Scope {
     ///
     /// # Errors
     ///
-    /// Where there is no memory. The variables are unchanged then.
+    /// Where there is no memory, or more share the places than can be counted. The variables are unchanged
+    /// then.
     pub fn push_alike(&mut self, name: &[u8], sort: u32, bound: bool) -> Result<(), AllocError>
         requires name { (name.now ≡ []) ⊎ IsTrue (is_name name.now) }
         requires other { name.now ≢ [] → Contains self.old.names name.now → ⊥ }

@@ -4,13 +4,11 @@ use Rattle.std.proofs.lemmas.List.{drop_all}
 use Rattle.std.specs.Prelude.{IsTrue, max}
 use Rattle.std.proofs.lemmas.Bool.{true≢false}
 use Rattle.std.proofs.lemmas.Option.{same_Some}
-use Rattle.mz_logic_theory.specs.Tree.{Tree, Trees, var, app, none, more, listed, followed_by, size, trees_size}
-use Rattle.mz_logic_theory.specs.View.{tree, trees}
+use Rattle.mz_logic_theory.specs.Tree.{Tree, Trees, var, app, none, more, listed, followed_by, past, size, trees_size}
 use Rattle.mz_logic_theory.specs.Signature.{Signature}
 use Rattle.mz_logic_theory.specs.Sorts.{IsBoundVar}
 use Rattle.mz_logic_theory.specs.declared.binder.Binder.{Binder}
-use Rattle.mz_logic_theory.specs.declared.expr.Expr.{Expr}
-use Rattle.mz_logic_theory.proofs.Offered.{followed_by_push}
+use Rattle.mz_logic_theory.proofs.Offered.{followed_by_push, past-end}
 use Rattle.mz_math_theory.specs.declared.coercion.Coercion.{Coercion}
 use Rattle.mz_math_theory.specs.Coercions.{IsPath, OnePath, wrapped}
 use Rattle.mz_math_theory.specs.Meaning.{Coerced, CoercedAll, height, trees_height}
@@ -110,9 +108,6 @@ module _ (sigs : List Signature) (cs : List Coercion) (ctx : List Binder) (one :
 
 -- ---- lists of operands, from a place on
 
-pub rest-of : (items : List Expr) (i : ℕ) (e : Expr) → i < length items → e ≡ get_or items i e → trees (drop i items) ≡ more (tree e) (trees (drop (i + 1) items))
-rest-of items i e below is = ap trees (drop-cons items i e below ∙ ap₂ ◌∷◌ (sym is) (ap (λ k. drop k items) (sym (add-one i))))
-
 pub params-of : (bs : List Binder) (i : ℕ) (b : Binder) → i < length bs → b ≡ get_or bs i b → drop i bs ≡ b ∷ drop (i + 1) bs
 params-of bs i b below is = drop-cons bs i b below ∙ ap₂ ◌∷◌ (sym is) (ap (λ k. drop k bs) (sym (add-one i)))
 
@@ -132,33 +127,30 @@ trees_height-tail (more e es) fs = let rest = trees_height-tail es fs in omega (
 
 -- ---- one operand of a list
 
-module _ (sigs : List Signature) (cs : List Coercion) (ctx : List Binder) (one : OnePath cs) (items : List Expr) (params : List Binder) (i : ℕ) (e : Expr) (b : Binder)
-    (many : length items ≡ length params) (below : i < length items) (e_is : e ≡ get_or items i e) (b_is : b ≡ get_or params i b) where
-  here : trees (drop i items) ≡ more (tree e) (trees (drop (i + 1) items))
-  here = rest-of items i e below e_is
-
+module _ (sigs : List Signature) (cs : List Coercion) (ctx : List Binder) (one : OnePath cs) (es : Trees) (params : List Binder) (i : ℕ) (e : Tree) (b : Binder)
+    (many : length (listed es) ≡ length params) (below : i < length (listed es)) (here : past i es ≡ more e (past (i + 1) es)) (b_is : b ≡ get_or params i b) where
   there : drop i params ≡ b ∷ drop (i + 1) params
   there = params-of params i b (omega (arith, many, below)) b_is
 
-  pub take-one : (fs : Trees) → CoercedAll sigs cs ctx (trees (drop i items)) (drop i params) fs
-      → ((g : Tree) × FitsParam sigs cs ctx (tree e) b g) × ((gs : Trees) × CoercedAll sigs cs ctx (trees (drop (i + 1) items)) (drop (i + 1) params) gs)
-  take-one fs all = all-cons sigs cs ctx one (tree e) (trees (drop (i + 1) items)) b (drop (i + 1) params) fs
-      (subst (λ (bs : List Binder). CoercedAll sigs cs ctx (more (tree e) (trees (drop (i + 1) items))) bs fs) there (subst (λ es. CoercedAll sigs cs ctx es (drop i params) fs) here all))
+  pub take-one : (fs : Trees) → CoercedAll sigs cs ctx (past i es) (drop i params) fs
+      → ((g : Tree) × FitsParam sigs cs ctx e b g) × ((gs : Trees) × CoercedAll sigs cs ctx (past (i + 1) es) (drop (i + 1) params) gs)
+  take-one fs all = all-cons sigs cs ctx one e (past (i + 1) es) b (drop (i + 1) params) fs
+      (subst (λ (bs : List Binder). CoercedAll sigs cs ctx (more e (past (i + 1) es)) bs fs) there (subst (λ ds. CoercedAll sigs cs ctx ds (drop i params) fs) here all))
 
-  pub put-one : (g : Tree) (gs : Trees) → FitsParam sigs cs ctx (tree e) b g → CoercedAll sigs cs ctx (trees (drop (i + 1) items)) (drop (i + 1) params) gs
-      → CoercedAll sigs cs ctx (trees (drop i items)) (drop i params) (more g gs)
-  put-one g gs fits all = subst (λ es. CoercedAll sigs cs ctx es (drop i params) (more g gs)) (sym here)
-      (subst (λ (bs : List Binder). CoercedAll sigs cs ctx (more (tree e) (trees (drop (i + 1) items))) bs (more g gs)) (sym there)
-      (cons-all sigs cs ctx one (tree e) (trees (drop (i + 1) items)) b (drop (i + 1) params) g gs fits all))
+  pub put-one : (g : Tree) (gs : Trees) → FitsParam sigs cs ctx e b g → CoercedAll sigs cs ctx (past (i + 1) es) (drop (i + 1) params) gs
+      → CoercedAll sigs cs ctx (past i es) (drop i params) (more g gs)
+  put-one g gs fits all = subst (λ ds. CoercedAll sigs cs ctx ds (drop i params) (more g gs)) (sym here)
+      (subst (λ (bs : List Binder). CoercedAll sigs cs ctx (more e (past (i + 1) es)) bs (more g gs)) (sym there)
+      (cons-all sigs cs ctx one e (past (i + 1) es) b (drop (i + 1) params) g gs fits all))
 
-  pub size-one : size (tree e) + trees_size (trees (drop (i + 1) items)) ≡ trees_size (trees (drop i items))
+  pub size-one : size e + trees_size (past (i + 1) es) ≡ trees_size (past i es)
   size-one = ap trees_size (sym here)
 
-pub none-left : (sigs : List Signature) (cs : List Coercion) (ctx : List Binder) (items : List Expr) (params : List Binder) (i : ℕ) → length items ≡ length params → length items ≤ i
-    → CoercedAll sigs cs ctx (trees (drop i items)) (drop i params) none
-none-left sigs cs ctx items params i many done =
-    subst (λ (bs : List Binder). CoercedAll sigs cs ctx (trees (drop i items)) bs none) (sym (drop_all i params (omega (arith, many, done))))
-    (subst (λ es. CoercedAll sigs cs ctx es [] none) (sym (ap trees (drop_all i items done))) refl)
+pub none-left : (sigs : List Signature) (cs : List Coercion) (ctx : List Binder) (es : Trees) (params : List Binder) (i : ℕ) → length (listed es) ≡ length params → length (listed es) ≤ i
+    → CoercedAll sigs cs ctx (past i es) (drop i params) none
+none-left sigs cs ctx es params i many done =
+    subst (λ (bs : List Binder). CoercedAll sigs cs ctx (past i es) bs none) (sym (drop_all i params (omega (arith, many, done))))
+    (subst (λ ds. CoercedAll sigs cs ctx ds [] none) (sym (past-end es i done)) refl)
 
 pub app-coerced : (sigs : List Signature) (cs : List Coercion) (ctx : List Binder) (t : ℕ) (es : Trees) (d : Signature) (fs : Trees) → slice_get sigs t ≡ Some d → CoercedAll sigs cs ctx es d.params fs
     → Coerced sigs cs ctx (app t es) (app t fs) d.result.sort

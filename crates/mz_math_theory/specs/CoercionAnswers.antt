@@ -3,6 +3,7 @@ use Rattle.std.specs.Prelude.{◌≡◌, ◌≤◌, ◌++◌, ℕ, List, [], ◌
 use Rattle.mz_math_theory.specs.declared.coercion.Coercion.{Coercion}
 use Rattle.mz_math_theory.specs.Coercions.{IsPath}
 
+-- a path from one sort to another has so many coercions, and not more than these
 abbrev pub HasLength : List Coercion → ℕ → ℕ → ℕ → ℕ → Type 0
 HasLength cs many from to n = (path : List ℕ) × IsPath cs from path to × (length path ≡ n) × (n ≤ many)
 

@@ -4,9 +4,6 @@ use Rattle.mz_base_theory.specs.Checks.{◌>>◌}
 use Rattle.mz_sexpr.specs.Node.{Node, Nodes}
 use Rattle.mz_sexpr.specs.Number.{node_at, nodes_after, StandsFor}
 use Rattle.mz_logic_theory.specs.Tree.{Tree, Trees, app, none, more, followed_by}
-use Rattle.mz_logic_theory.specs.View.{tree}
-use Rattle.mz_logic_theory.specs.declared.expr.Expr.{Expr}
-use Rattle.mz_logic_theory.specs.declared.expr.Expr.TheVariants as exprs
 use Rattle.mz_logic_theory.proofs.Offered.{followed_by_none, followed_by_push}
 use Rattle.mz_mmu_theory.specs.Name.{Scope}
 use Rattle.mz_mmu_theory.specs.Cursor.{nodes_from, nodes_size, node_size, IsThere}
@@ -98,11 +95,12 @@ module _ (sc : Scope) (all : Nodes) where
   -- ---- turns of the loop
 
   module _ (top : Node) (os : List Application) (step : Step) where
-    pub ended_read : (o : Application) → step ≡ steps.Operands o → o.left ≡ None → IsReading sc all top os step → IsReading sc all top os (steps.Whole (exprs.App o.term o.operands))
-    ended_read o is none_left (m, nested, says) = (m, nested, all_read m o (subst (Says sc all m) is says) none_left)
+    pub ended_read : (o : Application) (e : Tree) → e ≡ app o.term o.operands → step ≡ steps.Operands o → o.left ≡ None → IsReading sc all top os step
+        → IsReading sc all top os (steps.Whole e)
+    ended_read o e made is none_left (m, nested, says) = (m, nested, subst (IsExpr sc m) (sym made) (all_read m o (subst (Says sc all m) is says) none_left))
 
-    pub ended_fewer : (o : Application) → step ≡ steps.Operands o → turns_left all os (steps.Whole (exprs.App o.term o.operands)) < turns_left all os step
-    ended_fewer o is =
+    pub ended_fewer : (o : Application) (e : Tree) → step ≡ steps.Operands o → turns_left all os (steps.Whole e) < turns_left all os step
+    ended_fewer o e is =
         let now : turns all step ≡ 2 * nodes_size (nodes_from all o.left) + 1 = ap (turns all) is in
         omega (arith, now)
 
@@ -146,13 +144,13 @@ module _ (sc : Scope) (all : Nodes) where
         stops_through top os m stop nested (so_far.2 stop (subst (λ l. Stops stop (exprs_asked sc (nodes_from all l))) (sym left_is)
         (stops_before stop (expr_asked sc (node_at all n)) (exprs_asked sc (nodes_after all n)) h)))
 
-    pub back_read : (old : List Application) (o p : Application) (e : Expr) → old ≡ os ++ o ∷ [] → step ≡ steps.Whole e → p ≡ with_one o (tree e)
+    pub back_read : (old : List Application) (o p : Application) (e : Tree) → old ≡ os ++ o ∷ [] → step ≡ steps.Whole e → p ≡ with_one o e
         → IsReading sc all top old step → IsReading sc all top os (steps.Operands p)
     back_read old o p e old_is is p_is (m, nested, says) =
         let last = nested_last top os o m (subst (λ ps. Nested sc all top ps m) old_is nested) in
-        (last.0, last.1, subst (IsUnderWay sc all last.0) (sym p_is) (one_more last.0 m o (tree e) last.2 (subst (Says sc all m) is says)))
+        (last.0, last.1, subst (IsUnderWay sc all last.0) (sym p_is) (one_more last.0 m o e last.2 (subst (Says sc all m) is says)))
 
-    pub back_fewer : (old : List Application) (o p : Application) (e : Expr) → old ≡ os ++ o ∷ [] → step ≡ steps.Whole e → p ≡ with_one o (tree e)
+    pub back_fewer : (old : List Application) (o p : Application) (e : Tree) → old ≡ os ++ o ∷ [] → step ≡ steps.Whole e → p ≡ with_one o e
         → turns_left all os (steps.Operands p) < turns_left all old step
     back_fewer old o p e old_is is p_is =
         let now : turns all step ≡ 0 = ap (turns all) is in
@@ -160,6 +158,6 @@ module _ (sc : Scope) (all : Nodes) where
         let around : turns_around all old ≡ turns_around all os + (2 * nodes_size (nodes_from all o.left) + 2) = ap (turns_around all) old_is ∙ around_more os o in
         omega (arith, now, sizes, around)
 
-    pub whole_read : (e : Expr) → os ≡ [] → step ≡ steps.Whole e → IsReading sc all top os step → IsExpr sc top (tree e)
+    pub whole_read : (e : Tree) → os ≡ [] → step ≡ steps.Whole e → IsReading sc all top os step → IsExpr sc top e
     whole_read e empty is (m, nested, says) =
-        subst (λ x. IsExpr sc x (tree e)) (sym (subst (λ ps. Nested sc all top ps m) empty nested)) (subst (Says sc all m) is says)
+        subst (λ x. IsExpr sc x e) (sym (subst (λ ps. Nested sc all top ps m) empty nested)) (subst (Says sc all m) is says)

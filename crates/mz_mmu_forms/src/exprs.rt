@@ -60,10 +60,10 @@ impl<'r, 'a> Reader<'r, 'a> {
     {
         let name = self.name(n)?;
         if let Some(x) = sc.vars.number_of(name) {
-            return Ok(Expr::Var(x));
+            return Ok(Expr::var(x));
         }
         match sc.names.constants.number_of(name) {
-            Some(t) => Ok(Expr::App(t, Exprs::new(self.alloc))),
+            Some(t) => Ok(Expr::app(t, Exprs::new(self.alloc))),
             None => Err(self.wrong(n, U::UnknownName)),
         }
     }
@@ -111,7 +111,7 @@ impl<'r, 'a> Reader<'r, 'a> {
         'reading: loop {
             match step {
                 Step::Operands(outer) => match outer.left {
-                    None => step = Step::Whole(Expr::App(outer.term, outer.operands)),
+                    None => step = Step::Whole(Expr::app(outer.term, outer.operands)),
                     Some(inner) => {
                         let left = self.nodes.next(inner);
                         let outer = Application { left, ..outer };

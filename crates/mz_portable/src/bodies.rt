@@ -1,4 +1,5 @@
 //! The bodies of a binary on the machine by identity.
+ghost use Rattle.std.specs.Prelude.{⊤};
 ghost use Rattle.mz_binary_theory.specs.declared.standard.Standard.TheVariants.{Portable};
 
 use mz_binary::Bodies;
@@ -21,6 +22,8 @@ pub struct PortableBodies {
 
 impl Bodies for PortableBodies {
     ghost STANDARD = { Portable };
+
+    ghost suits = { λ bodies file. ⊤ };
 
     const STANDARD: Standard = Standard::Portable;
 

@@ -3,9 +3,7 @@ use Rattle.std.proofs.Common.{◌≡◌, ◌≤◌, ◌<◌, ◌+◌, ◌++◌, 
 use Rattle.std.specs.Prelude.{codes}
 use Rattle.std.proofs.lemmas.List.{drop_more, drop_all}
 use Rattle.mz_base_theory.proofs.Offered.{one-further}
-use Rattle.mz_logic_theory.specs.Tree.{Tree, var, app, none, more}
-use Rattle.mz_logic_theory.specs.View.{tree, trees}
-use Rattle.mz_logic_theory.specs.declared.expr.Expr.{Expr}
+use Rattle.mz_logic_theory.specs.Tree.{Tree, Trees, var, app, none, more}
 use Rattle.mz_logic_theory.specs.declared.binder.Binder.{Binder}
 use Rattle.mz_spec_theory.specs.Statement.{opening_of, closing_of}
 use Rattle.mz_prefix_theory.specs.Tokens.{written}
@@ -15,18 +13,25 @@ use Rattle.mz_prefix_theory.proofs.Offered.{written-append}
 use Rattle.mz_prefix.specs.Measures.{has_operands}
 use Rattle.mz_prefix_theory.specs.Declared.{Vocabulary, formula_of, formulas_of, plain_type, plain_param, plain_dummy, plain_binders, plain_dummies}
 
+-- a part is written, behind which the rest stands
+pub part-written : (whole out new here part rest : List ℕ) → here ≡ part ++ rest → out ++ here ≡ whole → new ≡ out ++ part → new ++ rest ≡ whole
+part-written whole out new here part rest cut so_far added =
+    ap (λ o. o ++ rest) added ∙ append_assoc out part rest ∙ sym (ap (λ t. out ++ t) cut) ∙ so_far
+
+-- nothing is left
+pub all-written : (whole out left : List ℕ) → left ≡ [] → out ++ left ≡ whole → out ≡ whole
+all-written whole out left nothing so_far = sym (append-nil out) ∙ sym (ap (λ t. out ++ t) nothing) ∙ so_far
+
 -- where the text of a list from its i-th part on is that part and the text of the rest
 module _ {A : Type 0} (text : ℕ → List A → List ℕ) (part : ℕ → A → List ℕ) (cut : (i : ℕ) (x : A) (xs : List A) → text i (x ∷ xs) ≡ part i x ++ text (i + 1) xs) where
   pub part-added : (whole out new : List ℕ) (xs : List A) (i : ℕ) (x : A) → i < length xs → x ≡ get_or xs i x
       → out ++ text i (drop i xs) ≡ whole → new ≡ out ++ part i x → new ++ text (i + 1) (drop (i + 1) xs) ≡ whole
-  part-added whole out new xs i x below is so_far added =
-      let here : text i (drop i xs) ≡ part i x ++ text (i + 1) (drop (i + 1) xs)
-      = ap (text i) (drop_more xs i x below) ∙ ap (λ y. text i (y ∷ drop (i + 1) xs)) (sym is) ∙ cut i x (drop (i + 1) xs) in
-      ap (λ o. o ++ text (i + 1) (drop (i + 1) xs)) added ∙ append_assoc out (part i x) (text (i + 1) (drop (i + 1) xs)) ∙ sym (ap (λ t. out ++ t) here) ∙ so_far
+  part-added whole out new xs i x below is =
+      part-written whole out new (text i (drop i xs)) (part i x) (text (i + 1) (drop (i + 1) xs))
+      (ap (text i) (drop_more xs i x below) ∙ ap (λ y. text i (y ∷ drop (i + 1) xs)) (sym is) ∙ cut i x (drop (i + 1) xs))
 
   pub parts-end : (whole out : List ℕ) (xs : List A) (i : ℕ) → length xs ≤ i → text i [] ≡ [] → out ++ text i (drop i xs) ≡ whole → out ≡ whole
-  parts-end whole out xs i past nothing so_far =
-      sym (append-nil out) ∙ sym (ap (λ t. out ++ t) (ap (text i) (drop_all i xs past) ∙ nothing)) ∙ so_far
+  parts-end whole out xs i past nothing = all-written whole out (text i (drop i xs)) (ap (text i) (drop_all i xs past) ∙ nothing)
 
 -- ---- tokens
 
@@ -71,24 +76,24 @@ module _ (v : Vocabulary) where
       ∙ ap (λ n. dummy_text first i d ++ written (binders_words (plain_dummies v n ds))) (suc-add first i)
 
   -- hypotheses
-  abbrev pub hyps_text : ℕ → List Expr → List ℕ
-  hyps_text i es = written (hyps_words (formulas_of v (trees es)))
+  abbrev pub hyps_text : Trees → List ℕ
+  hyps_text es = written (hyps_words (formulas_of v es))
 
-  abbrev pub hyp_text : ℕ → Expr → List ℕ
-  hyp_text i e = written (hyp_words (formula_of v (tree e)))
+  abbrev pub hyp_text : Tree → List ℕ
+  hyp_text e = written (hyp_words (formula_of v e))
 
-  pub hyps-cut : (i : ℕ) (e : Expr) (es : List Expr) → hyps_text i (e ∷ es) ≡ hyp_text i e ++ hyps_text (i + 1) es
-  hyps-cut i e es = written-append (hyp_words (formula_of v (tree e))) (hyps_words (formulas_of v (trees es)))
+  pub hyps-cut : (es rest : Trees) (e : Tree) → es ≡ more e rest → hyps_text es ≡ hyp_text e ++ hyps_text rest
+  hyps-cut es rest e is = ap hyps_text is ∙ written-append (hyp_words (formula_of v e)) (hyps_words (formulas_of v rest))
 
   -- operands
-  abbrev pub operands_text : ℕ → List Expr → List ℕ
-  operands_text i es = spaced (operand_tokens v.term v.variable (trees es))
+  abbrev pub operands_text : Trees → List ℕ
+  operands_text es = spaced (operand_tokens v.term v.variable es)
 
-  abbrev pub operand_text : ℕ → Expr → List ℕ
-  operand_text i e = spaced (enclosed v.term v.variable (tree e))
+  abbrev pub operand_text : Tree → List ℕ
+  operand_text e = spaced (enclosed v.term v.variable e)
 
-  pub operands-cut : (i : ℕ) (e : Expr) (es : List Expr) → operands_text i (e ∷ es) ≡ operand_text i e ++ operands_text (i + 1) es
-  operands-cut i e es = spaced-append (enclosed v.term v.variable (tree e)) (operand_tokens v.term v.variable (trees es))
+  pub operands-cut : (es rest : Trees) (e : Tree) → es ≡ more e rest → operands_text es ≡ operand_text e ++ operands_text rest
+  operands-cut es rest e is = ap operands_text is ∙ spaced-append (enclosed v.term v.variable e) (operand_tokens v.term v.variable rest)
 
 -- ---- operands in parentheses
 

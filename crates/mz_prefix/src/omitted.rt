@@ -10,7 +10,7 @@ ghost use Rattle.mz_prefix.specs.Names.{spoken};
 
 use crate::measure::is_short;
 use crate::names::Names;
-use mz_logic_theory::{Decl, Expr, Exprs, Hyps};
+use mz_logic_theory::{Decl, Expr, ExprRef, Hyps, Operands, Shape};
 
 impl<'a> Names<'a> {
     /// Whether a local term stands in the expression.
@@ -18,22 +18,22 @@ impl<'a> Names<'a> {
     /// It calls itself no deeper than an expression is nested, which is at most as deep as a text
     /// may be.
     #[cycle(mentions_local)]
-    fn mentions_local(&self, expr: &Expr) -> bool
-        ensures { result ≡ mentions_local self.now.locals.items (tree expr.now) }
+    fn mentions_local(&self, expr: &ExprRef) -> bool
+        ensures { result ≡ mentions_local self.now.locals.items expr.now }
     {
-        match expr {
-            Expr::Var(_) => false,
-            Expr::App(t, es) => self.is_local(*t) || self.any_mentions_local(es),
+        match expr.shape() {
+            Shape::Var(_) => false,
+            Shape::App(t, es) => self.is_local(t) || self.any_mentions_local(&es),
         }
     }
 
     /// Whether a local term stands in one of the expressions.
     #[cycle(mentions_local)]
-    fn any_mentions_local(&self, es: &Exprs) -> bool
+    fn any_mentions_local(&self, es: &Operands) -> bool
         ensures { result ≡ any_mentions_local self.now.locals.items es.now }
     {
-        for e in es.as_slice() {
-            if self.mentions_local(e) {
+        for i in 0..es.len() {
+            if self.mentions_local(&es.at(i)) {
                 return true;
             }
         }
@@ -44,14 +44,15 @@ impl<'a> Names<'a> {
     fn any_hyp_mentions_local(&self, hyps: &Hyps) -> bool
         ensures { result ≡ any_mentions_local self.now.locals.items hyps.now }
     {
-        self.any_mentions_local(hyps.formulas())
+        self.any_mentions_local(&hyps.formulas().lent())
     }
 
     /// Whether a definition's body isn't written.
     pub(crate) fn is_hidden(&self, body: &Expr) -> bool
         ensures { result ≡ Wording.is_hidden self.now.locals.items (spoken self.now) (tree body.now) }
     {
-        self.mentions_local(body) || !is_short(body)
+        let body = body.lent();
+        self.mentions_local(&body) || !is_short(&body)
     }
 
     /// Whether no claim of the declaration mentions a local term.
@@ -60,7 +61,8 @@ impl<'a> Names<'a> {
     {
         match decl {
             Decl::Thm(thm) => {
-                !self.any_hyp_mentions_local(&thm.hyps) && !self.mentions_local(&thm.conclusion)
+                !self.any_hyp_mentions_local(&thm.hyps)
+                    && !self.mentions_local(&thm.conclusion.lent())
             }
             _ => true,
         }
@@ -71,8 +73,9 @@ impl<'a> Names<'a> {
 fn are_short(hyps: &Hyps) -> bool
     ensures { (v : Vocabulary) → IsTrue result ↔ AreShort v hyps.now }
 {
-    for e in hyps.formulas().as_slice() {
-        if !is_short(e) {
+    let formulas = hyps.formulas().lent();
+    for i in 0..formulas.len() {
+        if !is_short(&formulas.at(i)) {
             return false;
         }
     }
@@ -84,7 +87,7 @@ pub(crate) fn is_brief(decl: &Decl) -> bool
     ensures { (v : Vocabulary) → IsTrue result ↔ IsBrief v (declaration decl.now) }
 {
     match decl {
-        Decl::Thm(thm) => are_short(&thm.hyps) && is_short(&thm.conclusion),
+        Decl::Thm(thm) => are_short(&thm.hyps) && is_short(&thm.conclusion.lent()),
         _ => true,
     }
 }

@@ -3,7 +3,6 @@
 // What calls itself here goes no deeper than an expression is nested, which is at most as deep as a
 // text may be.
 ghost use Rattle.std.specs.Prelude.{◌≡◌, ◌++◌, OnOk, codes};
-ghost use Rattle.mz_logic_theory.specs.View.{tree};
 ghost use Rattle.mz_prefix_theory.specs.Lines.{spaced};
 ghost use Rattle.mz_prefix_theory.specs.Prefix.{enclosed, operand_tokens};
 ghost use Rattle.mz_prefix_theory.specs.Declared.{formula_of};
@@ -11,16 +10,16 @@ ghost use Rattle.mz_prefix.specs.Measures;
 ghost use Rattle.mz_prefix.specs.Names.{spoken};
 
 use crate::names::Names;
-use mz_logic_theory::{Expr, Exprs};
+use mz_logic_theory::{ExprRef, Operands, Shape};
 use std::alloc::AllocError;
 
 /// Whether it is a term over operands.
-pub(crate) fn has_operands(expr: &Expr) -> bool
-    ensures { result ≡ Measures.has_operands (tree expr.now) }
+pub(crate) fn has_operands(expr: &ExprRef) -> bool
+    ensures { result ≡ Measures.has_operands expr.now }
 {
-    match expr {
-        Expr::Var(_) => false,
-        Expr::App(_, es) => es.len() > 0,
+    match expr.shape() {
+        Shape::Var(_) => false,
+        Shape::App(_, es) => es.len() > 0,
     }
 }
 
@@ -36,37 +35,37 @@ fn put_token(token: &[u8], out: &mut Vec<u8>) -> Result<(), AllocError>
 impl<'a> Names<'a> {
     /// Appends the tokens of an expression, each with a space behind it.
     #[cycle(put_expr)]
-    pub(crate) fn put_expr(&self, expr: &Expr, out: &mut Vec<u8>) -> Result<(), AllocError>
-        ensures { OnOk result (out.new.items ≡ out.old.items ++ spaced (formula_of (spoken self.now) (tree expr.now))) }
+    pub(crate) fn put_expr(&self, expr: &ExprRef, out: &mut Vec<u8>) -> Result<(), AllocError>
+        ensures { OnOk result (out.new.items ≡ out.old.items ++ spaced (formula_of (spoken self.now) expr.now)) }
     {
-        match expr {
-            Expr::Var(x) => {
-                self.put_variable(*x as usize, out)?;
+        match expr.shape() {
+            Shape::Var(x) => {
+                self.put_variable(x as usize, out)?;
                 out.push(b' ')?;
                 Ok(())
             }
-            Expr::App(t, es) => {
-                put_token(self.term(*t), out)?;
-                self.put_operands(es, out)
+            Shape::App(t, es) => {
+                put_token(self.term(t), out)?;
+                self.put_operands(&es, out)
             }
         }
     }
 
     /// The same of operands.
     #[cycle(put_expr)]
-    fn put_operands(&self, es: &Exprs, out: &mut Vec<u8>) -> Result<(), AllocError>
+    fn put_operands(&self, es: &Operands, out: &mut Vec<u8>) -> Result<(), AllocError>
         ensures { OnOk result (out.new.items ≡ out.old.items ++ spaced (operand_tokens (spoken self.now).term (spoken self.now).variable es.now)) }
     {
-        for e in es.as_slice() {
-            self.put_operand(e, out)?;
+        for i in 0..es.len() {
+            self.put_operand(&es.at(i), out)?;
         }
         Ok(())
     }
 
     /// The same of an operand, in parentheses where it has operands itself.
     #[cycle(put_expr)]
-    fn put_operand(&self, expr: &Expr, out: &mut Vec<u8>) -> Result<(), AllocError>
-        ensures { OnOk result (out.new.items ≡ out.old.items ++ spaced (enclosed (spoken self.now).term (spoken self.now).variable (tree expr.now))) }
+    fn put_operand(&self, expr: &ExprRef, out: &mut Vec<u8>) -> Result<(), AllocError>
+        ensures { OnOk result (out.new.items ≡ out.old.items ++ spaced (enclosed (spoken self.now).term (spoken self.now).variable expr.now)) }
     {
         if !has_operands(expr) {
             return self.put_expr(expr, out);

@@ -36,7 +36,7 @@ pub begun-many : (s : Sharing) (ws : List Word) → length (entered_all s (map v
 begun-many s [] = omega arith
 begun-many s (w ∷ ws) = begun-many (entered s (variable_node w)) ws ∙ ap (λ m. m + length ws) (length-push s.entries _) ∙ (let e : suc (length s.entries) + length ws ≡ length s.entries + suc (length ws) = omega arith in e)
 
-all-begins : (s : Sharing) (ns : List Made) → Begins s (entered_all s ns)
+pub all-begins : (s : Sharing) (ns : List Made) → Begins s (entered_all s ns)
 all-begins s [] = ([], sym (append-nil s.entries))
 all-begins s (n ∷ ns) = (let (last, is) = all-begins (entered s n) ns in
     (record { tree = tree_with s n.form; sort = n.sort; deps = n.deps } ∷ last, is ∙ append_assoc s.entries (record { tree = tree_with s n.form; sort = n.sort; deps = n.deps } ∷ []) last))

@@ -9,6 +9,7 @@ mod Entering
 mod Adding
 mod ParamWords
 mod Beginning
+mod Restarting
 mod OverTerms
 mod Placing
 mod Gathering

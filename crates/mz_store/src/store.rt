@@ -1,5 +1,5 @@
 //! The store.
-ghost use Rattle.std.specs.Prelude.{ℕ, ◌≡◌, ◌↔◌, ◌<◌, ◌≤◌, ◌+◌, ◌∷◌, [], ◌++◌, List, map, OnOk, OnErr, IfOk, IsTrue, length};
+ghost use Rattle.std.specs.Prelude.{ℕ, ◌≡◌, ◌↔◌, ◌<◌, ◌≤◌, ◌+◌, ◌∷◌, [], ◌++◌, List, map, OnOk, OnErr, IfOk, IsTrue, length, take};
 ghost use Rattle.mz_logic_theory.specs.Sorts.{HasSort, IsBoundVar};
 ghost use Rattle.mz_logic_theory.specs.Signature.{Signature};
 ghost use Rattle.mz_logic_theory.specs.Tree.{var, app};
@@ -100,6 +100,24 @@ impl Store {
                 Err(failed)
             }
         }
+    }
+
+    /// Takes all expressions out but the first ones, which are so many variables; of these so many are
+    /// bound. They stand as if `begin` had entered them alone.
+    pub fn restart(&mut self, params: u32, bound: u32)
+        requires there { params ≤ length self.old.entries }
+        requires first { (i : ℕ) → i < params → tree_of self.old i ≡ var i }
+        requires bound { bound ≡ length (bound_vars (take params self.old.context)) }
+        ensures mode { self.new.mode ≡ self.old.mode }
+        ensures context { self.new.context ≡ take params self.old.context }
+        ensures many { length self.new.entries ≡ params }
+        ensures trees { (i : ℕ) → i < params → tree_of self.new i ≡ var i }
+        ensures over { (sigs others : List Signature) → IsOver sigs self.old → IsOver others self.new }
+    {
+        self.expressions.bound_count = bound;
+        self.expressions.nodes.truncate(params as usize);
+        self.expressions.operands.clear();
+        self.newest.clear();
     }
 
     fn clear(&mut self, mode: DepsMode)

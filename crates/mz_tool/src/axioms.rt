@@ -1,12 +1,8 @@
 // The command `axioms`.
-ghost use Rattle.std.specs.Prelude.{◌≡◌, ◌<◌, ◌^◌, ℕ, List, None, length};
-ghost use Rattle.mz_match_theory.specs.Verdict.{IsSound};
+ghost use Rattle.std.specs.Prelude.{◌≡◌, ◌<◌, ◌^◌, length};
 ghost use Rattle.mz_axioms.specs.Reading.{IsAxiomsRead};
-ghost use Rattle.mz_tool_engine.specs.Outcomes.{IfYes, IfNo, OnYes, OnNo};
-ghost use Rattle.mz_tool_verify.specs.Verify.{IsRefuted};
-ghost use Rattle.mz_tool.specs.Axioms.{AreAxiomsPrinted};
 
-use mz_axioms::{AxiomsRead, axioms_of, axioms_text};
+use mz_axioms::{AxiomsRead, Written, axioms_of, write_axioms};
 use mz_cmd::Steps;
 use mz_io::{Failed, Sink};
 use mz_match::verdict_line;
@@ -38,42 +34,31 @@ impl<'a> Command for AxiomsCommand<'a> {
         Output::Nothing
     }
 
+    /// Writes the lines as they are made. Memory runs out before the first of them or not at all.
     fn answer<O: Sink>(
         &self,
         alloc: Global,
         contents: &Contents,
         out: &mut O,
     ) -> Result<Outcome, Failed> {
+        each_pair_has_one_verdict();
+        accepted_pairs_are_sound();
         let (spec, bin) = contents.two();
-        Ok(axioms(alloc, self.seed, spec, bin))
-    }
-}
-
-/// Reports on which axioms each theorem of a specification rests, where a binary is accepted against it.
-pub fn axioms(alloc: Global, seed: Seed, spec: &[u8], bin: &[u8]) -> Outcome
-    requires spec { length spec.now < 2 ^ 32 }
-    requires bin { length bin.now < 2 ^ 32 }
-    ensures yes { IfYes result (λ put text. (put ≡ None) × AreAxiomsPrinted spec.now bin.now text) }
-    ensures no { IfNo result (λ text. IsRefuted spec.now bin.now text) }
-    ensures sound { OnYes result (IsSound spec.now bin.now) }
-    ensures only_yes { (text : List ℕ) → AreAxiomsPrinted spec.now bin.now text → OnNo result ⊥ }
-    ensures only_no { (text : List ℕ) → IsRefuted spec.now bin.now text → OnYes result ⊥ }
-{
-    each_pair_has_one_verdict();
-    accepted_pairs_are_sound();
-    match rests::<Brand>(alloc, seed, Blank::new(1), spec, bin) {
-        AxiomsRead::Lists(lists) => match axioms_text(alloc, seed, spec, &lists) {
-            Ok(text) => Outcome::Yes {
-                put: Put::Nothing,
-                text,
+        match rests::<Brand>(alloc, self.seed, Blank::new(1), spec, bin) {
+            AxiomsRead::Lists(lists) => match write_axioms(alloc, self.seed, spec, &lists, out) {
+                Written::Done => Ok(Outcome::Yes {
+                    put: Put::Nothing,
+                    text: Vec::new(alloc),
+                }),
+                Written::Fault => Err(Failed),
+                Written::Mem => Ok(Outcome::Mem),
             },
-            Err(_) => Outcome::Mem,
-        },
-        AxiomsRead::Refused(verdict) => match verdict_line(alloc, &verdict) {
-            Ok(text) => Outcome::No { text },
-            Err(_) => Outcome::Mem,
-        },
-        AxiomsRead::Mem => Outcome::Mem,
+            AxiomsRead::Refused(verdict) => match verdict_line(alloc, &verdict) {
+                Ok(text) => Ok(Outcome::No { text }),
+                Err(_) => Ok(Outcome::Mem),
+            },
+            AxiomsRead::Mem => Ok(Outcome::Mem),
+        }
     }
 }
 

@@ -12,7 +12,9 @@ ghost use Rattle.mz_type.specs.Shapes.{one_more, counted, all_counted, put_on, I
 ghost use Rattle.mz_mmu_theory.specs.Weight.{declaration_weight};
 
 use crate::sizes::{size_of, sizes_of};
-use mz_logic_theory::{Decl, Env, Expr, Exprs, TermDecl, ThmDecl};
+use mz_logic_theory::{
+    Decl, Env, Expr, ExprRef, Exprs, Operands, Shape as ExprShape, TermDecl, ThmDecl,
+};
 use std::alloc::{AllocError, Global};
 use std::marker::Model;
 
@@ -35,24 +37,24 @@ fn count_variable(uses: &mut [u64], place: usize)
 
 /// Counts the variables of the expression.
 #[cycle(count_uses)]
-fn count_uses(expr: &Expr, uses: &mut [u64])
-    requires { sum_by (λ u. u) uses.old + size (tree expr.now) < 2 ^ 64 }
-    ensures { uses.new ≡ counted uses.old (tree expr.now) }
+fn count_uses(expr: &ExprRef, uses: &mut [u64])
+    requires { sum_by (λ u. u) uses.old + size expr.now < 2 ^ 64 }
+    ensures { uses.new ≡ counted uses.old expr.now }
 {
-    match expr {
-        Expr::Var(x) => count_variable(uses, *x as usize),
-        Expr::App(_, es) => count_all(es, uses),
+    match expr.shape() {
+        ExprShape::Var(x) => count_variable(uses, x as usize),
+        ExprShape::App(_, es) => count_all(&es, uses),
     }
 }
 
 /// Counts the variables of the expressions.
 #[cycle(count_uses)]
-fn count_all(es: &Exprs, uses: &mut [u64])
+fn count_all(es: &Operands, uses: &mut [u64])
     requires { sum_by (λ u. u) uses.old + trees_size es.now < 2 ^ 64 }
     ensures { uses.new ≡ all_counted uses.old es.now }
 {
-    for e in es.as_slice() {
-        count_uses(e, uses);
+    for i in 0..es.len() {
+        count_uses(&es.at(i), uses);
     }
 }
 
@@ -63,7 +65,7 @@ fn shape_of(alloc: Global, expr: &Expr, places: usize) -> Result<Shape, AllocErr
     ensures { IfOk result (λ shape. IsShapeOf shape (tree expr.now)) }
 {
     let mut uses: Vec<u64> = vec![in alloc; 0; places]?;
-    count_uses(expr, &mut uses);
+    count_uses(&expr.lent(), &mut uses);
     Ok(Shape {
         own: size_of(expr) as u64,
         uses,

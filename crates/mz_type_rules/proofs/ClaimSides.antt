@@ -1,12 +1,12 @@
 -- Expressions with something put in compared with one another, and with sides of conversions.
-use Rattle.std.proofs.Common.{ℕ, ◌≡◌, ◌↔◌, ◌<◌, ◌+◌, Bool, true, false, List, [], ◌∷◌, length, get_or, drop, Result, refl, sym, ap, ◌∙◌, subst, true≢false, arith}
+use Rattle.std.proofs.Common.{ℕ, ◌≡◌, ◌↔◌, ◌<◌, ◌≤◌, ◌+◌, Bool, true, false, List, [], ◌∷◌, length, get_or, drop, Result, refl, sym, ap, ◌∙◌, subst, true≢false, arith}
 use Rattle.std.specs.Prelude.{IsTrue, IfOk, not}
+use Rattle.std.proofs.lemmas.List.{drop_all}
 use Rattle.std.proofs.lemmas.Result.{IfOk-weaker}
 use Rattle.mz_base_theory.proofs.Offered.{drop-item}
 use Rattle.mz_logic_theory.specs.Conversions.{Conversion, Conversions, refl_conv, sym_conv, cong_conv, unfold_conv, gap_conv}
-use Rattle.mz_logic_theory.specs.Tree.{Tree, Trees, var, app, none, more}
-use Rattle.mz_logic_theory.specs.View.{tree, trees}
-use Rattle.mz_logic_theory.specs.declared.expr.Expr.{Expr}
+use Rattle.mz_logic_theory.specs.Tree.{Tree, Trees, var, app, none, more, listed, past, instances, followed_by, variables}
+use Rattle.mz_logic_theory.proofs.Offered.{past-end}
 use Rattle.mz_mmu_theory.specs.ConvView.{conversion, conversions}
 use Rattle.mz_mmu_theory.specs.declared.conv.Conv.{Conv}
 use Rattle.mz_type_rules.specs.Claims.{put_in, all_put_in}
@@ -27,6 +27,9 @@ firsts e = cc
 
 others : {a b : Tree} {es fs : Trees} → more a es ≡ more b fs → es ≡ fs
 others e = cc
+
+no_first : {e : Tree} {es : Trees} → none ≡ more e es → ⊥
+no_first e = cc
 
 pub no_variable : {t x : ℕ} {es : Trees} → app t es ≡ var x → ⊥
 no_variable e = cc
@@ -63,23 +66,39 @@ sides_more : (r : Bool) (x : Conv) (xs : List Conv) → sides r (conversions (x 
 sides_more true x xs = refl
 sides_more false x xs = refl
 
-pub sides_cut : (r : Bool) (p : Put) (xs : List Conv) (ys : List Expr) (i : ℕ) (x : Conv) (y : Expr) → i < length xs → x ≡ get_or xs i x → i < length ys → y ≡ get_or ys i y
-    → (sides r (conversions (drop i xs)) ≡ all_put_in p (trees (drop i ys)))
-    ↔ ((side r (conversion x) ≡ put_in p (tree y)) × (sides r (conversions (drop (i + 1) xs)) ≡ all_put_in p (trees (drop (i + 1) ys))))
-sides_cut r p xs ys i x y x-lt x-is y-lt y-is =
+pub put_cut : (p : Put) (es fs : Trees) (e : Tree) → es ≡ more e fs → all_put_in p es ≡ more (put_in p e) (all_put_in p fs)
+put_cut p es fs e is = ap (all_put_in p) is ∙ put_more p e fs
+
+pub sides_cut : (r : Bool) (p : Put) (xs : List Conv) (ys : Trees) (i : ℕ) (x : Conv) (y : Tree) → i < length xs → x ≡ get_or xs i x → past i ys ≡ more y (past (i + 1) ys)
+    → (sides r (conversions (drop i xs)) ≡ all_put_in p (past i ys))
+    ↔ ((side r (conversion x) ≡ put_in p y) × (sides r (conversions (drop (i + 1) xs)) ≡ all_put_in p (past (i + 1) ys)))
+sides_cut r p xs ys i x y x-lt x-is y-is =
     let left = ap (λ l. sides r (conversions l)) (drop-item xs i x x-lt x-is) ∙ sides_more r x (drop (i + 1) xs) in
-    let right = ap (λ l. all_put_in p (trees l)) (drop-item ys i y y-lt y-is) ∙ put_more p (tree y) (trees (drop (i + 1) ys)) in (
+    let right = put_cut p (past i ys) (past (i + 1) ys) y y-is in (
       λ e. (firsts (sym left ∙ e ∙ right), others (sym left ∙ e ∙ right)),
-      λ both. left ∙ ap (λ z. more z (sides r (conversions (drop (i + 1) xs)))) both.0 ∙ ap (more (put_in p (tree y))) both.1 ∙ sym right,
+      λ both. left ∙ ap (λ z. more z (sides r (conversions (drop (i + 1) xs)))) both.0 ∙ ap (more (put_in p y)) both.1 ∙ sym right,
     )
 
-pub put_cut : (p : Put) (xs ys : List Expr) (x : Expr) → xs ≡ x ∷ ys → all_put_in p (trees xs) ≡ more (put_in p (tree x)) (all_put_in p (trees ys))
-put_cut p xs ys x is = ap (λ l. all_put_in p (trees l)) is ∙ put_more p (tree x) (trees ys)
+pub put_end : (p : Put) (es : Trees) → es ≡ none → all_put_in p es ≡ none
+put_end Nothing es is = is
+put_end (Operands fs ys) es is = ap (instances (followed_by fs.now (variables ys.now))) is
 
-pub put_end : (p : Put) (xs : List Expr) → length xs ≡ 0 → all_put_in p (trees xs) ≡ none
-put_end Nothing [] is = refl
-put_end (Operands fs ys) [] is = refl
-put_end p (x ∷ xs) is = absurd (omega (arith, is))
+none_left : (r : Bool) → sides r (conversions []) ≡ none
+none_left true = refl
+none_left false = refl
+
+-- behind the last ones
+pub sides_end : (r : Bool) (p : Put) (xs : List Conv) (ys : Trees) (i : ℕ) → length xs ≤ i → length (listed ys) ≤ i → sides r (conversions (drop i xs)) ≡ all_put_in p (past i ys)
+sides_end r p xs ys i x-end y-end = ap (λ l. sides r (conversions l)) (drop_all i xs x-end) ∙ none_left r ∙ sym (put_end p (past i ys) (past-end ys i y-end))
+
+-- nothing is no list that has a first one
+pub no_end : (p q : Put) {es fs gs : Trees} {f : Tree} → es ≡ none → fs ≡ more f gs → all_put_in p es ≡ all_put_in q fs → ⊥
+no_end p q {es} {fs} {gs} {f} end is same = no_first (sym (put_end p es end) ∙ same ∙ put_cut q fs gs f is)
+
+-- a list by what its first one and the others are
+pub put_first : (p : Put) {es all fs gs : Trees} {x f g : Tree} → es ≡ all → es ≡ more f fs → x ≡ put_in p g → g ≡ f → gs ≡ fs → all_put_in p all ≡ more x (all_put_in p gs)
+put_first p {es} {all} {fs} {gs} {x} {f} {g} whole cut first f-is fs-are =
+    ap (all_put_in p) (sym whole) ∙ put_cut p es fs f cut ∙ ap (λ z. more z (all_put_in p fs)) (sym (first ∙ ap (put_in p) f-is)) ∙ ap (λ hs. more x (all_put_in p hs)) (sym fs-are)
 
 -- the first ones are compared, and the others wait with those that waited before
 pub first_compared : {E : Type 0} (r : Result Bool E) (After Between Before : Type 0) (a b : Tree) (es fs all all' : Trees) → all ≡ more a es → all' ≡ more b fs

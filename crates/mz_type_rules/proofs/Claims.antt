@@ -2,9 +2,6 @@
 use Rattle.std.proofs.Common.{ℕ, zero, suc, ◌≡◌, ◌↔◌, ◌<◌, ◌≤◌, ◌+◌, ◌*◌, Bool, true, false, List, [], ◌∷◌, ◌++◌, length, get_or, drop, slice_get, Some, None, refl, sym, ap, ◌∙◌, subst, arith}
 use Rattle.std.proofs.lemmas.List.{drop_more}
 use Rattle.mz_logic_theory.specs.Tree.{Trees, var, app, none, more, listed, operand, followed_by, variables}
-use Rattle.mz_logic_theory.specs.View.{trees}
-use Rattle.mz_logic_theory.specs.declared.expr.Expr.{Expr}
-use Rattle.mz_logic_theory.proofs.Offered.{length-trees}
 use Rattle.mz_mmu_theory.specs.ConvView.{conversions}
 use Rattle.mz_mmu_theory.specs.declared.conv.Conv.{Conv}
 use Rattle.mz_type_rules.specs.Claims.{all_put_in, claim_tree, claim_trees, AreSame, AllSame, lists_size, turns}
@@ -44,12 +41,9 @@ none_past (x ∷ xs) (suc i) h = let below = none_past xs i h in omega (arith, b
 
 -- ---- lists with something put in
 
-put_many : (p : Put) (es : Trees) → length (listed (all_put_in p es)) ≡ length (listed es)
+pub put_many : (p : Put) (es : Trees) → length (listed (all_put_in p es)) ≡ length (listed es)
 put_many Nothing es = refl
 put_many (Operands fs ys) es = instances_many (followed_by fs.now (variables ys.now)) es
-
-pub put_length : (p : Put) (xs : List Expr) → length (listed (all_put_in p (trees xs))) ≡ length xs
-put_length p xs = put_many p (trees xs) ∙ sym (length-trees xs)
 
 pub sides_length : (r : Bool) (xs : List Conv) → length (listed (sides r (conversions xs))) ≡ length xs
 sides_length true [] = refl

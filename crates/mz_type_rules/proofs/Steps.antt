@@ -6,12 +6,13 @@ use Rattle.mz_base_theory.proofs.Offered.{Decides, decides-after}
 use Rattle.mz_sexpr.specs.Node.{Nodes}
 use Rattle.mz_sexpr.specs.Number.{first, rest}
 use Rattle.mz_sexpr.specs.declared.rule.U.{U}
-use Rattle.mz_logic_theory.specs.Tree.{Trees, none, more, listed, size, trees_size}
+use Rattle.mz_logic_theory.specs.Tree.{Tree, Trees, none, more, listed, past, size, trees_size}
 use Rattle.mz_logic_theory.specs.Legality.{signature_at}
 use Rattle.mz_logic_theory.specs.Signature.{Signature}
 use Rattle.mz_logic_theory.specs.View.{tree, trees}
 use Rattle.mz_logic_theory.specs.declared.expr.Expr.{Expr}
 use Rattle.mz_logic_theory.specs.declared.binder.Binder.{Binder}
+use Rattle.mz_logic_theory.proofs.Offered.{at-end}
 use Rattle.mz_mmu_theory.specs.declared.fault.Fault.{Fault}
 use Rattle.mz_mmu_theory.specs.FormOrder.{fault}
 use Rattle.mz_logic_theory.specs.Conversions.{Conversions, no_convs, more_convs}
@@ -34,29 +35,30 @@ module _ (xs : List Expr) (i : ℕ) (e : Expr) (below : i < length xs) (is : e �
   pub size_step : (m : ℕ) → trees_size (trees (drop i xs)) ≤ m → (size (tree e) ≤ m) × (trees_size (trees (drop (i + 1) xs)) ≤ m)
   size_step m h = (omega (arith, ap trees_size trees_cut), omega (arith, ap trees_size trees_cut))
 
-  module _ (sigs : List Signature) (ctx : List Binder) (ns : Nodes) (cs : Checks Fault) where
-    pub exprs_left : Decides (exprs_rules sigs ctx (trees (drop i xs)) ns) cs
-        → Decides (expr_rules sigs ctx (tree e) (first ns) >> exprs_rules sigs ctx (trees (drop (i + 1) xs)) (rest ns)) cs
-    exprs_left d = subst (λ es. Decides (exprs_rules sigs ctx es ns) cs) trees_cut d
+-- one expression more of what is left of a list
+module _ (es : Trees) (i : ℕ) (e : Tree) (cut : past i es ≡ more e (past (i + 1) es)) (sigs : List Signature) (ctx : List Binder) (ns : Nodes) (cs : Checks Fault) where
+  pub exprs_left : Decides (exprs_rules sigs ctx (past i es) ns) cs
+      → Decides (expr_rules sigs ctx e (first ns) >> exprs_rules sigs ctx (past (i + 1) es) (rest ns)) cs
+  exprs_left d = subst (λ fs. Decides (exprs_rules sigs ctx fs ns) cs) cut d
 
-    pub exprs_step : AllHold (expr_rules sigs ctx (tree e) (first ns)) → Decides (exprs_rules sigs ctx (trees (drop i xs)) ns) cs
-        → Decides (exprs_rules sigs ctx (trees (drop (i + 1) xs)) (rest ns)) cs
-    exprs_step h d = decides-after (expr_rules sigs ctx (tree e) (first ns)) (exprs_rules sigs ctx (trees (drop (i + 1) xs)) (rest ns)) cs h (exprs_left d)
+  pub exprs_step : AllHold (expr_rules sigs ctx e (first ns)) → Decides (exprs_rules sigs ctx (past i es) ns) cs
+      → Decides (exprs_rules sigs ctx (past (i + 1) es) (rest ns)) cs
+  exprs_step h d = decides-after (expr_rules sigs ctx e (first ns)) (exprs_rules sigs ctx (past (i + 1) es) (rest ns)) cs h (exprs_left d)
 
-    -- one operand more
-    module _ (ps : List Binder) (p : Binder) (within : i < length ps) (same : p ≡ get_or ps i p) where
-      operands_cut : operand_rules sigs ctx (trees (drop i xs)) ns (drop i ps)
-          ≡ (own_operand_rules sigs ctx (tree e) (first ns) p >> operand_rules sigs ctx (trees (drop (i + 1) xs)) (rest ns) (drop (i + 1) ps))
-      operands_cut = ap (λ es. operand_rules sigs ctx es ns (drop i ps)) trees_cut
-          ∙ ap (λ qs. operand_rules sigs ctx (more (tree e) (trees (drop (i + 1) xs))) ns qs) (drop_more ps i p within ∙ ap (λ q. q ∷ drop (i + 1) ps) (sym same))
+  -- one operand more
+  module _ (ps : List Binder) (p : Binder) (within : i < length ps) (same : p ≡ get_or ps i p) where
+    operands_cut : operand_rules sigs ctx (past i es) ns (drop i ps)
+        ≡ (own_operand_rules sigs ctx e (first ns) p >> operand_rules sigs ctx (past (i + 1) es) (rest ns) (drop (i + 1) ps))
+    operands_cut = ap (λ fs. operand_rules sigs ctx fs ns (drop i ps)) cut
+        ∙ ap (λ qs. operand_rules sigs ctx (more e (past (i + 1) es)) ns qs) (drop_more ps i p within ∙ ap (λ q. q ∷ drop (i + 1) ps) (sym same))
 
-      pub operands_left : Decides (operand_rules sigs ctx (trees (drop i xs)) ns (drop i ps)) cs
-          → Decides (own_operand_rules sigs ctx (tree e) (first ns) p >> operand_rules sigs ctx (trees (drop (i + 1) xs)) (rest ns) (drop (i + 1) ps)) cs
-      operands_left d = subst (λ bs. Decides bs cs) operands_cut d
+    pub operands_left : Decides (operand_rules sigs ctx (past i es) ns (drop i ps)) cs
+        → Decides (own_operand_rules sigs ctx e (first ns) p >> operand_rules sigs ctx (past (i + 1) es) (rest ns) (drop (i + 1) ps)) cs
+    operands_left d = subst (λ bs. Decides bs cs) operands_cut d
 
-      pub operands_step : AllHold (own_operand_rules sigs ctx (tree e) (first ns) p)
-          → Decides (operand_rules sigs ctx (trees (drop i xs)) ns (drop i ps)) cs → Decides (operand_rules sigs ctx (trees (drop (i + 1) xs)) (rest ns) (drop (i + 1) ps)) cs
-      operands_step h d = decides-after (own_operand_rules sigs ctx (tree e) (first ns) p) _ cs h (operands_left d)
+    pub operands_step : AllHold (own_operand_rules sigs ctx e (first ns) p)
+        → Decides (operand_rules sigs ctx (past i es) ns (drop i ps)) cs → Decides (operand_rules sigs ctx (past (i + 1) es) (rest ns) (drop (i + 1) ps)) cs
+    operands_step h d = decides-after (own_operand_rules sigs ctx e (first ns) p) _ cs h (operands_left d)
 
 -- nothing is asked past the last parameter, or past the last operand
 pub no_params_left : (sigs : List Signature) (ctx : List Binder) (es : Trees) (ns : Nodes) (ps : List Binder) (i : ℕ) → i ≡ length ps → AllHold (operand_rules sigs ctx es ns (drop i ps))
@@ -66,8 +68,8 @@ no_params_left sigs ctx es ns ps i end = subst (λ qs. AllHold (operand_rules si
     go none = tt
     go (more e es) = tt
 
-pub no_operands_left : (sigs : List Signature) (ctx : List Binder) (xs : List Expr) (ns : Nodes) (ps : List Binder) (i : ℕ) → length xs ≤ i → AllHold (operand_rules sigs ctx (trees (drop i xs)) ns ps)
-no_operands_left sigs ctx xs ns ps i end = subst (λ ys. AllHold (operand_rules sigs ctx (trees ys) ns ps)) (sym (drop_all i xs end)) tt
+pub no_operands_left : (sigs : List Signature) (ctx : List Binder) (es : Trees) (ns : Nodes) (ps : List Binder) (i : ℕ) → length (listed es) ≤ i → AllHold (operand_rules sigs ctx (past i es) ns ps)
+no_operands_left sigs ctx es ns ps i end = at-end (λ fs. AllHold (operand_rules sigs ctx fs ns ps)) es i end tt
 
 -- ---- conversions
 

@@ -1,11 +1,12 @@
 -- What the code's claims stand for, and its sides of conversions: what they are is not written out.
-use Rattle.std.specs.Prelude.{◌≡◌, ⊤, ℕ, zero, suc, ◌+◌, ◌*◌, List, [], ◌∷◌}
-use Rattle.mz_logic_theory.specs.Tree.{Tree, Trees, var, app, none, more, instance, instances, followed_by, variables, trees_size}
+use Rattle.std.specs.Prelude.{◌≡◌, ⊤, ℕ, zero, suc, ◌+◌, ◌*◌, List, [], ◌∷◌, map}
+use Rattle.mz_logic_theory.specs.Tree.{Tree, Trees, var, app, none, more, instance, instances, followed_by, variables, trees_size, under}
 use Rattle.mz_logic_theory.specs.View.{tree, trees}
 use Rattle.mz_mmu_theory.specs.ConvCode.{convs_steps}
 use Rattle.mz_mmu_theory.specs.Sides.{sides}
 use Rattle.mz_type_rules.specs.declared.claim.Put.{Put}
 use Rattle.mz_type_rules.specs.declared.claim.Put.TheVariants.{Nothing, Operands}
+use Rattle.mz_type_rules.specs.declared.claim.LentExprs.{LentExprs}
 use Rattle.mz_type_rules.specs.declared.claim.Claim.{Claim}
 use Rattle.mz_type_rules.specs.declared.claim.Claim.TheVariants.{Var, App}
 use Rattle.mz_type_rules.specs.declared.claim.Lists.{Lists}
@@ -21,9 +22,13 @@ abbrev pub all_put_in : Put → Trees → Trees
 all_put_in Nothing es = es
 all_put_in (Operands fs ys) es = instances (followed_by fs.now (variables ys.now)) es
 
+-- the terms of a path over each expression
+abbrev pub lent_trees : LentExprs → Trees
+lent_trees l = trees (map (under l.path.now) l.exprs.now)
+
 abbrev pub claim_tree : Claim → Tree
 claim_tree (Var x) = var x
-claim_tree (App t es put) = app t (all_put_in put (trees es.now))
+claim_tree (App t es put) = app t (all_put_in put (lent_trees es))
 
 abbrev pub claim_trees : List Claim → Trees
 claim_trees [] = none
@@ -31,14 +36,14 @@ claim_trees (c ∷ cs) = more (claim_tree c) (claim_trees cs)
 
 -- lists that are left to compare
 abbrev pub AreSame : Lists → Type 0
-AreSame l = all_put_in l.p (trees l.es.now) ≡ all_put_in l.q (trees l.fs.now)
+AreSame l = all_put_in l.p (lent_trees l.es) ≡ all_put_in l.q (lent_trees l.fs)
 
 abbrev pub AllSame : List Lists → Type 0
 AllSame [] = ⊤
 AllSame (l ∷ ls) = AreSame l × AllSame ls
 
 abbrev pub lists_size : Lists → ℕ
-lists_size l = trees_size (all_put_in l.p (trees l.es.now))
+lists_size l = trees_size (all_put_in l.p (lent_trees l.es))
 
 -- the turns that comparing them takes at most
 abbrev pub turns : List Lists → ℕ

@@ -1,13 +1,14 @@
 //! What proofs prove, and the sides of conversions, compared without being written out.
 ghost use Rattle.std.specs.Prelude.{◌≡◌, ◌↔◌, ◌<◌, ◌≤◌, ◌+◌, ◌*◌, Bool, true, false, suc, IfOk, IsTrue, OnOk};
+ghost use Rattle.mz_logic_theory.specs.Shapes.{shape_tree};
 ghost use Rattle.mz_logic_theory.specs.Tree.{var, operand, instance, followed_by, size, variables};
-ghost use Rattle.mz_logic_theory.specs.View.{tree, trees};
+ghost use Rattle.mz_logic_theory.specs.View.{tree};
 ghost use Rattle.mz_mmu_theory.specs.ConvCode.{conv_steps};
 ghost use Rattle.mz_mmu_theory.specs.ConvView.{conversion, conversions};
-ghost use Rattle.mz_type_rules.specs.Claims.{put_in, all_put_in, claim_tree, side_tree, side_steps, AreSame, AllSame, lists_size, turns};
+ghost use Rattle.mz_type_rules.specs.Claims.{put_in, all_put_in, lent_trees, claim_tree, side_tree, side_steps, AreSame, AllSame, lists_size, turns};
 ghost use Rattle.mz_mmu_theory.specs.Sides.{side, sides};
 
-use mz_logic_theory::{Expr, Exprs};
+use mz_logic_theory::{Expr, ExprRef, Exprs, Operands, Shape};
 use mz_mmu_theory::{Conv, Convs};
 use std::alloc::{AllocError, Global};
 
@@ -20,11 +21,35 @@ pub(crate) enum Put<'t> {
     Operands(&'t Exprs, &'t [u32]),
 }
 
+/// Expressions that are lent: the terms of a path over each of these.
+#[derive(Clone, Copy)]
+pub(crate) struct LentExprs<'t> {
+    path: &'t [u32],
+    exprs: &'t [Expr],
+}
+
 /// A variable, or a term over expressions with something put in.
 #[derive(Clone, Copy)]
 pub(crate) enum Claim<'t> {
     Var(u32),
-    App(u32, &'t [Expr], Put<'t>),
+    App(u32, LentExprs<'t>, Put<'t>),
+}
+
+impl<'t> LentExprs<'t> {
+    /// The same expressions, in parts that can be copied.
+    pub(crate) fn of(es: &Operands<'t>) -> LentExprs<'t>
+        ensures { lent_trees result ≡ es.now }
+    {
+        let (path, exprs) = es.parts();
+        LentExprs { path, exprs }
+    }
+
+    /// The same expressions, to be gone through.
+    fn operands(&self) -> Operands<'t>
+        ensures { result ≡ lent_trees self.now }
+    {
+        Operands::over(self.path, self.exprs)
+    }
 }
 
 /// The variable at the place; past the end a term without operands.
@@ -35,7 +60,11 @@ fn variable_at<'t>(vars: &'t [u32], place: usize) -> Claim<'t>
     if place < vars.len() {
         return Claim::Var(vars[place]);
     }
-    Claim::App(0, &[], Put::Nothing)
+    let none = LentExprs {
+        path: &[],
+        exprs: &[],
+    };
+    Claim::App(0, none, Put::Nothing)
 }
 
 /// What stands in place of the variable at the place.
@@ -53,19 +82,20 @@ impl<'t> Claim<'t> {
     pub(crate) fn of(expr: &'t Expr) -> Claim<'t>
         ensures { claim_tree result ≡ tree expr.now }
     {
-        match expr {
-            Expr::Var(x) => Claim::Var(*x),
-            Expr::App(t, es) => Claim::App(*t, es.as_slice(), Put::Nothing),
+        match expr.shape() {
+            Shape::Var(x) => Claim::Var(x),
+            Shape::App(t, es) => Claim::App(t, LentExprs::of(&es), Put::Nothing),
         }
     }
 
-    /// The expression with this put in.
-    fn with(expr: &'t Expr, put: Put<'t>) -> Claim<'t>
-        ensures { claim_tree result ≡ put_in put.entry (tree expr.now) }
+    /// The expression of this shape, with this put in.
+    fn with(shape: Shape<'t>, put: Put<'t>) -> Claim<'t>
+        ensures { claim_tree result ≡ put_in put.entry (shape_tree shape.entry) }
     {
-        match put {
-            Put::Nothing => Claim::of(expr),
-            Put::Operands(es, vars) => Claim::unfolded(expr, es, vars),
+        match (shape, put) {
+            (Shape::Var(x), Put::Nothing) => Claim::Var(x),
+            (Shape::Var(x), Put::Operands(es, vars)) => operand_at(es, vars, x as usize),
+            (Shape::App(t, es), put) => Claim::App(t, LentExprs::of(&es), put),
         }
     }
 
@@ -73,10 +103,7 @@ impl<'t> Claim<'t> {
     pub(crate) fn unfolded(expr: &'t Expr, es: &'t Exprs, vars: &'t [u32]) -> Claim<'t>
         ensures { claim_tree result ≡ instance (followed_by es.now (variables vars.now)) (tree expr.now) }
     {
-        match expr {
-            Expr::Var(x) => operand_at(es, vars, *x as usize),
-            Expr::App(t, fs) => Claim::App(*t, fs.as_slice(), Put::Operands(es, vars)),
-        }
+        Claim::with(expr.shape(), Put::Operands(es, vars))
     }
 
     /// The expression with the operands in place of its variables.
@@ -90,9 +117,9 @@ impl<'t> Claim<'t> {
 /// Lists of expressions with something put in, which are left to compare.
 #[derive(Drop)]
 struct Lists<'t> {
-    es: &'t [Expr],
+    es: LentExprs<'t>,
     p: Put<'t>,
-    fs: &'t [Expr],
+    fs: LentExprs<'t>,
     q: Put<'t>,
 }
 
@@ -101,7 +128,7 @@ fn wait<'t>(waiting: &mut Vec<Lists<'t>>, lists: Lists<'t>) -> Result<(), AllocE
     ensures same { OnOk result (AllSame waiting.new.items ↔ (AllSame waiting.old.items × AreSame lists.entry)) }
     ensures small { OnOk result (turns waiting.new.items ≤ turns waiting.old.items + suc (2 * lists_size lists.entry)) }
 {
-    if lists.es.is_empty() && lists.fs.is_empty() {
+    if lists.es.exprs.is_empty() && lists.fs.exprs.is_empty() {
         return Ok(());
     }
     waiting.push(lists)?;
@@ -131,11 +158,17 @@ fn compare_first<'t>(waiting: &mut Vec<Lists<'t>>, lists: Lists<'t>) -> Result<b
     ensures same { IfOk result (λ same. (IsTrue same × AllSame waiting.new.items) ↔ (AllSame waiting.old.items × AreSame lists.entry)) }
     ensures less { OnOk result (turns waiting.new.items < turns waiting.old.items + suc (2 * lists_size lists.entry)) }
 {
-    match (lists.es.split_first(), lists.fs.split_first()) {
+    let Lists { es, p, fs, q } = lists;
+    match (es.operands().split_first(), fs.operands().split_first()) {
         (Some((e, es)), Some((f, fs))) => {
-            let Lists { p, q, .. } = lists;
+            let es = LentExprs::of(&es);
+            let fs = LentExprs::of(&fs);
             wait(waiting, Lists { es, p, fs, q })?;
-            compare(waiting, Claim::with(e, p), Claim::with(f, q))
+            compare(
+                waiting,
+                Claim::with(e.shape(), p),
+                Claim::with(f.shape(), q),
+            )
         }
         (None, None) => Ok(true),
         _ => Ok(false),
@@ -224,7 +257,8 @@ pub(crate) fn is_side(
     match side_of(conv, right) {
         Side::Own(e) => same_claim(alloc, Claim::of(e), claim),
         Side::Term(t, es) => {
-            same_claim(alloc, Claim::App(t, es.as_slice(), Put::Nothing), claim)
+            let es = LentExprs::of(&es.lent());
+            same_claim(alloc, Claim::App(t, es, Put::Nothing), claim)
         }
         Side::Under(t, parts, right) => match claim {
             Claim::Var(_) => Ok(false),
@@ -232,7 +266,7 @@ pub(crate) fn is_side(
                 if t != u {
                     return Ok(false);
                 }
-                are_sides(alloc, parts.as_slice(), right, es, &put)
+                are_sides(alloc, parts.as_slice(), right, &es.operands(), &put)
             }
         },
     }
@@ -244,16 +278,16 @@ fn are_sides(
     alloc: Global,
     convs: &[Conv],
     right: bool,
-    es: &[Expr],
+    es: &Operands,
     put: &Put,
 ) -> Result<bool, AllocError>
-    ensures { IfOk result (λ are. IsTrue are ↔ (sides right (conversions convs.now) ≡ all_put_in put.now (trees es.now))) }
+    ensures { IfOk result (λ are. IsTrue are ↔ (sides right (conversions convs.now) ≡ all_put_in put.now es.now)) }
 {
     if convs.len() != es.len() {
         return Ok(false);
     }
     for i in 0..convs.len() {
-        let is = is_side_with(alloc, &convs[i], right, &es[i], put)?;
+        let is = is_side_with(alloc, &convs[i], right, &es.at(i), put)?;
         if !is {
             return Ok(false);
         }
@@ -268,17 +302,17 @@ fn is_side_with(
     alloc: Global,
     conv: &Conv,
     right: bool,
-    expr: &Expr,
+    expr: &ExprRef,
     put: &Put,
 ) -> Result<bool, AllocError>
-    ensures { IfOk result (λ is. IsTrue is ↔ (side right (conversion conv.now) ≡ put_in put.now (tree expr.now))) }
+    ensures { IfOk result (λ is. IsTrue is ↔ (side right (conversion conv.now) ≡ put_in put.now expr.now)) }
 {
-    match (side_of(conv, right), expr) {
-        (Side::Under(t, parts, right), Expr::App(u, es)) => {
-            if t != *u {
+    match (side_of(conv, right), expr.shape()) {
+        (Side::Under(t, parts, right), Shape::App(u, es)) => {
+            if t != u {
                 return Ok(false);
             }
-            are_sides(alloc, parts.as_slice(), right, es.as_slice(), put)
+            are_sides(alloc, parts.as_slice(), right, &es, put)
         }
         _ => is_side_read(alloc, conv, right, expr, put),
     }
@@ -292,10 +326,10 @@ fn is_side_read(
     alloc: Global,
     conv: &Conv,
     right: bool,
-    expr: &Expr,
+    expr: &ExprRef,
     put: &Put,
 ) -> Result<bool, AllocError>
-    ensures { IfOk result (λ is. IsTrue is ↔ (side right (conversion conv.now) ≡ put_in put.now (tree expr.now))) }
+    ensures { IfOk result (λ is. IsTrue is ↔ (side right (conversion conv.now) ≡ put_in put.now expr.now)) }
 {
-    is_side(alloc, conv, right, Claim::with(expr, *put))
+    is_side(alloc, conv, right, Claim::with(expr.shape(), *put))
 }

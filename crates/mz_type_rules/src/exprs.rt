@@ -10,7 +10,10 @@ ghost use Rattle.mz_logic_theory.specs.View.{tree};
 ghost use Rattle.mz_mmu_theory.specs.Rules.{expr_rules, exprs_rules, operand_rules, own_operand_rules, claim_rules};
 
 use crate::cursor::Cursor;
-use mz_logic_theory::{Binder, Context, Env, Expr, Exprs, is_bound_var, is_claim, sort_of};
+use mz_logic_theory::{
+    Binder, Context, Env, Expr, ExprRef, Exprs, Operands, Shape, is_claim, lent_is_bound_var,
+    lent_sort_of,
+};
 use mz_mmu_theory::Fault;
 use mz_sexpr::U;
 
@@ -25,22 +28,35 @@ pub(crate) fn params_of<'e>(env: &'e Env, term: u32) -> &'e [Binder]
 }
 
 /// The rules of an expression, at the first node.
-#[cycle(check_expr)]
 pub(crate) fn check_expr(env: &Env, ctx: &Context, expr: &Expr, nodes: &Cursor) -> Result<(), Fault>
     ensures { Judges result (expr_rules (signatures env.now) ctx.now (tree expr.now) (first nodes.now)) }
 {
-    match expr {
-        Expr::Var(_) => Ok(()),
-        Expr::App(t, es) => check_app(env, ctx, *t, es, nodes),
+    check_lent_expr(env, ctx, &expr.lent(), nodes)
+}
+
+/// The same of an expression that is lent.
+#[cycle(check_lent_expr)]
+fn check_lent_expr(env: &Env, ctx: &Context, expr: &ExprRef, nodes: &Cursor) -> Result<(), Fault>
+    ensures { Judges result (expr_rules (signatures env.now) ctx.now expr.now (first nodes.now)) }
+{
+    match expr.shape() {
+        Shape::Var(_) => Ok(()),
+        Shape::App(t, es) => check_app(env, ctx, t, &es, nodes),
     }
 }
 
 /// The rules of a term's application, at the first node.
-#[cycle(check_expr)]
-fn check_app(env: &Env, ctx: &Context, term: u32, es: &Exprs, nodes: &Cursor) -> Result<(), Fault>
+#[cycle(check_lent_expr)]
+fn check_app(
+    env: &Env,
+    ctx: &Context,
+    term: u32,
+    es: &Operands,
+    nodes: &Cursor,
+) -> Result<(), Fault>
     ensures { Judges result (expr_rules (signatures env.now) ctx.now (app term es.now) (first nodes.now)) }
 {
-    check_exprs(env, ctx, es, &nodes.parts_after(1))?;
+    check_lent_exprs(env, ctx, es, &nodes.parts_after(1))?;
     check_app_operands(env, ctx, term, es, nodes)
 }
 
@@ -51,7 +67,7 @@ fn check_app_operands(
     env: &Env,
     ctx: &Context,
     term: u32,
-    es: &Exprs,
+    es: &Operands,
     nodes: &Cursor,
 ) -> Result<(), Fault>
     requires { AllHold (exprs_rules (signatures env.now) ctx.now es.now (rest (parts (first nodes.now)))) }
@@ -61,17 +77,24 @@ fn check_app_operands(
     if es.len() != params.len() {
         return Err(nodes.fault(U::Arity));
     }
-    check_operands(env, ctx, es, &nodes.parts_after(1), params)
+    check_lent_operands(env, ctx, es, &nodes.parts_after(1), params)
 }
 
 /// The rules of each expression, at its node.
-#[cycle(check_expr)]
 pub(crate) fn check_exprs(env: &Env, ctx: &Context, es: &Exprs, nodes: &Cursor) -> Result<(), Fault>
     ensures { Judges result (exprs_rules (signatures env.now) ctx.now es.now nodes.now) }
 {
+    check_lent_exprs(env, ctx, &es.lent(), nodes)
+}
+
+/// The same of expressions that are lent.
+#[cycle(check_lent_expr)]
+fn check_lent_exprs(env: &Env, ctx: &Context, es: &Operands, nodes: &Cursor) -> Result<(), Fault>
+    ensures { Judges result (exprs_rules (signatures env.now) ctx.now es.now nodes.now) }
+{
     let mut left = nodes.after(0);
-    for e in es.as_slice() {
-        check_expr(env, ctx, e, &left)?;
+    for i in 0..es.len() {
+        check_lent_expr(env, ctx, &es.at(i), &left)?;
         left = left.rest();
     }
     Ok(())
@@ -87,13 +110,25 @@ pub(crate) fn check_operands(
 ) -> Result<(), Fault>
     ensures { Judges result (operand_rules (signatures env.now) ctx.now es.now nodes.now params.now) }
 {
-    let items = es.as_slice();
+    check_lent_operands(env, ctx, &es.lent(), nodes, params)
+}
+
+/// The same of operands that are lent.
+fn check_lent_operands(
+    env: &Env,
+    ctx: &Context,
+    es: &Operands,
+    nodes: &Cursor,
+    params: &[Binder],
+) -> Result<(), Fault>
+    ensures { Judges result (operand_rules (signatures env.now) ctx.now es.now nodes.now params.now) }
+{
     let mut left = nodes.after(0);
-    for i in 0..items.len() {
+    for i in 0..es.len() {
         if i == params.len() {
             return Ok(());
         }
-        check_operand(env, ctx, &items[i], &left, &params[i])?;
+        check_operand(env, ctx, &es.at(i), &left, &params[i])?;
         left = left.rest();
     }
     Ok(())
@@ -102,16 +137,16 @@ pub(crate) fn check_operands(
 fn check_operand(
     env: &Env,
     ctx: &Context,
-    expr: &Expr,
+    expr: &ExprRef,
     nodes: &Cursor,
     param: &Binder,
 ) -> Result<(), Fault>
-    ensures { Judges result (own_operand_rules (signatures env.now) ctx.now (tree expr.now) (first nodes.now) param.now) }
+    ensures { Judges result (own_operand_rules (signatures env.now) ctx.now expr.now (first nodes.now) param.now) }
 {
-    if sort_of(env, ctx, expr) != param.sort {
+    if lent_sort_of(env, ctx, expr) != param.sort {
         return Err(nodes.fault(U::Sort));
     }
-    if param.bound && !is_bound_var(ctx, expr) {
+    if param.bound && !lent_is_bound_var(ctx, expr) {
         return Err(nodes.fault(U::Bound));
     }
     Ok(())

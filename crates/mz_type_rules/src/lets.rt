@@ -8,8 +8,8 @@ ghost use Rattle.mz_type_rules.specs.Claims.{claim_tree};
 ghost use Rattle.mz_type_rules.specs.Scopes.{Scope, with_let};
 ghost use Rattle.mz_type_rules.specs.Compared.{let_trees, Names, put_into, source};
 
-use crate::claim::{Claim, Put, same_claim, same_claim_in};
-use mz_logic_theory::{Env, Expr, Exprs, Hyps};
+use crate::claim::{Claim, LentExprs, Put, same_claim, same_claim_in};
+use mz_logic_theory::{Env, Expr, ExprRef, Exprs, Hyps, Operands, Shape};
 use mz_mmu_theory::Proof;
 use std::alloc::{AllocError, Global};
 use std::collections::BTreeMap;
@@ -159,8 +159,10 @@ fn find<'k, 't>(
 fn same_lists(alloc: Global, es: &Exprs, own: &Exprs, at: &Exprs, vars: &Exprs) -> bool
     ensures { IsTrue result → instances es.now own.now ≡ instances at.now vars.now }
 {
-    let left = Claim::App(0, own.as_slice(), Put::Operands(es, &[]));
-    let right = Claim::App(0, vars.as_slice(), Put::Operands(at, &[]));
+    let own = LentExprs::of(&own.lent());
+    let vars = LentExprs::of(&vars.lent());
+    let left = Claim::App(0, own, Put::Operands(es, &[]));
+    let right = Claim::App(0, vars, Put::Operands(at, &[]));
     match same_claim(alloc, left, right) {
         Ok(same) => same,
         Err(_) => false,
@@ -185,9 +187,9 @@ fn mark_variable(stands: &mut [bool], place: usize) {
 }
 
 /// Lets expressions wait.
-fn wait_all<'e>(waiting: &mut Vec<&'e Expr>, es: &'e [Expr]) -> Result<(), AllocError> {
-    for e in es {
-        waiting.push(e)?;
+fn wait_all<'e>(waiting: &mut Vec<ExprRef<'e>>, es: &Operands<'e>) -> Result<(), AllocError> {
+    for i in 0..es.len() {
+        waiting.push(es.at(i))?;
     }
     Ok(())
 }
@@ -199,16 +201,16 @@ fn mark_variables<'e>(
     expr: &'e Expr,
     stands: &mut [bool],
 ) -> Result<(), AllocError> {
-    let mut waiting: Vec<&'e Expr> = Vec::new(alloc);
-    waiting.push(expr)?;
+    let mut waiting: Vec<ExprRef<'e>> = Vec::new(alloc);
+    waiting.push(expr.lent())?;
     // more turns than there are nodes in a text
     for _turn in 0..u32::MAX {
         let Some(e) = waiting.pop() else {
             return Ok(());
         };
-        match e {
-            Expr::Var(x) => mark_variable(stands, *x as usize),
-            Expr::App(_, es) => wait_all(&mut waiting, es.as_slice())?,
+        match e.shape() {
+            Shape::Var(x) => mark_variable(stands, x as usize),
+            Shape::App(_, es) => wait_all(&mut waiting, &es)?,
         }
     }
     Ok(())
@@ -217,9 +219,9 @@ fn mark_variables<'e>(
 /// The variable with this number.
 fn variable(alloc: Global, number: usize) -> Expr {
     match u32::try_from(number) {
-        Ok(x) => Expr::Var(x),
+        Ok(x) => Expr::var(x),
         // no text has so many
-        Err(_) => Expr::App(0, Exprs::new(alloc)),
+        Err(_) => Expr::app(0, Exprs::new(alloc)),
     }
 }
 
@@ -230,7 +232,7 @@ fn own_list(alloc: Global, stands: &[bool]) -> Result<Exprs, AllocError> {
         if stands[i] {
             own.push(variable(alloc, i))?;
         } else {
-            own.push(Expr::App(0, Exprs::new(alloc)))?;
+            own.push(Expr::app(0, Exprs::new(alloc)))?;
         }
     }
     Ok(Exprs::from_vec(own))
@@ -266,7 +268,7 @@ fn vars_list(
             };
             vars.push(variable(alloc, place))?;
         } else {
-            vars.push(Expr::App(0, Exprs::new(alloc)))?;
+            vars.push(Expr::app(0, Exprs::new(alloc)))?;
         }
     }
     Ok(Some(Exprs::from_vec(vars)))

@@ -5,8 +5,8 @@ use crate::expect::expect;
 use mz_logic::check_decl;
 use mz_logic_copy::copy_of;
 use mz_logic_theory::{
-    Binder, Binders, Decl, DeclFault, Deps, Env, Expr, Exprs, Hyps, ResultType, SortMods, TermDecl,
-    TermForm, Terms, ThmDecl, ThmForm, Word, same_expr,
+    Binder, Binders, Decl, DeclFault, Deps, Env, Expr, ExprRef, Exprs, Hyps, ResultType,
+    Shape as LentShape, SortMods, TermDecl, TermForm, Terms, ThmDecl, ThmForm, Word,
 };
 use std::alloc::{AllocError, Global};
 use std::process::Abort;
@@ -109,13 +109,13 @@ type Param = (u32, bool, Option<u32>);
 
 fn expr(alloc: Global, shape: Shape) -> Result<Expr, AllocError> {
     match shape {
-        Shape::Var(x) => Ok(Expr::Var(x)),
-        Shape::Alone(t) => Ok(Expr::App(t, Exprs::new(alloc))),
+        Shape::Var(x) => Ok(Expr::var(x)),
+        Shape::Alone(t) => Ok(Expr::app(t, Exprs::new(alloc))),
         Shape::Pair(t, x, y) => {
             let mut operands = Exprs::new(alloc);
-            operands.push(Expr::Var(x))?;
-            operands.push(Expr::Var(y))?;
-            Ok(Expr::App(t, operands))
+            operands.push(Expr::var(x))?;
+            operands.push(Expr::var(y))?;
+            Ok(Expr::app(t, operands))
         }
     }
 }
@@ -355,5 +355,25 @@ fn what_is_added(rt: HostRuntime) {
     );
     let e = expr(rt.alloc(), Shape::Pair(EQ, 0, 1)).expect(&rt, "memory");
     let same = copy_of(rt.alloc(), &e).expect(&rt, "memory");
-    expect(&rt, same_expr(&e, &same), "a copy is the same");
+    expect(&rt, is_pair(&same, EQ, 0, 1), "a copy is the same");
+}
+
+/// Whether the expression is this term over these two variables.
+fn is_pair(e: &Expr, term: u32, x: u32, y: u32) -> bool {
+    match e.shape() {
+        LentShape::Var(_) => false,
+        LentShape::App(t, es) => {
+            t == term && es.len() == 2 && is_variable(es.get(0), x) && is_variable(es.get(1), y)
+        }
+    }
+}
+
+fn is_variable(e: Option<ExprRef<'_>>, x: u32) -> bool {
+    match e {
+        None => false,
+        Some(e) => match e.shape() {
+            LentShape::Var(y) => y == x,
+            LentShape::App(_, _) => false,
+        },
+    }
 }

@@ -2,7 +2,7 @@ ghost use Rattle.std.specs.Prelude.{◌<◌, length};
 
 use crate::expect::{expect, expect_bytes, refusal};
 use mz_base::{Hashing, Mode};
-use mz_logic_theory::{Binder, Decl, Expr, Exprs, Hyps, TermForm};
+use mz_logic_theory::{Binder, Decl, Expr, ExprRef, Exprs, Hyps, Operands, Shape, TermForm};
 use mz_mmu::{Text, TextRead, read_text};
 use mz_mmu_theory::{Conv, Convs, Proof, Proofs};
 use std::alloc::{AllocError, Global};
@@ -45,28 +45,36 @@ impl Page {
     }
 
     /// `v0` is a variable, `t0(..)` a term over expressions.
-    #[cycle(expr)]
     fn expr(&mut self, expr: &Expr, limit: u32) {
+        self.lent_expr(&expr.lent(), limit);
+    }
+
+    #[cycle(lent_expr)]
+    fn lent_expr(&mut self, expr: &ExprRef, limit: u32) {
         if limit == 0 {
             return;
         }
-        match expr {
-            Expr::Var(x) => self.number(b"v", *x),
-            Expr::App(t, es) => {
-                self.number(b"t", *t);
-                self.exprs(es, limit - 1);
+        match expr.shape() {
+            Shape::Var(x) => self.number(b"v", x),
+            Shape::App(t, es) => {
+                self.number(b"t", t);
+                self.lent_exprs(&es, limit - 1);
             }
         }
     }
 
-    #[cycle(expr)]
     fn exprs(&mut self, exprs: &Exprs, limit: u32) {
+        self.lent_exprs(&exprs.lent(), limit);
+    }
+
+    #[cycle(lent_expr)]
+    fn lent_exprs(&mut self, exprs: &Operands, limit: u32) {
         if limit == 0 {
             return;
         }
         self.word(b"(");
-        for e in exprs.as_slice() {
-            self.expr(e, limit - 1);
+        for i in 0..exprs.len() {
+            self.lent_expr(&exprs.at(i), limit - 1);
         }
         self.word(b")");
     }

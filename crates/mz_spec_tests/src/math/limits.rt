@@ -1,5 +1,5 @@
 use crate::math::world::{A, B, N, NAT, Step, WFF, World, code, world_of};
-use mz_logic_theory::{Expr, Exprs, SortMods};
+use mz_logic_theory::{ExprRef, Operands, Shape, SortMods};
 use mz_math_theory::{Parsed, Wanted};
 use std::alloc::{AllocError, Global};
 use std::process::Abort;
@@ -24,24 +24,24 @@ const DEEP: &[Step<'static>] = &[
 
 /// How high trees are, as far as the limit.
 #[cycle(height)]
-fn height(expr: &Expr, limit: u32) -> u32 {
+fn height(expr: &ExprRef<'_>, limit: u32) -> u32 {
     if limit == 0 {
         return 0;
     }
-    match expr {
-        Expr::Var(_) => 1,
-        Expr::App(_, es) => highest(es, limit - 1).saturating_add(1),
+    match expr.shape() {
+        Shape::Var(_) => 1,
+        Shape::App(_, es) => highest(&es, limit - 1).saturating_add(1),
     }
 }
 
 #[cycle(height)]
-fn highest(exprs: &Exprs, limit: u32) -> u32 {
+fn highest(exprs: &Operands<'_>, limit: u32) -> u32 {
     if limit == 0 {
         return 0;
     }
     let mut most = 0;
-    for e in exprs.as_slice() {
-        most = most.max(height(e, limit - 1));
+    for i in 0..exprs.len() {
+        most = most.max(height(&exprs.at(i), limit - 1));
     }
     most
 }
@@ -68,7 +68,7 @@ fn nested(rt: &impl Abort, alloc: Global, nest: &Nest<'_>) -> String {
 /// The height of the tree, or the rule.
 fn told(alloc: Global, parsed: Parsed) -> Result<String, AllocError> {
     match parsed {
-        Parsed::Tree(expr) => format!(in alloc; "{}", height(&expr, 20_000)),
+        Parsed::Tree(expr) => format!(in alloc; "{}", height(&expr.lent(), 20_000)),
         Parsed::Refused { at, rule } => format!(in alloc; "{}:{}", code(rule), at),
         Parsed::Mem => Err(AllocError),
     }

@@ -6,7 +6,8 @@ use mz_base::is_identifier;
 use mz_lex::S;
 use mz_logic::check_decl;
 use mz_logic_theory::{
-    Binder, Binders, Decl, Deps, Env, Expr, Exprs, ResultType, SortMods, TermDecl, TermForm,
+    Binder, Binders, Decl, Deps, Env, ExprRef, Operands, ResultType, Shape, SortMods, TermDecl,
+    TermForm,
 };
 use mz_math::{Bytes, Notations, Scope, parse_formula};
 use mz_math_theory::{Literal, NoteFault, Parsed, Tail, Wanted};
@@ -225,29 +226,29 @@ impl World {
 
     /// `(im a b)` is a term over two variables.
     #[cycle(expr)]
-    fn expr(&mut self, expr: &Expr, limit: u32) {
+    fn expr(&mut self, expr: &ExprRef<'_>, limit: u32) {
         if limit == 0 {
             return;
         }
-        match expr {
-            Expr::Var(x) => self.variable_name(*x),
-            Expr::App(t, es) => {
+        match expr.shape() {
+            Shape::Var(x) => self.variable_name(x),
+            Shape::App(t, es) => {
                 self.word(b"(");
-                self.term_name(*t);
-                self.exprs(es, limit - 1);
+                self.term_name(t);
+                self.exprs(&es, limit - 1);
                 self.word(b")");
             }
         }
     }
 
     #[cycle(expr)]
-    fn exprs(&mut self, exprs: &Exprs, limit: u32) {
+    fn exprs(&mut self, exprs: &Operands<'_>, limit: u32) {
         if limit == 0 {
             return;
         }
-        for e in exprs.as_slice() {
+        for i in 0..exprs.len() {
             self.word(b" ");
-            self.expr(e, limit - 1);
+            self.expr(&exprs.at(i), limit - 1);
         }
     }
 
@@ -292,7 +293,7 @@ impl World {
         }
         match self.read(text, wanted) {
             Parsed::Tree(expr) => {
-                self.expr(&expr, 100);
+                self.expr(&expr.lent(), 100);
                 self.word(b" ");
                 Ok(())
             }

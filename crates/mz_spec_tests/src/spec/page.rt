@@ -3,7 +3,9 @@ ghost use Rattle.std.specs.Prelude.{◌<◌, length};
 
 use crate::expect::{expect, expect_bytes};
 use mz_lex::S;
-use mz_logic_theory::{Binder, Decl, Deps, Expr, Exprs, TermDecl, TermForm, ThmDecl, ThmForm};
+use mz_logic_theory::{
+    Binder, Decl, Deps, ExprRef, Operands, Shape, TermDecl, TermForm, ThmDecl, ThmForm,
+};
 use mz_spec::{Hashing, SpecRead, read_spec};
 use mz_spec_theory::{Spec, SpecRefusal};
 use std::alloc::{AllocError, Global};
@@ -47,28 +49,28 @@ impl Page {
 
     /// `v0` is a variable, `(t0 v0 v1)` a term over expressions.
     #[cycle(expr)]
-    fn expr(&mut self, expr: &Expr, limit: u32) {
+    fn expr(&mut self, expr: &ExprRef<'_>, limit: u32) {
         if limit == 0 {
             return;
         }
-        match expr {
-            Expr::Var(x) => self.number(b"v", *x),
-            Expr::App(t, es) => {
-                self.number(b"(t", *t);
-                self.exprs(es, limit - 1);
+        match expr.shape() {
+            Shape::Var(x) => self.number(b"v", x),
+            Shape::App(t, es) => {
+                self.number(b"(t", t);
+                self.exprs(&es, limit - 1);
                 self.word(b")");
             }
         }
     }
 
     #[cycle(expr)]
-    fn exprs(&mut self, exprs: &Exprs, limit: u32) {
+    fn exprs(&mut self, exprs: &Operands<'_>, limit: u32) {
         if limit == 0 {
             return;
         }
-        for e in exprs.as_slice() {
+        for i in 0..exprs.len() {
             self.word(b" ");
-            self.expr(e, limit - 1);
+            self.expr(&exprs.at(i), limit - 1);
         }
     }
 
@@ -106,7 +108,7 @@ impl Page {
                 self.word(b" =");
                 self.binders(dummies.as_slice());
                 self.word(b" ");
-                self.expr(body, 100);
+                self.expr(&body.lent(), 100);
             }
         }
     }
@@ -119,10 +121,10 @@ impl Page {
         self.binders(assertion.params.as_slice());
         self.word(b": ");
         for i in 0..assertion.hyps.len() {
-            self.expr(assertion.hyps.at(i), 100);
+            self.expr(&assertion.hyps.at(i).lent(), 100);
             self.word(b" > ");
         }
-        self.expr(&assertion.conclusion, 100);
+        self.expr(&assertion.conclusion.lent(), 100);
     }
 
     fn decl(&mut self, decl: &Decl) {

@@ -15,18 +15,22 @@ returns-in-End-clause-found c =
     let ends = subst (StandsAt c.args.mmb.now c.args.rows c.args.at) c.in-End.is c.in_ok-head_at.ensures.stands in
     found-end c.args.mmb.now c.args.rows c.requires.sorts c.args.at ends.0 ends.1
 
--- the statement's head, with a row left for it
-next-head : (c : goal.In-Statement) → IsNextHead c.args.mmb.now c.args.rows c.args.at c.in-Statement.head
-next-head c = subst (StandsAt c.args.mmb.now c.args.rows c.args.at) c.in-Statement.is c.in_ok-head_at.ensures.stands
+-- what the parts ask of the statement's head, for which a row is left
 
 pub check_parts-requires-clause-row : goal.check_parts-requires-clause-row
-check_parts-requires-clause-row c = row-here c.args.mmb.now c.args.rows c.requires.sorts c.args.at c.in-Statement.head (next-head c)
+check_parts-requires-clause-row c =
+    row-here c.args.mmb.now c.args.rows c.requires.sorts c.args.at c.in-Statement.head
+    (subst (StandsAt c.args.mmb.now c.args.rows c.args.at) c.in-Statement.is c.in_ok-head_at.ensures.stands)
 
 pub check_parts-requires-clause-order : goal.check_parts-requires-clause-order
-check_parts-requires-clause-order c = (next-head c).next_after
+check_parts-requires-clause-order c =
+    let next : IsNextHead c.args.mmb.now c.args.rows c.args.at c.in-Statement.head = subst (StandsAt c.args.mmb.now c.args.rows c.args.at) c.in-Statement.is c.in_ok-head_at.ensures.stands in
+    next.next_after
 
 pub check_parts-requires-clause-within : goal.check_parts-requires-clause-within
-check_parts-requires-clause-within c = (next-head c).within
+check_parts-requires-clause-within c =
+    let next : IsNextHead c.args.mmb.now c.args.rows c.args.at c.in-Statement.head = subst (StandsAt c.args.mmb.now c.args.rows c.args.at) c.in-Statement.is c.in_ok-head_at.ensures.stands in
+    next.within
 
 pub returns-in-Statement-clause-found : goal.returns-in-Statement-clause-found
 returns-in-Statement-clause-found c =

@@ -1,13 +1,9 @@
-use Rattle.std.proofs.Common.{◌≤◌, ◌+◌, ◌*◌, drop}
+use Rattle.std.proofs.Common.{◌+◌, ◌*◌}
 use Rattle.mz_logic_theory.specs.Tree.{size, trees_size}
-use Rattle.mz_logic_theory.specs.View.{tree, trees}
 use Rattle.mz_emit_bodies.proofs.instances.+nodes_left.Given as goal
 
 abbrev pub decreases-nodes_left : goal.decreases-nodes_left
-decreases-nodes_left l = 2 * size (tree l.expr.now)
+decreases-nodes_left l = 2 * size l.expr.now
 
 abbrev pub decreases-nodes_left_by_all : goal.decreases-nodes_left_by_all
 decreases-nodes_left_by_all l = 2 * trees_size l.es.now + 1
-
-abbrev pub invariant-nodes_left_by_all-loop-e : goal.invariant-nodes_left_by_all-loop-e
-invariant-nodes_left_by_all-loop-e l = trees_size (trees (drop l.e-index l.e-items)) ≤ trees_size l.es

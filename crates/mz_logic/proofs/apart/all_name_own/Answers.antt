@@ -9,15 +9,15 @@ returns-then-is_empty c = (λ _ i x p at named has. absurd (none-has c.args.owne
 pub loop-i-init : goal.loop-i-init
 loop-i-init c = λ k below. absurd (let e : k < 0 = below in omega (arith, e))
 
-pub returns-then-not-alone : goal.returns-then-not-alone
-returns-then-not-alone c = (
+pub returns-then-not-names_own : goal.returns-then-not-names_own
+returns-then-not-names_own c = (
   λ no. absurd (true≢false (sym no)),
-  λ all. absurd (true≢false (sym (c.in_ok-alone.ensures.1 (all c.loop-i.i)) ∙ c.if-not-alone.true)),
+  λ all. absurd (true≢false (sym (c.names_own.ensures.1 (all c.loop-i.i)) ∙ c.if-not-names_own.true)),
 )
 
 pub loop-i-preserved : goal.loop-i-preserved
 loop-i-preserved c =
-    own-more c.args.params.now c.args.es.now c.args.ctx.now c.args.owned.now c.loop-i.i c.loop-i.invariant (c.in_ok-alone.ensures.0 c.if-not-alone.false)
+    own-more c.args.params.now c.args.es.now c.args.ctx.now c.args.owned.now c.loop-i.i c.loop-i.invariant (c.names_own.ensures.0 c.if-not-names_own.false)
 
 pub returns : goal.returns
 returns c = (λ _. own-all c.args.params.now c.args.es.now c.args.ctx.now c.args.owned.now c.loop-i.i c.loop-i.invariant c.loop-i-test.false, λ _. refl)

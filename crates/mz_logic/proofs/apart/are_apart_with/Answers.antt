@@ -1,15 +1,11 @@
 use Rattle.std.proofs.Common.{◌∙◌, refl, sym, true≢false}
-use Rattle.std.proofs.lemmas.Result.{IfOk-weaker}
 use Rattle.mz_logic_theory.specs.Declaration.{signatures}
 use Rattle.mz_logic.proofs.Owning.{apart-by, apart-single}
 use Rattle.mz_logic.proofs.apart.are_apart_with.Goals as goal
 
 pub returns-then-single : goal.returns-then-single
 returns-then-single c =
-    IfOk-weaker c.all_name_own.result _ _
-    (λ b e. apart-by c.args.params.now c.args.es.now c.args.ctx.now _ (c.in_ok-single.ensures.has c.if-single.true)
-    (c.in_ok-single.ensures.single.0 c.if-single.true) b e)
-    c.all_name_own.ensures
+    apart-by c.args.params.now c.args.es.now c.args.ctx.now _ (c.in_ok-single.ensures.has c.if-single.true) (c.in_ok-single.ensures.single.0 c.if-single.true) c.all_name_own.result c.all_name_own.ensures
 
 pub returns-then-all_stand_alone : goal.returns-then-all_stand_alone
 returns-then-all_stand_alone c = (

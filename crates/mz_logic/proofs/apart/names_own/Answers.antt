@@ -1,7 +1,11 @@
-use Rattle.mz_logic.proofs.Owning.{own-by}
+use Rattle.std.proofs.Common.{get_or}
+use Rattle.std.proofs.lemmas.Option.{slice_get-get_or}
+use Rattle.mz_logic.proofs.Owning.{own-by, own-tested}
 use Rattle.mz_logic.proofs.apart.names_own.Goals as goal
 
 pub returns : goal.returns
 returns c =
-    let (p, at, own) = c.in_ok-add_own.ensures in
-    own-by c.args.params.now c.args.es.now c.args.ctx.now c.args.owned.now c.args.i p at c.add_own.new.own own c.operand_names_other.result c.operand_names_other.ensures
+    let p = get_or c.args.params.now c.args.i c.index-params-i.result in
+    own-by c.args.params.now c.args.es.now c.args.ctx.now c.args.owned.now c.args.i p (slice_get-get_or c.args.params.now c.args.i c.index-params-i.result c.requires.within) c.new-own.result
+    (own-tested c.args.params.now c.args.es.now c.requires.single c.args.i p c.args.owned.now c.args.owners.now c.new-own.result c.requires.owners c.new-own.ensures) c.operand_names_other.result
+    c.operand_names_other.ensures

@@ -1,9 +1,9 @@
 use Rattle.std.proofs.Common.{◌↔◌, ◌∙◌, ◌+◌, IsTrue, drop, ap, refl, sym, subst, true≢false, arith}
 use Rattle.std.proofs.lemmas.List.{drop_all}
-use Rattle.mz_logic_theory.specs.Tree.{trees_size}
+use Rattle.mz_logic_theory.specs.Kinds.{kind_tree}
+use Rattle.mz_logic_theory.specs.Tree.{Tree, trees_size}
 use Rattle.mz_logic_theory.specs.View.{tree, trees}
-use Rattle.mz_logic_theory.specs.declared.expr.Expr.{Expr}
-use Rattle.mz_logic_free.proofs.Sharing.{IsOther, SomeName, Names, names-here, names-behind, names-none, cut-trees}
+use Rattle.mz_logic_free.proofs.Sharing.{IsOther, SomeName, Names, names-here, names-behind, names-none, names-under, cut-trees}
 use Rattle.mz_logic_free.proofs.named.+names_other.Goals as goal
 
 pub some_name_other-returns-then-names_other : goal.some_name_other-returns-then-names_other
@@ -37,8 +37,14 @@ some_name_other-returns t c = (
 
 pub names_other-returns-in-Var : goal.names_other-returns-in-Var
 names_other-returns-in-Var t c =
-    subst (λ e. IsTrue c.variable_names_other.result ↔ Names c.args.ctx.now (IsOther c.args.variables.now c.args.own.now) e) (sym (ap (λ (e : Expr). tree e) c.in-Var.is)) c.variable_names_other.ensures
+    subst (λ e. IsTrue c.variable_names_other.result ↔ Names c.args.ctx.now (IsOther c.args.variables.now c.args.own.now) e) (sym (ap kind_tree c.in-Var.is) ∙ c.kind.ensures.tree) c.variable_names_other.ensures
 
 pub names_other-returns-in-App : goal.names_other-returns-in-App
 names_other-returns-in-App t c =
-    subst (λ e. IsTrue c.some_name_other.result ↔ Names c.args.ctx.now (IsOther c.args.variables.now c.args.own.now) e) (sym (ap (λ (e : Expr). tree e) c.in-App.is)) c.some_name_other.ensures
+    subst (λ e. IsTrue c.some_name_other.result ↔ Names c.args.ctx.now (IsOther c.args.variables.now c.args.own.now) e) (sym (ap kind_tree c.in-App.is) ∙ c.kind.ensures.tree) c.some_name_other.ensures
+
+pub names_other-returns-in-Under : goal.names_other-returns-in-Under
+names_other-returns-in-Under t c =
+    let N : Tree → Type 0 = λ e. IsTrue c.names_other.result ↔ Names c.args.ctx.now (IsOther c.args.variables.now c.args.own.now) e in
+    subst N (sym (ap kind_tree c.in-Under.is) ∙ c.kind.ensures.tree)
+    (names-under c.args.ctx.now (IsOther c.args.variables.now c.args.own.now) c.in-Under.field-0 c.in-Under.e.value (IsTrue c.names_other.result) (subst N c.deref.ensures c.names_other.ensures))

@@ -1,4 +1,5 @@
 use Rattle.std.proofs.Common.{◌∙◌, refl, sym, subst, inl, inr, true≢false}
+use Rattle.mz_logic_free.proofs.Narrowing.{few-or-all, others-same}
 use Rattle.mz_logic_free.proofs.Sharing.{IsOther}
 use Rattle.mz_logic_free.proofs.named.binder_names_other.Goals as goal
 
@@ -12,10 +13,12 @@ returns-then-binder c = (
 )
 
 pub returns-else-binder : goal.returns-else-binder
-returns-else-binder c = (
-  λ is. (let (x, has, at) = c.has_other.ensures.0 is in (x, has, inr (c.if-binder.false, at))),
-  λ (x, has, tells). c.has_other.ensures.1 (elim tells [
-    | inl (bound, _) ↦ absurd (true≢false (sym bound ∙ c.if-binder.false))
-    | inr (_, at) ↦ (x, has, at)
-  ]),
-)
+returns-else-binder c =
+    let same = few-or-all c.args.variables.now c.places.result.now c.args.binder.now.deps _ c.places.ensures (c.requires c.places.result.now) in
+    let (to, from) = others-same c.args.variables.now c.args.own.now c.args.binder.now.deps c.places.result.now same c.has_other.result c.has_other.ensures in (
+      λ is. (let (x, has, at) = to is in (x, has, inr (c.if-binder.false, at))),
+      λ (x, has, tells). from (elim tells [
+        | inl (bound, _) ↦ absurd (true≢false (sym bound ∙ c.if-binder.false))
+        | inr (_, at) ↦ (x, has, at)
+      ]),
+    )

@@ -1,4 +1,6 @@
-use Rattle.std.proofs.Common.{sym, true≢false}
+use Rattle.std.proofs.Common.{◌∙◌, [], ap, sym, true≢false}
+use Rattle.std.specs.Prelude.{filter}
+use Rattle.mz_logic_free.specs.Own.{is_own}
 use Rattle.mz_logic_free.proofs.Sharing.{but-none, none-has}
 use Rattle.mz_logic_free.proofs.named.some_name_any.Goals as goal
 
@@ -9,4 +11,6 @@ returns-then-is_empty c = (
 )
 
 pub returns : goal.returns
-returns c = but-none c.args.ctx.now c.args.variables.now c.new-own.result c.new-own.ensures c.args.es.now c.some_name_other.result c.some_name_other.ensures
+returns c =
+    but-none c.args.ctx.now c.args.variables.now c.new-own.result (c.new-own.ensures ∙ ap (λ xs. filter (is_own xs [] 0 c.new-others.result) xs) c.new-none.ensures) c.args.es.now
+    c.some_name_other.result c.some_name_other.ensures

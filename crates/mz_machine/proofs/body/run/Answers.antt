@@ -1,7 +1,7 @@
 use Rattle.std.proofs.Common.{◌+◌, ◌∙◌, length, sym, ap, subst, arith}
 use Rattle.mz_store.specs.Sharing.{Sharing}
 use Rattle.mz_machine.specs.Rooms.{OneACommand}
-use Rattle.mz_machine.specs.Running.{machine_of}
+use Rattle.mz_machine.specs.Running.{IsRunning, machine_of}
 use Rattle.mz_machine.specs.Steps.{tables_for, heading_for}
 use Rattle.mz_unify_theory.specs.Profile.{plain}
 use Rattle.mz_unify_theory.proofs.Offered.{further}
@@ -9,6 +9,7 @@ use Rattle.mz_machine_env.proofs.Offered.{at-first, cut-whole, long-whole, end-w
 use Rattle.mz_machine.proofs.BodyRunning.{itself, goes, row-over, steps-over, most-over, end-answer, end-counts, stop-answer, stop-counts, place-fits, none-last, none-so-far, one-last, one-so-far, whatever}
 use Rattle.mz_machine_theory.proofs.Offered.{more-steps, within-steps}
 use Rattle.mz_machine.proofs.GapWalk.{gap-at-first, gap-ends, gap-goes-on}
+use Rattle.mz_machine.proofs.KnownParams.{where-good, stopped-good}
 use Rattle.mz_machine.proofs.body.run.Goals as goal
 
 pub commands-init : goal.commands-init
@@ -172,6 +173,14 @@ returns-in-Err-clause-nodes g c =
     let later = length c.advance.new.parts.store.entries in
     whatever c.stopped.result (OneACommand first bytes later)
     (one-last first bytes c.commands.at (length c.commands.parts.store.entries) later c.in-Ok.cmd (sym c.in-Ok.ensures.computed) c.if-cmd-eq-END.false c.advance.ensures.nodes c.commands.invariant.nodes)
+
+-- ---- the machine after a body that has run
+
+pub returns-then-cmd-eq-END-clause-running : goal.returns-then-cmd-eq-END-clause-running
+returns-then-cmd-eq-END-clause-running g c = where-good c.ended.result (IsRunning c.args.setting.now c.finish.new.parts) c.finish.ensures.running
+
+pub returns-in-Err-clause-running : goal.returns-in-Err-clause-running
+returns-in-Err-clause-running g c = stopped-good c.stopped.result _ c.in-Err.stop (IsRunning c.args.setting.now c.advance.new.parts) c.stopped.ensures
 
 -- ---- the loop
 

@@ -102,12 +102,12 @@ returns-in-Ok-clause-done g c value hyps hyps_in =
     let stack = c.args.stack.now.items in
     let st = state_at s heap stack hyps in
     let item = c.in-Ok.item in
-    let heap' = c.push.new.items.items in
+    let heap' = c.put.new.heap.items in
     let stack' = c.conv_save.new.stack.items in
     let after = state_at s [] stack' hyps in
     rw c.in-ConvSave.is (pushed-executes (signatures_of E) (λ at. proof_step strict (tables_of E) at code.ConvSave value st) (IsTrue (takes_none code.ConvSave value st)) s s heap' stack stack' hyps
-    c.args.stack.now.cap c.conv_save.new.stack.cap (λ none. true-false (sym none)) c.push.result
-    (on_ok_weaker c.push.result (λ is. record {
+    c.args.stack.now.cap c.conv_save.new.stack.cap (λ none. true-false (sym none)) c.put.result
+    (on_ok_weaker c.put.result (λ is. record {
       grows = grows-not (signatures_of E) s c.requires.ready.over;
       heap_in = rw is (items-in-both s heap (item ∷ []) c.requires.ready.heap_in (c.in-Ok.ensures.ids.0, tt));
       stack_in = c.in-Ok.ensures.ids.1;
@@ -115,11 +115,11 @@ returns-in-Ok-clause-done g c value hyps hyps_in =
       opens = tt;
       row_is = λ at. c.in-Ok.ensures.row (tables_of E) at value st refl ∙ ap (λ more. Ok (record after { heap = more })) (sym (heap-pushed s heap heap' item is));
       no_more = λ none. absurd (true-false (sym none));
-    }) c.push.ensures.ok)
-    c.push.ensures.err)
+    }) c.put.ensures.ok)
+    c.put.ensures.err)
 
 pub returns-in-Ok-clause-steps : goal.returns-in-Ok-clause-steps
-returns-in-Ok-clause-steps g c value hyps = rw c.in-ConvSave.is (quiet c.push.result c.args.steps.now (length c.args.earlier.now.file))
+returns-in-Ok-clause-steps g c value hyps = rw c.in-ConvSave.is (quiet c.put.result c.args.steps.now (length c.args.earlier.now.file))
 
 pub returns-in-Err-clause-done : goal.returns-in-Err-clause-done
 returns-in-Err-clause-done g c value hyps hyps_in =

@@ -28,9 +28,9 @@ returns-in-Ref-clause-done c =
     let st = state_at s heap stack hyps in
     rw c.in-Ref.is (given-executes (signatures_of E) (λ at. proof_step strict (tables_of E) at code.Ref n st) (IsTrue (takes_none code.Ref n st)) s c.requires.ready.over
     heap stack c.refer.new.stack.items c.requires.ready.heap_in hyps c.requires.hyps c.args.stack.now.cap c.refer.new.stack.cap c.refer.result c.refer.ensures.ids
-    (λ at. c.refer.ensures.row (tables_of E) at st (ap (heap_at s) (sym c.deref.ensures.value)) refl)
-    (λ none. let there = conversion-there s heap n none in c.refer.ensures.never there.0 there.1 (ap (λ xs. slice_get xs n) c.deref.ensures.value ∙ there.2))
-    (λ none. let there = conversion-there s heap n none in c.refer.ensures.capacity there.0 there.1 (ap (λ xs. slice_get xs n) c.deref.ensures.value ∙ there.2)))
+    (λ at. c.refer.ensures.row (tables_of E) at st (ap (heap_at s) (sym c.as_slice.ensures)) refl)
+    (λ none. let there = conversion-there s heap n none in c.refer.ensures.never there.0 there.1 (ap (λ xs. slice_get xs n) c.as_slice.ensures ∙ there.2))
+    (λ none. let there = conversion-there s heap n none in c.refer.ensures.capacity there.0 there.1 (ap (λ xs. slice_get xs n) c.as_slice.ensures ∙ there.2)))
 
 pub returns-in-ConvRef-clause-done : goal.returns-in-ConvRef-clause-done
 returns-in-ConvRef-clause-done c =
@@ -43,7 +43,7 @@ returns-in-ConvRef-clause-done c =
     let st = state_at s heap stack hyps in
     rw c.in-ConvRef.is (ruled-executes (signatures_of E) (λ at. proof_step strict (tables_of E) at code.ConvRef n st) (IsTrue (takes_none code.ConvRef n st)) s c.requires.ready.over
     heap stack c.conv_refer.new.stack.items c.requires.ready.heap_in hyps c.requires.hyps c.args.stack.now.cap c.conv_refer.new.stack.cap c.conv_refer.result c.by_rule.result c.by_rule.ensures c.conv_refer.ensures.ids
-    (λ at. c.conv_refer.ensures.row (tables_of E) at st (ap (heap_at s) (sym c.deref-in-ConvRef.ensures.value)) refl)
+    (λ at. c.conv_refer.ensures.row (tables_of E) at st (ap (heap_at s) (sym c.as_slice-in-ConvRef.ensures)) refl)
     (λ none. omega (arith, c.conv_refer.ensures.capacity)))
 
 -- ---- Dummy
@@ -100,17 +100,17 @@ returns-in-Ok-hyp-clause-done c =
     let claim = c.in-Ok-hyp.claim in
     let ids = c.in-Ok-hyp.ensures.ids in
     rw c.in-Hyp.is (pushed-executes (signatures_of E) (λ at. proof_step strict (tables_of E) at code.Hyp n st) (IsTrue (takes_none code.Hyp n st)) s s
-    c.assume.new.heap.items stack c.hyp.new.stack.items c.assume.new.hyps.items c.args.stack.now.cap c.hyp.new.stack.cap (λ none. true-false (sym none)) c.assume.result
-    (on-three c.assume.result (λ more also few. record {
+    c.take_hyp.new.heap.items stack c.hyp.new.stack.items c.take_hyp.new.hyps.items c.args.stack.now.cap c.hyp.new.stack.cap (λ none. true-false (sym none)) c.take_hyp.result
+    (on-three c.take_hyp.result (λ more also few. record {
       grows = grows-not (signatures_of E) s c.requires.ready.over;
       heap_in = rw more (items-in-both s heap (Proof claim ∷ []) c.requires.ready.heap_in (ids.0, tt));
       stack_in = ids.1;
       hyps_in = (rw also (are-in-both s hyps (claim ∷ []) c.requires.hyps.0 (ids.0, tt)), few);
       opens = tt;
-      row_is = λ at. c.in-Ok-hyp.ensures.row at n st refl refl ∙ ap (λ st. Ok st) (assumed-state s heap c.assume.new.heap.items c.hyp.new.stack.items hyps c.assume.new.hyps.items claim more also);
+      row_is = λ at. c.in-Ok-hyp.ensures.row at n st refl refl ∙ ap (λ st. Ok st) (assumed-state s heap c.take_hyp.new.heap.items c.hyp.new.stack.items hyps c.take_hyp.new.hyps.items claim more also);
       no_more = λ none. absurd (true-false (sym none));
-    }) c.assume.ensures.heap c.assume.ensures.hyps c.assume.ensures.few)
-    c.assume.ensures.err)
+    }) c.take_hyp.ensures.heap c.take_hyp.ensures.hyps c.take_hyp.ensures.few)
+    c.take_hyp.ensures.err)
 
 pub returns-in-Err-hyp-clause-done : goal.returns-in-Err-hyp-clause-done
 returns-in-Err-hyp-clause-done c at =
@@ -129,33 +129,33 @@ returns-in-Ok-save-clause-done c =
     let st = state_at s heap stack hyps in
     let item = c.in-Ok-save.item in
     rw c.in-Save.is (pushed-executes (signatures_of E) (λ at. proof_step strict (tables_of E) at code.Save n st) (IsTrue (takes_none code.Save n st)) s s
-    c.push.new.items.items stack stack hyps c.args.stack.now.cap c.args.stack.now.cap (λ none. true-false (sym none)) c.push.result
-    (on_ok_weaker c.push.result (λ is. record {
+    c.put.new.heap.items stack stack hyps c.args.stack.now.cap c.args.stack.now.cap (λ none. true-false (sym none)) c.put.result
+    (on_ok_weaker c.put.result (λ is. record {
       grows = grows-not (signatures_of E) s c.requires.ready.over;
       heap_in = rw is (items-in-both s heap (item ∷ []) c.requires.ready.heap_in (c.in-Ok-save.ensures.ids, tt));
       stack_in = c.requires.ready.stack_in;
       hyps_in = c.requires.hyps;
       opens = tt;
-      row_is = λ at. c.in-Ok-save.ensures.row (tables_of E) at n st (ap (items_at s) (sym c.deref-in-Save.ensures.value)) ∙ ap (λ more. Ok (record st { heap = more })) (sym (heap-pushed s heap c.push.new.items.items item is));
+      row_is = λ at. c.in-Ok-save.ensures.row (tables_of E) at n st (ap (items_at s) (sym c.deref.ensures.value)) ∙ ap (λ more. Ok (record st { heap = more })) (sym (heap-pushed s heap c.put.new.heap.items item is));
       no_more = λ none. absurd (true-false (sym none));
-    }) c.push.ensures.ok)
-    c.push.ensures.err)
+    }) c.put.ensures.ok)
+    c.put.ensures.err)
 
 pub returns-in-Err-save-clause-done : goal.returns-in-Err-save-clause-done
 returns-in-Err-save-clause-done c at =
     rw c.in-Save.is (c.in-Err-save.ensures.row (tables_of c.args.earlier.now) at c.args.value (state_at c.args.store.now c.args.heap.now.items c.args.stack.now.items c.args.hyps.now.items)
-    (ap (items_at c.args.store.now) (sym c.deref-in-Save.ensures.value)))
+    (ap (items_at c.args.store.now) (sym c.deref.ensures.value)))
 
 -- ---- what the calls ask
 
 pub refer-requires-clause-heap : goal.refer-requires-clause-heap
-refer-requires-clause-heap c = rw c.deref.ensures.value c.requires.ready.heap_in
+refer-requires-clause-heap c = rw c.as_slice.ensures c.requires.ready.heap_in
 
 pub refer-requires-clause-stack : goal.refer-requires-clause-stack
 refer-requires-clause-stack c = c.requires.ready.stack_in
 
 pub conv_refer-requires-clause-heap : goal.conv_refer-requires-clause-heap
-conv_refer-requires-clause-heap c = rw c.deref-in-ConvRef.ensures.value c.requires.ready.heap_in
+conv_refer-requires-clause-heap c = rw c.as_slice-in-ConvRef.ensures c.requires.ready.heap_in
 
 pub conv_refer-requires-clause-stack : goal.conv_refer-requires-clause-stack
 conv_refer-requires-clause-stack c = c.requires.ready.stack_in
@@ -169,8 +169,8 @@ hyp-requires-clause-over c = c.requires.ready.over
 pub hyp-requires-clause-stack : goal.hyp-requires-clause-stack
 hyp-requires-clause-stack c = c.requires.ready.stack_in
 
-pub assume-requires : goal.assume-requires
-assume-requires c = record { few = c.requires.hyps.1 }
+pub take_hyp-requires : goal.take_hyp-requires
+take_hyp-requires c = record { few = c.requires.hyps.1 }
 
 pub save-requires : goal.save-requires
-save-requires c = rw c.deref-in-Save.ensures.value c.requires.ready.stack_in
+save-requires c = rw c.deref.ensures.value c.requires.ready.stack_in

@@ -8,19 +8,19 @@ pub unify_in-requires-clause-over : goal.unify_in-requires-clause-over
 unify_in-requires-clause-over g c = subst (λ sigs. IsOver sigs c.args.store.now) (sym (signatures-before c.args.earlier.now)) c.requires.over
 
 pub returns-clause-run : goal.returns-clause-run
-returns-clause-run g c = rw (← signatures-before c.args.earlier.now, ← c.mode_of-mode.ensures, ← c.deref-operands.ensures.value) (own-run _ c.unify_in.result _ _ c.through.result c.through.ensures c.unify_in.ensures.run)
+returns-clause-run g c = rw (← signatures-before c.args.earlier.now, ← c.mode_of-mode.ensures, ← c.first-operands.ensures) (own-run _ c.unify_in.result _ _ c.through.result c.through.ensures c.unify_in.ensures.run)
 
 pub returns-clause-steps : goal.returns-clause-steps
-returns-clause-steps g c = rw (← signatures-before c.args.earlier.now, ← c.mode_of-mode.ensures, ← c.deref-operands.ensures.value) (own-steps _ c.unify_in.result c.through.result c.through.ensures c.unify_in.ensures.steps)
+returns-clause-steps g c = rw (← signatures-before c.args.earlier.now, ← c.mode_of-mode.ensures, ← c.first-operands.ensures) (own-steps _ c.unify_in.result c.through.result c.through.ensures c.unify_in.ensures.steps)
 
 pub kept_apart-apart-requires-clause-ids : goal.kept_apart-apart-requires-clause-ids
-kept_apart-apart-requires-clause-ids g c = rw c.deref-operands.ensures.value c.requires.operands
+kept_apart-apart-requires-clause-ids g c = rw c.first-operands.ensures c.requires.operands
 
 pub kept_apart-apart-requires-clause-told : goal.kept_apart-apart-requires-clause-told
-kept_apart-apart-requires-clause-told g c = rw c.deref-operands.ensures.value (inr c.requires.variables)
+kept_apart-apart-requires-clause-told g c = rw c.first-operands.ensures (inr c.requires.variables)
 
 pub unify_in-requires-clause-operands : goal.unify_in-requires-clause-operands
-unify_in-requires-clause-operands g c = rw c.deref-operands.ensures.value c.requires.operands
+unify_in-requires-clause-operands g c = rw c.first-operands.ensures c.requires.operands
 
 pub unify_in-requires-clause-apart : goal.unify_in-requires-clause-apart
 unify_in-requires-clause-apart g c = c.kept_apart-apart.ensures _ c.requires.over

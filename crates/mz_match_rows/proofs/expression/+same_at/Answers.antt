@@ -1,15 +1,14 @@
-use Rattle.std.proofs.Common.{◌≡◌, ◌≤◌, ◌+◌, ◌∙◌, ℕ, List, [], Some, None, Bool, length, drop, sym, ap, subst, arith}
+use Rattle.std.proofs.Common.{◌≡◌, ◌≤◌, ◌+◌, ◌∙◌, ℕ, List, Some, None, Bool, length, refl, sym, ap, subst, arith}
 use Rattle.std.specs.Prelude.{MatchBool}
-use Rattle.mz_logic_theory.specs.Tree.{Tree, Trees, var, more, size, trees_size}
-use Rattle.mz_logic_theory.specs.declared.expr.Expr.{Expr}
-use Rattle.mz_logic_theory.specs.View.{tree, trees}
+use Rattle.mz_logic_theory.specs.Shapes.{shape_tree}
+use Rattle.mz_logic_theory.specs.Tree.{Tree, Trees, var, more, listed, past, size}
+use Rattle.mz_logic_theory.proofs.Offered.{past-end}
 use Rattle.mz_match_rows.specs.declared.stream.Cursor.{Cursor}
-use Rattle.std.proofs.lemmas.List.{drop_all}
 use Rattle.std.proofs.lemmas.Bool.{false≢true}
 use Rattle.mz_match_rows.specs.Streams.{step_at, AreSaid, IsMade}
 use Rattle.mz_spec_proved_theory.specs.Comparison.{compared, all_compared}
 use Rattle.mz_match_rows.specs.Beside.{beside}
-use Rattle.mz_match_rows.proofs.Compared.{cursor-is, said-within, made-within, said-no, made-no, said-made, said-mark, mark-made, mark-param, made-term, compared-param, found-place, differs-app, marked, answered, next-of, all-next, all-stopped, all-goes-on, all-done}
+use Rattle.mz_match_rows.proofs.Compared.{cursor-is, said-within, made-within, said-no, made-no, said-made, said-mark, mark-made, mark-param, made-term, compared-param, found-place, differs-app, marked, answered, many-of, all-next, all-stopped, all-goes-on, all-done}
 use Rattle.mz_match_rows.proofs.expression.+same_at.Goals as goal
 
 -- ---- same_at
@@ -56,14 +55,14 @@ pub same_at-returns-then-not-same_mark : goal.same_at-returns-then-not-same_mark
 same_at-returns-then-not-same_mark t c = λ m f to stream said.
     let stands = ap (λ (xs : List ℕ). step_at xs c.args.from.at) (sym c.file.ensures.file) ∙ sym c.in-Some.ensures in
     let mark = said-mark c.args.sides.now.mmb.now c.args.sides.now.params m c.args.from.at c.args.from.dummies f to.at to.dummies c.in-Some.step stands (c.is_ref.ensures.0 c.if-not-is_ref.false) said in
-    subst (λ (b : Bool). MatchBool b (compared (beside c.args.sides.now m) c.args.pairs.now (tree c.args.expr.now) f ≡ Some c.same_mark.new.pairs) (compared (beside c.args.sides.now m) c.args.pairs.now (tree c.args.expr.now) f ≡ None))
+    subst (λ (b : Bool). MatchBool b (compared (beside c.args.sides.now m) c.args.pairs.now c.args.expr.now f ≡ Some c.same_mark.new.pairs) (compared (beside c.args.sides.now m) c.args.pairs.now c.args.expr.now f ≡ None))
     c.if-not-same_mark.true (c.same_mark.ensures m f stream mark.0)
 
 pub same_at-returns : goal.same_at-returns
 same_at-returns t c = λ m f to stream said.
     let stands = ap (λ (xs : List ℕ). step_at xs c.args.from.at) (sym c.file.ensures.file) ∙ sym c.in-Some.ensures in
     let mark = said-mark c.args.sides.now.mmb.now c.args.sides.now.params m c.args.from.at c.args.from.dummies f to.at to.dummies c.in-Some.step stands (c.is_ref.ensures.0 c.if-not-is_ref.false) said in (
-      subst (λ (b : Bool). MatchBool b (compared (beside c.args.sides.now m) c.args.pairs.now (tree c.args.expr.now) f ≡ Some c.same_mark.new.pairs) (compared (beside c.args.sides.now m) c.args.pairs.now (tree c.args.expr.now) f ≡ None))
+      subst (λ (b : Bool). MatchBool b (compared (beside c.args.sides.now m) c.args.pairs.now c.args.expr.now f ≡ Some c.same_mark.new.pairs) (compared (beside c.args.sides.now m) c.args.pairs.now c.args.expr.now f ≡ None))
           c.if-not-same_mark.false (c.same_mark.ensures m f stream mark.0),
       cursor-is to c.in-Some.step.next c.args.from.dummies (sym mark.1) mark.2,
     )
@@ -73,8 +72,8 @@ same_at-returns t c = λ m f to stream said.
 pub same_mark-returns-then-mark-sides : goal.same_mark-returns-then-mark-sides
 same_mark-returns-then-mark-sides t c = λ m f stream at.
     let is : f ≡ var c.args.mark = mark-param c.args.sides.now.mmb.now c.args.sides.now.params m c.args.sides.now.start c.args.mark f stream.marks c.if-mark-sides.true at in
-    let by = compared-param (beside c.args.sides.now m) c.args.pairs.now (tree c.args.expr.now) c.args.mark c.if-mark-sides.true in
-    subst (λ (g : Tree). MatchBool c.is_variable.result (compared (beside c.args.sides.now m) c.args.pairs.now (tree c.args.expr.now) g ≡ Some c.args.pairs.now) (compared (beside c.args.sides.now m) c.args.pairs.now (tree c.args.expr.now) g ≡ None)) (sym is)
+    let by = compared-param (beside c.args.sides.now m) c.args.pairs.now c.args.expr.now c.args.mark c.if-mark-sides.true in
+    subst (λ (g : Tree). MatchBool c.is_variable.result (compared (beside c.args.sides.now m) c.args.pairs.now c.args.expr.now g ≡ Some c.args.pairs.now) (compared (beside c.args.sides.now m) c.args.pairs.now c.args.expr.now g ≡ None)) (sym is)
     (marked c.is_variable.result _ _ _ c.is_variable.ensures by.0 by.1)
 
 pub same_mark-place_of-requires-clause-stream : goal.same_mark-place_of-requires-clause-stream
@@ -119,7 +118,7 @@ same_mark-returns t c = λ m f stream at.
     let found = c.place_of.ensures made.many made.place made.found in
     let same : made.place ≡ c.in-Some.place = found-place made.place c.in-Some.place (sym found ∙ c.in-Some.is) in
     let here = subst (λ (p : Cursor). IsMade c.args.sides.now.mmb.now c.args.sides.now.params m p.at p.dummies f made.end.at made.end.dummies) same made.made in
-    answered c.same_made.result c.same_made.new.pairs (compared (beside c.args.sides.now m) c.args.pairs.now (tree c.args.expr.now) f) made.end c.is_some.result c.is_some.ensures
+    answered c.same_made.result c.same_made.new.pairs (compared (beside c.args.sides.now m) c.args.pairs.now c.args.expr.now f) made.end c.is_some.result c.is_some.ensures
     (c.same_made.ensures m f made.end stream here)
 
 -- ---- same_made
@@ -132,7 +131,7 @@ same_made-is_term-requires t c = λ is.
 
 pub same_made-returns-then-not-is_term : goal.same_made-returns-then-not-is_term
 same_made-returns-then-not-is_term t c = λ m f to stream made.
-    subst (λ (e : Tree). compared (beside c.args.sides.now m) c.args.pairs.now e f ≡ None) (sym (ap tree c.in-App.is))
+    subst (λ (e : Tree). compared (beside c.args.sides.now m) c.args.pairs.now e f ≡ None) (sym (ap shape_tree c.in-App.is) ∙ c.shape.ensures)
     (differs-app c.args.sides.now.mmb.now c.args.sides.now.params m (beside c.args.sides.now m) c.args.pairs.now c.in-App.k c.in-App.es c.args.from.at c.args.from.dummies f to.at to.dummies c.args.step c.requires.0 made
     (λ is. false≢true (sym c.if-not-is_term.true ∙ c.is_term.ensures.1 is)))
 
@@ -141,60 +140,43 @@ same_made-same_all-requires t c =
     let (stands, m, f, to, stream, made) = c.requires in
     let is = c.is_term.ensures.0 c.if-not-is_term.false in
     let (fs, f-is, arity, all) = made-term c.args.sides.now.mmb.now c.args.sides.now.params m c.args.from.at c.args.from.dummies f to.at to.dummies c.args.step stands is.0 made in
-    let sizes = ap (λ (e : Expr). size (tree e)) c.in-App.is in
+    let sizes = ap size (sym (ap shape_tree c.in-App.is) ∙ c.shape.ensures) in
     (omega (arith, sizes, c.decreases), (m, fs, to, stream, all, is.2 ∙ sym arity.1))
 
 -- ---- same_all
 
-pub same_all-loop-e-init : goal.same_all-loop-e-init
-same_all-loop-e-init t c =
-    let items = c.as_slice-e-items.ensures.items in
-    let sizes = ap trees_size items in
-    record {
-      goes_on = λ m fs to stream all many. (fs, all, c.as_slice-e-items.ensures.many ∙ many, ap (λ (es : Trees). all_compared (beside c.args.sides.now m) c.args.pairs.now es fs) (sym items));
-      size = omega (arith, sizes);
-    }
+pub same_all-loop-i-init : goal.same_all-loop-i-init
+same_all-loop-i-init t c = λ m fs to stream all many. (fs, all, many, refl)
 
 pub same_all-same_at-requires : goal.same_all-same_at-requires
 same_all-same_at-requires t c =
     let (m, fs, to, stream, all, many) = c.requires in
-    let (rest, all-rest, many-rest, same) = c.loop-e.invariant.goes_on m fs to stream all many in
-    let (cut, one-more) = next-of c.as_slice-e-items.result.now c.loop-e.e-index c.e-item.result c.loop-e-test.true c.e-item.is in
-    let (f, later, mid, is, said, all-later, few) = all-next c.args.sides.now.mmb.now c.args.sides.now.params m (beside c.args.sides.now m) (length (drop (c.loop-e.e-index + 1) c.as_slice-e-items.result.now)) rest c.loop-e.place.at c.loop-e.place.dummies to.at to.dummies (sym one-more ∙ many-rest) all-rest in
-    let sizes = ap trees_size cut in
-    let within = c.loop-e.invariant.size in
-    (omega (arith, sizes, within, c.decreases), (m, f, mid, stream, said))
+    let (rest, all-rest, many-rest, same) = c.loop-i.invariant m fs to stream all many in
+    let (f, later, mid, is, said, all-later, few) = all-next c.args.sides.now.mmb.now c.args.sides.now.params m (beside c.args.sides.now m) (length (listed (past (c.loop-i.i + 1) c.args.exprs.now))) rest c.loop-i.place.at c.loop-i.place.dummies to.at to.dummies (sym (ap many-of c.at.ensures.left) ∙ many-rest) all-rest in
+    (omega (arith, c.at.ensures.within, c.decreases), (m, f, mid, stream, said))
 
 pub same_all-returns-in_default : goal.same_all-returns-in_default
 same_all-returns-in_default t c = λ m fs to stream all many.
-    let (rest, all-rest, many-rest, same) = c.loop-e.invariant.goes_on m fs to stream all many in
-    let (cut, one-more) = next-of c.as_slice-e-items.result.now c.loop-e.e-index c.e-item.result c.loop-e-test.true c.e-item.is in
-    let (f, later, mid, is, said, all-later, few) = all-next c.args.sides.now.mmb.now c.args.sides.now.params m (beside c.args.sides.now m) (length (drop (c.loop-e.e-index + 1) c.as_slice-e-items.result.now)) rest c.loop-e.place.at c.loop-e.place.dummies to.at to.dummies (sym one-more ∙ many-rest) all-rest in
-    same ∙ ap (λ (es : Trees). all_compared (beside c.args.sides.now m) c.loop-e.pairs es rest) cut ∙ ap (λ (gs : Trees). all_compared (beside c.args.sides.now m) c.loop-e.pairs (more (tree c.e-item.result) (trees (drop (c.loop-e.e-index + 1) c.as_slice-e-items.result.now))) gs) is
-    ∙ all-stopped c.args.sides.now.mmb.now c.args.sides.now.params m (beside c.args.sides.now m) c.loop-e.pairs (tree c.e-item.result) (trees (drop (c.loop-e.e-index + 1) c.as_slice-e-items.result.now)) f later (c.in_default.ensures m f mid stream said)
+    let (rest, all-rest, many-rest, same) = c.loop-i.invariant m fs to stream all many in
+    let (f, later, mid, is, said, all-later, few) = all-next c.args.sides.now.mmb.now c.args.sides.now.params m (beside c.args.sides.now m) (length (listed (past (c.loop-i.i + 1) c.args.exprs.now))) rest c.loop-i.place.at c.loop-i.place.dummies to.at to.dummies (sym (ap many-of c.at.ensures.left) ∙ many-rest) all-rest in
+    same ∙ ap (λ (es : Trees). all_compared (beside c.args.sides.now m) c.loop-i.pairs es rest) c.at.ensures.left ∙ ap (λ (gs : Trees). all_compared (beside c.args.sides.now m) c.loop-i.pairs (more c.at.result (past (c.loop-i.i + 1) c.args.exprs.now)) gs) is
+    ∙ all-stopped c.args.sides.now.mmb.now c.args.sides.now.params m (beside c.args.sides.now m) c.loop-i.pairs c.at.result (past (c.loop-i.i + 1) c.args.exprs.now) f later (c.in_default.ensures m f mid stream said)
 
-pub same_all-loop-e-preserved : goal.same_all-loop-e-preserved
-same_all-loop-e-preserved t c =
-    let (cut, one-more) = next-of c.as_slice-e-items.result.now c.loop-e.e-index c.e-item.result c.loop-e-test.true c.e-item.is in
-    let sizes = ap trees_size cut in
-    let within = c.loop-e.invariant.size in
-    record {
-      goes_on = λ m fs to stream all many.
-          let (rest, all-rest, many-rest, same) = c.loop-e.invariant.goes_on m fs to stream all many in
-          let (f, later, mid, is, said, all-later, few) = all-next c.args.sides.now.mmb.now c.args.sides.now.params m (beside c.args.sides.now m) (length (drop (c.loop-e.e-index + 1) c.as_slice-e-items.result.now)) rest c.loop-e.place.at c.loop-e.place.dummies to.at to.dummies (sym one-more ∙ many-rest) all-rest in
-          let (compares, place) = c.in-Some.ensures m f mid stream said in (
-            later,
-            subst (λ (p : Cursor). AreSaid c.args.sides.now.mmb.now c.args.sides.now.params m p.at p.dummies later to.at to.dummies) (sym place) all-later,
-            few,
-            same ∙ ap (λ (es : Trees). all_compared (beside c.args.sides.now m) c.loop-e.pairs es rest) cut ∙ ap (λ (gs : Trees). all_compared (beside c.args.sides.now m) c.loop-e.pairs (more (tree c.e-item.result) (trees (drop (c.loop-e.e-index + 1) c.as_slice-e-items.result.now))) gs) is
-                ∙ all-goes-on c.args.sides.now.mmb.now c.args.sides.now.params m (beside c.args.sides.now m) c.loop-e.pairs c.same_at.new.pairs (tree c.e-item.result) (trees (drop (c.loop-e.e-index + 1) c.as_slice-e-items.result.now)) f later compares,
-          );
-      size = omega (arith, sizes, within);
-    }
+pub same_all-loop-i-preserved : goal.same_all-loop-i-preserved
+same_all-loop-i-preserved t c = λ m fs to stream all many.
+    let (rest, all-rest, many-rest, same) = c.loop-i.invariant m fs to stream all many in
+    let (f, later, mid, is, said, all-later, few) = all-next c.args.sides.now.mmb.now c.args.sides.now.params m (beside c.args.sides.now m) (length (listed (past (c.loop-i.i + 1) c.args.exprs.now))) rest c.loop-i.place.at c.loop-i.place.dummies to.at to.dummies (sym (ap many-of c.at.ensures.left) ∙ many-rest) all-rest in
+    let (compares, place) = c.in-Some.ensures m f mid stream said in (
+      later,
+      subst (λ (p : Cursor). AreSaid c.args.sides.now.mmb.now c.args.sides.now.params m p.at p.dummies later to.at to.dummies) (sym place) all-later,
+      few,
+      same ∙ ap (λ (es : Trees). all_compared (beside c.args.sides.now m) c.loop-i.pairs es rest) c.at.ensures.left ∙ ap (λ (gs : Trees). all_compared (beside c.args.sides.now m) c.loop-i.pairs (more c.at.result (past (c.loop-i.i + 1) c.args.exprs.now)) gs) is
+          ∙ all-goes-on c.args.sides.now.mmb.now c.args.sides.now.params m (beside c.args.sides.now m) c.loop-i.pairs c.same_at.new.pairs c.at.result (past (c.loop-i.i + 1) c.args.exprs.now) f later compares,
+    )
 
 pub same_all-returns : goal.same_all-returns
 same_all-returns t c = λ m fs to stream all many.
-    let (rest, all-rest, many-rest, same) = c.loop-e.invariant.goes_on m fs to stream all many in
-    let nothing : drop c.loop-e.e-index c.as_slice-e-items.result.now ≡ [] = drop_all c.loop-e.e-index c.as_slice-e-items.result.now c.loop-e-test.false in
-    let (done, place) = all-done c.args.sides.now.mmb.now c.args.sides.now.params m (beside c.args.sides.now m) c.loop-e.pairs rest c.loop-e.place to (sym (ap length nothing) ∙ many-rest) all-rest in
-    (same ∙ ap (λ (xs : List Expr). all_compared (beside c.args.sides.now m) c.loop-e.pairs (trees xs) rest) nothing ∙ done, place)
+    let (rest, all-rest, many-rest, same) = c.loop-i.invariant m fs to stream all many in
+    let nothing = past-end c.args.exprs.now c.loop-i.i (omega (arith, c.len-i-end.ensures, c.loop-i-test.false)) in
+    let (done, place) = all-done c.args.sides.now.mmb.now c.args.sides.now.params m (beside c.args.sides.now m) c.loop-i.pairs rest c.loop-i.place to (sym (ap many-of nothing) ∙ many-rest) all-rest in
+    (same ∙ ap (λ (es : Trees). all_compared (beside c.args.sides.now m) c.loop-i.pairs es rest) nothing ∙ done, place)

@@ -1,6 +1,5 @@
-use Rattle.std.proofs.Common.{◌≡◌, ◌≤◌, ◌+◌, ◌*◌, drop, length}
-use Rattle.mz_logic_theory.specs.Tree.{Trees, listed, size, trees_size}
-use Rattle.mz_logic_theory.specs.View.{tree, trees}
+use Rattle.std.proofs.Common.{◌≡◌, ◌+◌, ◌*◌, length}
+use Rattle.mz_logic_theory.specs.Tree.{Trees, listed, past, size, trees_size}
 use Rattle.mz_unify_theory.specs.Spells.{Marks}
 use Rattle.mz_match_rows.specs.declared.stream.Cursor.{Cursor}
 use Rattle.mz_spec_proved_theory.specs.Comparison.{all_compared}
@@ -8,21 +7,18 @@ use Rattle.mz_match_rows.specs.Beside.{AllSaidAt, IsStream, beside}
 use Rattle.mz_match_rows.proofs.expression.+same_at.Given as goal
 
 abbrev pub decreases-same_at : goal.decreases-same_at
-decreases-same_at l = 4 * size (tree l.expr.now) + 2
+decreases-same_at l = 4 * size l.expr.now + 2
 
 abbrev pub decreases-same_mark : goal.decreases-same_mark
-decreases-same_mark l = 4 * size (tree l.expr.now) + 1
+decreases-same_mark l = 4 * size l.expr.now + 1
 
 abbrev pub decreases-same_made : goal.decreases-same_made
-decreases-same_made l = 4 * size (tree l.expr.now)
+decreases-same_made l = 4 * size l.expr.now
 
 abbrev pub decreases-same_all : goal.decreases-same_all
 decreases-same_all l = 4 * trees_size l.exprs.now + 3
 
-abbrev pub invariant-same_all-loop-e : goal.invariant-same_all-loop-e
-invariant-same_all-loop-e l = record {
-  goes_on : (m : Marks) (fs : Trees) (to : Cursor) → IsStream l.sides m → AllSaidAt l.sides m l.fn.from fs to → length (listed l.exprs) ≡ length (listed fs)
-      → (rest : Trees) × AllSaidAt l.sides m l.place rest to × (length (drop l.e-index l.e-items) ≡ length (listed rest))
-      × (all_compared (beside l.sides m) l.fn.pairs l.exprs fs ≡ all_compared (beside l.sides m) l.pairs (trees (drop l.e-index l.e-items)) rest);
-  size : trees_size (trees (drop l.e-index l.e-items)) ≤ trees_size l.exprs;
-}
+abbrev pub invariant-same_all-loop-i : goal.invariant-same_all-loop-i
+invariant-same_all-loop-i l = (m : Marks) (fs : Trees) (to : Cursor) → IsStream l.sides m → AllSaidAt l.sides m l.fn.from fs to → length (listed l.exprs) ≡ length (listed fs)
+    → (rest : Trees) × AllSaidAt l.sides m l.place rest to × (length (listed (past l.i l.exprs)) ≡ length (listed rest))
+    × (all_compared (beside l.sides m) l.fn.pairs l.exprs fs ≡ all_compared (beside l.sides m) l.pairs (past l.i l.exprs) rest)

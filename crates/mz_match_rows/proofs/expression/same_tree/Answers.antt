@@ -1,7 +1,10 @@
-use Rattle.std.proofs.Common.{arith}
+use Rattle.std.proofs.Common.{subst, arith}
+use Rattle.mz_logic_theory.specs.Tree.{Tree}
 use Rattle.mz_logic_theory.specs.View.{tree}
 use Rattle.mz_match_rows.specs.Beside.{beside}
+use Rattle.mz_match_rows.specs.Comparison.{Answers}
 use Rattle.mz_spec_proved_theory.proofs.Offered.{says-nothing}
+use Rattle.mz_spec_proved_theory.specs.Comparison.{compared}
 use Rattle.mz_match_rows.proofs.PlainTrees.{said-below, plain-answer}
 use Rattle.mz_match_rows.proofs.expression.same_tree.Goals as goal
 
@@ -15,4 +18,4 @@ returns c = λ m f to plain said.
     plain-answer (beside c.args.sides.now m) pairs.result c.same_at.new.pairs (tree c.args.expr.now) f c.same_at.result to c.is_some.result plain.none_beside
     (says-nothing pairs.result pairs.ensures.none_yet) (omega (arith, few, pairs.ensures.many))
     (said-below c.args.sides.now.mmb.now c.args.sides.now.params c.args.sides.now.start m plain.stream.marks plain.no_dummies c.args.from.at c.args.from.dummies f to.at to.dummies said)
-    c.is_some.ensures (c.same_at.ensures m f to plain.stream said)
+    c.is_some.ensures (subst (λ (e : Tree). Answers c.same_at.result c.same_at.new.pairs (compared (beside c.args.sides.now m) pairs.result e f) to) c.lent.ensures (c.same_at.ensures m f to plain.stream said))

@@ -5,5 +5,5 @@ use Rattle.mz_math.proofs.form.notated.Goals as goal
 
 pub returns-then-many-len : goal.returns-then-many-len
 returns-then-many-len c =
-    ap (app c.args.notation.now.term) (sym (arranged-in-order c.args.notation.now.elements c.in-Some.many c.args.operands
+    c.app.ensures ∙ ap (app c.args.notation.now.term) (sym (arranged-in-order c.args.notation.now.elements c.in-Some.many c.args.operands
     c.in-Some.ensures (c.if-many-len.true ∙ c.len.ensures)))

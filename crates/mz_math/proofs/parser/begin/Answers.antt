@@ -2,7 +2,8 @@ use Rattle.std.proofs.Common.{◌≡◌, ◌∙◌, ◌+◌, ◌-◌, [], false,
 use Rattle.std.proofs.lemmas.Bool.{true≢false}
 use Rattle.mz_math_theory.specs.Grammar.{operands_at_max, head_level, applied}
 use Rattle.mz_logic_theory.specs.Tree.{app, none}
-use Rattle.mz_math_theory.specs.Reading.{NoReading}
+use Rattle.mz_math_theory.specs.Notation.{max_level}
+use Rattle.mz_math_theory.specs.Reading.{IsBegun, NoReading}
 use Rattle.mz_math.specs.Steps.{IsPending, IsUnderWay}
 use Rattle.mz_math.proofs.Waiting.{leading-under-way, applied-under-way}
 use Rattle.mz_math_theory.proofs.Offered.{no-tokens, variable-begun, none-begins}
@@ -16,8 +17,9 @@ pub returns-in-Some-variable-clause-says : goal.returns-in-Some-variable-clause-
 returns-in-Some-variable-clause-says c =
     let found = c.in-Some-variable.ensures in (
       refl,
-      variable-begun c.args.words.now c.requires.readable c.args.level (drop c.args.at c.args.tokens.now) (drop (c.args.at + 1) c.args.tokens.now) c.in-Some.token.now c.in-Some-variable.place
-          (omega (arith, c.ranges.level.fits)) c.in-Some.ensures.token found.0 found.1,
+      subst (λ e. IsBegun c.args.words.now c.args.level (drop c.args.at c.args.tokens.now) (drop (c.args.at + 1) c.args.tokens.now) e max_level false) (sym c.var.ensures)
+          (variable-begun c.args.words.now c.requires.readable c.args.level (drop c.args.at c.args.tokens.now) (drop (c.args.at + 1) c.args.tokens.now) c.in-Some.token.now c.in-Some-variable.place
+          (omega (arith, c.ranges.level.fits)) c.in-Some.ensures.token found.0 found.1),
     )
 
 pub returns-clause-says : goal.returns-clause-says

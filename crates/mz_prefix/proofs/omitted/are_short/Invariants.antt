@@ -1,7 +1,7 @@
-use Rattle.std.proofs.Common.{◌↔◌, drop}
-use Rattle.mz_logic_theory.specs.View.{trees}
+use Rattle.std.proofs.Common.{◌↔◌}
+use Rattle.mz_logic_theory.specs.Tree.{past}
 use Rattle.mz_prefix_theory.specs.Declared.{Vocabulary, AreShort}
 use Rattle.mz_prefix.proofs.omitted.are_short.Given as goal
 
-abbrev pub invariant-loop-e : goal.invariant-loop-e
-invariant-loop-e l = (v : Vocabulary) → AreShort v (trees (drop l.e-index l.e-items)) ↔ AreShort v l.hyps
+abbrev pub invariant-loop-i : goal.invariant-loop-i
+invariant-loop-i l = (v : Vocabulary) → AreShort v (past l.i l.formulas) ↔ AreShort v l.hyps

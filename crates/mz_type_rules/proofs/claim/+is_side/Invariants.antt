@@ -1,5 +1,5 @@
 use Rattle.std.proofs.Common.{◌≡◌, ◌↔◌, ◌≤◌, ◌+◌, ◌*◌, drop, length}
-use Rattle.mz_logic_theory.specs.View.{trees}
+use Rattle.mz_logic_theory.specs.Tree.{listed, past}
 use Rattle.mz_mmu_theory.specs.ConvCode.{conv_steps, convs_steps}
 use Rattle.mz_mmu_theory.specs.ConvView.{conversion, conversions}
 use Rattle.mz_type_rules.specs.Claims.{all_put_in}
@@ -20,7 +20,7 @@ decreases-is_side l = 4 * conv_steps (conversion l.conv.now)
 
 abbrev pub invariant-are_sides-loop-i : goal.invariant-are_sides-loop-i
 invariant-are_sides-loop-i l = record {
-  so_far : (sides l.right (conversions (drop l.i l.convs)) ≡ all_put_in l.put (trees (drop l.i l.es))) ↔ (sides l.right (conversions l.convs) ≡ all_put_in l.put (trees l.es));
-  many : length l.convs ≡ length l.es;
+  so_far : (sides l.right (conversions (drop l.i l.convs)) ≡ all_put_in l.put (past l.i l.es)) ↔ (sides l.right (conversions l.convs) ≡ all_put_in l.put l.es);
+  many : length l.convs ≡ length (listed l.es);
   small : convs_steps (conversions (drop l.i l.convs)) ≤ convs_steps (conversions l.convs);
 }

@@ -8,4 +8,4 @@ use Rattle.mz_binary.proofs.bodies.DraftBodiesBodies.check_body.Goals as goal
 pub returns-clause-run : goal.returns-clause-run
 returns-clause-run g c =
     let file = c.args.mmb.now in
-    by-trees Draft (heading_of file (byte_of c.args.kind) c.args.row) (body_bytes file c.args.body.0 c.args.body.1) _ c.check_body_in.result c.check_body_in.ensures.run
+    by-trees Draft (heading_of file (byte_of c.args.kind) c.args.row) (body_bytes file c.args.body.0 c.args.body.1) _ c.check_body_after.result c.check_body_after.ensures.run

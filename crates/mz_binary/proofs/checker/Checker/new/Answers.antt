@@ -7,24 +7,28 @@ use Rattle.mz_binary_theory.proofs.Offered.{no-marks}
 use Rattle.mz_binary.proofs.checker.Checker.new.Goals as goal
 
 pub invariant_of-result : goal.invariant_of-result
-invariant_of-result g c = record {
-  binary = c.proof_at-at.ensures.binary;
-  within = c.proof_at-at.ensures.within;
-  sorts_within = omega arith;
-  terms_within = omega arith;
-  thms_within = omega arith;
-  many = refl;
-  before = (
-    [],
-    [],
-    record {
-      statements = (refl, c.proof_at-at.ensures.place);
-      many = refl;
-      rows = record { sorts_are = refl; terms_are = refl; thms_are = refl };
-      marks = λ _. subst (λ (marks : List Bool). AreMarks c.args.mmb.now [] marks) (sym c.new.ensures.items) (no-marks c.args.mmb.now);
-    },
-  );
-}
+invariant_of-result g c = (
+  record {
+    binary = c.proof_at-at.ensures.binary;
+    within = c.proof_at-at.ensures.within;
+    sorts_within = omega arith;
+    terms_within = omega arith;
+    thms_within = omega arith;
+    many = refl;
+    before = (
+      [],
+      [],
+      record {
+        statements = (refl, c.proof_at-at.ensures.place);
+        many = refl;
+        rows = record { sorts_are = refl; terms_are = refl; thms_are = refl };
+        marks = λ _. subst (λ (marks : List Bool). AreMarks c.args.mmb.now [] marks) (sym c.new.ensures.items) (no-marks c.args.mmb.now);
+      },
+    );
+  },
+  tt,
+  c.new-2.ensures c.args.mmb.now,
+)
 
 pub returns-clause-steps : goal.returns-clause-steps
 returns-clause-steps g c =

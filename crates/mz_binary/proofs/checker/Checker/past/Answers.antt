@@ -2,6 +2,7 @@ use Rattle.std.proofs.Common.{◌≡◌, ◌+◌, ◌-◌, ◌*◌, ◌∙◌, �
 use Rattle.mz_cmd.specs.Codes.{statement_byte}
 use Rattle.mz_binary_theory.specs.declared.statement.Statement.{Statement as Reported}
 use Rattle.mz_binary.specs.Progress.{Progress, IsReached, marks_past, most_left}
+use Rattle.mz_binary.specs.Remembering.{AreRight}
 use Rattle.mz_layout_tables.specs.Heads.{next_row, rows_after}
 use Rattle.mz_binary_theory.proofs.Offered.{head-at}
 use Rattle.mz_binary.proofs.Passing.{IsPast, passes, reached, further, taken-past}
@@ -36,15 +37,18 @@ past-of g c = record {
 }
 
 pub invariant_of-after : goal.invariant_of-after
-invariant_of-after g c =
-    reached c.args.self (after_of g c) (reported_of g c) c.args.head (past-of g c) c.requires.head c.requires.at c.requires.runs (subst IsReached c.self.view_is c.self.invariant)
+invariant_of-after g c = (
+  reached c.args.self (after_of g c) (reported_of g c) c.args.head (past-of g c) c.requires.head c.requires.at c.requires.runs (subst IsReached c.self.view_is c.self.invariant.0),
+  subst (λ (q : Progress). AreRight q.file c.args.right) (sym c.self.view_is) c.requires.right,
+  c.self.invariant.2,
+)
 
 pub returns-clause-next : goal.returns-clause-next
 returns-clause-next g c = λ ss env before. passes c.args.self (after_of g c) (reported_of g c) c.args.head (past-of g c) c.requires.head c.requires.at c.requires.runs ss env before
 
 pub returns-clause-left : goal.returns-clause-left
 returns-clause-left g c =
-    let r : IsReached c.args.self = subst IsReached c.self.view_is c.self.invariant in
+    let r : IsReached c.args.self = subst IsReached c.self.view_is c.self.invariant.0 in
     let past = past-of g c in
     let on = further c.args.self (after_of g c) (reported_of g c) c.args.head past c.requires.head c.requires.at c.requires.runs r in
     left-past c.args.self (after_of g c) c.args.head.next _ c.requires.runs

@@ -11,6 +11,7 @@ use Rattle.mz_machine_env.specs.Before.{taken_before}
 use Rattle.mz_machine_env.proofs.Offered.{byte-kind, kind-byte}
 use Rattle.mz_binary.specs.declared.statement.Found.TheVariants as seen
 use Rattle.mz_binary_theory.specs.FileRun.{after_kind, find_at}
+use Rattle.mz_binary.specs.Remembering.{AreRight}
 use Rattle.mz_binary.specs.Judging.{IsLeft, IsMost, IsNext}
 use Rattle.mz_binary.specs.Progress.{HasPassed, Progress, IsReached, found_of, kind_byte, most_left, next_steps}
 use Rattle.mz_binary_theory.proofs.Offered.{code-of, head-at}
@@ -34,7 +35,7 @@ check_body-requires-clause-may_run g c =
     let there_is = sym (find-head p.file taken p.at (statement_byte head.code) head.body head.next (Some head.code) stands (code-of head.code)) ∙ c.requires.body in
     let may : MayRun p.file (kind_byte head.code) (next_row p.rows head.code) p.rows =
     may-run p head.code head.body head.next (after_kind p.file taken head.code) (heading_of p.file (kind_byte head.code) (next_row p.rows head.code)) head.body (body_bytes p.file head.body head.next)
-    (subst IsReached c.self.view_is c.self.invariant) there_is in
+    (subst IsReached c.self.view_is c.self.invariant.0) there_is in
     let inside = subst (λ (q : Progress). MayRun q.file (kind_byte head.code) (next_row q.rows head.code) q.rows) (sym c.self.view_is) may in
     let byte = byte-kind (kind_byte head.code) c.body_kind-kind.result may.kinds c.body_kind-kind.ensures in
     subst (λ (k : ℕ). MayRun c.self.inside.mmb.now k c.next-row.result c.self.inside.rows) (sym byte)
@@ -141,3 +142,6 @@ refused-requires g c =
     body-stops g.B.Bodies.STANDARD s.mmb.now s.rows s.at head (subst (IsFound head) (sym c.self.view_is) c.requires.body)
     (kind_at (byte_of c.body_kind-kind.result)) c.next-row.result (kind-byte c.body_kind-kind.result ∙ c.body_kind-kind.ensures) c.next-row.ensures
     (c.in-Refused.at, c.in-Refused.rule) c.in-Refused.ensures.run
+
+pub past-requires-clause-right : goal.past-requires-clause-right
+past-requires-clause-right g c = subst (λ (q : Progress). AreRight q.file c.args.right) (sym c.self.view_is) c.requires.right

@@ -7,7 +7,7 @@ use Rattle.mz_binary.proofs.checker.Checker.refused.Goals as goal
 pub returns-clause-next : goal.returns-clause-next
 returns-clause-next g c = λ ss env before.
     let p : Progress = c.args.self in
-    fails-here p ss env before (record { statement = c.self.inside.passed + 1; at = c.args.fault.0; rule = c.args.fault.1 }) (subst IsReached c.self.view_is c.self.invariant)
+    fails-here p ss env before (record { statement = c.self.inside.passed + 1; at = c.args.fault.0; rule = c.args.fault.1 }) (subst IsReached c.self.view_is c.self.invariant.0)
     (ap (λ (q : Progress). q.passed + 1) c.self.view_is) c.requires
 
 pub returns-clause-left : goal.returns-clause-left

@@ -10,4 +10,4 @@ returns-then-is_empty c =
     c.new.ensures ∙ sym (nil_from_length c.args.places.items (omega (arith, none, c.args.places.ok.0)))
 
 pub invariant_of-result : goal.invariant_of-result
-invariant_of-result c = λ is. sorted _ _ c.is_sorted-ascend.result c.is_sorted-ascend.ensures.cases is (c.deref.ensures.value ∙ sym c.in_ok-places.ensures)
+invariant_of-result c = sorted _ _ c.is_sorted-ascend.result c.is_sorted-ascend.ensures.cases c.if-ascend.true (c.deref.ensures.value ∙ sym c.in_ok-shared.ensures)

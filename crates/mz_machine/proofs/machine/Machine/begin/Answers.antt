@@ -6,8 +6,8 @@ use Rattle.mz_machine.specs.Stepping.{IsBegun}
 use Rattle.mz_machine.proofs.Advancing.{begun-ok}
 use Rattle.mz_machine.proofs.machine.Machine.begin.Goals as goal
 
-pub begin-setting-requires : goal.begin-setting-requires
-begin-setting-requires c = rw (byte-kind c.args.kind c.kind_by-kind.result c.requires.kinds c.kind_by-kind.ensures) c.requires
+pub begin-setting-requires-clause-may_run : goal.begin-setting-requires-clause-may_run
+begin-setting-requires-clause-may_run c = rw (byte-kind c.args.kind c.kind_by-kind.result c.requires.kinds c.kind_by-kind.ensures) c.requires
 
 pub begun-requires : goal.begun-requires
 begun-requires c = c.begin-setting.ensures.running

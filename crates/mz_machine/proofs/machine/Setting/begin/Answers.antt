@@ -1,52 +1,58 @@
 use Rattle.std.proofs.Common.{◌∙◌, refl, length, sym, ap, subst}
+use Rattle.std.specs.Prelude.{IfSome}
 use Rattle.mz_base.specs.Gaps.{gaps_of}
-use Rattle.mz_logic_theory.specs.Words.{binders_of, BitsRight}
 use Rattle.mz_store.specs.Bits.{bound_vars}
 use Rattle.mz_machine_theory.specs.MachineState.{signatures_in}
-use Rattle.mz_machine_env.specs.OwnRow.{byte_of, mode_for, first_items}
+use Rattle.mz_machine_env.specs.OwnRow.{byte_of, kind_of, own_words, first_items}
 use Rattle.mz_machine_theory.specs.Headings.{kind_at, heading_of}
 use Rattle.mz_machine_env.specs.Before.{tables_before}
+use Rattle.mz_machine.specs.Parameters.{Remembers}
+use Rattle.mz_machine.specs.declared.params.Entered.{Entered}
 use Rattle.mz_machine.proofs.GapRows.{start-plain}
-use Rattle.mz_machine_env.proofs.Offered.{kind-byte, own-bits, words-are}
-use Rattle.mz_machine.proofs.Beginning.{params-are, params-many, is-begun, state-begun, AreVars}
+use Rattle.mz_machine_env.proofs.Offered.{kind-byte, own-bits}
+use Rattle.mz_machine.proofs.Beginning.{params-are, params-many, is-begun, state-begun}
+use Rattle.mz_machine.proofs.KnownParams.{entered-as}
 use Rattle.mz_machine.proofs.machine.Setting.begin.Goals as goal
 
-pub read_words-requires : goal.read_words-requires
-read_words-requires c = rw (c.new-earlier.ensures.file, c.new-earlier.ensures.rows, sym (kind-byte c.args.kind)) c.requires.next
+pub enter-requires-clause-next : goal.enter-requires-clause-next
+enter-requires-clause-next c = rw (c.new-earlier.ensures.file, c.new-earlier.ensures.rows, sym (kind-byte c.args.kind)) c.requires.may_run.next
 
-pub begin-requires : goal.begin-requires
-begin-requires c =
-    let words = words-are _ c.new-earlier.result.file c.args.mmb.now c.args.row _ (kind_at (byte_of c.args.kind)) c.in_ok-read_words.ensures c.new-earlier.ensures.file (sym (kind-byte c.args.kind)) in
-    subst BitsRight (sym (c.as_slice.ensures.value ∙ words)) (own-bits c.args.mmb.now c.args.before c.args.row (kind_at (byte_of c.args.kind)) c.requires.next)
+pub enter-requires-clause-bits : goal.enter-requires-clause-bits
+enter-requires-clause-bits c = rw (c.new-earlier.ensures.file, sym (kind-byte c.args.kind)) (own-bits c.args.mmb.now c.args.before c.args.row (kind_at (byte_of c.args.kind)) c.requires.may_run.next)
+
+pub enter-requires-clause-last : goal.enter-requires-clause-last
+enter-requires-clause-last c = subst (λ f. IfSome c.args.last (λ (last : Entered). Remembers f last c.args.parts.now.store)) (sym c.new-earlier.ensures.file) c.requires.last
+
+pub own_arity-requires : goal.own_arity-requires
+own_arity-requires c = rw (c.new-earlier.ensures.file, c.new-earlier.ensures.rows, sym (kind-byte c.args.kind)) c.requires.may_run.next
 
 pub returns-clause-running : goal.returns-clause-running
 returns-clause-running c =
-    let s = c.begin.new.self in
-    let ws = c.read_words.new.words.items in
-    let words = words-are _ c.new-earlier.result.file c.args.mmb.now c.args.row _ (kind_at (byte_of c.args.kind)) c.in_ok-read_words.ensures c.new-earlier.ensures.file (sym (kind-byte c.args.kind)) in
-    let ctx = c.in_ok-begin.ensures.context ∙ ap binders_of c.as_slice.ensures.value in
-    let many = c.in_ok-begin.ensures.many ∙ ap length c.as_slice.ensures.value in
-    let trees = subst (AreVars s) c.as_slice.ensures.value c.in_ok-begin.ensures.trees in
-    let mode = c.in_ok-begin.ensures.mode ∙ c.deps_mode.ensures ∙ ap mode_for (sym (kind-byte c.args.kind)) in
-    let begun = is-begun c.args.mmb.now (byte_of c.args.kind) c.args.row c.args.before s ws c.requires words ctx many trees (c.in_ok-begin.ensures.over (signatures_in (tables_before c.args.mmb.now c.args.before))) mode in
-    let bound = c.bound_count-bound_params.ensures.many ∙ ap (λ ps. length (bound_vars ps)) (ctx ∙ sym (params-are c.args.mmb.now (byte_of c.args.kind) c.args.row c.args.before s ws c.requires words ctx many trees)) in
-    rw (c.new-earlier.ensures.file, c.new-earlier.ensures.rows, c.in_ok-first_items.ensures ∙ ap first_items (c.len.ensures ∙ c.read_words.new.words.ok.0), c.clear.ensures.items, c.clear-2.ensures.items, c.clear-3.ensures.items) (begun, bound, (tt, tt))
+    let s = c.enter.new.store in
+    let file = c.args.mmb.now in
+    let kind = kind_at (byte_of c.args.kind) in
+    let ws = own_words file c.args.row kind in
+    let e = entered-as c.new-earlier.result.file file c.args.row (kind_of c.args.kind) kind s c.new-earlier.ensures.file (sym (kind-byte c.args.kind)) c.in_ok-enter.ensures in
+    let begun = is-begun file (byte_of c.args.kind) c.args.row c.args.before s ws c.requires.may_run refl e.context e.many e.trees (e.over (signatures_in (tables_before file c.args.before))) e.mode in
+    let bound = c.bound_count-bound_params.ensures.many ∙ ap (λ ps. length (bound_vars ps)) (e.context ∙ sym (params-are file (byte_of c.args.kind) c.args.row c.args.before s ws c.requires.may_run refl e.context e.many e.trees)) in
+    let many = c.own_arity.ensures.words ∙ ap (λ f. length (own_words f c.args.row (kind_of c.args.kind))) c.new-earlier.ensures.file ∙ ap (λ k. length (own_words file c.args.row k)) (sym (kind-byte c.args.kind)) in
+    rw (c.new-earlier.ensures.file, c.new-earlier.ensures.rows, c.in_ok-begin.ensures ∙ ap first_items many, c.clear.ensures.items, c.clear-2.ensures.items, c.clear-3.ensures.items) (begun, bound, (tt, tt))
 
 pub returns-clause-begun : goal.returns-clause-begun
 returns-clause-begun c =
-    let s = c.begin.new.self in
-    let ws = c.read_words.new.words.items in
-    let words = words-are _ c.new-earlier.result.file c.args.mmb.now c.args.row _ (kind_at (byte_of c.args.kind)) c.in_ok-read_words.ensures c.new-earlier.ensures.file (sym (kind-byte c.args.kind)) in
-    let ctx = c.in_ok-begin.ensures.context ∙ ap binders_of c.as_slice.ensures.value in
-    let many = c.in_ok-begin.ensures.many ∙ ap length c.as_slice.ensures.value in
-    let trees = subst (AreVars s) c.as_slice.ensures.value c.in_ok-begin.ensures.trees in
+    let s = c.enter.new.store in
+    let file = c.args.mmb.now in
+    let kind = kind_at (byte_of c.args.kind) in
+    let ws = own_words file c.args.row kind in
+    let e = entered-as c.new-earlier.result.file file c.args.row (kind_of c.args.kind) kind s c.new-earlier.ensures.file (sym (kind-byte c.args.kind)) c.in_ok-enter.ensures in
+    let many = c.own_arity.ensures.words ∙ ap (λ f. length (own_words f c.args.row (kind_of c.args.kind))) c.new-earlier.ensures.file ∙ ap (λ k. length (own_words file c.args.row k)) (sym (kind-byte c.args.kind)) in
     record {
       gaps_are = refl;
       file_is = c.new-earlier.ensures.file;
       kind_is = refl;
       row_is = refl;
       before_is = c.new-earlier.ensures.rows;
-      state = rw (c.in_ok-first_items.ensures ∙ ap first_items (c.len.ensures ∙ c.read_words.new.words.ok.0), c.clear.ensures.items, c.clear-2.ensures.items, c.clear-3.ensures.items) (state-begun c.args.mmb.now (byte_of c.args.kind) c.args.row c.args.before s ws c.requires words ctx many trees ∙ sym (start-plain (gaps_of c.args.mode) (heading_of c.args.mmb.now (byte_of c.args.kind) c.args.row)));
+      state = rw (c.in_ok-begin.ensures ∙ ap first_items many, c.clear.ensures.items, c.clear-2.ensures.items, c.clear-3.ensures.items) (state-begun file (byte_of c.args.kind) c.args.row c.args.before s ws c.requires.may_run refl e.context e.many e.trees ∙ sym (start-plain (gaps_of c.args.mode) (heading_of file (byte_of c.args.kind) c.args.row)));
       no_gap = refl;
-      nodes = many ∙ sym (params-many c.args.mmb.now (byte_of c.args.kind) c.args.row c.args.before s ws c.requires words ctx many trees);
+      nodes = e.many ∙ sym (params-many file (byte_of c.args.kind) c.args.row c.args.before s ws c.requires.may_run refl e.context e.many e.trees);
     }

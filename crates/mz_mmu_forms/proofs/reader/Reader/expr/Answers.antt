@@ -18,7 +18,7 @@ reading-init c =
 pub reading-preserved-in-None : goal.reading-preserved-in-None
 reading-preserved-in-None c =
     let all = c.args.self.now.nodes.now in
-    ended_read (scope c.args.sc.now) all (node_at all c.args.n) c.reading.outers.items c.reading.step c.in-Operands.outer c.in-Operands.is c.in-None.is c.reading.invariant
+    ended_read (scope c.args.sc.now) all (node_at all c.args.n) c.reading.outers.items c.reading.step c.in-Operands.outer c.app.result c.app.ensures c.in-Operands.is c.in-None.is c.reading.invariant
 
 pub returns-in_err-operand-in-Some-clause-stops : goal.returns-in_err-operand-in-Some-clause-stops
 returns-in_err-operand-in-Some-clause-stops c =
@@ -71,7 +71,7 @@ reading-preserved c =
 
 pub reading-smaller-in-None : goal.reading-smaller-in-None
 reading-smaller-in-None c =
-    ended_fewer (scope c.args.sc.now) c.args.self.now.nodes.now (node_at c.args.self.now.nodes.now c.args.n) c.reading.outers.items c.reading.step c.in-Operands.outer c.in-Operands.is
+    ended_fewer (scope c.args.sc.now) c.args.self.now.nodes.now (node_at c.args.self.now.nodes.now c.args.n) c.reading.outers.items c.reading.step c.in-Operands.outer c.app.result c.in-Operands.is
 
 pub reading-smaller-then-is_atom : goal.reading-smaller-then-is_atom
 reading-smaller-then-is_atom c =

@@ -5,6 +5,9 @@ use Rattle.mz_type.proofs.Shaping.{put_on_cut, size_is}
 use Rattle.mz_type.proofs.Weighing.{size_cut}
 use Rattle.mz_type.proofs.instance_sizes.Shape.weight_with.Goals as goal
 
+pub overflow_sub-total : goal.overflow_sub-total
+overflow_sub-total c = let is = size_is (tree c.index-items-i.result) in omega (arith, c.size_of-size.ensures, is)
+
 pub loop-i-preserved : goal.loop-i-preserved
 loop-i-preserved c =
     let items = c.as_slice-items.result.now in

@@ -1,0 +1,64 @@
+//! A row's parameters, as the first expressions of a store.
+ghost use Rattle.std.specs.Prelude.{◌≡◌, IfSome, IsTrue, OnOk, length};
+ghost use Rattle.mz_logic_theory.specs.Words.{BitsRight};
+ghost use Rattle.mz_machine_env.specs.OwnRow.{IsNextRow, kind_of, mode_for, own_words, words_from};
+ghost use Rattle.mz_machine.specs.Parameters.{AreEntered, Remembers};
+
+use mz_logic_theory::Word;
+use mz_machine_env::{BodyKind, Earlier, deps_mode, own_arity, own_words_at, read_words};
+use mz_store::{DepsMode, Store};
+use std::alloc::AllocError;
+
+/// Whose parameters a store was begun with: so many words, of which the first stands at a place of the
+/// file.
+#[derive(Clone, Copy)]
+pub(crate) struct Entered {
+    pub(crate) at: u32,
+    pub(crate) params: u32,
+    /// How many of them are bound.
+    pub(crate) bound: u32,
+    pub(crate) mode: DepsMode,
+}
+
+impl Entered {
+    /// Whether a body of the next row of the kind begins with the same.
+    fn is_of(self, earlier: &Earlier, kind: BodyKind, row: u32) -> bool
+        requires { IsNextRow earlier.now.file earlier.now.rows row (kind_of kind) }
+        ensures { IsTrue result → (own_words earlier.now.file row (kind_of kind) ≡ words_from earlier.now.file self.at self.params) × (self.mode ≡ mode_for (kind_of kind)) }
+    {
+        if self.mode != deps_mode(kind) || self.params != own_arity(earlier, kind, row) {
+            return false;
+        }
+        self.at == own_words_at(earlier, kind, row)
+    }
+}
+
+/// Makes a store that of the parameters of the next row of the kind. Where they are those that it was
+/// begun with, only what came after them is taken out.
+///
+/// # Errors
+///
+/// Where there is no memory.
+pub(crate) fn enter(
+    earlier: &Earlier,
+    kind: BodyKind,
+    row: u32,
+    last: Option<Entered>,
+    words: &mut Vec<Word>,
+    store: &mut Store,
+) -> Result<(), AllocError>
+    requires next { IsNextRow earlier.now.file earlier.now.rows row (kind_of kind) }
+    requires bits { BitsRight (own_words earlier.now.file row (kind_of kind)) }
+    requires last { IfSome last (λ last. Remembers earlier.now.file last store.old) }
+    ensures { OnOk result (AreEntered (own_words earlier.now.file row (kind_of kind)) (mode_for (kind_of kind)) store.new) }
+{
+    if let Some(last) = last {
+        if last.is_of(earlier, kind, row) {
+            store.restart(last.params, last.bound);
+            return Ok(());
+        }
+    }
+    read_words(words, earlier, kind, row)?;
+    store.begin(words.as_slice(), deps_mode(kind))?;
+    Ok(())
+}

@@ -1,0 +1,9 @@
+use Rattle.std.proofs.Common.{subst}
+use Rattle.mz_base_theory.specs.Checks.{Judges}
+use Rattle.mz_logic_theory.specs.Declaration.{signatures}
+use Rattle.mz_mmu_theory.specs.Rules.{exprs_rules}
+use Rattle.mz_type_rules.proofs.exprs.check_exprs.Goals as goal
+
+pub returns : goal.returns
+returns c =
+    subst (λ es. Judges c.check_lent_exprs.result (exprs_rules (signatures c.args.env.now) c.args.ctx.now es c.args.nodes.now)) c.lent.ensures c.check_lent_exprs.ensures
