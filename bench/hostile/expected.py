@@ -61,6 +61,7 @@ ROWS = [
     ("text:manydeps", "compile", 500_000, IN_PROPORTION),
     ("text:defdeps", "compile", 500_000, IN_PROPORTION),
     ("text:depgrid", "compile", 500_000, IN_PROPORTION),
+    ("text:regulargrid", "compile", 500_000, IN_PROPORTION),
     ("text:collide", "compile", 400_000, IN_PROPORTION),
     ("text:lets", "compile", 1_000_000, IN_PROPORTION),
     ("text:tiny", "compile", 1_000_000, IN_PROPORTION),

@@ -123,6 +123,19 @@ def text_depgrid(size):
 
 
 @text
+def text_regulargrid(size):
+    """an axiom with bound parameters and as many regular ones, cited once: each regular operand is one variable that depends on as many
+    other bound ones, gone through for each operand"""
+    side = size // 66
+    xs, zs = bound(side), ["z%d" % k for k in range(side)]
+    regular = " ".join("(p%d wff ())" % k for k in range(side))
+    axiom = "(axiom ax (%s %s) (p0) p0)" % (of_sort(zs, "nat"), regular)
+    cite = "(ax (%s %s) h)" % (" ".join(zs), " ".join(["p"] * side))
+    theorem = "(theorem t (%s %s (p wff (%s))) ((h p)) p () %s)" % (of_sort(xs, "nat"), of_sort(zs, "nat"), " ".join(xs), cite)
+    return whole([*BOTH, axiom, theorem])
+
+
+@text
 def text_defdeps(size):
     """a definition whose body mentions a regular variable, which depends on many bound ones, again and again"""
     names = bound(size // 4 // 14)

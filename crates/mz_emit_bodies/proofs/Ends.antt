@@ -20,7 +20,7 @@ use Rattle.mz_emit_bodies.specs.Laws.{AreDummiesBehind, TakeFourBytes}
 use Rattle.mz_emit_bodies.specs.TaskInvariant.{Task, prove, push, to_do, AllCanBeDone}
 use Rattle.mz_emit_bodies.specs.Sight.{parts}
 use Rattle.mz_emit_bodies.specs.Going.{Job, spelled, IsGoing, Does}
-use Rattle.mz_emit_bodies.specs.Stages.{HasDummiesBehind, unwritten, job, Begins, Rests, writing_too, assuming, with_hyps, HasRoomFor, Assumes, AssumesAll}
+use Rattle.mz_emit_bodies.specs.Stages.{HasDummiesBehind, unwritten, job, Begins, Rests, writing_too, assuming, with_hyps, HasRoomFor, WritesFrom, Assumes, AssumesAll, Proves, ProvesFrom}
 use Rattle.mz_emit_bodies.specs.Writers.{write_tasks, behind, HasRoom, IsWriting}
 use Rattle.mz_emit_bodies.specs.declared.body.Before.{Before}
 use Rattle.mz_emit_bodies.specs.declared.body.Body.{Body}
@@ -28,6 +28,7 @@ use Rattle.mz_emit_bodies.specs.declared.let_scopes.Cell.{Cell}
 use Rattle.mz_emit_bodies.proofs.Making.{in_grown, tree_grown}
 use Rattle.mz_emit_bodies.proofs.Moves.{spelled_on, short_on}
 use Rattle.mz_emit_bodies.proofs.Counting.{room_expr, room_next, room_axiom, room_theorem, definition_room, axiom_room, theorem_room}
+use Rattle.mz_emit_bodies.proofs.Growing.{many_ids}
 use Rattle.mz_emit_bodies.proofs.Heaps.{then_nothing, and_nothing, and_assoc, hyp_kept}
 use Rattle.mz_emit_bodies.proofs.Writers.{writing_ended, writing_more, writing_put, hyps_next}
 
@@ -133,6 +134,15 @@ next_hyp o b b' is k d all lt rests =
     let room = room_next o.store.context o.store o.whole is k d lt all.room in
     ((rests, in_at o.store is k d all.inside lt, room_expr o.store.context (with_hyps o k (take k is)).whole k (tree_of o.store (get_or is k d).0) room), room)
 
+-- the proof, behind the hypotheses
+pub proves_next : (o : Job) (b b' : Body) (is : List Id) (p : Proof) → b'.before ≡ b.before → ProvesFrom o b is p → Rests (with_hyps o (length is) is) b' → Proves (with_hyps o (length is) is) b' p
+proves_next o b b' is p same can rests = (
+  rests,
+  can.1,
+  subst (λ (z : Before). IsSound o.gaps z.env.now o.store.context o.hyps [] p) (sym same) can.2,
+  subst (λ (z : Before). HasRoomFor (with_hyps o (length is) is) (write_proof z.env.now o.store.context [] p)) (sym same) can.3,
+)
+
 -- ---- the end
 
 spelled_end : (cs : List (ProofCode × ℕ)) → spelled_body cs ≡ spelled cs ++ 0 ∷ []
@@ -196,11 +206,6 @@ theorem_ended gaps before before' ps ds s is p b bs same done end cut does =
 pub first_begins : (gaps : Bool) (s : Sharing) (hyps : List Tree) (params : List Binder) (n : ℕ) → length params ≡ n → Begins (job gaps params s hyps) s n
 first_begins gaps s hyps params n long = (refl, refl, params, long, refl)
 
--- the hypotheses are to be assumed
-pub assumes_all : (gaps : Bool) (ps : List Binder) (s : Sharing) (is : List Id) (b : Body) → Rests (job gaps ps s (listed (trees_of s is))) b → AreIn s is
-    → HasRoomFor (job gaps ps s (listed (trees_of s is))) (write_hyps s.context 0 (listed (trees_of s is))) → AssumesAll (job gaps ps s (listed (trees_of s is))) b is
-assumes_all gaps ps s is b rests inside room = record { rests = rests; none_yet = refl; inside = inside; room = room }
-
 -- ---- what is asked for the laws
 
 -- of the variables behind the parameters
@@ -211,28 +216,29 @@ fine_behind env n s vars ps ds behind is long x b at le = behind.dummies x b (ap
 pub sorted_there : (env : List Declaration) (n : ℕ) (s : Sharing) (vars : List Id) (ctx : List Binder) (i : ℕ) → HasDummiesBehind env n s vars → s.context ≡ ctx → IsIn s i → Sorted (signatures env) ctx (tree_of s i)
 sorted_there env n s vars ctx i behind is inside = subst (λ (z : List Binder). Sorted (signatures env) z (tree_of s i)) is (sort_of s i, (behind.shared.over i inside).0)
 
-pub sound_as : (gaps : Bool) (b b' : Before) (ctx : List Binder) (hyps : List Tree) (p : Proof) → b' ≡ b → IsSound gaps b.env.now ctx hyps [] p → IsSound gaps b'.env.now ctx hyps [] p
-sound_as gaps b b' ctx hyps p is h = subst (λ (z : Before). IsSound gaps z.env.now ctx hyps [] p) (sym is) h
-
 -- ---- the room
 
 module _ (gaps : Bool) (ps : List Binder) (s : Sharing) (is : List Id) (n : ℕ) (long : length ps ≡ n) where
   pub definition_fits : (i : ℕ) → n + 6 * size (tree_of s i) < 2 ^ 32 → HasRoomFor (job gaps ps s []) (write_expr s.context (tree_of s i))
   definition_fits i room = definition_room s.context ps (tree_of s i) (omega (arith, long, room))
 
-  module _ (i : ℕ) (room : n + 6 * (trees_size (trees_of s is) + size (tree_of s i)) < 2 ^ 32) where
-    pub axiom_fits : HasRoomFor (with_hyps (job gaps ps s (listed (trees_of s is))) (length is) is) (write_expr s.context (tree_of s i))
-    axiom_fits = axiom_room s.context ps (trees_of s is) (tree_of s i) (omega (arith, long, room))
+  -- a conclusion is to be left behind all the hypotheses
+  pub writes_from : (i : ℕ) (b : Body) → n + 6 * (trees_size (trees_of s is) + size (tree_of s i)) < 2 ^ 32 → Rests (job gaps ps s (listed (trees_of s is))) b → AreIn s is → IsIn s i
+      → WritesFrom (job gaps ps s (listed (trees_of s is))) b is i
+  writes_from i b room rests inside there =
+      let fits : HasRoomFor (with_hyps (job gaps ps s (listed (trees_of s is))) (length is) is) (write_expr s.context (tree_of s i)) = axiom_room s.context ps (trees_of s is) (tree_of s i) (omega (arith, long, room)) in (
+        record { rests = rests; none_yet = refl; inside = inside; room = room_axiom s.context (unwritten ps) (write_hyps s.context 0 (listed (trees_of s is))) (tree_of s i) fits },
+        there,
+        fits,
+      )
 
-    pub axiom_hyps_fit : HasRoomFor (job gaps ps s (listed (trees_of s is))) (write_hyps s.context 0 (listed (trees_of s is)))
-    axiom_hyps_fit = room_axiom s.context (unwritten ps) (write_hyps s.context 0 (listed (trees_of s is))) (tree_of s i) (axiom_room s.context ps (trees_of s is) (tree_of s i) (omega (arith, long, room)))
-
-  module _ (b : Before) (p : Proof) (room : n + 6 * (trees_size (trees_of s is) + proof_weight b.env.now p) < 2 ^ 32) where
-    theorem_fits : HasRoom ((write_hyps s.context 0 (listed (trees_of s is)) >> write_proof b.env.now s.context [] p) (at_first ps))
-    theorem_fits = theorem_room b.env.now s.context ps (trees_of s is) p (omega (arith, long, room))
-
-    pub proof_fits : (b' : Before) → b' ≡ b → HasRoomFor (with_hyps (job gaps ps s (listed (trees_of s is))) (length is) is) (write_proof b'.env.now s.context [] p)
-    proof_fits b' same = subst (λ (z : Before). HasRoomFor (with_hyps (job gaps ps s (listed (trees_of s is))) (length is) is) (write_proof z.env.now s.context [] p)) (sym same) theorem_fits
-
-    pub theorem_hyps_fit : HasRoomFor (job gaps ps s (listed (trees_of s is))) (write_hyps s.context 0 (listed (trees_of s is)))
-    theorem_hyps_fit = room_theorem b.env.now s.context (unwritten ps) (write_hyps s.context 0 (listed (trees_of s is))) p theorem_fits
+  -- and a proof
+  pub proves_from : (z : Before) (b : Body) (p : Proof) → b.before ≡ z → n + 6 * (trees_size (trees_of s is) + proof_weight z.env.now p) < 2 ^ 32 → Rests (job gaps ps s (listed (trees_of s is))) b → AreIn s is
+      → IsSound gaps z.env.now s.context (listed (trees_of s is)) [] p → ProvesFrom (job gaps ps s (listed (trees_of s is))) b is p
+  proves_from z b p same room rests inside sound =
+      let fits : HasRoom ((write_hyps s.context 0 (listed (trees_of s is)) >> write_proof z.env.now s.context [] p) (at_first ps)) = theorem_room z.env.now s.context ps (trees_of s is) p (omega (arith, long, room)) in (
+        record { rests = rests; none_yet = refl; inside = inside; room = room_theorem z.env.now s.context (unwritten ps) (write_hyps s.context 0 (listed (trees_of s is))) p fits },
+        many_ids s is,
+        subst (λ (y : Before). IsSound gaps y.env.now s.context (listed (trees_of s is)) [] p) (sym same) sound,
+        subst (λ (y : Before). HasRoomFor (with_hyps (job gaps ps s (listed (trees_of s is))) (length is) is) (write_proof y.env.now s.context [] p)) (sym same) fits,
+      )

@@ -1,6 +1,6 @@
--- Lists: one place set, and the last one.
-use Rattle.std.specs.Prelude.{ℕ, ◌≡◌, ◌<◌, ◌-◌, ◌⊎◌, List, [], ◌∷◌, ◌++◌, length, take, drop, get_or, slice_get, map, Option, Some, None}
-use Rattle.std.proofs.Common.{zero, suc, refl, sym, ap, ◌∙◌, arith, slice_set, slice_index_or, inl, inr}
+-- Lists: one place set, and the last one; and what follows where a call goes well.
+use Rattle.std.specs.Prelude.{ℕ, ◌≡◌, ◌<◌, ◌-◌, ◌⊎◌, List, [], ◌∷◌, ◌++◌, length, take, drop, get_or, slice_get, map, OnOk, Option, Some, None}
+use Rattle.std.proofs.Common.{zero, suc, Result, Ok, Err, refl, sym, ap, ◌∙◌, arith, slice_set, slice_index_or, inl, inr}
 use Rattle.std.proofs.Math.Seq.{take-length}
 
 pub set_map : (A B : Type 0) (g : A → B) (xs : List A) (i : ℕ) (x y : A) → i < length xs → x ≡ slice_index_or xs i x → g y ≡ g x → map g (slice_set xs i y) ≡ map g xs
@@ -70,3 +70,8 @@ each_last A d P (x ∷ xs) y (suc i) each last past = each_last A d P xs y i (λ
 -- what stands behind the first
 pub rest_whole : (A : Type 0) (y : A) (ys : List A) → take (length (y ∷ ys) - 1) (drop 1 (y ∷ ys)) ≡ ys
 rest_whole A y ys = (let e : length (y ∷ ys) - 1 ≡ length ys = omega arith in ap (λ (n : ℕ). take n ys) e ∙ take-length ys)
+
+-- of two facts that hold where a call goes well
+pub on_ok_both : {T E P Q R : Type 0} (r : Result T E) → (P → Q → R) → OnOk r P → OnOk r Q → OnOk r R
+on_ok_both (Ok x) f p q = f p q
+on_ok_both (Err e) f p q = tt

@@ -69,6 +69,15 @@ pub record AssumesAll (o : Job) (b : Body) (is : List Id) : Type 0 where
   pub inside : AreIn o.store is
   pub room : HasRoomFor o (write_hyps o.store.context 0 (listed (trees_of o.store is)))
 
+-- the i-th expression is to be left behind these hypotheses
+abbrev pub WritesFrom : Job → Body → List Id → ℕ → Type 0
+WritesFrom o b is i = AssumesAll o b is × IsIn o.store i × HasRoomFor (with_hyps o (length is) is) (write_expr o.store.context (tree_of o.store i))
+
 -- the proof is to be left
 abbrev pub Proves : Job → Body → Proof → Type 0
 Proves o b p = Rests o b × (o.count ≡ length o.hyps) × IsSound o.gaps b.before.env.now o.store.context o.hyps [] p × HasRoomFor o (write_proof b.before.env.now o.store.context [] p)
+
+-- the proof is to be left behind these hypotheses, which are all
+abbrev pub ProvesFrom : Job → Body → List Id → Proof → Type 0
+ProvesFrom o b is p = AssumesAll o b is × (length is ≡ length o.hyps) × IsSound o.gaps b.before.env.now o.store.context o.hyps [] p
+    × HasRoomFor (with_hyps o (length is) is) (write_proof b.before.env.now o.store.context [] p)

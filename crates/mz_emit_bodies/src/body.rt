@@ -13,7 +13,7 @@ ghost use Rattle.mz_emit_bodies.specs.Instances.{AreInstances};
 ghost use Rattle.mz_emit_bodies.specs.Places.{place_of};
 ghost use Rattle.mz_emit_bodies.specs.Pushing.{pushes};
 ghost use Rattle.mz_emit_bodies.specs.Going.{Job, IsAfter, Does, steps_left};
-ghost use Rattle.mz_emit_bodies.specs.Stages.{HasDummiesBehind, Begins, Rests, writing_too, assuming, with_hyps, Writes, Assumes, AssumesAll, Proves};
+ghost use Rattle.mz_emit_bodies.specs.Stages.{HasDummiesBehind, Begins, Rests, writing_too, assuming, with_hyps, Writes, WritesFrom, Assumes, AssumesAll, Proves, ProvesFrom};
 ghost use Rattle.mz_emit_theory.specs.BodyWriting.{write_expr, write_hyp, write_proof};
 
 use crate::instances::{Instances, conclusion_id};
@@ -184,7 +184,7 @@ impl<'t> Body<'t> {
     }
 
     /// Assumes the hypotheses, in order.
-    pub fn put_hyps(&mut self, ids: &[Id]) -> Result<(), Mem>
+    fn put_hyps(&mut self, ids: &[Id]) -> Result<(), Mem>
         requires before { IsAfter self.old.before }
         requires can { (o : Job) × AssumesAll o self.old ids.now }
         ensures does { OnOk result ((o : Job) → AssumesAll o self.old ids.now
@@ -198,7 +198,7 @@ impl<'t> Body<'t> {
     }
 
     /// Leaves a proof.
-    pub fn put_proof(&mut self, stated: &'t Proof) -> Result<(), Mem>
+    fn put_proof(&mut self, stated: &'t Proof) -> Result<(), Mem>
         requires before { IsAfter self.old.before }
         requires can { (o : Job) × Proves o self.old (proof_view stated.now) }
         ensures does { OnOk result ((o : Job) → Proves o self.old (proof_view stated.now)
@@ -208,6 +208,30 @@ impl<'t> Body<'t> {
     {
         add(&mut self.tasks, Task::Prove(stated, None))?;
         self.run()
+    }
+
+    /// Assumes the hypotheses, and leaves a conclusion.
+    pub fn put_axiom(&mut self, hyps: &[Id], conclusion: Id) -> Result<(), Mem>
+        requires before { IsAfter self.old.before }
+        requires can { (o : Job) × WritesFrom o self.old hyps.now conclusion.0 }
+        ensures does { OnOk result ((o : Job) → WritesFrom o self.old hyps.now conclusion.0
+            → Does (writing_too (with_hyps o (length hyps.now) hyps.now) (write_expr o.store.context (tree_of o.store conclusion.0))) self.new []) }
+        ensures done { OnOk result (self.new.tasks.items ≡ []) }
+    {
+        self.put_hyps(hyps)?;
+        self.put_expr(conclusion)
+    }
+
+    /// Assumes the hypotheses, and leaves a proof.
+    pub fn put_theorem(&mut self, hyps: &[Id], stated: &'t Proof) -> Result<(), Mem>
+        requires before { IsAfter self.old.before }
+        requires can { (o : Job) × ProvesFrom o self.old hyps.now (proof_view stated.now) }
+        ensures does { OnOk result ((o : Job) → ProvesFrom o self.old hyps.now (proof_view stated.now)
+            → Does (writing_too (with_hyps o (length hyps.now) hyps.now) (write_proof self.old.before.env.now o.store.context [] (proof_view stated.now))) self.new []) }
+        ensures done { OnOk result (self.new.tasks.items ≡ []) }
+    {
+        self.put_hyps(hyps)?;
+        self.put_proof(stated)
     }
 
     /// The bytes of the body, with its end.
@@ -274,8 +298,7 @@ impl<'t> Body<'t> {
         ensures less { OnOk result (steps_left self.new [] < steps_left self.old (give code value ∷ [])) }
         ensures same { OnOk result (self.new.before ≡ self.old.before) }
     {
-        put(&mut self.out, code, value)?;
-        Ok(())
+        put(&mut self.out, code, value)
     }
 
     /// Pushes an expression: from the heap, where it is there.
@@ -288,15 +311,13 @@ impl<'t> Body<'t> {
     {
         self.shared.store.once();
         if let Some(place) = self.heap.place(id) {
-            put(&mut self.out, ProofCode::Ref, place)?;
-            return Ok(());
+            return put(&mut self.out, ProofCode::Ref, place);
         }
         match self.shared.store.head(id) {
             None => self.make_dummy(id),
             Some(_) => {
                 add(&mut self.tasks, Task::Make(id))?;
-                push_turned(&mut self.tasks, self.shared.store.args(id))?;
-                Ok(())
+                push_turned(&mut self.tasks, self.shared.store.args(id))
             }
         }
     }
@@ -348,21 +369,16 @@ impl<'t> Body<'t> {
         match proof {
             Proof::Hyp(i) => {
                 let place = self.hyps[*i as usize];
-                put(&mut self.out, ProofCode::Ref, place)?;
-                Ok(())
+                put(&mut self.out, ProofCode::Ref, place)
             }
             Proof::Name(number) => self.name(*number, chain),
             Proof::Cite(number, es, proofs) => {
                 add(&mut self.tasks, Task::Cite(*number, es))?;
-                add(&mut self.tasks, Task::ProveAll(proofs.as_slice(), chain))?;
-                Ok(())
+                add(&mut self.tasks, Task::ProveAll(proofs.as_slice(), chain))
             }
             Proof::Conv(e, conv, part) => self.convert(e, conv.get(), part.get(), chain),
             Proof::Let(first, second) => self.bind(first.get(), second.get(), chain),
-            Proof::Gap(e) => {
-                self.leave_gap(e)?;
-                Ok(())
-            }
+            Proof::Gap(e) => self.leave_gap(e),
         }
     }
 
@@ -375,8 +391,7 @@ impl<'t> Body<'t> {
         ensures same { OnOk result (self.new.before ≡ self.old.before) }
     {
         let cell = self.cells.open(first, chain)?;
-        add(&mut self.tasks, Task::Prove(second, Some(cell)))?;
-        Ok(())
+        add(&mut self.tasks, Task::Prove(second, Some(cell)))
     }
 
     fn prove_all(&mut self, proofs: &'t [Proof], chain: Chain) -> Result<(), Mem>
@@ -408,15 +423,11 @@ impl<'t> Body<'t> {
         };
         let cell = self.cells.visible(innermost, number);
         match self.cells.place(cell) {
-            Some(place) => {
-                put(&mut self.out, ProofCode::Ref, place)?;
-                Ok(())
-            }
+            Some(place) => put(&mut self.out, ProofCode::Ref, place),
             None => {
                 let (part, outer) = self.cells.part(cell);
                 add(&mut self.tasks, Task::Save(cell))?;
-                add(&mut self.tasks, Task::Prove(part, outer))?;
-                Ok(())
+                add(&mut self.tasks, Task::Prove(part, outer))
             }
         }
     }
@@ -488,8 +499,7 @@ impl<'t> Body<'t> {
     {
         let id = self.shared.id(self.before.table, e)?;
         add(&mut self.tasks, Task::Do(ProofCode::Sorry, 0))?;
-        add(&mut self.tasks, Task::Push(id))?;
-        Ok(())
+        add(&mut self.tasks, Task::Push(id))
     }
 
     /// Pays an obligation up to those of the parts.
@@ -501,25 +511,17 @@ impl<'t> Body<'t> {
         ensures same { OnOk result (self.new.before ≡ self.old.before) }
     {
         match conv {
-            Conv::Refl(_) => {
-                put(&mut self.out, ProofCode::Refl, 0)?;
-                Ok(())
-            }
+            Conv::Refl(_) => put(&mut self.out, ProofCode::Refl, 0),
             Conv::Sym(part) => {
                 add(&mut self.tasks, Task::Pay(part.get()))?;
-                put(&mut self.out, ProofCode::Symm, 0)?;
-                Ok(())
+                put(&mut self.out, ProofCode::Symm, 0)
             }
             Conv::Cong(_, parts) => {
                 add(&mut self.tasks, Task::PayAll(parts.as_slice()))?;
-                put(&mut self.out, ProofCode::Cong, 0)?;
-                Ok(())
+                put(&mut self.out, ProofCode::Cong, 0)
             }
             Conv::Unfold(term, es, vars, part) => self.unfold(*term, es, vars, part.get()),
-            Conv::Gap(_, _) => {
-                put(&mut self.out, ProofCode::Sorry, 0)?;
-                Ok(())
-            }
+            Conv::Gap(_, _) => put(&mut self.out, ProofCode::Sorry, 0),
         }
     }
 

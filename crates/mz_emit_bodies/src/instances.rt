@@ -144,40 +144,7 @@ fn keep(
     instances.add(key, instance)
 }
 
-/// The instance of a large conclusion, which is kept.
-fn large_instance(
-    shared: &mut Shared,
-    table: &TermTable,
-    instances: &mut Instances,
-    number: u32,
-    operands: &[Id],
-    conclusion: &Expr,
-) -> Result<Id, Mem>
-    requires instances { (env : List Declaration) × AreInstances env shared.old.store instances.old.items.items × (tree conclusion.now ≡ conclusion_of env number) }
-    requires shared { IsShared (signatures_of (map words_of_row table.now.terms.items)) shared.old.store shared.old.variables.items }
-    requires ids { AreIn shared.old.store operands.now }
-    requires there { InReach (length operands.now) (tree conclusion.now) }
-    requires sorted { (s : ℕ) × HasSort (signatures_of (map words_of_row table.now.terms.items)) shared.old.store.context (instance (trees_of shared.old.store operands.now) (tree conclusion.now)) s }
-    ensures holds { IfOk result (λ id. Holds shared.new.store id.0 (instance (trees_of shared.old.store operands.now) (tree conclusion.now))) }
-    ensures grows { OnOk result (Grows shared.old.store shared.new.store) }
-    ensures variables { OnOk result (shared.new.variables.items ≡ shared.old.variables.items) }
-    ensures shared { OnOk result (IsShared (signatures_of (map words_of_row table.now.terms.items)) shared.new.store shared.new.variables.items) }
-    ensures instances { OnOk result ((env : List Declaration) → AreInstances env shared.old.store instances.old.items.items → tree conclusion.now ≡ conclusion_of env number
-        → AreInstances env shared.new.store instances.new.items.items) }
-{
-    let alloc = shared.alloc;
-    let key = key_of(alloc, number, operands)?;
-    match instances.find(&key, number, operands) {
-        Some(id) => Ok(id),
-        None => {
-            let id = shared.instance(table, operands, conclusion)?;
-            keep(alloc, instances, key, number, operands, id)?;
-            Ok(id)
-        }
-    }
-}
-
-/// The id of the instance of the conclusion with this number.
+/// The id of the instance of the conclusion with this number. That of a large one is kept.
 ///
 /// # Errors
 ///
@@ -202,9 +169,17 @@ pub fn conclusion_id(
     ensures instances { OnOk result ((env : List Declaration) → AreInstances env shared.old.store instances.old.items.items → tree conclusion.now ≡ conclusion_of env number
         → AreInstances env shared.new.store instances.new.items.items) }
 {
-    if nodes_left(&conclusion.lent(), LARGE) == 0 {
-        large_instance(shared, table, instances, number, operands, conclusion)
-    } else {
-        shared.instance(table, operands, conclusion)
+    if nodes_left(&conclusion.lent(), LARGE) > 0 {
+        return shared.instance(table, operands, conclusion);
+    }
+    let alloc = shared.alloc;
+    let key = key_of(alloc, number, operands)?;
+    match instances.find(&key, number, operands) {
+        Some(id) => Ok(id),
+        None => {
+            let id = shared.instance(table, operands, conclusion)?;
+            keep(alloc, instances, key, number, operands, id)?;
+            Ok(id)
+        }
     }
 }

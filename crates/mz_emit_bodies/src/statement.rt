@@ -50,8 +50,7 @@ pub fn definition_body(
 {
     let mut written = Body::new(alloc, before, shared, params)?;
     written.put_expr(body)?;
-    let bytes = written.end()?;
-    Ok(bytes)
+    written.end()
 }
 
 /// The body of an axiom: the commands that assume its hypotheses and make its conclusion.
@@ -81,10 +80,8 @@ pub fn axiom_body(
     ensures short { IfOk result (λ b. length b.items ≤ 6 * (trees_size (trees_of shared.store hyps.now) + size (tree_of shared.store conclusion.0)) + 1) }
 {
     let mut written = Body::new(alloc, before, shared, params)?;
-    written.put_hyps(hyps)?;
-    written.put_expr(conclusion)?;
-    let bytes = written.end()?;
-    Ok(bytes)
+    written.put_axiom(hyps, conclusion)?;
+    written.end()
 }
 
 /// The body of a theorem: the commands that assume its hypotheses and make the proof's claim from them. A gap is
@@ -121,8 +118,6 @@ pub fn theorem_body(
     ensures short { IfOk result (λ b. length b.items ≤ 6 * (trees_size (trees_of shared.store hyps.now) + proof_weight before.entry.env.now (proof_view proof.now)) + 1) }
 {
     let mut written = Body::new(alloc, before, shared, params)?;
-    written.put_hyps(hyps)?;
-    written.put_proof(proof)?;
-    let bytes = written.end()?;
-    Ok(bytes)
+    written.put_theorem(hyps, proof)?;
+    written.end()
 }

@@ -31,28 +31,29 @@ pub fn are_apart(
 {
     let mut owned = VariableSet::new(alloc);
     let mut owners = Vec::new(alloc);
-    are_apart_with(alloc, env, ctx, es, params, &mut owned, &mut owners)
+    let mut narrowed = Narrowed::new(alloc);
+    are_apart_with(env, ctx, es, params, &mut owned, &mut owners, &mut narrowed)
 }
 
-/// The same, with room for the operands of the bound parameters and the places of these.
+/// The same, with room for the operands of the bound parameters, the places of these and what is narrowed.
 fn are_apart_with(
-    alloc: Global,
     env: &Env,
     ctx: &Context,
     es: &Exprs,
     params: &[Binder],
     owned: &mut VariableSet,
     owners: &mut Vec<u32>,
+    narrowed: &mut Narrowed,
 ) -> Result<bool, AllocError>
     requires fits { Fits (signatures env.now) ctx.now es.now params.now }
     requires empty { owned.old ≡ [] }
     requires none { owners.old.items ≡ [] }
+    requires narrowed { narrowed.old ≡ [] }
     ensures { IfOk result (λ apart. IsTrue apart ↔ Apart ctx.now es.now params.now) }
 {
     let single = gather_owned(params, es, owned, owners)?;
     if single {
-        let narrowed = Narrowed::of(alloc, ctx, es, owned)?;
-        return Ok(all_name_own(ctx, es, params, owned, owners.as_slice(), &narrowed));
+        return Ok(all_name_own(ctx, es, params, owned, owners.as_slice(), narrowed));
     }
     if all_stand_alone(params) {
         return Ok(false);
@@ -138,18 +139,11 @@ fn all_stand_alone(params: &[Binder]) -> bool
     ensures { IsTrue result ↔ All (λ (p : Param). p.bound ≡ true → p.deps ≡ []) params.now }
 {
     for param in params {
-        if !stands_alone(param) {
+        if param.bound && !param.deps.as_slice().is_empty() {
             return false;
         }
     }
     true
-}
-
-/// The same of one parameter.
-fn stands_alone(param: &Binder) -> bool
-    ensures { IsTrue result ↔ (param.now.bound ≡ true → param.now.deps ≡ []) }
-{
-    !param.bound || param.deps.as_slice().is_empty()
 }
 
 /// Whether each operand names, of the variables that bound parameters have as operands, its own
@@ -160,9 +154,9 @@ fn all_name_own(
     params: &[Binder],
     owned: &VariableSet,
     owners: &[u32],
-    narrowed: &Narrowed,
+    narrowed: &mut Narrowed,
 ) -> bool
-    requires narrowed { AreNarrowed ctx.now owned.now narrowed.now }
+    requires narrowed { AreNarrowed ctx.now owned.now narrowed.old }
     requires owners { HaveOwners params.now es.now owned.now owners.now }
     requires single { (j k x : ℕ) → IsBoundAt params.now j → operand es.now j ≡ var x → IsBoundAt params.now k → operand es.now k ≡ var x → j ≡ k }
     ensures { IsTrue result
@@ -188,15 +182,16 @@ fn names_own(
     i: usize,
     owned: &VariableSet,
     owners: &[u32],
-    narrowed: &Narrowed,
+    narrowed: &mut Narrowed,
 ) -> bool
     requires within { i < length params.now }
-    requires narrowed { AreNarrowed ctx.now owned.now narrowed.now }
+    requires narrowed { AreNarrowed ctx.now owned.now narrowed.old }
     requires owners { HaveOwners params.now es.now owned.now owners.now }
     requires single { (j k x : ℕ) → IsBoundAt params.now j → operand es.now j ≡ var x → IsBoundAt params.now k → operand es.now k ≡ var x → j ≡ k }
-    ensures { IsTrue result
+    ensures answer { IsTrue result
         ↔ ((x : ℕ) (p : Param) → slice_get params.now i ≡ Some p → InV ctx.now x (operand es.now i) → Contains owned.now x
         → IsOperandAt params.now es.now p.deps x ⊎ (IsBoundAt params.now i × (operand es.now i ≡ var x))) }
+    ensures kept { AreNarrowed ctx.now owned.now narrowed.new }
 {
     let own = Own::new(owned, owners, i, &params[i].deps);
     !operand_names_other(ctx, es, i, owned, &own, narrowed)
@@ -209,10 +204,11 @@ fn operand_names_other(
     i: usize,
     variables: &VariableSet,
     own: &Own<'_>,
-    narrowed: &Narrowed,
+    narrowed: &mut Narrowed,
 ) -> bool
-    requires { AreNarrowed ctx.now variables.now narrowed.now }
-    ensures { IsTrue result ↔ ((x : ℕ) × (Contains variables.now x × (Contains own.now x → ⊥)) × InV ctx.now x (operand es.now i)) }
+    requires { AreNarrowed ctx.now variables.now narrowed.old }
+    ensures answer { IsTrue result ↔ ((x : ℕ) × (Contains variables.now x × (Contains own.now x → ⊥)) × InV ctx.now x (operand es.now i)) }
+    ensures kept { AreNarrowed ctx.now variables.now narrowed.new }
 {
     match es.get(i) {
         None => false,

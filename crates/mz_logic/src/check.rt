@@ -3,7 +3,7 @@ ghost use Rattle.mz_base_theory.specs.Checks.{Judges};
 ghost use Rattle.mz_logic_theory.specs.Declaration.{signatures, sorts, context_of, body_of};
 ghost use Rattle.mz_logic_theory.specs.Modifiers.{MayBeResultSort, MayBeBoundSort, MayBeDummySort};
 ghost use Rattle.mz_logic_theory.specs.Variables.{IsBoundAt};
-ghost use Rattle.mz_logic_theory.specs.Legality.{IsParam, AreParams, IsDummy, IsBinderThere, AreBindersThere, AllInRange, NamesThere, BindersRight, SortsRight, BoundRight, ClaimsProvable, decl_checks};
+ghost use Rattle.mz_logic_theory.specs.Legality.{IsParam, AreParams, IsDummy, AreBindersThere, AllInRange, NamesThere, BindersRight, SortsRight, BoundRight, ClaimsProvable, decl_checks};
 ghost use Rattle.mz_logic_theory.specs.DeclView.{declaration, form, term_of, term_view, assertion_of};
 
 use crate::vars::body_deps_are_right;
@@ -114,17 +114,11 @@ fn binders_are_there(env: &Env, end: usize, binders: &[Binder]) -> bool
     ensures { IsTrue result ↔ AreBindersThere (sorts env.now) end binders.now }
 {
     for b in binders {
-        if !is_binder_there(env, end, b) {
+        if !is_sort(env, b.sort) || !places_are_below(end, &b.deps) {
             return false;
         }
     }
     true
-}
-
-fn is_binder_there(env: &Env, end: usize, binder: &Binder) -> bool
-    ensures { IsTrue result ↔ IsBinderThere (sorts env.now) end binder.now }
-{
-    is_sort(env, binder.sort) && places_are_below(end, &binder.deps)
 }
 
 /// Whether the sort is there.
@@ -154,7 +148,8 @@ fn term_binders_are_right(env: &Env, term: &TermDecl) -> bool
     if !are_params(env, &term.params) {
         return false;
     }
-    are_dummies(term.form.dummies()) && are_bound(&term.params, &term.result.deps)
+    are_dummies(term.form.dummies())
+        && are_bound_before(term.params.as_slice(), term.params.len(), &term.result.deps)
 }
 
 /// Whether each binder may be the parameter at its place.
@@ -205,29 +200,16 @@ fn is_bound_before(params: &[Binder], end: usize, place: usize) -> bool
     place < end && is_bound_at(params, place)
 }
 
-/// Whether the places are those of bound parameters.
-fn are_bound(params: &Binders, places: &Deps) -> bool
-    ensures { IsTrue result ↔ All (IsBoundAt params.now) places.now }
-{
-    are_bound_before(params.as_slice(), params.len(), places)
-}
-
 /// Whether each is bound and has no dependencies.
 fn are_dummies(dummies: &[Binder]) -> bool
     ensures { IsTrue result ↔ All IsDummy dummies.now }
 {
     for b in dummies {
-        if !is_dummy(b) {
+        if !b.bound || !b.deps.as_slice().is_empty() {
             return false;
         }
     }
     true
-}
-
-fn is_dummy(binder: &Binder) -> bool
-    ensures { IsTrue result ↔ IsDummy binder.now }
-{
-    binder.bound && binder.deps.as_slice().is_empty()
 }
 
 // ---- 2, 3 and 7: what a sort may be used for
@@ -236,22 +218,30 @@ fn is_dummy(binder: &Binder) -> bool
 pub fn may_be_bound_sort(env: &Env, sort: u32) -> bool
     ensures { IsTrue result ↔ MayBeBoundSort (sorts env.now) sort }
 {
-    env.mods(sort).is_some_and(|mods| !mods.is_strict())
+    match env.mods(sort) {
+        None => false,
+        Some(mods) => !mods.is_strict(),
+    }
 }
 
 /// Whether the sort is there and a term may have results of it.
 pub fn may_be_result_sort(env: &Env, sort: u32) -> bool
     ensures { IsTrue result ↔ MayBeResultSort (sorts env.now) sort }
 {
-    env.mods(sort).is_some_and(|mods| !mods.is_pure())
+    match env.mods(sort) {
+        None => false,
+        Some(mods) => !mods.is_pure(),
+    }
 }
 
 /// Whether the sort is there and a dummy may have it.
 pub fn may_be_dummy_sort(env: &Env, sort: u32) -> bool
     ensures { IsTrue result ↔ MayBeDummySort (sorts env.now) sort }
 {
-    env.mods(sort)
-        .is_some_and(|mods| !mods.is_strict() && !mods.is_free())
+    match env.mods(sort) {
+        None => false,
+        Some(mods) => !mods.is_strict() && !mods.is_free(),
+    }
 }
 
 /// Whether no dummy's sort is strict or free.

@@ -14,14 +14,6 @@ pub fn are_apart_by_pairs(env: &Env, ctx: &Context, es: &Exprs, params: &[Binder
     requires { Fits (signatures env.now) ctx.now es.now params.now }
     ensures { IsTrue result ↔ Apart ctx.now es.now params.now }
 {
-    are_all_apart(env, ctx, es, params)
-}
-
-fn are_all_apart(env: &Env, ctx: &Context, es: &Exprs, params: &[Binder]) -> bool
-    requires there { AllInRange (signatures env.now) (length ctx.now) es.now }
-    requires many { length (listed es.now) ≡ length params.now }
-    ensures { IsTrue result ↔ Apart ctx.now es.now params.now }
-{
     for j in 0..params.len() {
         if params[j].bound && !are_apart_from(env, ctx, es, params, j) {
             return false;

@@ -53,18 +53,13 @@ fn in_variable(ctx: &Context, y: u32, x: usize) -> bool
 {
     match ctx.get(y) {
         None => unreachable!(),
-        Some(binder) => is_in_binder(binder, y, x),
-    }
-}
-
-/// Whether `x` is in V of the variable `y` with this binder.
-fn is_in_binder(binder: &Binder, y: u32, x: usize) -> bool
-    ensures { IsTrue result ↔ (((binder.now.bound ≡ true) × (x ≡ y)) ⊎ ((binder.now.bound ≡ false) × Contains binder.now.deps x)) }
-{
-    if binder.bound {
-        x == y as usize
-    } else {
-        has_place(&binder.deps, x)
+        Some(binder) => {
+            if binder.bound {
+                x == y as usize
+            } else {
+                has_place(&binder.deps, x)
+            }
+        }
     }
 }
 
@@ -156,17 +151,10 @@ fn is_variable_at(es: &Operands, place: usize, x: usize) -> bool
 {
     match es.get(place) {
         None => false,
-        Some(e) => is_variable(&e, x),
-    }
-}
-
-/// Whether the expression is the variable `x`.
-fn is_variable(expr: &ExprRef, x: usize) -> bool
-    ensures { IsTrue result ↔ (expr.now ≡ var x) }
-{
-    match expr.shape() {
-        Shape::Var(y) => y as usize == x,
-        Shape::App(_, _) => false,
+        Some(e) => match e.shape() {
+            Shape::Var(y) => y as usize == x,
+            Shape::App(_, _) => false,
+        },
     }
 }
 

@@ -1,5 +1,5 @@
 -- What regular variables depend on, narrowed to variables that are sought.
-use Rattle.std.proofs.Common.{◌≡◌, ◌∙◌, ◌⊎◌, ◌↔◌, ◌++◌, ℕ, List, [], ◌∷◌, Bool, true, false, Some, slice_get, Contains, IsTrue, ap, sym, refl, subst, inl, inr}
+use Rattle.std.proofs.Common.{◌≡◌, ◌∙◌, ◌⊎◌, ◌↔◌, ◌++◌, ℕ, List, [], ◌∷◌, Bool, true, false, Some, slice_get, Contains, IsTrue, Result, Ok, Err, OnOk, OnErr, ap, sym, refl, subst, inl, inr}
 use Rattle.std.specs.Prelude.{cond, if◌then◌else◌}
 use Rattle.std.specs.Map.{lookup}
 use Rattle.std.proofs.lemmas.List.Elements.{Contains-append_left, Contains-append_right, Contains-append_cases}
@@ -40,17 +40,21 @@ inserted y vs eq is (e ∷ es) z ws has = go (eq y e.0) refl has (inserted y vs 
       | inr behind ↦ elim (later behind) [ inl old ↦ inl (contains_tail e (z, ws) es old) | inr new ↦ inr new ]
     ]
 
+-- a call that goes through or doesn't
+pub either-way : {A E : Type 0} → (r : Result A E) (P Q R : Type 0) → OnOk r P → OnErr r Q → (P → R) → (Q → R) → R
+either-way (Ok _) P Q R p q f g = f p
+either-way (Err _) P Q R p q f g = g q
+
 -- ---- one more
 
 pub narrowed-none : (ctx : List Binder) (variables : List ℕ) (ns : List (ℕ × List ℕ)) → ns ≡ [] → AreNarrowed ctx variables ns
 narrowed-none ctx variables ns empty y few has = absurd (contains_none (y, few) (subst (λ es. Contains es (y, few)) empty has))
 
-pub narrowed-more : (ctx : List Binder) (variables : List ℕ) (ns ms : List (ℕ × List ℕ)) (y : ℕ) (b : Binder) (few : List ℕ) → AreNarrowed ctx variables ns → Some b ≡ slice_get ctx y
-    → ((x : ℕ) → Contains variables x → Contains few x ↔ Contains b.deps x) → ((z : ℕ) (ws : List ℕ) → Contains ms (z, ws) → Contains ns (z, ws) ⊎ ((z ≡ y) × (ws ≡ few))) → AreNarrowed ctx variables ms
-narrowed-more ctx variables ns ms y b few old at is grows z ws has = elim (grows z ws has) [
+pub narrowed-more : (ctx : List Binder) (variables : List ℕ) (ns ms : List (ℕ × List ℕ)) (y : ℕ) (b : Binder) → AreNarrowed ctx variables ns → Some b ≡ slice_get ctx y
+    → ((z : ℕ) (ws : List ℕ) → Contains ms (z, ws) → Contains ns (z, ws) ⊎ ((z ≡ y) × ((x : ℕ) → Contains variables x → Contains ws x ↔ Contains b.deps x))) → AreNarrowed ctx variables ms
+narrowed-more ctx variables ns ms y b old at grows z ws has = elim (grows z ws has) [
   | inl had ↦ old z ws had
-  | inr (same, few-is) ↦ λ c there x sought.
-      subst (λ us. Contains us x ↔ Contains c.deps x) (sym few-is) (subst (λ (d : Binder). Contains few x ↔ Contains d.deps x) (one_at (sym at) (subst (λ k. slice_get ctx k ≡ Some c) same there)) (is x sought))
+  | inr (same, is) ↦ λ c there x sought. subst (λ (d : Binder). Contains ws x ↔ Contains d.deps x) (one_at (sym at) (subst (λ k. slice_get ctx k ≡ Some c) same there)) (is x sought)
 ]
 
 -- ---- what is common

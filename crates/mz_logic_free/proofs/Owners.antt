@@ -82,3 +82,11 @@ module _ (owned owners : List ℕ) (place : ℕ) (others : List ℕ) (x : ℕ) w
           is ∙ ap var (sym (eqb-true x (get_or owned k x) same)),
           own-by-owner (get_or owners k x) (ap (option_and_then (slice_get owners)) at ∙ beside),
         )
+
+-- where no owner stands beside any, none is one's own
+no-owner : (owned : List ℕ) (x : ℕ) (o : Option ℕ) → position (λ y. x == y) owned ≡ o → owner_beside owned [] x ≡ None
+no-owner owned x None at = ap (option_and_then (slice_get [])) at
+no-owner owned x (Some i) at = ap (option_and_then (slice_get [])) at
+
+pub none-owned : (owned : List ℕ) (place : ℕ) (others : List ℕ) (x : ℕ) → Contains (filter (is_own owned [] place others) owned) x → ⊥
+none-owned owned place others x has = true≢false (sym ((has-none owned [] place others x (no-owner owned x (position (λ y. x == y) owned) refl)).1 has))

@@ -65,14 +65,11 @@ pub cut-trees : (xs : List Expr) (i : ℕ) (e : Expr) → i < length xs → e �
 cut-trees xs i e within is = ap trees (drop-item xs i e within is)
 
 -- where none is its own
-pub but-none : (ctx : List Binder) (xs own : List ℕ) → own ≡ [] → (es : Trees) (b : Bool) → IsTrue b ↔ SomeName ctx (IsOther xs own) es → IsTrue b ↔ SomeName ctx (Contains xs) es
-but-none ctx xs own empty es b (to, from) = (
+pub but-none : (ctx : List Binder) (xs own : List ℕ) → ((x : ℕ) → Contains own x → ⊥) → (es : Trees) (b : Bool) → IsTrue b ↔ SomeName ctx (IsOther xs own) es → IsTrue b ↔ SomeName ctx (Contains xs) es
+but-none ctx xs own none-in es b (to, from) = (
   λ is. (let (x, has, free) = to is in (x, has.0, free)),
   λ (x, has, free). from (x, (has, none-in x), free),
 )
-  where
-    none-in : (x : ℕ) → Contains own x → ⊥
-    none-in x has = (let (k, below, _) = subst (λ (ys : List ℕ). Contains ys x) empty has in absurd (let e : k < 0 = below in omega (arith, e)))
 
 -- ---- a variable
 

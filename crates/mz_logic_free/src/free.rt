@@ -31,8 +31,38 @@ pub fn free_vars_are_among(
     requires { (s : ℕ) × HasSort (signatures env.now) ctx.now (tree expr.now) s }
     ensures { IfOk result (λ are. IsTrue are ↔ ((x : ℕ) → InFV (signatures env.now) ctx.now x (tree expr.now) → Contains places.now x)) }
 {
-    let mut covered = Covered::of(alloc, places)?;
-    covers(env, ctx, &expr.lent(), &mut covered)
+    let mut covered = Covered {
+        variables: VariableSet::new(alloc),
+        known: VariableSet::new(alloc),
+    };
+    free_vars_are_covered(env, ctx, expr, places, &mut covered)
+}
+
+/// The same, with room for what is covered.
+fn free_vars_are_covered(
+    env: &Env,
+    ctx: &Context,
+    expr: &Expr,
+    places: &Deps,
+    covered: &mut Covered,
+) -> Result<bool, AllocError>
+    requires sorted { (s : ℕ) × HasSort (signatures env.now) ctx.now (tree expr.now) s }
+    requires empty { covered.old.variables ≡ [] }
+    requires known { covered.old.known ≡ [] }
+    ensures { IfOk result (λ are. IsTrue are ↔ ((x : ℕ) → InFV (signatures env.now) ctx.now x (tree expr.now) → Contains places.now x)) }
+{
+    cover_places(places, &mut covered.variables)?;
+    covers(env, ctx, &expr.lent(), covered)
+}
+
+/// Adds the variables at these places.
+fn cover_places(places: &Deps, variables: &mut VariableSet) -> Result<(), AllocError>
+    ensures { OnOk result ((x : ℕ) → Contains variables.new x ↔ (Contains variables.old x ⊎ Contains places.now x)) }
+{
+    for place in places.as_slice() {
+        variables.add(*place)?;
+    }
+    Ok(())
 }
 
 /// The variables that are covered, and of the regular ones those that were looked at: all on which these
@@ -44,18 +74,8 @@ struct Covered {
 }
 
 impl Covered {
-    /// The variables at these places.
-    fn of(alloc: Global, places: &Deps) -> Result<Covered, AllocError>
-        ensures variables { IfOk result (λ covered. (x : ℕ) → Contains covered.variables x ↔ Contains places.now x) }
-        ensures known { IfOk result (λ covered. covered.known ≡ []) }
-    {
-        Ok(Covered {
-            variables: VariableSet::of(alloc, places)?,
-            known: VariableSet::new(alloc),
-        })
-    }
-
     /// Keeps the first ones.
+    #[inline]
     fn truncate(&mut self, variables: usize, known: usize)
         ensures variables { self.new.variables ≡ take variables self.old.variables }
         ensures known { self.new.known ≡ take known self.old.known }
@@ -183,6 +203,7 @@ fn bind(
 }
 
 /// How many variables are known without what is bound at these places.
+#[inline]
 fn known_outside(bound: &[u32], before: usize, known: &VariableSet) -> usize
     ensures { ((bound.now ≡ []) × (result ≡ length known.now)) ⊎ (result ≡ before) }
 {
@@ -300,6 +321,7 @@ pub fn bound_operand(params: &[Binder], es: &Exprs, place: usize) -> Option<u32>
 }
 
 /// The same of operands that are lent.
+#[inline]
 fn lent_bound_operand(params: &[Binder], es: &Operands, place: usize) -> Option<u32>
     ensures { MatchOption result ((x : ℕ) → IsBoundAt params.now place → operand es.now place ≡ var x → ⊥) (λ x. IsBoundAt params.now place × (operand es.now place ≡ var x)) }
 {
@@ -315,16 +337,9 @@ fn variable_at(es: &Operands, place: usize) -> Option<u32>
 {
     match es.get(place) {
         None => None,
-        Some(e) => variable_of(&e),
-    }
-}
-
-/// The variable that the expression is, if it is one.
-fn variable_of(expr: &ExprRef) -> Option<u32>
-    ensures { MatchOption result ((x : ℕ) → expr.now ≡ var x → ⊥) (λ x. expr.now ≡ var x) }
-{
-    match expr.shape() {
-        Shape::Var(y) => Some(y),
-        Shape::App(_, _) => None,
+        Some(e) => match e.shape() {
+            Shape::Var(y) => Some(y),
+            Shape::App(_, _) => None,
+        },
     }
 }

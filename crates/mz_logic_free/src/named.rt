@@ -1,5 +1,5 @@
 // Whether expressions name one of many variables, in one walk over them.
-ghost use Rattle.std.specs.Prelude.{◌≡◌, ◌↔◌, ◌⊎◌, ℕ, List, IsTrue, Contains, true, false};
+ghost use Rattle.std.specs.Prelude.{◌≡◌, ◌↔◌, ◌⊎◌, [], ℕ, List, IsTrue, Contains, true, false};
 ghost use Rattle.mz_logic_theory.specs.Tree.{var};
 ghost use Rattle.mz_logic_theory.specs.Variables.{InV, InSomeV};
 ghost use Rattle.mz_logic_theory.specs.View.{tree};
@@ -18,11 +18,23 @@ pub fn some_name_any(alloc: Global, ctx: &Context, es: &Exprs, variables: &Varia
     if variables.is_empty() {
         return false;
     }
-    let none = VariableSet::new(alloc);
+    let mut narrowed = Narrowed::new(alloc);
+    some_name_sought(ctx, es, variables, &mut narrowed)
+}
+
+/// The same, with room for what is narrowed.
+fn some_name_sought(
+    ctx: &Context,
+    es: &Exprs,
+    variables: &VariableSet,
+    narrowed: &mut Narrowed,
+) -> bool
+    requires { narrowed.old ≡ [] }
+    ensures { IsTrue result ↔ ((x : ℕ) × Contains variables.now x × InSomeV ctx.now x es.now) }
+{
     let others = Deps::new();
-    let own = Own::new(&none, &[], 0, &others);
-    let narrowed = Narrowed::of_or_none(alloc, ctx, es, variables);
-    some_name_other(ctx, es, variables, &own, &narrowed)
+    let own = Own::new(variables, &[], 0, &others);
+    some_name_other(ctx, es, variables, &own, narrowed)
 }
 
 /// Whether one of the variables, but for those that are `own`, is in V of one of the expressions.
@@ -32,10 +44,11 @@ fn some_name_other(
     es: &Exprs,
     variables: &VariableSet,
     own: &Own<'_>,
-    narrowed: &Narrowed,
+    narrowed: &mut Narrowed,
 ) -> bool
-    requires { AreNarrowed ctx.now variables.now narrowed.now }
-    ensures { IsTrue result ↔ ((x : ℕ) × (Contains variables.now x × (Contains own.now x → ⊥)) × InSomeV ctx.now x es.now) }
+    requires { AreNarrowed ctx.now variables.now narrowed.old }
+    ensures answer { IsTrue result ↔ ((x : ℕ) × (Contains variables.now x × (Contains own.now x → ⊥)) × InSomeV ctx.now x es.now) }
+    ensures kept { AreNarrowed ctx.now variables.now narrowed.new }
 {
     for e in es.as_slice() {
         if names_other(ctx, e, variables, own, narrowed) {
@@ -52,10 +65,11 @@ pub fn names_other(
     expr: &Expr,
     variables: &VariableSet,
     own: &Own<'_>,
-    narrowed: &Narrowed,
+    narrowed: &mut Narrowed,
 ) -> bool
-    requires { AreNarrowed ctx.now variables.now narrowed.now }
-    ensures { IsTrue result ↔ ((x : ℕ) × (Contains variables.now x × (Contains own.now x → ⊥)) × InV ctx.now x (tree expr.now)) }
+    requires { AreNarrowed ctx.now variables.now narrowed.old }
+    ensures answer { IsTrue result ↔ ((x : ℕ) × (Contains variables.now x × (Contains own.now x → ⊥)) × InV ctx.now x (tree expr.now)) }
+    ensures kept { AreNarrowed ctx.now variables.now narrowed.new }
 {
     match expr.kind() {
         ExprKind::Var(y) => variable_names_other(ctx, *y, variables, own, narrowed),
@@ -70,14 +84,18 @@ fn variable_names_other(
     y: u32,
     variables: &VariableSet,
     own: &Own<'_>,
-    narrowed: &Narrowed,
+    narrowed: &mut Narrowed,
 ) -> bool
-    requires { AreNarrowed ctx.now variables.now narrowed.now }
-    ensures { IsTrue result ↔ ((x : ℕ) × (Contains variables.now x × (Contains own.now x → ⊥)) × InV ctx.now x (var y)) }
+    requires { AreNarrowed ctx.now variables.now narrowed.old }
+    ensures answer { IsTrue result ↔ ((x : ℕ) × (Contains variables.now x × (Contains own.now x → ⊥)) × InV ctx.now x (var y)) }
+    ensures kept { AreNarrowed ctx.now variables.now narrowed.new }
 {
     match ctx.get(y) {
         None => false,
-        Some(binder) => binder_names_other(binder, y, variables, own, narrowed),
+        Some(binder) => {
+            narrowed.learn(y, binder, variables);
+            binder_names_other(binder, y, variables, own, narrowed)
+        }
     }
 }
 

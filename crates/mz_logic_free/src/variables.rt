@@ -1,8 +1,7 @@
 // Sets of variables, for what goes over expressions.
-ghost use Rattle.std.specs.Prelude.{◌≡◌, ◌==◌, ◌↔◌, ◌⊎◌, ◌++◌, ◌∷◌, [], ℕ, List, IsTrue, IfOk, OnOk, Contains, length, position, take};
+ghost use Rattle.std.specs.Prelude.{◌≡◌, ◌==◌, ◌↔◌, ◌⊎◌, ◌++◌, ◌∷◌, [], ℕ, List, IsTrue, OnOk, Contains, length, position, take};
 
 use indexmap::IndexSet;
-use mz_logic_theory::Deps;
 use std::alloc::{AllocError, Global};
 use std::marker::Model;
 
@@ -28,17 +27,6 @@ impl VariableSet {
         VariableSet {
             places: IndexSet::new(alloc),
         }
-    }
-
-    /// The variables at these places.
-    pub(crate) fn of(alloc: Global, deps: &Deps) -> Result<VariableSet, AllocError>
-        ensures { IfOk result (λ set. (x : ℕ) → Contains set x ↔ Contains deps.now x) }
-    {
-        let mut set = VariableSet::new(alloc);
-        for place in deps.as_slice() {
-            set.add(*place)?;
-        }
-        Ok(set)
     }
 
     /// How many there are.
@@ -91,9 +79,12 @@ impl VariableSet {
     }
 
     /// Keeps the first ones.
+    #[inline]
     pub(crate) fn truncate(&mut self, len: usize)
         ensures { self.new ≡ take len self.old }
     {
-        self.places.truncate(len);
+        if len < self.places.len() {
+            self.places.truncate(len);
+        }
     }
 }

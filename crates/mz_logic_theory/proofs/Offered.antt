@@ -16,7 +16,7 @@ pub use Rattle.mz_logic_theory.proofs.LegalIsRight.{legal_env_is_right, legal_pu
 pub use Rattle.mz_logic_theory.proofs.Lists.{all_at_end, all_from_each, each_at_end, each_from_all, each_so_far_more, not_all}
 pub use Rattle.mz_logic_theory.proofs.Longer.{derived_has_provable, keep_sorts}
 pub use Rattle.mz_logic_theory.proofs.Lookup.{none_read}
-pub use Rattle.mz_logic_theory.proofs.Past.{at-end, at-past, length-past, operand-past, past-at, past-end, past-trees, size-at, size-past}
+pub use Rattle.mz_logic_theory.proofs.Past.{at-end, past-at, past-end}
 pub use Rattle.mz_logic_theory.proofs.PlainLegality.{assertions_are_sorted, terms_are_sorted}
 pub use Rattle.mz_logic_theory.proofs.Ranges.{slice_get-rows}
 pub use Rattle.mz_logic_theory.proofs.Repeated.{each_repeated}
@@ -24,8 +24,8 @@ pub use Rattle.mz_logic_theory.proofs.Rules.{many_of_fits, operand_in_range, ran
 pub use Rattle.mz_logic_theory.proofs.Scoped.{DepsInside, free_below}
 pub use Rattle.mz_logic_theory.proofs.SortedSides.{sorted_sides}
 pub use Rattle.mz_logic_theory.proofs.Sound.{signature_of_term}
-pub use Rattle.mz_logic_theory.proofs.Trees.{length-trees, operand_in, operand_past}
-pub use Rattle.mz_logic_theory.proofs.Under.{in_v-under, size-under, under-last}
+pub use Rattle.mz_logic_theory.proofs.Trees.{operand_in, operand_past}
+pub use Rattle.mz_logic_theory.proofs.Under.{in_v-under}
 pub use Rattle.mz_logic_theory.proofs.WordBits.{length-binders, place_to, set_cases}
 pub use Rattle.mz_logic_theory.proofs.WordsAsParams.{words_say_parameters, words_say_results}
 pub use Rattle.mz_logic_theory.proofs.WordsWritten.{After, among-true, at-first, bits-few, here, next, params-back, places-same, result-says, results-back, says}

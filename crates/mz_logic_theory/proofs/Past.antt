@@ -1,5 +1,5 @@
 -- What is left of a list of expressions behind a place.
-use Rattle.std.proofs.Common.{ℕ, zero, suc, ◌≡◌, ◌<◌, ◌≤◌, ◌+◌, ◌-◌, ◌∙◌, List, [], ◌∷◌, length, drop, map, get_or, slice_get, Some, None, ap, refl, sym, subst, arith, le_of_suc-le-suc, not-suc-le-zero}
+use Rattle.std.proofs.Common.{ℕ, zero, suc, ◌≡◌, ◌<◌, ◌≤◌, ◌+◌, ◌∙◌, List, [], ◌∷◌, length, map, get_or, slice_get, Some, None, ap, refl, sym, subst, arith, le_of_suc-le-suc, not-suc-le-zero}
 use Rattle.std.proofs.lemmas.Option.{none-some}
 use Rattle.mz_logic_theory.specs.Tree.{Tree, Trees, app, none, more, listed, operand, past, size, trees_size}
 use Rattle.mz_logic_theory.specs.View.{trees}
@@ -75,16 +75,6 @@ size-past (more e es) (suc i) = let ih = size-past es i in omega (arith, ih)
 -- the i-th one isn't larger than all
 pub size-at : (es fs : Trees) (i : ℕ) (e : Tree) → past i es ≡ more e fs → size e ≤ trees_size es
 size-at es fs i e is = let small = size-past es i in let same = ap trees_size is in omega (arith, small, same)
-
-pub past-trees : (es : List Tree) (i : ℕ) → past i (trees es) ≡ trees (drop i es)
-past-trees es zero = refl
-past-trees [] (suc i) = refl
-past-trees (e ∷ es) (suc i) = past-trees es i
-
-pub length-past : (es : Trees) (i : ℕ) → length (listed (past i es)) ≡ length (listed es) - i
-length-past es zero = omega arith
-length-past none (suc i) = omega arith
-length-past (more e es) (suc i) = let ih = length-past es i in omega (arith, ih)
 
 -- what holds of no expressions holds at the end
 pub at-end : (F : Trees → Type 0) (es : Trees) (i : ℕ) → length (listed es) ≤ i → F none → F (past i es)

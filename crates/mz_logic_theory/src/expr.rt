@@ -259,16 +259,6 @@ fn shape_under<'a>(path: &'a [u32], expr: &'a Expr) -> Shape<'a>
 }
 
 impl<'a> ExprRef<'a> {
-    /// The same expression.
-    pub fn again(&self) -> ExprRef<'a>
-        ensures { result ≡ self.now }
-    {
-        ExprRef {
-            path: self.path,
-            expr: self.expr,
-        }
-    }
-
     /// What it is.
     pub fn shape(&self) -> Shape<'a>
         ensures { shape_tree result ≡ self.now }

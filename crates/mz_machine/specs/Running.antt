@@ -1,14 +1,14 @@
 -- A machine in two parts: the statement whose body runs, and what its commands change.
-use Rattle.std.specs.Prelude.{◌≡◌, length, reverse}
+use Rattle.std.specs.Prelude.{length, reverse}
 use Rattle.mz_base.specs.Gaps.{gaps_of}
 use Rattle.mz_logic_theory.specs.Tree.{Tree}
-use Rattle.mz_store.specs.Bits.{bound_vars}
 use Rattle.mz_unify.specs.Stored.{items_at}
 use Rattle.mz_machine_env.specs.OwnRow.{byte_of}
-use Rattle.mz_machine_theory.specs.Headings.{heading_of}
+use Rattle.mz_machine_theory.specs.Headings.{kind_at}
 use Rattle.mz_machine_theory.specs.MachineState.{State}
 use Rattle.mz_machine.specs.OverStore.{IsUnderway}
 use Rattle.mz_machine.specs.OpenEquations.{stored, AreSettled, whole_state}
+use Rattle.mz_machine.specs.Parameters.{IsOwn}
 use Rattle.mz_machine.specs.Steps.{Underway}
 use Rattle.mz_machine.specs.declared.machine.Setting.{Setting}
 use Rattle.mz_machine.specs.declared.machine.Parts.{Parts}
@@ -23,5 +23,5 @@ machine_of t p = machine_in t p (whole_state p.store p.heap.items p.equations.it
 abbrev pub IsRunning : Setting → Parts → Type 0
 IsRunning t p =
     IsUnderway t.earlier.file (byte_of t.kind) t.row t.earlier.rows p.store p.heap.items p.stack.items p.hyps.items
-    × (t.bound_params ≡ length (bound_vars (heading_of t.earlier.file (byte_of t.kind) t.row).params))
+    × IsOwn t.earlier.file t.row (kind_at (byte_of t.kind)) t.entered
     × AreSettled (stored p.store) (reverse p.equations.items) (items_at p.store p.stack.items)

@@ -212,7 +212,7 @@ fn left(setting: &Setting, parts: &Parts, checked: BodyChecked) -> Option<Entere
     ensures { IfSome result (λ last. Remembers setting.now.earlier.file last parts.now.store) }
 {
     match checked {
-        BodyChecked::Good(_) => Some(setting.entered(parts)),
+        BodyChecked::Good(_) => Some(setting.entered),
         BodyChecked::Refused { .. } | BodyChecked::Mem => None,
     }
 }

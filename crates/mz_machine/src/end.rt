@@ -21,17 +21,18 @@ ghost use Rattle.mz_machine.specs.Endings.{mode_at, ended, IsOwnRun};
 use crate::commands::heap::is_provable;
 use mz_cmd::{K, Steps};
 use mz_logic_theory::Word;
-use mz_machine_env::{BodyKind, Earlier, Spare, own_arity, own_proofs, own_stream};
+use mz_machine_env::{BodyKind, Earlier, Spare, own_proofs, own_stream};
 use mz_store::{Id, Item, Store};
 use mz_unify::{Stop, UnifyMode, kept_apart, unify_in};
 use std::sync::ledger::Ledger;
 
-/// Ends the body of the next row of its kind: the stack is one item, for a theorem a proof and else
+/// Ends the body of the next row of its kind, which has so many parameters: the stack is one item, for a theorem a proof and else
 /// an expression, and what the row's own stream spells.
 pub(crate) fn end<L: Ledger>(
     earlier: &Earlier,
     kind: BodyKind,
     row: u32,
+    params: u32,
     store: &Store,
     stack: &[Item],
     hyps: &[Id],
@@ -42,6 +43,7 @@ pub(crate) fn end<L: Ledger>(
     requires over { IsOver (signatures_of earlier.now) store.now }
     requires mode { store.now.mode ≡ mode_for (kind_of kind) }
     requires context { IsContextOf (heading_by earlier.now.file row (kind_of kind)).params store.now.context }
+    requires many { params ≡ length (heading_by earlier.now.file row (kind_of kind)).params }
     requires params { AreFirst store.now (length (heading_by earlier.now.file row (kind_of kind)).params) }
     requires stack { AreItemsIn store.now stack.now }
     requires hyps { AreIn store.now hyps.now }
@@ -56,7 +58,6 @@ pub(crate) fn end<L: Ledger>(
     if let Err(rule) = check_target(earlier, kind, row, store, target) {
         return Err(Stop::Rule(rule));
     }
-    let params = own_arity(earlier, kind, row);
     let Ok(()) = spare.ids.reach(params) else {
         return Err(Stop::Mem);
     };

@@ -26,7 +26,7 @@ use mz_base::Mode;
 use mz_cmd::{Cmd, K, ProofCode, Steps};
 use mz_layout_tables::{Mmb, Rows};
 use mz_logic_theory::Word;
-use mz_machine_env::{BodyKind, Earlier, Heap, Spare, deps_mode, kind_by, own_arity, own_words_at};
+use mz_machine_env::{BodyKind, Earlier, Heap, Spare, kind_by};
 use mz_store::{Id, Item, Seed, Store};
 use mz_unify::Stop;
 use std::alloc::{AllocError, Global};
@@ -43,7 +43,7 @@ pub(crate) struct Setting<'a> {
     mode: Mode,
     kind: BodyKind,
     row: u32,
-    bound_params: u32,
+    pub(crate) entered: Entered,
 }
 
 /// What a body's commands change.
@@ -225,20 +225,21 @@ impl<'a> Setting<'a> {
         ensures running { IfOk result (λ setting. IsRunning setting parts.new) }
         ensures begun { IfOk result (λ setting. IsBegun (gaps_of mode) mmb.now (byte_of kind) row before (machine_of setting parts.new)) }
     {
+        // That the file is a binary, so that no row has too many words, is reported by the call.
+        let _ = mmb.file();
         let earlier = Earlier::new(mmb, before);
-        enter(&earlier, kind, row, last, words, &mut parts.store)?;
-        parts.heap.begin(own_arity(&earlier, kind, row) as usize)?;
+        let entered = enter(&earlier, kind, row, last, words, &mut parts.store)?;
+        parts.heap.begin(entered.params as usize)?;
         parts.stack.clear();
         parts.equations.clear();
         parts.hyps.clear();
         parts.sorry = false;
-        let bound_params = parts.store.bound_count();
         Ok(Setting {
             earlier,
             mode,
             kind,
             row,
-            bound_params,
+            entered,
         })
     }
 
@@ -274,19 +275,6 @@ impl<'a> Setting<'a> {
         )
     }
 
-    /// The parameters that stand in the store.
-    pub(crate) fn entered(&self, parts: &Parts) -> Entered
-        requires { IsRunning self.now parts.now }
-        ensures { Remembers self.now.earlier.file result parts.now.store }
-    {
-        Entered {
-            at: own_words_at(&self.earlier, self.kind, self.row),
-            params: own_arity(&self.earlier, self.kind, self.row),
-            bound: self.bound_params,
-            mode: deps_mode(self.kind),
-        }
-    }
-
     /// Ends the body, and counts the steps of its END.
     pub(crate) fn finish<L: Ledger>(&self, parts: &mut Parts, steps: &mut Steps<L>) -> Finished
         requires { IsRunning self.now parts.old }
@@ -301,6 +289,7 @@ impl<'a> Setting<'a> {
             &self.earlier,
             self.kind,
             self.row,
+            self.entered.params,
             &parts.store,
             &parts.stack,
             &parts.hyps,
@@ -309,7 +298,7 @@ impl<'a> Setting<'a> {
         ) {
             Ok(()) => Finished::Body(counted(
                 &parts.store,
-                self.bound_params,
+                self.entered.bound,
                 &parts.hyps,
                 parts.sorry,
             )),

@@ -1,8 +1,8 @@
 //! A row's parameters, as the first expressions of a store.
-ghost use Rattle.std.specs.Prelude.{◌≡◌, IfSome, IsTrue, OnOk, length};
+ghost use Rattle.std.specs.Prelude.{◌≡◌, ◌<◌, ◌^◌, IfOk, IfSome, IsTrue, OnOk, length};
 ghost use Rattle.mz_logic_theory.specs.Words.{BitsRight};
 ghost use Rattle.mz_machine_env.specs.OwnRow.{IsNextRow, kind_of, mode_for, own_words, words_from};
-ghost use Rattle.mz_machine.specs.Parameters.{AreEntered, Remembers};
+ghost use Rattle.mz_machine.specs.Parameters.{AreEntered, IsOwn, Remembers};
 
 use mz_logic_theory::Word;
 use mz_machine_env::{BodyKind, Earlier, deps_mode, own_arity, own_words_at, read_words};
@@ -21,20 +21,22 @@ pub(crate) struct Entered {
 }
 
 impl Entered {
-    /// Whether a body of the next row of the kind begins with the same.
-    fn is_of(self, earlier: &Earlier, kind: BodyKind, row: u32) -> bool
-        requires { IsNextRow earlier.now.file earlier.now.rows row (kind_of kind) }
+    /// Whether a body of the next row of the kind, whose words begin at a place, begins with the same.
+    fn is_of(self, earlier: &Earlier, kind: BodyKind, row: u32, at: u32) -> bool
+        requires next { IsNextRow earlier.now.file earlier.now.rows row (kind_of kind) }
+        requires at { own_words earlier.now.file row (kind_of kind) ≡ words_from earlier.now.file at (length (own_words earlier.now.file row (kind_of kind))) }
         ensures { IsTrue result → (own_words earlier.now.file row (kind_of kind) ≡ words_from earlier.now.file self.at self.params) × (self.mode ≡ mode_for (kind_of kind)) }
     {
-        if self.mode != deps_mode(kind) || self.params != own_arity(earlier, kind, row) {
+        // Only of a row that shares its words the file is asked how many they are.
+        if self.mode != deps_mode(kind) || self.at != at {
             return false;
         }
-        self.at == own_words_at(earlier, kind, row)
+        self.params == own_arity(earlier, kind, row)
     }
 }
 
-/// Makes a store that of the parameters of the next row of the kind. Where they are those that it was
-/// begun with, only what came after them is taken out.
+/// Makes a store that of the parameters of the next row of the kind, and says whose they are. Where they
+/// are those that it was begun with, only what came after them is taken out.
 ///
 /// # Errors
 ///
@@ -46,19 +48,29 @@ pub(crate) fn enter(
     last: Option<Entered>,
     words: &mut Vec<Word>,
     store: &mut Store,
-) -> Result<(), AllocError>
+) -> Result<Entered, AllocError>
     requires next { IsNextRow earlier.now.file earlier.now.rows row (kind_of kind) }
     requires bits { BitsRight (own_words earlier.now.file row (kind_of kind)) }
+    requires few { length (own_words earlier.now.file row (kind_of kind)) < 2 ^ 32 }
     requires last { IfSome last (λ last. Remembers earlier.now.file last store.old) }
-    ensures { OnOk result (AreEntered (own_words earlier.now.file row (kind_of kind)) (mode_for (kind_of kind)) store.new) }
+    ensures entered { OnOk result (AreEntered (own_words earlier.now.file row (kind_of kind)) (mode_for (kind_of kind)) store.new) }
+    ensures own { IfOk result (IsOwn earlier.now.file row (kind_of kind)) }
 {
+    let at = own_words_at(earlier, kind, row);
     if let Some(last) = last {
-        if last.is_of(earlier, kind, row) {
+        if last.is_of(earlier, kind, row, at) {
             store.restart(last.params, last.bound);
-            return Ok(());
+            return Ok(last);
         }
     }
     read_words(words, earlier, kind, row)?;
-    store.begin(words.as_slice(), deps_mode(kind))?;
-    Ok(())
+    let mode = deps_mode(kind);
+    store.begin(words.as_slice(), mode)?;
+    let params = store.len() as u32;
+    Ok(Entered {
+        at,
+        params,
+        bound: store.bound_count(),
+        mode,
+    })
 }

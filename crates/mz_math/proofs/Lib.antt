@@ -4,4 +4,5 @@ pub mod Picking
 pub mod Waiting
 pub mod Example
 pub mod Found
+pub mod Heights
 pub mod Uncoerced

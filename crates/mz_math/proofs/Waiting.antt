@@ -10,7 +10,8 @@ use Rattle.mz_math_theory.specs.FormulaAnswers.{MayLead, IsMaxBefore}
 use Rattle.mz_math_theory.specs.Lookups.{NoVariable, NoLeading}
 use Rattle.mz_math_theory.specs.Grammar.{Words, Item, token, expr, items, operands_at_max, last_level, notated_tree, head_level, applied, IsTermName}
 use Rattle.mz_math_theory.specs.Readable.{IsReadable}
-use Rattle.mz_math_theory.specs.Reading.{NoReading, NoParts, IsRead, IsBegun}
+use Rattle.mz_math_theory.specs.Notation.{max_level}
+use Rattle.mz_math_theory.specs.Reading.{NoReading, NoParts, NotJoined, IsRead, IsBegun}
 use Rattle.mz_math.specs.Steps.{IsUnderWay, Waits, outer_level, Says, turns}
 use Rattle.mz_math.specs.declared.parser.Found.{Found}
 use Rattle.mz_math.specs.declared.parser.Step.{Step}
@@ -31,6 +32,11 @@ IsReading ws tokens os step = (here : List (List ℕ)) × (level : ℕ) × Neste
 -- the turns that are left
 abbrev pub left : ℕ → List Outer → Step → ℕ
 left many os step = 3 * length os + turns many step
+
+-- nothing is joined to what is read at the highest precedence
+pub highest-unjoined : (ws : Words) → IsReadable ws → (tokens : List (List ℕ)) → NotJoined ws max_level tokens
+highest-unjoined ws right [] = tt
+highest-unjoined ws right (w ∷ tokens) = λ k in_k by. right.clear.not_max k in_k
 
 module _ (ws : Words) (right : IsReadable ws) where
   -- ---- forms that begin

@@ -153,7 +153,7 @@ pub fn coerced(
     if !are_none(coercions) {
         return build(alloc, env, coercions, paths, ctx, &tree.lent(), most);
     }
-    if is_low(&tree.lent(), most) {
+    if is_low(&tree, most) {
         return Built::Tree(tree);
     }
     Built::High

@@ -1,6 +1,6 @@
 // What a math string stands for.
-ghost use Rattle.std.specs.Prelude.{◌≡◌, ◌≢◌, ◌↔◌, ◌≤◌, ◌<◌, ◌⊎◌, ◌^◌, ℕ, List, All, IsTrue, IfOk, MatchOption, Some, length};
-ghost use Rattle.mz_logic_theory.specs.Declaration.{sorts};
+ghost use Rattle.std.specs.Prelude.{◌≡◌, ◌≢◌, ◌↔◌, ◌≤◌, ◌<◌, ◌⊎◌, ◌^◌, ℕ, List, All, IsTrue, IfErr, IfOk, MatchOption, Some, length};
+ghost use Rattle.mz_logic_theory.specs.Declaration.{signatures, sorts};
 ghost use Rattle.mz_logic_theory.specs.Modifiers.{MayBeClaimSort};
 ghost use Rattle.mz_logic_theory.specs.View.{tree};
 ghost use Rattle.mz_math_theory.specs.FormulaAnswers.{IsClaimRead, IsFirstUnknown, IsJudged, IsTreeOfFew, settled};
@@ -10,7 +10,7 @@ ghost use Rattle.mz_math_theory.specs.Meaning.{IsGoal};
 ghost use Rattle.mz_math_theory.specs.declared.wanted.Wanted.{Wanted};
 ghost use Rattle.mz_math_theory.specs.Readable.{IsReadable};
 ghost use Rattle.mz_math_theory.specs.Kept.{AreVariables};
-ghost use Rattle.mz_math.specs.Claims.{IsOnlyClaim};
+ghost use Rattle.mz_math.specs.Claims.{IsJudgedOver, IsOnlyClaim, IsRootOf};
 ghost use Rattle.mz_math_coercions.specs.Found.{AreFound};
 ghost use Rattle.mz_math_tokens.specs.MathTokens.{MathTokens, token_texts};
 
@@ -18,7 +18,7 @@ use crate::elaborate::{coerced, sort_of};
 use crate::parser::parse;
 use crate::vocabulary::Vocabulary;
 use mz_lex::S;
-use mz_logic_theory::{Context, Env, Expr};
+use mz_logic_theory::{Context, Env, Expr, ExprRef};
 use mz_math_coercions::{Coercions, Paths, Reached, distance, reached_from, wrap};
 use mz_math_notation::{Notations, Scope};
 use mz_math_theory::{Built, Parsed, Syntax, Wanted};
@@ -112,6 +112,17 @@ fn first_unknown(words: &Vocabulary<'_>, text: &[u8], pieces: &[MathToken]) -> O
     None
 }
 
+/// What is known of a tree before its operands are wrapped.
+#[derive(Clone, Copy)]
+pub struct Root {
+    /// Its sort.
+    sort: u32,
+    /// The sort to which the whole is wrapped before its own rule.
+    goal: u32,
+    /// How high it may be before that.
+    most: usize,
+}
+
 /// What a tree stands for.
 fn meaning_of(
     alloc: Global,
@@ -126,30 +137,103 @@ fn meaning_of(
     requires names { AreVariables scope.now.names }
     ensures { IsJudged (record { env = env.now; table = notations.now; scope = scope.now }) wanted (tree syntax) result }
 {
-    let coercions = notations.coercions();
     let mut paths = Paths::new(alloc);
-    let Ok(found) = sort_of(alloc, env, coercions, &mut paths, ctx, &syntax.lent()) else {
-        return Parsed::Mem;
+    meaning_along(
+        alloc,
+        env,
+        notations.coercions(),
+        &mut paths,
+        ctx,
+        syntax,
+        wanted,
+    )
+}
+
+/// The same, with the paths found so far.
+fn meaning_along(
+    alloc: Global,
+    env: &Env,
+    coercions: &Coercions,
+    paths: &mut Paths,
+    ctx: &Context<'_>,
+    syntax: Expr,
+    wanted: Wanted,
+) -> Parsed
+    requires one { OnePath coercions.now }
+    requires found { AreFound coercions.now paths.old }
+    ensures { IsJudgedOver env.now coercions.now ctx.now wanted (tree syntax) result }
+{
+    match root_of(alloc, env, coercions, paths, ctx, &syntax.lent(), wanted) {
+        Err(answer) => answer,
+        Ok(root) => made_of(alloc, env, coercions, paths, ctx, syntax, root, wanted),
+    }
+}
+
+/// What is known of a tree before its operands are wrapped.
+///
+/// # Errors
+///
+/// What there is to say of a tree that can't be wrapped.
+fn root_of(
+    alloc: Global,
+    env: &Env,
+    coercions: &Coercions,
+    paths: &mut Paths,
+    ctx: &Context<'_>,
+    syntax: &ExprRef<'_>,
+    wanted: Wanted,
+) -> Result<Root, Parsed>
+    requires one { OnePath coercions.now }
+    requires found { AreFound coercions.now paths.old }
+    ensures found { AreFound coercions.now paths.new }
+    ensures ok { IfOk result (λ root. IsRootOf (signatures env.now) coercions.now ctx.now wanted syntax.now root) }
+    ensures err { IfErr result (λ answer. IsJudgedOver env.now coercions.now ctx.now wanted syntax.now answer) }
+{
+    let Ok(found) = sort_of(alloc, env, coercions, paths, ctx, syntax) else {
+        return Err(Parsed::Mem);
     };
     let Some(sort) = found else {
-        return refused(S::NoCoercion);
+        return Err(refused(S::NoCoercion));
     };
     let goal = settled_sort(wanted, sort);
-    let Ok(path) = distance(alloc, coercions, &mut paths, sort, goal) else {
-        return Parsed::Mem;
+    let Ok(path) = distance(alloc, coercions, paths, sort, goal) else {
+        return Err(Parsed::Mem);
     };
     let Some(many) = path else {
-        return refused(S::NoCoercion);
+        return Err(refused(S::NoCoercion));
     };
     if many > MOST {
-        return refused(S::Depth);
+        return Err(refused(S::Depth));
     }
-    match coerced(alloc, env, coercions, &mut paths, ctx, syntax, MOST - many) {
+    Ok(Root {
+        sort,
+        goal,
+        most: MOST - many,
+    })
+}
+
+/// What a tree stands for of which so much is known.
+fn made_of(
+    alloc: Global,
+    env: &Env,
+    coercions: &Coercions,
+    paths: &mut Paths,
+    ctx: &Context<'_>,
+    syntax: Expr,
+    root: Root,
+    wanted: Wanted,
+) -> Parsed
+    requires one { OnePath coercions.now }
+    requires found { AreFound coercions.now paths.old }
+    requires root { IsRootOf (signatures env.now) coercions.now ctx.now wanted (tree syntax) root }
+    ensures { IsJudgedOver env.now coercions.now ctx.now wanted (tree syntax) result }
+{
+    match coerced(alloc, env, coercions, paths, ctx, syntax, root.most) {
         Built::Mem => Parsed::Mem,
         Built::High => refused(S::Depth),
-        Built::Tree(expr) => match wrap(alloc, coercions, &mut paths, sort, goal, expr) {
+        Built::Tree(expr) => match wrap(alloc, coercions, paths, root.sort, root.goal, expr) {
             Err(_) => Parsed::Mem,
-            Ok(expr) => claimed(alloc, env, coercions, &mut paths, sort, expr, wanted),
+            Ok(expr) => claimed(alloc, env, coercions, paths, root.sort, expr, wanted),
         },
     }
 }

@@ -247,6 +247,10 @@ fn joined<'w>(
     ensures says { (from : List (List ℕ)) → IsBegunAs words.now level from (drop before.next tokens.now) before → Says words.now tokens.now from level result }
     ensures less { turns (length tokens.now) result < 8 * (length tokens.now - before.next) + 4 }
 {
+    // No infix constant has the highest precedence.
+    if level == MAX {
+        return Step::Whole(before);
+    }
     let token = match token_at(tokens, before.next) {
         None => return Step::Whole(before),
         Some(token) => token,

@@ -1,13 +1,15 @@
 -- The terms of a path.
-use Rattle.std.proofs.Common.{◌≡◌, ◌<◌, ◌≤◌, ◌∙◌, ◌++◌, ℕ, List, [], ◌∷◌, length, Some, slice_get, get_or, map, ap, ap₂, sym, refl, subst, arith}
-use Rattle.std.specs.Prelude.{All}
+use Rattle.std.proofs.Common.{◌≡◌, ◌<◌, ◌≤◌, ◌∙◌, ◌++◌, ℕ, List, [], ◌∷◌, length, None, Option, Some, slice_get, get_or, map, ap, ap₂, sym, refl, subst, arith}
+use Rattle.std.specs.Prelude.{All, IfSome, IsTrue}
+use Rattle.std.specs.Option.{is_some}
+use Rattle.std.proofs.lemmas.Bool.{true≢false}
 use Rattle.std.proofs.lemmas.List.{length-map, map-append}
 use Rattle.std.proofs.lemmas.List.Elements.{All-push}
 use Rattle.std.proofs.lemmas.Option.{get_or_from_slice_get}
 use Rattle.mz_logic_theory.specs.Tree.{Tree, app, none, more, under}
 use Rattle.mz_math_theory.specs.declared.coercion.Coercion.{Coercion}
 use Rattle.mz_math_theory.specs.Coercions.{IsPath, OnePath, coercion_term, wrapped}
-use Rattle.mz_math_theory.specs.CoercionAnswers.{HasLength}
+use Rattle.mz_math_theory.specs.CoercionAnswers.{HasLength, IsNext}
 use Rattle.mz_math_theory.proofs.Offered.{path-join, path-short}
 use Rattle.mz_math_coercions.specs.Found.{AreTermsOf}
 use Rattle.mz_math_coercions.specs.declared.paths.FoundPath.{FoundPath}
@@ -36,6 +38,16 @@ module _ (cs : List Coercion) (from to : ℕ) (ts : List ℕ) where
 
   pub terms-short : AreTermsOf cs from to ts → length ts ≤ length cs
   terms-short are = (terms-length (length ts) refl are).3
+
+-- ---- one step
+
+-- a coercion that leads right to the end is the whole path
+pub single-terms : (cs : List Coercion) → OnePath cs → (from to p : ℕ) (c : Coercion) → IsNext cs from to p c → c.to ≡ to → AreTermsOf cs from to (c.term ∷ [])
+single-terms cs one from to p c next ends = subst (λ s. AreTermsOf cs from s (c.term ∷ [])) ends (terms-more cs one from from [] p c next.0 next.1 ([], refl, refl, omega arith))
+
+pub single-length : (cs : List Coercion) (from to : ℕ) (o : Option ℕ) → IfSome o (λ t. AreTermsOf cs from to (t ∷ [])) → IsTrue (is_some o) → HasLength cs (length cs) from to 1
+single-length cs from to None are some = absurd (true≢false (sym some))
+single-length cs from to (Some t) are some = terms-length cs from to (t ∷ []) 1 refl are
 
 -- ---- an expression under the terms of a path
 

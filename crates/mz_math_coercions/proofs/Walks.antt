@@ -1,11 +1,11 @@
 -- Coercions in chains, and what a walk along them reaches.
-use Rattle.std.proofs.Common.{◌≡◌, ◌<◌, ◌≤◌, ◌+◌, ◌↔◌, ◌⊎◌, ◌++◌, ◌∙◌, ℕ, zero, suc, List, [], ◌∷◌, length, Bool, true, false, Some, None, Option, slice_get, slice_set, get_or, ap, sym, refl, subst, inl, inr, arith, Contains, length-append, append-nil, append_assoc}
+use Rattle.std.proofs.Common.{◌≡◌, ◌<◌, ◌≤◌, ◌+◌, ◌↔◌, ◌⊎◌, ◌++◌, ◌∙◌, ℕ, zero, suc, List, [], ◌∷◌, length, Bool, true, false, Some, None, Option, slice_get, slice_set, get_or, ap, sym, refl, subst, inl, inr, arith, Contains, length-append, append-nil, append_assoc, take, drop}
 use Rattle.std.specs.Prelude.{cond, if◌then◌else◌, MatchOption}
 use Rattle.std.specs.Map.{lookup}
 use Rattle.std.proofs.lemmas.Bool.{true≢false, cases_order}
 use Rattle.std.proofs.lemmas.Option.{slice_get_within, same_Some, none-some}
-use Rattle.std.proofs.lemmas.List.{get_or-set_same, get_or-set_other}
-use Rattle.std.proofs.lemmas.List.Elements.{Contains-append_left, Contains-push, Contains-push_cases}
+use Rattle.std.proofs.lemmas.List.{drop-append-le, get_or-set_same, get_or-set_other, take-append-drop}
+use Rattle.std.proofs.lemmas.List.Elements.{Contains-append_cases, Contains-append_left, Contains-append_right, Contains-push, Contains-push_cases}
 use Rattle.indexmap.specs.IndexMap.{insert_entry}
 use Rattle.mz_base_theory.proofs.Offered.{contains_at, contains_cases, contains_head, contains_tail, nil-cons, place-of, slice_get-append, slice_get-front, slice_get-last, slice_get-push_cases}
 use Rattle.mz_math_theory.specs.declared.coercion.Coercion.{Coercion}
@@ -48,7 +48,7 @@ new-entry s v eq same ((k, w) ∷ es) none = go (eq s k) refl (new-entry s v eq 
     go true here later = absurd (none (w, subst (λ x. Contains ((k, w) ∷ es) (x, w)) (sym (same k here)) (contains_head (k, w) es)))
     go false here later = ap (λ xs. (k, w) ∷ xs) later
 
-pub pushed : (s v : ℕ) (eq : ℕ → ℕ → Bool) → ((k : ℕ) → eq s k ≡ true → s ≡ k) → (es now new : List (ℕ × ℕ)) → es ≡ now → (Has now s → ⊥) → new ≡ insert_entry eq es s v → new ≡ now ++ (s, v) ∷ []
+pushed : (s v : ℕ) (eq : ℕ → ℕ → Bool) → ((k : ℕ) → eq s k ≡ true → s ≡ k) → (es now new : List (ℕ × ℕ)) → es ≡ now → (Has now s → ⊥) → new ≡ insert_entry eq es s v → new ≡ now ++ (s, v) ∷ []
 pushed s v eq same es now new is none made =
     made ∙ new-entry s v eq same es (λ has. none (subst (λ (xs : List (ℕ × ℕ)). Has xs s) is has)) ∙ ap (λ xs. xs ++ (s, v) ∷ []) is
 
@@ -60,6 +60,33 @@ pushed-only s v t p now new is has = elim (Contains-push_cases now (s, v) (t, p)
 
 pub pushed-there : (s v : ℕ) (now new : List (ℕ × ℕ)) → new ≡ now ++ (s, v) ∷ [] → Has new s
 pushed-there s v now new is = (v, subst (λ (xs : List (ℕ × ℕ)). Contains xs (s, v)) (sym is) (Contains-push now (s, v)))
+
+-- ---- the first few, and the others
+
+module _ (n : ℕ) (steps : List (ℕ × ℕ)) where
+  pub of-first : (x : ℕ × ℕ) → Contains (take n steps) x → Contains steps x
+  of-first x has = subst (λ (xs : List (ℕ × ℕ)). Contains xs x) (take-append-drop n steps) (Contains-append_left (take n steps) (drop n steps) x has)
+
+  of-others : (x : ℕ × ℕ) → Contains (drop n steps) x → Contains steps x
+  of-others x has = subst (λ (xs : List (ℕ × ℕ)). Contains xs x) (take-append-drop n steps) (Contains-append_right (take n steps) (drop n steps) x has)
+
+  module _ (others : List (ℕ × ℕ)) (is : others ≡ drop n steps) where
+    pub among-others : (s : ℕ) (o : Option ℕ) → (Has (take n steps) s → ⊥) → MatchOption o (Has others s → ⊥) (λ p. Contains others (s, p)) → MatchOption o (Has steps s → ⊥) (λ p. Contains steps (s, p))
+    among-others s None before behind = λ has. go has.0 (Contains-append_cases (take n steps) (drop n steps) (s, has.0) (subst (λ (xs : List (ℕ × ℕ)). Contains xs (s, has.0)) (sym (take-append-drop n steps)) has.1))
+      where
+        go : (p : ℕ) → Contains (take n steps) (s, p) ⊎ Contains (drop n steps) (s, p) → ⊥
+        go p (inl first) = before (p, first)
+        go p (inr other) = behind (p, subst (λ (xs : List (ℕ × ℕ)). Contains xs (s, p)) (sym is) other)
+    among-others s (Some p) before behind = of-others (s, p) (subst (λ (xs : List (ℕ × ℕ)). Contains xs (s, p)) is behind)
+
+    module _ (s v : ℕ) (more : List (ℕ × ℕ)) (pushed-is : more ≡ steps ++ (s, v) ∷ []) where
+      longer : length more ≡ length steps + 1
+      longer = ap length pushed-is ∙ length-append steps ((s, v) ∷ [])
+
+      pub others-pushed : (eq : ℕ → ℕ → Bool) → ((k : ℕ) → eq s k ≡ true → s ≡ k) → (Has steps s → ⊥) → n < length more → (new : List (ℕ × ℕ)) → new ≡ insert_entry eq others s v → new ≡ drop n more
+      others-pushed eq same none many new made =
+          pushed s v eq same others (drop n steps) new is (λ has. none (has.0, of-others (s, has.0) has.1)) made
+          ∙ sym (ap (drop n) pushed-is ∙ drop-append-le n steps ((s, v) ∷ []) (omega (arith, longer, many)))
 
 -- ---- chains
 

@@ -52,11 +52,28 @@ fn is_second(
     requires turned { back.now ≡ all_turned graph.now }
     ensures { IfOk result (λ clash. MatchBool clash (OnePath (graph.now ++ coercion ∷ []) → ⊥) (OnePath (graph.now ++ coercion ∷ []))) }
 {
-    let mut front = Reached::of(alloc, coercion.from, 0)?;
-    back.walk(&mut front)?;
-    graph.walk(&mut front)?;
-    let ends = graph.reached_from(alloc, coercion.to)?;
-    Ok(meet(&front, &ends))
+    let mut front = Reached::new(alloc);
+    let mut ends = Reached::new(alloc);
+    is_met(graph, back, coercion, &mut front, &mut ends)
+}
+
+/// Whether it is so, by what is reached before and after the coercion.
+fn is_met(
+    graph: &Graph,
+    back: &Graph,
+    coercion: Coercion,
+    front: &mut Reached,
+    ends: &mut Reached,
+) -> Result<bool, AllocError>
+    requires one { OnePath graph.now }
+    requires turned { back.now ≡ all_turned graph.now }
+    requires fresh { (front.old ≡ []) × (ends.old ≡ []) }
+    ensures { IfOk result (λ clash. MatchBool clash (OnePath (graph.now ++ coercion ∷ []) → ⊥) (OnePath (graph.now ++ coercion ∷ []))) }
+{
+    back.walk_from(coercion.from, 0, front)?;
+    graph.walk(front)?;
+    graph.walk_from(coercion.to, 0, ends)?;
+    Ok(meet(front, ends))
 }
 
 /// Whether both have a sort.

@@ -1,5 +1,6 @@
 // Coercions in the order in which they were declared, and their paths.
-ghost use Rattle.std.specs.Prelude.{◌≡◌, ◌↔◌, ◌≤◌, ◌++◌, ◌∷◌, [], ℕ, List, IsTrue, IfOk, OnErr, MatchBool, MatchOption, length, true};
+ghost use Rattle.std.specs.Prelude.{◌≡◌, ◌↔◌, ◌++◌, ◌∷◌, [], ℕ, List, IsTrue, IfOk, IfSome, OnErr, MatchBool, MatchOption, length, true};
+ghost use Rattle.mz_logic_theory.specs.Tree.{app, more, none};
 ghost use Rattle.mz_logic_theory.specs.View.{tree};
 ghost use Rattle.mz_math_theory.specs.Coercions.{IsPath, OnePath, Reaches, wrapped};
 ghost use Rattle.mz_math_theory.specs.declared.coercion.Coercion.{Coercion};
@@ -14,11 +15,11 @@ use crate::clash::is_clash;
 use crate::graph::Graph;
 use crate::groups::Groups;
 use crate::hops::FirstSteps;
-use crate::next_hop::{lead, terms_along};
-use crate::path_back::{path_back, terms_back};
+use crate::next_hop::{lead, next_coercion, terms_along};
+use crate::path_back::terms_reached;
 use crate::paths::Paths;
 use crate::reached::Reached;
-use mz_logic_theory::{Expr, TermPath};
+use mz_logic_theory::{Expr, Exprs, TermPath};
 use mz_math_theory::Coercion;
 use std::alloc::{AllocError, Global};
 use std::marker::Model;
@@ -172,6 +173,9 @@ pub fn distance(
     if from == to {
         return Ok(Some(0));
     }
+    if single_step(coercions, from, to).is_some() {
+        return Ok(Some(1));
+    }
     match terms_between(alloc, coercions, paths, from, to)? {
         None => Ok(None),
         Some(terms) => Ok(Some(terms.as_slice().len())),
@@ -213,7 +217,9 @@ pub fn reaches(
 pub fn reached_from(alloc: Global, coercions: &Coercions, from: u32) -> Result<Reached, AllocError>
     ensures { IfOk result (λ reached. (t : ℕ) → Has reached t ↔ HasPath coercions.now from t) }
 {
-    coercions.graph.reached_from(alloc, from)
+    let mut reached = Reached::new(alloc);
+    coercions.graph.walk_from(from, 0, &mut reached)?;
+    Ok(reached)
 }
 
 /// An expression of a sort, wrapped in the path to another.
@@ -237,10 +243,39 @@ pub fn wrap(
     if from == to {
         return Ok(expr);
     }
+    if let Some(term) = single_step(coercions, from, to) {
+        return applied(alloc, term, expr);
+    }
     let Some(terms) = terms_between(alloc, coercions, paths, from, to)? else {
         unreachable!()
     };
     Expr::under(alloc, terms, expr)
+}
+
+/// The term of the coercion that leads from a sort right to another, where the first steps are kept
+/// and it is one. Most paths are of one step, and this takes no memory.
+fn single_step(coercions: &Coercions, from: u32, to: u32) -> Option<u32>
+    ensures { IfSome result (λ term. AreTermsOf coercions.now from to (term ∷ [])) }
+{
+    if !coercions.is_led {
+        return None;
+    }
+    let items = coercions.graph.as_slice();
+    let coercion = next_coercion(items, &coercions.firsts, from, to)?;
+    if coercion.to == to {
+        Some(coercion.term)
+    } else {
+        None
+    }
+}
+
+/// A term over one expression.
+fn applied(alloc: Global, term: u32, expr: Expr) -> Result<Expr, AllocError>
+    ensures { IfOk result (λ e. e ≡ app term (more (tree expr) none)) }
+{
+    let mut operands = Exprs::new(alloc);
+    operands.push(expr)?;
+    Ok(Expr::app(term, operands))
 }
 
 /// The terms of the path from a sort to another, if there is one. It is kept from now on, where it
@@ -259,12 +294,28 @@ fn terms_between(
     if let Some(terms) = paths.get(from, to)? {
         return Ok(Some(terms));
     }
-    let Some(terms) = find_terms(alloc, coercions, from, to)? else {
-        return Ok(None);
-    };
+    match find_terms(alloc, coercions, from, to)? {
+        None => Ok(None),
+        Some(terms) => {
+            let terms = keep_terms(paths, from, to, terms)?;
+            Ok(Some(terms))
+        }
+    }
+}
+
+/// Keeps the terms of the path from a sort to another, and gives them.
+fn keep_terms(
+    paths: &mut Paths,
+    from: u32,
+    to: u32,
+    terms: Vec<u32>,
+) -> Result<TermPath, AllocError>
+    ensures kept { (cs : List Coercion) → AreFound cs paths.old → AreTermsOf cs from to terms.items → AreFound cs paths.new }
+    ensures given { IfOk result (λ path. path ≡ terms.items) }
+{
     let terms = TermPath::from_vec(terms)?;
     paths.keep(from, to, terms.share()?)?;
-    Ok(Some(terms))
+    Ok(terms)
 }
 
 /// The terms of the path from a sort to another in order, if there is one.
@@ -276,15 +327,10 @@ fn find_terms(
 ) -> Result<Option<Vec<u32>>, AllocError>
     ensures { IfOk result (λ o. MatchOption o (HasPath coercions.now from to → ⊥) (λ terms. AreTermsOf coercions.now from to terms.items)) }
 {
-    let items = coercions.graph.as_slice();
     if coercions.is_led {
+        let items = coercions.graph.as_slice();
         return terms_along(alloc, items, &coercions.firsts, from, to);
     }
-    let reached = coercions.graph.reached_from(alloc, from)?;
-    if !reached.has(to) {
-        return Ok(None);
-    }
-    let places = path_back(alloc, items, &reached, from, to)?;
-    let terms = terms_back(alloc, items, places)?;
-    Ok(Some(terms))
+    let mut reached = Reached::new(alloc);
+    terms_reached(alloc, &coercions.graph, from, to, &mut reached)
 }

@@ -1,11 +1,11 @@
 // Coercions in chains, by the sorts at which they begin.
-ghost use Rattle.std.specs.Prelude.{◌≡◌, ◌<◌, ◌≤◌, ◌+◌, ◌⊎◌, ◌++◌, ◌∷◌, [], ℕ, List, Contains, IfOk, OnOk, OnErr, get_or, length};
+ghost use Rattle.std.specs.Prelude.{◌≡◌, ◌<◌, ◌+◌, ◌⊎◌, ◌++◌, ◌∷◌, [], ℕ, List, Contains, OnOk, OnErr, get_or, length};
 ghost use Rattle.mz_math_coercions.specs.Graph.{AreChained};
 ghost use Rattle.mz_math_coercions.specs.Reached.{AreReached, Has, IsStep};
 ghost use Rattle.mz_math_theory.specs.declared.coercion.Coercion.{Coercion};
 
 use crate::next_hop::coercion_at;
-use crate::reached::Reached;
+use crate::reached::{Reached, drop_last};
 use mz_math_theory::Coercion;
 use std::alloc::{AllocError, Global};
 use std::marker::Model;
@@ -82,17 +82,23 @@ impl Graph {
         Ok(())
     }
 
-    /// The sorts to which a path leads from a sort, each with the coercion by which it was met.
+    /// Adds a sort, beside which a place stands, and the sorts to which a path leads from it, each with
+    /// the coercion by which it was met.
     ///
     /// # Errors
     ///
     /// Where there is no memory.
-    pub fn reached_from(&self, alloc: Global, sort: u32) -> Result<Reached, AllocError>
-        ensures { IfOk result (λ reached. AreReached self.now ((sort, 0) ∷ []) reached) }
+    pub fn walk_from(
+        &self,
+        sort: u32,
+        place: usize,
+        reached: &mut Reached,
+    ) -> Result<(), AllocError>
+        requires { reached.old ≡ [] }
+        ensures { OnOk result (AreReached self.now ((sort, place) ∷ []) reached.new) }
     {
-        let mut reached = Reached::of(alloc, sort, 0)?;
-        self.walk(&mut reached)?;
-        Ok(reached)
+        reached.add(sort, place)?;
+        self.walk(reached)
     }
 
     /// Adds the sorts to which one coercion leads from a sort.
@@ -154,10 +160,4 @@ fn push(
     };
     last[sort] = items.len();
     Ok(())
-}
-
-fn drop_last(links: &mut Vec<usize>)
-    ensures { (front : List ℕ) (link : ℕ) → links.old.items ≡ front ++ link ∷ [] → links.new.items ≡ front }
-{
-    links.pop();
 }

@@ -84,10 +84,29 @@ pub fn lead(
     requires turned { back.now ≡ all_turned graph.now }
     ensures { IfOk result (λ all. all ≡ true → AreLed (graph.now ++ coercion ∷ []) firsts.new) }
 {
-    let mut starts = Reached::of(alloc, coercion.from, graph.as_slice().len())?;
-    back.walk(&mut starts)?;
-    let ends = graph.reached_from(alloc, coercion.to)?;
-    lead_all(firsts, &starts, &ends)
+    let mut starts = Reached::new(alloc);
+    let mut ends = Reached::new(alloc);
+    lead_between(graph, back, firsts, coercion, &mut starts, &mut ends)
+}
+
+/// Does so for the sorts that reach the coercion and those that are reached from it.
+fn lead_between(
+    graph: &Graph,
+    back: &Graph,
+    firsts: &mut FirstSteps,
+    coercion: Coercion,
+    starts: &mut Reached,
+    ends: &mut Reached,
+) -> Result<bool, AllocError>
+    requires led { AreLed graph.now firsts.old }
+    requires one { OnePath (graph.now ++ coercion ∷ []) }
+    requires turned { back.now ≡ all_turned graph.now }
+    requires fresh { (starts.old ≡ []) × (ends.old ≡ []) }
+    ensures { IfOk result (λ all. all ≡ true → AreLed (graph.now ++ coercion ∷ []) firsts.new) }
+{
+    back.walk_from(coercion.from, graph.as_slice().len(), starts)?;
+    graph.walk_from(coercion.to, 0, ends)?;
+    lead_all(firsts, starts, ends)
 }
 
 /// Keeps the places of the starts between them and the ends.

@@ -1,12 +1,42 @@
 // The path to a sort that a walk has reached, read off from its end.
-ghost use Rattle.std.specs.Prelude.{◌≡◌, ◌∷◌, [], ℕ, IfOk, map, reverse};
+ghost use Rattle.std.specs.Prelude.{◌≡◌, ◌∷◌, [], ℕ, IfOk, MatchOption, map, reverse};
 ghost use Rattle.mz_math_theory.specs.Coercions.{IsPath, OnePath, coercion_term};
+ghost use Rattle.mz_math_theory.specs.CoercionAnswers.{HasPath};
+ghost use Rattle.mz_math_coercions.specs.Found.{AreTermsOf};
 ghost use Rattle.mz_math_coercions.specs.Reached.{AreReached, Has};
 
+use crate::graph::Graph;
 use crate::next_hop::coercion_at;
 use crate::reached::Reached;
 use mz_math_theory::Coercion;
 use std::alloc::{AllocError, Global};
+
+/// The terms of the path from a sort to another in order, if there is one, found by a walk over all
+/// that the first sort reaches.
+///
+/// # Errors
+///
+/// Where there is no memory.
+pub fn terms_reached(
+    alloc: Global,
+    graph: &Graph,
+    from: u32,
+    to: u32,
+    reached: &mut Reached,
+) -> Result<Option<Vec<u32>>, AllocError>
+    requires one { OnePath graph.now }
+    requires fresh { reached.old ≡ [] }
+    ensures { IfOk result (λ o. MatchOption o (HasPath graph.now from to → ⊥) (λ terms. AreTermsOf graph.now from to terms.items)) }
+{
+    graph.walk_from(from, 0, reached)?;
+    if !reached.has(to) {
+        return Ok(None);
+    }
+    let items = graph.as_slice();
+    let places = path_back(alloc, items, reached, from, to)?;
+    let terms = terms_back(alloc, items, places)?;
+    Ok(Some(terms))
+}
 
 /// The places of the coercions of the path from the sort at which a walk began to one that it has
 /// reached, the last one first.
@@ -14,7 +44,7 @@ use std::alloc::{AllocError, Global};
 /// # Errors
 ///
 /// Where there is no memory.
-pub fn path_back(
+fn path_back(
     alloc: Global,
     items: &[Coercion],
     reached: &Reached,
@@ -46,11 +76,7 @@ pub fn path_back(
 /// # Errors
 ///
 /// Where there is no memory.
-pub fn terms_back(
-    alloc: Global,
-    items: &[Coercion],
-    places: Vec<usize>,
-) -> Result<Vec<u32>, AllocError>
+fn terms_back(alloc: Global, items: &[Coercion], places: Vec<usize>) -> Result<Vec<u32>, AllocError>
     requires { (from to : ℕ) × IsPath items.now from (reverse places.items) to }
     ensures { IfOk result (λ terms. terms.items ≡ map (coercion_term items.now) (reverse places.items)) }
 {

@@ -1,40 +1,42 @@
 // The sorts that a walk along coercions has reached.
-ghost use Rattle.std.specs.Prelude.{◌≡◌, ◌<◌, ◌≤◌, ◌↔◌, ◌⊎◌, ◌++◌, ◌∷◌, [], ◌^◌, ℕ, List, Contains, IsTrue, IfOk, OnOk, MatchOption, Some, length, slice_get};
+ghost use Rattle.std.specs.Prelude.{◌≡◌, ◌<◌, ◌≤◌, ◌↔◌, ◌⊎◌, ◌++◌, ◌∷◌, [], ◌^◌, ℕ, List, Contains, IsTrue, OnErr, OnOk, MatchOption, Some, length, slice_get};
 ghost use Rattle.mz_math_coercions.specs.Reached.{Has};
 
 use indexmap::IndexMap;
 use std::alloc::{AllocError, Global};
 use std::marker::Model;
 
+/// So many sorts are gone through faster than they are found by their hashes.
+const FEW: usize = 8;
+
 /// Sorts, each once and in the order in which a walk has come to them, with the place of a coercion
 /// that leads to it.
 #[derive(Drop)]
 pub struct Reached {
-    steps: IndexMap<u32, usize>,
+    steps: Vec<(u32, usize)>,
+    // those behind the first few
+    others: IndexMap<u32, usize>,
 }
 
 impl Model for Reached {
-    ghost use Rattle.std.specs.Prelude.{List, ℕ};
+    ghost use Rattle.std.specs.Prelude.{◌≡◌, List, ℕ, drop};
 
     ghost Value = { List (ℕ × ℕ) };
 
-    ghost view = { λ a. a.steps.entries };
+    ghost view = { λ a. a.steps.items };
+
+    ghost invariant = { λ a. a.others.entries ≡ drop 8 a.steps.items };
 }
 
 impl Reached {
-    /// One sort and a place.
-    ///
-    /// # Errors
-    ///
-    /// Where there is no memory.
-    pub fn of(alloc: Global, sort: u32, place: usize) -> Result<Reached, AllocError>
-        ensures { IfOk result (λ r. r ≡ (sort, place) ∷ []) }
+    /// No sorts.
+    pub fn new(alloc: Global) -> Reached
+        ensures { result ≡ [] }
     {
-        let mut reached = Reached {
-            steps: IndexMap::new(alloc),
-        };
-        reached.add(sort, place)?;
-        Ok(reached)
+        Reached {
+            steps: Vec::new(alloc),
+            others: IndexMap::new(alloc),
+        }
     }
 
     /// How many there are.
@@ -49,9 +51,9 @@ impl Reached {
     pub fn sort_at(&self, i: usize) -> Option<u32>
         ensures { MatchOption result (length self.now ≤ i) (λ s. (p : ℕ) × (slice_get self.now i ≡ Some (s, p))) }
     {
-        match self.steps.get_index(i) {
+        match self.step_at(i) {
             None => None,
-            Some(entry) => Some(*entry.0),
+            Some((sort, _)) => Some(sort),
         }
     }
 
@@ -59,17 +61,20 @@ impl Reached {
     pub fn step_at(&self, i: usize) -> Option<(u32, usize)>
         ensures { result ≡ slice_get self.now i }
     {
-        match self.steps.get_index(i) {
-            None => None,
-            Some(entry) => Some((*entry.0, *entry.1)),
-        }
+        self.steps.get(i).copied()
     }
 
     /// The place that stands beside a sort, if it is one of them.
     pub fn place_to(&self, sort: u32) -> Option<usize>
         ensures { MatchOption result (Has self.now sort → ⊥) (λ p. Contains self.now (sort, p)) }
     {
-        self.steps.get(&sort).copied()
+        if self.steps.len() <= FEW {
+            return place_in(&self.steps, sort);
+        }
+        match place_in(&self.steps[..FEW], sort) {
+            None => self.others.get(&sort).copied(),
+            Some(place) => Some(place),
+        }
     }
 
     /// Whether a sort is one of them.
@@ -93,7 +98,44 @@ impl Reached {
         if self.has(sort) {
             return Ok(());
         }
-        self.steps.insert(sort, place)?;
+        self.push(sort, place)?;
         Ok(())
     }
+
+    /// Adds a sort that isn't one of them yet, and a place.
+    fn push(&mut self, sort: u32, place: usize) -> Result<(), AllocError>
+        requires { Has self.old sort → ⊥ }
+        ensures ok { OnOk result (self.new ≡ self.old ++ (sort, place) ∷ []) }
+        ensures err { OnErr result (self.new ≡ self.old) }
+    {
+        self.steps.push((sort, place))?;
+        if self.steps.len() <= FEW {
+            return Ok(());
+        }
+        let Ok(_) = self.others.insert(sort, place) else {
+            drop_last(&mut self.steps);
+            return Err(AllocError);
+        };
+        Ok(())
+    }
+}
+
+/// Takes the last item away.
+pub fn drop_last<T: Copy>(items: &mut Vec<T>)
+    ensures { (front : List T) (last : T) → items.old.items ≡ front ++ last ∷ [] → items.new.items ≡ front }
+{
+    items.pop();
+}
+
+/// The place that stands beside a sort, if it is one of these.
+fn place_in(steps: &[(u32, usize)], sort: u32) -> Option<usize>
+    ensures { MatchOption result (Has steps.now sort → ⊥) (λ p. Contains steps.now (sort, p)) }
+{
+    'steps: for i in 0..steps.len() {
+        let (other, place) = steps[i];
+        if other == sort {
+            return Some(place);
+        }
+    }
+    None
 }

@@ -4,7 +4,7 @@ use Rattle.std.proofs.lemmas.List.{drop_all}
 use Rattle.std.specs.Prelude.{IsTrue, max}
 use Rattle.std.proofs.lemmas.Bool.{true≢false}
 use Rattle.std.proofs.lemmas.Option.{same_Some}
-use Rattle.mz_logic_theory.specs.Tree.{Tree, Trees, var, app, none, more, listed, followed_by, past, size, trees_size}
+use Rattle.mz_logic_theory.specs.Tree.{Tree, Trees, var, app, none, more, listed, followed_by, past}
 use Rattle.mz_logic_theory.specs.Signature.{Signature}
 use Rattle.mz_logic_theory.specs.Sorts.{IsBoundVar}
 use Rattle.mz_logic_theory.specs.declared.binder.Binder.{Binder}
@@ -142,9 +142,6 @@ module _ (sigs : List Signature) (cs : List Coercion) (ctx : List Binder) (one :
   put-one g gs fits all = subst (λ ds. CoercedAll sigs cs ctx ds (drop i params) (more g gs)) (sym here)
       (subst (λ (bs : List Binder). CoercedAll sigs cs ctx (more e (past (i + 1) es)) bs (more g gs)) (sym there)
       (cons-all sigs cs ctx one e (past (i + 1) es) b (drop (i + 1) params) g gs fits all))
-
-  pub size-one : size e + trees_size (past (i + 1) es) ≡ trees_size (past i es)
-  size-one = ap trees_size (sym here)
 
 pub none-left : (sigs : List Signature) (cs : List Coercion) (ctx : List Binder) (es : Trees) (params : List Binder) (i : ℕ) → length (listed es) ≡ length params → length (listed es) ≤ i
     → CoercedAll sigs cs ctx (past i es) (drop i params) none

@@ -1,5 +1,5 @@
 -- Places by keys: what a look-up and one more key give, and lists that grow.
-use Rattle.std.proofs.Common.{◌≡◌, ◌++◌, ◌∙◌, ℕ, List, [], ◌∷◌, length, Bool, true, false, Some, None, ap, sym, refl, subst, inl, inr, Contains, map}
+use Rattle.std.proofs.Common.{◌≡◌, ◌≢◌, ◌≤◌, ◌++◌, ◌∙◌, ℕ, List, [], ◌∷◌, length, Bool, true, false, Some, None, ap, sym, refl, subst, inl, inr, arith, slice_get, Contains, map}
 use Rattle.std.specs.Prelude.{bytes_eq, if◌then◌else◌}
 use Rattle.std.specs.Ordering.{is_eq, nat_cmp}
 use Rattle.std.specs.Cmp.{eq_by_cmp_equiv}
@@ -8,8 +8,10 @@ use Rattle.std.specs.BTreeMap as tree
 use Rattle.std.specs.BTreeMap.{BTreeMap, is_at}
 use Rattle.std.specs.Map.{lookup, KeepsOthers, IsKeyTest, AreApart}
 use Rattle.std.proofs.lemmas.Bool.{cases_Bool, cond-true, cond-false}
+use Rattle.std.proofs.lemmas.Option.{slice_get_within}
 use Rattle.std.proofs.lemmas.Map.Text.{is_eq-slice_cmp}
-use Rattle.mz_base_theory.proofs.Offered.{slice_get-push_cases, contains_at}
+use Rattle.mz_base_theory.proofs.Offered.{slice_get-append, slice_get-push_cases, contains_at, other-bytes}
+use Rattle.mz_math_tokens.specs.Names.{AreFoundFrom}
 use Rattle.mz_math_tokens.specs.Places.{place_of, LeadsTo}
 
 -- ---- the tree
@@ -65,3 +67,23 @@ leads-none HasWord ps i x w at has = absurd (none-some at)
   where
     none-some : {B : Type 0} {y : B} → None ≡ Some y → ⊥
     none-some e = cc
+
+-- ---- names, the first of which lead nowhere
+
+module _ (first : ℕ) (ps : List (List ℕ × ℕ)) (names : List (List ℕ)) where
+  pub found-front : (ends : List (List ℕ)) → AreFoundFrom first ps (names ++ ends) → AreFoundFrom first ps names
+  found-front ends is i w from at = is i w from (slice_get-append names ends i w at)
+
+  pub found-few : length names ≤ first → AreFoundFrom first ps names
+  found-few few i w from at = absurd (omega (arith, few, from, slice_get_within names i w at))
+
+  -- one more name, where it is none of those before
+  pub found-more : (qs : List (List ℕ × ℕ)) (name : List ℕ) → AreFoundFrom first ps names → (name ≢ [] → Contains names name → ⊥)
+      → ((w : List ℕ) → place_of qs w ≡ (if bytes_eq name w then Some (length names) else place_of ps w)) → AreFoundFrom first qs (names ++ name ∷ [])
+  found-more qs name is new more i w from at some = elim (slice_get-push_cases names name i w at) [
+    | inl there ↦ more w ∙ cond-false (bytes_eq name w) (Some (length names)) (place_of ps w) (other there) ∙ is i w from there some
+    | inr last ↦ more w ∙ cond-true (bytes_eq name w) (Some (length names)) (place_of ps w) ((bytes_decides name w).1 last.1) ∙ ap Some (sym last.0)
+  ]
+    where
+      other : slice_get names i ≡ Some w → bytes_eq name w ≡ false
+      other there = other-bytes name w (λ same. new (λ none. some (sym same ∙ none)) (subst (Contains names) (sym same) (contains_at names i w there)))

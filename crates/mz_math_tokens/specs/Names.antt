@@ -1,6 +1,7 @@
 -- Names of variables by their bytes.
-use Rattle.std.specs.Prelude.{◌≡◌, ◌≢◌, ℕ, List, []}
+use Rattle.std.specs.Prelude.{◌≡◌, ◌≢◌, ◌≤◌, ℕ, List, [], Some, slice_get}
+use Rattle.mz_math_tokens.specs.Places.{place_of}
 
--- a variable's name is this one; the empty name is no variable's
-abbrev pub IsCalled : List ℕ → List ℕ → Type 0
-IsCalled name w = (w ≢ []) × (name ≡ w)
+-- each name from this place on has its place among the keys; the empty name is no variable's
+abbrev pub AreFoundFrom : ℕ → List (List ℕ × ℕ) → List (List ℕ) → Type 0
+AreFoundFrom first ps names = (i : ℕ) (w : List ℕ) → first ≤ i → slice_get names i ≡ Some w → w ≢ [] → place_of ps w ≡ Some i

@@ -1,29 +1,32 @@
 // The names of variables, found by their bytes.
-ghost use Rattle.std.specs.Prelude.{◌≡◌, ◌≢◌, ◌++◌, ◌∷◌, ◌<◌, [], List, ℕ, MatchOption, IfSome, OnOk, OnErr, Contains, length, slice_get, Some};
+ghost use Rattle.std.specs.Prelude.{◌≡◌, ◌≢◌, ◌++◌, ◌∷◌, ◌<◌, [], List, ℕ, MatchOption, OnOk, OnErr, Contains, length, slice_get, Some};
+ghost use Rattle.mz_math_tokens.specs.Names.{AreFoundFrom};
 
 use crate::bytes::Bytes;
 use crate::places::Places;
 use std::alloc::{AllocError, Global};
 use std::marker::Model;
 
+/// So many names are gone through faster than they are found in a tree.
+const FEW: usize = 8;
+
 /// Names by place. A name is empty where there is none.
 #[derive(Drop)]
 pub struct VariableNames {
     items: Vec<Bytes>,
-    // where each name stands
+    // where each name behind the first few stands
     places: Places<usize>,
 }
 
 impl Model for VariableNames {
     ghost use Rattle.std.specs.Prelude.{List, ℕ};
-    ghost use Rattle.mz_math_tokens.specs.Names.{IsCalled};
-    ghost use Rattle.mz_math_tokens.specs.Places.{LeadsTo};
+    ghost use Rattle.mz_math_tokens.specs.Names.{AreFoundFrom};
 
     ghost Value = { List (List ℕ) };
 
     ghost view = { λ a. a.items.items };
 
-    ghost invariant = { λ a. LeadsTo IsCalled a.places a.items.items };
+    ghost invariant = { λ a. AreFoundFrom 8 a.places a.items.items };
 }
 
 impl VariableNames {
@@ -48,6 +51,12 @@ impl VariableNames {
     pub fn place_of(&self, name: &[u8]) -> Option<usize>
         ensures { MatchOption result (name.now ≢ [] → Contains self.now name.now → ⊥) (λ x. (x < length self.now) × (slice_get self.now x ≡ Some name.now)) }
     {
+        if let Some(place) = place_among_first(&self.items, name) {
+            return Some(place);
+        }
+        if self.items.len() <= FEW {
+            return None;
+        }
         let place = self.places.get(name)?;
         let found = self.items.get(place)?;
         if found.is(name) { Some(place) } else { None }
@@ -64,7 +73,7 @@ impl VariableNames {
         ensures err { OnErr result (self.new ≡ self.old) }
     {
         let copy = Bytes::copy_of(alloc, name)?;
-        self.places.insert(alloc, name, self.items.len())?;
+        note(&mut self.places, alloc, name, self.items.len())?;
         self.items.push(copy)?;
         Ok(())
     }
@@ -75,4 +84,33 @@ impl VariableNames {
     {
         self.items.pop();
     }
+}
+
+/// Notes the place at which a name is put, where it isn't one of the first.
+fn note(
+    places: &mut Places<usize>,
+    alloc: Global,
+    name: &[u8],
+    place: usize,
+) -> Result<(), AllocError>
+    ensures ok { OnOk result ((names : List (List ℕ)) → length names ≡ place → (name.now ≢ [] → Contains names name.now → ⊥) → AreFoundFrom 8 places.old names → AreFoundFrom 8 places.new (names ++ name.now ∷ [])) }
+    ensures err { OnErr result (places.new ≡ places.old) }
+{
+    if place < FEW {
+        return Ok(());
+    }
+    places.insert(alloc, name, place)
+}
+
+/// The place of a name among the first ones.
+#[inline]
+fn place_among_first(names: &[Bytes], name: &[u8]) -> Option<usize>
+    ensures { MatchOption result ((i : ℕ) → i < 8 → slice_get names.now i ≡ Some name.now → ⊥) (λ i. slice_get names.now i ≡ Some name.now) }
+{
+    for i in 0..names.len().min(FEW) {
+        if names[i].is(name) {
+            return Some(i);
+        }
+    }
+    None
 }

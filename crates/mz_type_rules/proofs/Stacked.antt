@@ -1,6 +1,7 @@
 -- Claims put behind one another, and what is checked meanwhile.
-use Rattle.std.proofs.Common.{ℕ, ◌≡◌, ◌+◌, List, [], ◌∷◌, length, drop, take, Result, Ok, Err, refl, sym, ap, ◌∙◌, subst, arith}
+use Rattle.std.proofs.Common.{ℕ, ◌≡◌, ◌≤◌, ◌+◌, List, [], ◌∷◌, length, drop, take, Result, Ok, Err, refl, sym, ap, ◌∙◌, subst, arith}
 use Rattle.std.specs.Result.{OnOk}
+use Rattle.std.proofs.lemmas.List.{drop_all}
 use Rattle.mz_base_theory.specs.Checks.{Checks, nothing, ask, ◌>>◌, AllHold}
 use Rattle.mz_sexpr.specs.Node.{Node, parts}
 use Rattle.mz_logic_theory.specs.Tree.{Tree, Trees, app, none, more, listed, operand, followed_by}
@@ -8,7 +9,9 @@ use Rattle.mz_logic_theory.specs.Conversions.{Conversion}
 use Rattle.mz_logic_theory.specs.Declaration.{Declaration, signatures}
 use Rattle.mz_logic_theory.specs.declared.binder.Binder.{Binder}
 use Rattle.mz_mmu_theory.specs.Proof.{Proof, Proofs, by_citation, by_conv}
+use Rattle.mz_mmu_theory.specs.ProofView.{proofs_view}
 use Rattle.mz_mmu_theory.specs.Stops.{Stops}
+use Rattle.mz_mmu_theory.specs.declared.proof.Proof.{Proof as Coded}
 use Rattle.mz_mmu_theory.specs.declared.fault.Fault.{Fault}
 use Rattle.mz_mmu_theory.specs.declared.fault.Stop.{Stop}
 use Rattle.mz_mmu_theory.specs.declared.fault.Stop.TheVariants.{Refused, Mem}
@@ -16,8 +19,10 @@ use Rattle.mz_type_rules.specs.Answers.{Judged}
 use Rattle.mz_type_rules.specs.Claims.{claim_tree, claim_trees}
 use Rattle.mz_mmu_theory.specs.Parts.{part, after}
 use Rattle.mz_mmu_theory.specs.Rules.{expr_rules, exprs_rules, conv_rules, citation_rules, proof_rules, proofs_rules}
-use Rattle.mz_mmu_theory.specs.Sides.{assertion_at, all_proved}
+use Rattle.mz_mmu_theory.specs.Sides.{assertion_at, all_proved, with_fact}
+use Rattle.mz_type_rules.specs.Scopes.{Scope, with_let}
 use Rattle.mz_type_rules.specs.declared.claim.Claim.{Claim}
+use Rattle.mz_type_rules.proofs.Building.{Builds, built_whole}
 use Rattle.mz_type_rules.proofs.Claims.{length-claims, operand_behind}
 use Rattle.mz_type_rules.proofs.Judging.{stopped_before, judged_after}
 
@@ -54,6 +59,32 @@ pub last_same : (xs ys : List Claim) (e : Tree) → claim_trees ys ≡ followed_
 last_same xs ys e are =
     ap (λ ts. operand ts (length xs)) are
     ∙ operand_behind (claim_trees xs) (more e none) (length xs) 0 (let many = length-claims xs in omega (arith, many))
+
+-- ---- where all subproofs of a list have put their claims behind the others
+
+module _ (env : List Declaration) (hyps lets : Trees) (ps : Proofs) (items : List Coded) (i k : ℕ) (old new : List Claim) (end : length items ≤ i) (from : k ≡ length old)
+    (builds : Builds (claim_trees new) (all_proved env hyps lets (proofs_view (drop i items))) (followed_by (claim_trees old) (all_proved env hyps lets ps))) where
+  all_behind : claim_trees new ≡ followed_by (claim_trees old) (all_proved env hyps lets ps)
+  all_behind =
+      built_whole (claim_trees new) (all_proved env hyps lets (proofs_view (drop i items))) (followed_by (claim_trees old) (all_proved env hyps lets ps))
+      (ap (λ qs. all_proved env hyps lets (proofs_view qs)) (drop_all i items end)) builds
+
+  pub others_within : k ≤ length new
+  others_within = let many = many_behind old new (all_proved env hyps lets ps) all_behind in omega (arith, many, from)
+
+  pub others_before : claim_trees (take k new) ≡ claim_trees old
+  others_before = ap (λ j. claim_trees (take j new)) from ∙ front_same old new (all_proved env hyps lets ps) all_behind
+
+  pub own_behind : claim_trees (drop k new) ≡ all_proved env hyps lets ps
+  own_behind = ap (λ j. claim_trees (drop j new)) from ∙ behind_same old new (all_proved env hyps lets ps) all_behind
+
+-- ---- where a let is named
+
+pub let_named : (before checked named : Scope) (old new : List Claim) (k : ℕ) (x : Tree) → named ≡ with_let checked (operand (claim_trees new) k) → checked ≡ before
+    → k ≡ length old → claim_trees new ≡ followed_by (claim_trees old) (more x none) → named.lets ≡ with_fact before.lets x
+let_named before checked named old new k x opened same from are =
+    ap (λ z. z.lets) opened ∙ ap (λ z. with_fact z.lets (operand (claim_trees new) k)) same
+    ∙ ap (with_fact before.lets) (ap (operand (claim_trees new)) from ∙ last_same old new x are)
 
 -- ---- answers
 

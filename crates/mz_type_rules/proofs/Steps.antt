@@ -6,7 +6,7 @@ use Rattle.mz_base_theory.proofs.Offered.{Decides, decides-after}
 use Rattle.mz_sexpr.specs.Node.{Nodes}
 use Rattle.mz_sexpr.specs.Number.{first, rest}
 use Rattle.mz_sexpr.specs.declared.rule.U.{U}
-use Rattle.mz_logic_theory.specs.Tree.{Tree, Trees, none, more, listed, past, size, trees_size}
+use Rattle.mz_logic_theory.specs.Tree.{Tree, Trees, none, more, listed, past}
 use Rattle.mz_logic_theory.specs.Legality.{signature_at}
 use Rattle.mz_logic_theory.specs.Signature.{Signature}
 use Rattle.mz_logic_theory.specs.View.{tree, trees}
@@ -31,9 +31,6 @@ app_rules sigs ctx t es at ns =
 module _ (xs : List Expr) (i : ℕ) (e : Expr) (below : i < length xs) (is : e ≡ get_or xs i e) where
   pub trees_cut : trees (drop i xs) ≡ more (tree e) (trees (drop (i + 1) xs))
   trees_cut = ap trees (drop_more xs i e below) ∙ ap (λ x. more (tree x) (trees (drop (i + 1) xs))) (sym is)
-
-  pub size_step : (m : ℕ) → trees_size (trees (drop i xs)) ≤ m → (size (tree e) ≤ m) × (trees_size (trees (drop (i + 1) xs)) ≤ m)
-  size_step m h = (omega (arith, ap trees_size trees_cut), omega (arith, ap trees_size trees_cut))
 
 -- one expression more of what is left of a list
 module _ (es : Trees) (i : ℕ) (e : Tree) (cut : past i es ≡ more e (past (i + 1) es)) (sigs : List Signature) (ctx : List Binder) (ns : Nodes) (cs : Checks Fault) where

@@ -1,12 +1,14 @@
 -- What checks that take memory answer.
 use Rattle.std.specs.Prelude.{◌≡◌, List, Option, Some, None, Result, Ok, Err}
 use Rattle.std.specs.Borrow.{Bor}
-use Rattle.mz_base_theory.specs.Checks.{Checks, ◌>>◌, AllHold}
-use Rattle.mz_sexpr.specs.Node.{Node, parts}
+use Rattle.mz_base_theory.specs.Checks.{Checks, demand, ◌>>◌, AllHold}
+use Rattle.mz_sexpr.specs.Node.{Node, Nodes, parts, place}
+use Rattle.mz_sexpr.specs.declared.rule.U.{U}
 use Rattle.mz_logic_theory.specs.Conversions.{Conversion}
 use Rattle.mz_logic_theory.specs.Declaration.{Declaration, signatures}
 use Rattle.mz_logic_theory.specs.declared.binder.Binder.{Binder}
-use Rattle.mz_logic_theory.specs.Tree.{Tree}
+use Rattle.mz_logic_theory.specs.Tree.{Tree, Trees, none}
+use Rattle.mz_mmu_theory.specs.FormOrder.{fault}
 use Rattle.mz_mmu_theory.specs.Proof.{Proof}
 use Rattle.mz_mmu_theory.specs.ProofView.{proof_view}
 use Rattle.mz_mmu_theory.specs.declared.proof.Proof.{Proof as Coded}
@@ -16,7 +18,8 @@ use Rattle.mz_mmu_theory.specs.declared.fault.Stop.{Stop}
 use Rattle.mz_mmu_theory.specs.declared.fault.Stop.TheVariants.{Refused}
 use Rattle.mz_type_rules.specs.Claims.{claim_tree}
 use Rattle.mz_mmu_theory.specs.Parts.{part}
-use Rattle.mz_mmu_theory.specs.Rules.{expr_rules, conv_rules}
+use Rattle.mz_mmu_theory.specs.Rules.{expr_rules, conv_rules, proof_rules}
+use Rattle.mz_mmu_theory.specs.Sides.{proved}
 use Rattle.mz_type_rules.specs.declared.claim.Claim.{Claim}
 
 -- all hold, or the first that doesn't is reported, or there was no memory
@@ -42,3 +45,7 @@ stated (Some p) = Some (proof_view p.now)
 -- what a converted proof asks before its subproof
 abbrev pub converted_rules : List Declaration → List Binder → Tree → Conversion → Node → Checks Fault
 converted_rules env ctx e c n = expr_rules (signatures env) ctx e (part (parts n) 1) >> conv_rules env ctx c (part (parts n) 2)
+
+-- what is asked of a theorem's proof and its conclusion, after its dummies
+abbrev pub proves_rules : List Declaration → List Binder → Trees → Proof → Tree → Nodes → Checks Fault
+proves_rules env ctx hyps p e ps = proof_rules env ctx hyps none p (part ps 6) >> demand (fault (place (part ps 4)) U.Conclusion) (proved env hyps none p ≡ e)

@@ -1,5 +1,5 @@
 //! What proofs prove, and the sides of conversions, compared without being written out.
-ghost use Rattle.std.specs.Prelude.{◌≡◌, ◌↔◌, ◌<◌, ◌≤◌, ◌+◌, ◌*◌, Bool, true, false, suc, IfOk, IsTrue, OnOk};
+ghost use Rattle.std.specs.Prelude.{◌≡◌, ◌↔◌, ◌<◌, ◌≤◌, ◌+◌, ◌*◌, Bool, true, false, [], suc, IfOk, IsTrue, OnOk};
 ghost use Rattle.mz_logic_theory.specs.Shapes.{shape_tree};
 ghost use Rattle.mz_logic_theory.specs.Tree.{var, operand, instance, followed_by, size, variables};
 ghost use Rattle.mz_logic_theory.specs.View.{tree};
@@ -184,8 +184,7 @@ pub(crate) fn same_claim<'t>(alloc: Global, a: Claim<'t>, b: Claim<'t>) -> Resul
     same_claim_in(alloc, a, b, &mut turns)
 }
 
-/// The same, and counts the turns that it takes. What is left to compare is kept in a list: both may
-/// be deep, and so are proofs, so that there is no stack for both.
+/// The same, and counts the turns that it takes.
 pub(crate) fn same_claim_in<'t>(
     alloc: Global,
     a: Claim<'t>,
@@ -195,13 +194,27 @@ pub(crate) fn same_claim_in<'t>(
     ensures { IfOk result (λ same. IsTrue same ↔ (claim_tree a.entry ≡ claim_tree b.entry)) }
 {
     let mut waiting: Vec<Lists> = Vec::new(alloc);
-    let begun = compare(&mut waiting, a, b)?;
+    compare_all(&mut waiting, a, b, count)
+}
+
+/// The same. What is left to compare is kept in a list: both may be deep, and so are proofs, so that
+/// there is no stack for both.
+fn compare_all<'t>(
+    waiting: &mut Vec<Lists<'t>>,
+    a: Claim<'t>,
+    b: Claim<'t>,
+    count: &mut usize,
+) -> Result<bool, AllocError>
+    requires { waiting.old.items ≡ [] }
+    ensures { IfOk result (λ same. IsTrue same ↔ (claim_tree a.entry ≡ claim_tree b.entry)) }
+{
+    let begun = compare(waiting, a, b)?;
     if !begun {
         return Ok(false);
     }
     'comparing: while let Some(lists) = waiting.pop() {
         *count = count.saturating_add(1);
-        let same = compare_first(&mut waiting, lists)?;
+        let same = compare_first(waiting, lists)?;
         if !same {
             return Ok(false);
         }

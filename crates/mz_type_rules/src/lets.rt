@@ -23,7 +23,7 @@ const MANY_TURNS: usize = 64;
 const MOST_OPERANDS: usize = 64;
 
 /// What a subproof proves that can be named.
-#[derive(Clone, Copy, PartialEq, Eq, PartialOrd, Ord)]
+#[derive(Clone, Copy, PartialEq)]
 enum Name {
     /// A hypothesis of the theorem.
     Hyp(u32),
@@ -34,11 +34,22 @@ enum Name {
 }
 
 /// What was compared with which hypothesis of which axiom or theorem.
-#[derive(Clone, Copy, PartialEq, Eq, PartialOrd, Ord)]
+#[derive(Clone, Copy, PartialEq)]
 struct Key {
     name: Name,
     number: u32,
     place: usize,
+}
+
+impl Key {
+    /// The key as numbers, which have an order.
+    fn numbers(self) -> (u8, usize, u32, usize) {
+        match self.name {
+            Name::Hyp(i) => (0, i as usize, self.number, self.place),
+            Name::Let(i) => (1, i, self.number, self.place),
+            Name::Cited(i) => (2, i as usize, self.number, self.place),
+        }
+    }
 }
 
 /// A comparison that need not be made again: where these are put in, both are the same.
@@ -70,8 +81,8 @@ pub(crate) struct Lets<'t> {
     // what all lets so far prove, those that are no longer visible too
     named: Vec<Claim<'t>>,
     kept: Vec<Kept<'t>>,
-    // what is found here is asked of what is kept, so that nothing need be known of the map
-    places: BTreeMap<Key, usize>,
+    // by the keys' numbers; what is found here is asked of what is kept, so that nothing need be known of the map
+    places: BTreeMap<(u8, usize, u32, usize), usize>,
 }
 
 impl<'t> Model for Lets<'t> {
@@ -141,12 +152,12 @@ fn source_of<'t>(env: &'t Env, proof: &Proof, hyp: &'t Expr) -> Option<&'t Expr>
 /// What is kept under the key.
 fn find<'k, 't>(
     kept: &'k [Kept<'t>],
-    places: &BTreeMap<Key, usize>,
+    places: &BTreeMap<(u8, usize, u32, usize), usize>,
     key: Key,
 ) -> Option<&'k Kept<'t>>
     ensures { IfSome result (λ k. (k.now.key ≡ key) × ((i : ℕ) × (slice_get kept.now i ≡ Some k.now))) }
 {
-    let Some(place) = places.get(&key).copied() else {
+    let Some(place) = places.get(&key.numbers()).copied() else {
         return None;
     };
     let Some(found) = kept.get(place) else {
@@ -179,10 +190,11 @@ fn is_instance(alloc: Global, expr: &Expr, hyp: &Expr, vars: &Exprs) -> bool
     }
 }
 
-/// Marks the variable at the place.
-fn mark_variable(stands: &mut [bool], place: usize) {
-    if place < stands.len() {
-        stands[place] = true;
+/// Keeps the number of the variable at its place.
+fn number_variable(numbers: &mut [Option<u32>], number: u32) {
+    let place = number as usize;
+    if place < numbers.len() {
+        numbers[place] = Some(number);
     }
 }
 
@@ -194,111 +206,153 @@ fn wait_all<'e>(waiting: &mut Vec<ExprRef<'e>>, es: &Operands<'e>) -> Result<(),
     Ok(())
 }
 
-/// Marks the variables that stand in the expression. What is left to look at is kept in a list, since
-/// the expression may be deep.
-fn mark_variables<'e>(
-    alloc: Global,
-    expr: &'e Expr,
-    stands: &mut [bool],
+/// Keeps the numbers of the variables that stand in what waits.
+fn number_waiting<'e>(
+    waiting: &mut Vec<ExprRef<'e>>,
+    numbers: &mut [Option<u32>],
 ) -> Result<(), AllocError> {
-    let mut waiting: Vec<ExprRef<'e>> = Vec::new(alloc);
-    waiting.push(expr.lent())?;
     // more turns than there are nodes in a text
     for _turn in 0..u32::MAX {
         let Some(e) = waiting.pop() else {
             return Ok(());
         };
         match e.shape() {
-            Shape::Var(x) => mark_variable(stands, x as usize),
-            Shape::App(_, es) => wait_all(&mut waiting, &es)?,
+            Shape::Var(x) => number_variable(numbers, x),
+            Shape::App(_, es) => wait_all(waiting, &es)?,
         }
     }
     Ok(())
 }
 
-/// The variable with this number.
-fn variable(alloc: Global, number: usize) -> Expr {
-    match u32::try_from(number) {
-        Ok(x) => Expr::var(x),
-        // no text has so many
-        Err(_) => Expr::app(0, Exprs::new(alloc)),
+/// Keeps the numbers of the variables that stand in the expression. What is left to look at is kept in a
+/// list, since the expression may be deep.
+fn number_variables(
+    alloc: Global,
+    expr: &Expr,
+    numbers: &mut [Option<u32>],
+) -> Result<(), AllocError> {
+    let mut waiting: Vec<ExprRef> = Vec::new(alloc);
+    waiting.push(expr.lent())?;
+    number_waiting(&mut waiting, numbers)
+}
+
+/// The variable with this number, and a constant where there is none.
+fn variable(alloc: Global, number: Option<u32>) -> Expr {
+    match number {
+        Some(x) => Expr::var(x),
+        None => Expr::app(0, Exprs::new(alloc)),
     }
 }
 
-/// The variables that stand somewhere, and a constant in place of the others.
-fn own_list(alloc: Global, stands: &[bool]) -> Result<Exprs, AllocError> {
-    let mut own: Vec<Expr> = Vec::with_capacity(alloc, stands.len())?;
-    for i in 0..stands.len() {
-        if stands[i] {
-            own.push(variable(alloc, i))?;
-        } else {
-            own.push(Expr::app(0, Exprs::new(alloc)))?;
-        }
+/// The variables with these numbers.
+fn variables_of(alloc: Global, numbers: &[Option<u32>]) -> Result<Exprs, AllocError> {
+    let mut vars = Exprs::with_capacity(alloc, numbers.len())?;
+    for i in 0..numbers.len() {
+        vars.push(variable(alloc, numbers[i]))?;
     }
-    Ok(Exprs::from_vec(own))
+    Ok(vars)
 }
 
 /// The place at which the expression is among the operands.
-fn place_among(alloc: Global, e: &Expr, fs: &[Expr]) -> Result<Option<usize>, AllocError> {
+fn place_among(alloc: Global, e: &Expr, fs: &[Expr]) -> Result<Option<u32>, AllocError> {
     for i in 0..fs.len() {
         let same = same_claim(alloc, Claim::of(e), Claim::of(&fs[i]))?;
         if same {
-            return Ok(Some(i));
+            return Ok(u32::try_from(i).ok());
         }
     }
     Ok(None)
 }
 
-/// For each variable that stands somewhere the conclusion's variable with the same operand, and a constant
-/// in place of the others. None where one has no such variable, or there are too many operands.
-fn vars_list(
+/// Puts in place of the number of each variable that of the conclusion's variable with the same operand.
+/// False where one has no such variable, or there are too many operands.
+fn number_operands(
     alloc: Global,
-    stands: &[bool],
+    numbers: &mut [Option<u32>],
     es: &[Expr],
     fs: &[Expr],
-) -> Result<Option<Exprs>, AllocError> {
+) -> Result<bool, AllocError> {
     if fs.len() > MOST_OPERANDS {
-        return Ok(None);
+        return Ok(false);
     }
-    let mut vars: Vec<Expr> = Vec::with_capacity(alloc, es.len())?;
     for i in 0..es.len() {
-        if i < stands.len() && stands[i] {
-            let Some(place) = place_among(alloc, &es[i], fs)? else {
-                return Ok(None);
-            };
-            vars.push(variable(alloc, place))?;
-        } else {
-            vars.push(Expr::app(0, Exprs::new(alloc)))?;
+        if i < numbers.len() && numbers[i].is_some() {
+            let place = place_among(alloc, &es[i], fs)?;
+            if place.is_none() {
+                return Ok(false);
+            }
+            numbers[i] = place;
         }
     }
-    Ok(Some(Exprs::from_vec(vars)))
+    Ok(true)
 }
 
-/// The lists of what is to be put in for both, if there are such ones. They are tried by the caller.
-fn lists_of(
+/// The lists of the variables with these numbers, and of what is put in for them, if it can be.
+fn put_lists(
+    alloc: Global,
+    proof: &Proof,
+    es: &Exprs,
+    numbers: &mut [Option<u32>],
+    own: &mut Exprs,
+    vars: &mut Exprs,
+) -> Result<bool, AllocError> {
+    *own = variables_of(alloc, numbers)?;
+    if let Proof::Cite(_, fs, _) = proof {
+        let known = number_operands(alloc, numbers, es.as_slice(), fs.as_slice())?;
+        if !known {
+            return Ok(false);
+        }
+    }
+    *vars = variables_of(alloc, numbers)?;
+    Ok(true)
+}
+
+/// What is to be put in for both, if there are such lists. They are tried by the caller.
+fn find_lists(
     alloc: Global,
     proof: &Proof,
     hyp: &Expr,
     es: &Exprs,
-) -> Result<Option<(Exprs, Exprs)>, AllocError> {
+    own: &mut Exprs,
+    vars: &mut Exprs,
+) -> Result<bool, AllocError> {
     if es.len() > MOST_OPERANDS {
-        return Ok(None);
+        return Ok(false);
     }
-    let mut stands: Vec<bool> = vec![in alloc; false; es.len()]?;
-    mark_variables(alloc, hyp, &mut stands)?;
-    let own = own_list(alloc, &stands)?;
-    match proof {
-        Proof::Cite(_, fs, _) => {
-            let Some(vars) = vars_list(alloc, &stands, es.as_slice(), fs.as_slice())? else {
-                return Ok(None);
-            };
-            Ok(Some((own, vars)))
-        }
-        _ => {
-            let vars = own_list(alloc, &stands)?;
-            Ok(Some((own, vars)))
-        }
-    }
+    let mut numbers: Vec<Option<u32>> = vec![in alloc; None; es.len()]?;
+    number_variables(alloc, hyp, &mut numbers)?;
+    put_lists(alloc, proof, es, &mut numbers, own, vars)
+}
+
+/// Whether the hypothesis is the same with its own variables put in, and what the subproof's name stands
+/// for is the hypothesis with the others put in.
+fn are_right(alloc: Global, env: &Env, proof: &Proof, hyp: &Expr, own: &Exprs, vars: &Exprs) -> bool
+    ensures own { IsTrue result → tree hyp.now ≡ instance own.now (tree hyp.now) }
+    ensures source { IsTrue result → source env.now (proof_view proof.now) (tree hyp.now) ≡ instance vars.now (tree hyp.now) }
+{
+    let Some(from) = source_of(env, proof, hyp) else {
+        return false;
+    };
+    is_instance(alloc, hyp, hyp, own) && is_instance(alloc, from, hyp, vars)
+}
+
+/// Finds what is to be put in for both, and tries it.
+fn finds_right(
+    alloc: Global,
+    env: &Env,
+    proof: &Proof,
+    hyp: &Expr,
+    es: &Exprs,
+    own: &mut Exprs,
+    vars: &mut Exprs,
+) -> bool
+    ensures own { IsTrue result → tree hyp.now ≡ instance own.new (tree hyp.now) }
+    ensures source { IsTrue result → source env.now (proof_view proof.now) (tree hyp.now) ≡ instance vars.new (tree hyp.now) }
+{
+    let Ok(found) = find_lists(alloc, proof, hyp, es, own, vars) else {
+        return false;
+    };
+    found && are_right(alloc, env, proof, hyp, own, vars)
 }
 
 /// What is to be kept of a comparison, if anything is.
@@ -317,21 +371,18 @@ fn kept_of<'t>(
     ensures own { IfSome result (λ k. tree hyp.now ≡ instance k.own (tree hyp.now)) }
     ensures source { IfSome result (λ k. source env.now (proof_view proof.now) (tree hyp.now) ≡ instance k.vars (tree hyp.now)) }
 {
-    let Ok(Some((own, vars))) = lists_of(alloc, proof, hyp, es) else {
-        return None;
-    };
-    let Some(from) = source_of(env, proof, hyp) else {
-        return None;
-    };
-    if !is_instance(alloc, hyp, hyp, &own) || !is_instance(alloc, from, hyp, &vars) {
+    let mut own = Exprs::new(alloc);
+    let mut vars = Exprs::new(alloc);
+    if !finds_right(alloc, env, proof, hyp, es, &mut own, &mut vars) {
         return None;
     }
+    let key = Key {
+        name,
+        number,
+        place,
+    };
     Some(Kept {
-        key: Key {
-            name,
-            number,
-            place,
-        },
+        key,
         at: es,
         own,
         vars,
@@ -423,7 +474,7 @@ impl<'t> Lets<'t> {
             return;
         };
         // where this fails the comparison is made again
-        let _ = self.places.insert(key, last);
+        let _ = self.places.insert(key.numbers(), last);
     }
 
     /// Whether the claim, which the subproof proves, is the instance of the hypothesis at the place of

@@ -3,16 +3,17 @@ ghost use Rattle.std.specs.Prelude.{◌≡◌, ◌↔◌, ◌++◌, ◌<◌, [],
 ghost use Rattle.mz_base_theory.specs.Checks.{Judges};
 ghost use Rattle.mz_sexpr.specs.Node.{parts};
 ghost use Rattle.mz_sexpr.specs.Number.{first};
-ghost use Rattle.mz_logic_theory.specs.Declaration.{signatures, sorts, defined};
+ghost use Rattle.mz_logic_theory.specs.Declaration.{signatures, assertions, sorts, defined};
 ghost use Rattle.mz_logic_theory.specs.DeclView.{declaration, form, signature, term_view, term_of, assertion_view};
 ghost use Rattle.mz_logic_theory.specs.Modifiers.{MayBeResultSort};
+ghost use Rattle.mz_logic_theory.specs.Tree.{none, listed};
 ghost use Rattle.mz_logic_theory.specs.Variables.{IsBoundAt};
 ghost use Rattle.mz_logic_theory.specs.View.{tree};
 ghost use Rattle.mz_mmu_theory.specs.ProofView.{proof_view};
 ghost use Rattle.mz_mmu_theory.specs.StatementView.{option_proof, stated as statement};
 ghost use Rattle.mz_mmu_theory.specs.Statements.{is_local_word};
-ghost use Rattle.mz_type_rules.specs.Answers.{Judged, stated};
-ghost use Rattle.mz_mmu_theory.specs.Names.{ExprThere, DeclThere, StatementThere, StatedProofThere, TermThere};
+ghost use Rattle.mz_type_rules.specs.Answers.{Judged, stated, proves_rules};
+ghost use Rattle.mz_mmu_theory.specs.Names.{ExprThere, ProofThere, DeclThere, StatementThere, StatedProofThere, TermThere};
 ghost use Rattle.mz_mmu_theory.specs.Parts;
 ghost use Rattle.mz_mmu_theory.specs.Rules;
 ghost use Rattle.mz_mmu_theory.specs.Rules.{claim_rules, claims_rules, body_rules, assertion_rules, theorem_rules, decl_rules, statement_rules};
@@ -124,6 +125,34 @@ fn check_term(alloc: Global, env: &Env, term: &TermDecl, parts: &Cursor) -> Resu
     check_form(alloc, env, term, parts)
 }
 
+/// The rules of a theorem's proof, and whether it proves the conclusion.
+fn check_proves<'t>(
+    checker: &Checker<'t, '_>,
+    lets: &mut Lets<'t>,
+    claims: &mut Vec<Claim<'t>>,
+    thm: &'t ThmDecl,
+    proof: &'t Proof,
+    parts: &Cursor,
+) -> Result<(), Stop>
+    requires over { (lets.old.env ≡ checker.now.env.now) × (lets.old.hyps ≡ checker.now.hyps.now) }
+    requires lets { lets.old.lets ≡ none }
+    requires claims { claims.old.items ≡ [] }
+    requires there { ProofThere (length (signatures checker.now.env.now)) (length checker.now.ctx.now) (length (assertions checker.now.env.now)) (length (listed checker.now.hyps.now)) 0 (proof_view proof.now) }
+    ensures { Judged result (proves_rules checker.now.env.now checker.now.ctx.now checker.now.hyps.now (proof_view proof.now) (tree thm.now.conclusion) parts.now) }
+{
+    checker.check_proof(lets, claims, proof, &parts.after(6))?;
+    let same = same_claim(
+        checker.alloc,
+        claim_at(claims, 0),
+        Claim::of(&thm.conclusion),
+    )?;
+    if same {
+        Ok(())
+    } else {
+        Err(Stop::Refused(parts.after(4).fault(U::Conclusion)))
+    }
+}
+
 /// The rules of a theorem's dummies, its proof and its conclusion.
 fn check_stated_proof(
     alloc: Global,
@@ -146,13 +175,7 @@ fn check_stated_proof(
     };
     let mut lets = Lets::new(alloc, env, &thm.hyps);
     let mut claims: Vec<Claim> = Vec::new(alloc);
-    checker.check_proof(&mut lets, &mut claims, proof, &parts.after(6))?;
-    let same = same_claim(alloc, claim_at(&claims, 0), Claim::of(&thm.conclusion))?;
-    if same {
-        Ok(())
-    } else {
-        Err(Stop::Refused(parts.after(4).fault(U::Conclusion)))
-    }
+    check_proves(&checker, &mut lets, &mut claims, thm, proof, parts)
 }
 
 /// Is it an axiom?

@@ -1,4 +1,5 @@
 use Rattle.std.proofs.Common.{false, ◌≤◌, ◌++◌, List, ap, take, drop, sym, subst, [], length, arith}
+use Rattle.std.proofs.lemmas.Result.{IfOk-weaker}
 use Rattle.mz_logic_theory.specs.declared.binder.Binder.{Binder}
 use Rattle.mz_machine_theory.specs.MachineState.{is_definition}
 use Rattle.mz_machine_theory.specs.Premises.{bound_count}
@@ -24,21 +25,22 @@ put_expr-requires-clause-can c =
     (o, (c.in_ok-written.ensures.begins o (first_begins false s [] ps c.args.params long), c.requires.inside, definition_fits false ps s [] c.args.params long c.args.body.0 c.requires.room))
 
 pub returns-clause-written : goal.returns-clause-written
-returns-clause-written c = λ ps ds is long.
+returns-clause-written c = IfOk-weaker c.end.result _ _ (λ b end ps ds is long.
     let s = c.args.shared.store in
-    (definition_ended false ps ds s c.args.body.0 c.put_expr.new.self _ (ap to_do c.in_ok-put_expr.ensures.done) c.in_ok-bytes.ensures is
+    (definition_ended false ps ds s c.args.body.0 c.put_expr.new.self b.items (ap to_do c.in_ok-put_expr.ensures.done) end is
     (c.in_ok-put_expr.ensures.does (job false ps s []) (
       c.in_ok-written.ensures.begins (job false ps s []) (first_begins false s [] ps c.args.params long),
       c.requires.inside,
       definition_fits false ps s [] c.args.params long c.args.body.0 c.requires.room,
-    ))).0
+    ))).0)
+    c.end.ensures
 
 pub returns-clause-body : goal.returns-clause-body
-returns-clause-body c = λ gaps ps ds is long.
+returns-clause-body c = IfOk-weaker c.end.result _ _ (λ b end gaps ps ds is long.
     let s = c.args.shared.store in
     let e = tree_of s c.args.body.0 in
     let env = c.args.before.env.now in
-    let done = definition_ended false ps ds s c.args.body.0 c.put_expr.new.self _ (ap to_do c.in_ok-put_expr.ensures.done) c.in_ok-bytes.ensures is
+    let done = definition_ended false ps ds s c.args.body.0 c.put_expr.new.self b.items (ap to_do c.in_ok-put_expr.ensures.done) end is
     (c.in_ok-put_expr.ensures.does (job false ps s []) (
       c.in_ok-written.ensures.begins (job false ps s []) (first_begins false s [] ps c.args.params long),
       c.requires.inside,
@@ -46,11 +48,13 @@ returns-clause-body c = λ gaps ps ds is long.
     )) in
     subst (IsSharedBody gaps env is_definition ps ds e []) (sym done.0)
     (definitions_are_written gaps env ps ds e (subst (λ (ctx : List Binder). bound_count ctx ≤ 55) is c.requires.few) (fine_behind env c.args.params s c.args.shared.variables.items ps ds c.requires.behind is long)
-    (sorted_there env c.args.params s c.args.shared.variables.items (ps ++ ds) c.args.body.0 c.requires.behind is c.requires.inside) done.1)
+    (sorted_there env c.args.params s c.args.shared.variables.items (ps ++ ds) c.args.body.0 c.requires.behind is c.requires.inside) done.1))
+    c.end.ensures
 
 pub returns-clause-short : goal.returns-clause-short
-returns-clause-short c =
+returns-clause-short c = IfOk-weaker c.end.result _ _ (λ b written.
     let ctx = c.args.shared.store.context in
     let n = c.args.params in
-    let same = returns-clause-written c (take n ctx) (drop n ctx) (cut_at ctx n) (take_long Binder ctx n c.requires.behind.many) in
-    omega (arith, ap length same, definitions_short (take n ctx) (drop n ctx) (tree_of c.args.shared.store c.args.body.0))
+    let same = written (take n ctx) (drop n ctx) (cut_at ctx n) (take_long Binder ctx n c.requires.behind.many) in
+    omega (arith, ap length same, definitions_short (take n ctx) (drop n ctx) (tree_of c.args.shared.store c.args.body.0)))
+    (returns-clause-written c)

@@ -1,6 +1,7 @@
 use Rattle.std.proofs.Common.{◌↔◌, ◌≤◌, ◌+◌, ◌*◌, drop}
 use Rattle.mz_logic_theory.specs.Tree.{size, trees_size}
 use Rattle.mz_logic_theory.specs.View.{tree, trees}
+use Rattle.mz_logic_free.specs.Narrowed.{AreNarrowed}
 use Rattle.mz_logic_free.proofs.Sharing.{IsOther, SomeName}
 use Rattle.mz_logic_free.proofs.named.+names_other.Given as goal
 
@@ -14,3 +15,4 @@ abbrev pub invariant-some_name_other-loop-e : goal.invariant-some_name_other-loo
 invariant-some_name_other-loop-e l =
     (SomeName l.ctx (IsOther l.variables l.own) (trees (drop l.e-index l.e-items)) ↔ SomeName l.ctx (IsOther l.variables l.own) l.es)
     × (trees_size (trees (drop l.e-index l.e-items)) ≤ trees_size l.es)
+    × AreNarrowed l.ctx l.variables l.narrowed

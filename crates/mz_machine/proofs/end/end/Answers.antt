@@ -19,12 +19,12 @@ use Rattle.mz_machine.proofs.end.end.Goals as goal
 pub run_own-requires-clause-operands : goal.run_own-requires-clause-operands
 run_own-requires-clause-operands g c =
     let s = c.args.store.now in
-    subst (AreIn s) (sym (ap first_ids c.own_arity-params.ensures.params)) (first-in s _ c.requires.params)
+    subst (AreIn s) (sym (ap first_ids c.requires.many)) (first-in s _ c.requires.params)
 
 pub run_own-requires-clause-variables : goal.run_own-requires-clause-variables
 run_own-requires-clause-variables g c =
     let s = c.args.store.now in
-    subst (AreVariables s) (sym (ap first_ids c.own_arity-params.ensures.params)) (first-variables s _ c.requires.params)
+    subst (AreVariables s) (sym (ap first_ids c.requires.many)) (first-variables s _ c.requires.params)
 
 pub run_own-requires-clause-proofs : goal.run_own-requires-clause-proofs
 run_own-requires-clause-proofs g c =
@@ -88,7 +88,7 @@ returns-clause-row g c heap =
     let last = ap (λ (k : Kind). last_item k st.stack) is ∙ c.in-Ok.ensures.last in
     let ends = ap (λ (k : Kind). ending strict (tables_of E) h st k (tree_of s c.in-Ok.target.0)) is ∙ c.in_default.ensures st refl in
     let m = is-ending strict (tables_of E) h st _ _ last ends in
-    let own = own-matching h st kind s c.own_stream-stream.result.now (first_ids c.own_arity-params.result) c.in-Ok.target c.own_proofs.new.items.items c.own_stream-stream.ensures.stream (ap (trees_at s) (ap first_ids c.own_arity-params.ensures.params) ∙ first-trees s _ c.requires.params) (ap (items_at s) c.in-Ok-own_proofs.ensures ∙ own-items s kind c.args.hyps.now) in
+    let own = own-matching h st kind s c.own_stream-stream.result.now (first_ids c.args.params) c.in-Ok.target c.own_proofs.new.items.items c.own_stream-stream.ensures.stream (ap (trees_at s) (ap first_ids c.requires.many) ∙ first-trees s _ c.requires.params) (ap (items_at s) c.in-Ok-own_proofs.ensures ∙ own-items s kind c.args.hyps.now) in
     own-end strict (tables_of E) h st _ c.run_own.result m (subst (λ n. IsOwnRun (unify strict (signatures_of E) s.context n) c.run_own.result) own c.run_own.ensures.run)
 
 pub returns-clause-steps : goal.returns-clause-steps
@@ -102,7 +102,7 @@ returns-clause-steps g c heap =
     let last = ap (λ (k : Kind). last_item k st.stack) is ∙ c.in-Ok.ensures.last in
     let ends = ap (λ (k : Kind). ending strict (tables_of E) h st k (tree_of s c.in-Ok.target.0)) is ∙ c.in_default.ensures st refl in
     let m = is-ending strict (tables_of E) h st _ _ last ends in
-    let own = own-matching h st kind s c.own_stream-stream.result.now (first_ids c.own_arity-params.result) c.in-Ok.target c.own_proofs.new.items.items c.own_stream-stream.ensures.stream (ap (trees_at s) (ap first_ids c.own_arity-params.ensures.params) ∙ first-trees s _ c.requires.params) (ap (items_at s) c.in-Ok-own_proofs.ensures ∙ own-items s kind c.args.hyps.now) in
+    let own = own-matching h st kind s c.own_stream-stream.result.now (first_ids c.args.params) c.in-Ok.target c.own_proofs.new.items.items c.own_stream-stream.ensures.stream (ap (trees_at s) (ap first_ids c.requires.many) ∙ first-trees s _ c.requires.params) (ap (items_at s) c.in-Ok-own_proofs.ensures ∙ own-items s kind c.args.hyps.now) in
     unless-more c.run_own.result _ _ _ _ c.run_own.ensures.steps (end-steps strict (tables_of E) h st _ m ∙ sym (ap (λ n. unify_steps strict (signatures_of E) s.context n) own))
 
 -- ---- what the calls ask
@@ -124,9 +124,6 @@ last_item-requires g c = c.requires.stack
 
 pub check_target-requires-clause-target : goal.check_target-requires-clause-target
 check_target-requires-clause-target g c = c.in-Ok.ensures.ids
-
-pub own_arity-params-requires : goal.own_arity-params-requires
-own_arity-params-requires g c = c.requires.row
 
 pub own_stream-stream-requires : goal.own_stream-stream-requires
 own_stream-stream-requires g c = c.requires.row

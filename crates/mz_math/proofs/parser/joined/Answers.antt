@@ -5,9 +5,15 @@ use Rattle.mz_logic_theory.specs.View.{tree}
 use Rattle.mz_math_theory.specs.Grammar.{items, last_level, notated_tree}
 use Rattle.mz_math_theory.specs.Reading.{NotJoined}
 use Rattle.mz_math.specs.Steps.{IsUnderWay}
-use Rattle.mz_math.proofs.Waiting.{infix-under-way}
+use Rattle.mz_math.proofs.Waiting.{highest-unjoined, infix-under-way}
 use Rattle.mz_math_theory.proofs.Offered.{not-infix, low-infix, begun-read, joined-stuck}
 use Rattle.mz_math.proofs.parser.joined.Goals as goal
+
+pub returns-then-level-eq-MAX-clause-says : goal.returns-then-level-eq-MAX-clause-says
+returns-then-level-eq-MAX-clause-says c = λ from begun.
+    let ws = c.args.words.now in
+    let here = drop c.args.before.next c.args.tokens.now in
+    begun-read ws c.requires.readable c.args.level from here _ _ _ begun (subst (λ n. NotJoined ws n here) (sym c.if-level-eq-MAX.true) (highest-unjoined ws c.requires.readable here))
 
 pub returns-in-None-clause-says : goal.returns-in-None-clause-says
 returns-in-None-clause-says c = λ from begun.

@@ -14,7 +14,7 @@ returns-in_err-push-clause-chained c =
 
 pub returns-in_default-clause-chained : goal.returns-in_default-clause-chained
 returns-in_default-clause-chained c =
-    subst (λ (cs : List Coercion). AreChained cs c.lengthen.new.links.items c.drop_last.new.links.items) (sym c.in_default.ensures.items)
+    subst (λ (cs : List Coercion). AreChained cs c.lengthen.new.links.items c.drop_last.new.items.items) (sym c.in_default.ensures.items)
     (subst (λ (xs : List ℕ). AreChained c.args.items.now.items c.lengthen.new.links.items xs) (sym (c.drop_last.ensures c.args.before.now.items c.link_at.result c.in_ok-push.ensures.items))
     (chained-longer c.args.items.now.items c.args.last.now.items c.args.before.now.items c.lengthen.new.links.items c.requires c.lengthen.ensures.same))
 

@@ -1,4 +1,6 @@
 use Rattle.std.proofs.Common.{◌<◌, ◌+◌, ◌∷◌, [], sym, ap, ◌∙◌, subst, arith, length, ℕ, Option}
+use Rattle.mz_emit_bodies.proofs.Lists.{on_ok_both}
+use Rattle.std.proofs.lemmas.Result.{on_ok_weaker}
 use Rattle.mz_mmu_theory.specs.Proof.{by_name}
 use Rattle.mz_mmu_theory.specs.ProofView.{proof_view}
 use Rattle.mz_emit_bodies.specs.TaskInvariant.{prove, to_do, left, let_costs}
@@ -14,19 +16,21 @@ pub visible-cell-requires-clause-within : goal.visible-cell-requires-clause-with
 visible-cell-requires-clause-within c = name_within _ c.requires.can.0 _ _ _ _ _ _ c.args.number c.in-Some.innermost _ _
     (subst (λ (ch : Option ℕ). Does c.requires.can.0 c.args.self.now (prove (by_name c.args.number) ch ∷ [])) c.in-Some.is c.requires.can.1)
 
-pub returns-in_ok-put-in-Some-place-clause-does : goal.returns-in_ok-put-in-Some-place-clause-does
-returns-in_ok-put-in-Some-place-clause-does c = λ o d. name_placed _ o _ _ _ _ _ _ c.args.number c.in-Some.innermost _ _
+pub returns-in-Some-place-clause-does : goal.returns-in-Some-place-clause-does
+returns-in-Some-place-clause-does c = on_ok_both c.put.result (λ bytes small o d. name_placed _ o _ _ _ _ _ _ c.args.number c.in-Some.innermost _ _
     (subst (λ (ch : Option ℕ). Does o c.args.self.now (prove (by_name c.args.number) ch ∷ [])) c.in-Some.is d)
-    c.visible-cell.result c.visible-cell.ensures.sight c.visible-cell.ensures.there c.in-Some-place.place _ (sym c.in-Some-place.ensures) c.in_ok-put-in-Some-place.ensures.bytes c.in_ok-put-in-Some-place.ensures.small
+    c.visible-cell.result c.visible-cell.ensures.sight c.visible-cell.ensures.there c.in-Some-place.place _ (sym c.in-Some-place.ensures) bytes small)
+    c.put.ensures.bytes c.put.ensures.small
 
-pub returns-in_ok-add-in-None-2-clause-does : goal.returns-in_ok-add-in-None-2-clause-does
-returns-in_ok-add-in-None-2-clause-does c = λ o d. name_parts _ o _ _ _ _ _ _ c.args.number c.in-Some.innermost _ _
+pub returns-in_ok-add-in-None-clause-does : goal.returns-in_ok-add-in-None-clause-does
+returns-in_ok-add-in-None-clause-does c = on_ok_weaker c.add-in-None.result (λ last o d. name_parts _ o _ _ _ _ _ _ c.args.number c.in-Some.innermost _ _
     (subst (λ (ch : Option ℕ). Does o c.args.self.now (prove (by_name c.args.number) ch ∷ [])) c.in-Some.is d)
     c.visible-cell.result c.visible-cell.ensures.sight c.visible-cell.ensures.there _ _ (sym c.in-None.ensures) c.part-outer.ensures
-    (c.in_ok-add-in-None-2.ensures ∙ ap (λ z. prove (proof_view c.part-outer.result.0.now) c.part-outer.result.1 ∷ z) c.in_ok-add-in-None.ensures)
+    (last ∙ ap (λ z. prove (proof_view c.part-outer.result.0.now) c.part-outer.result.1 ∷ z) c.in_ok-add-in-None.ensures))
+    c.add-in-None.ensures
 
-pub returns-in_ok-add-in-None-2-clause-less : goal.returns-in_ok-add-in-None-2-clause-less
-returns-in_ok-add-in-None-2-clause-less c =
+pub returns-in_ok-add-in-None-clause-less : goal.returns-in_ok-add-in-None-clause-less
+returns-in_ok-add-in-None-clause-less c = on_ok_weaker c.add-in-None.result (λ last.
     subst (λ (ch : Option ℕ). left c.args.self.now.before.env.now c.args.self.now.shared.store (parts c.args.self.now.cells.cells.items) (to_do c.add-in-None.new.tasks.items)
     < cost c.args.self.now.before.env.now (in_sight (let_costs c.args.self.now.before.env.now (parts c.args.self.now.cells.cells.items)) ch) (by_name c.args.number)
     + left c.args.self.now.before.env.now c.args.self.now.shared.store (parts c.args.self.now.cells.cells.items) (to_do c.args.self.now.tasks.items)) (sym c.in-Some.is)
@@ -34,7 +38,8 @@ returns-in_ok-add-in-None-2-clause-less c =
     c.args.self.now.cells.cells.items c.args.number c.in-Some.innermost (to_do c.args.self.now.tasks.items) c.args.self.now.out.items
     (subst (λ (ch : Option ℕ). Does c.requires.can.0 c.args.self.now (prove (by_name c.args.number) ch ∷ [])) c.in-Some.is c.requires.can.1)
     c.visible-cell.result c.visible-cell.ensures.sight c.visible-cell.ensures.there (record { proof = proof_view c.part-outer.result.0.now; outer = c.part-outer.result.1 }) (to_do c.add-in-None.new.tasks.items) c.part-outer.ensures
-    (c.in_ok-add-in-None-2.ensures ∙ ap (λ z. prove (proof_view c.part-outer.result.0.now) c.part-outer.result.1 ∷ z) c.in_ok-add-in-None.ensures))
+    (last ∙ ap (λ z. prove (proof_view c.part-outer.result.0.now) c.part-outer.result.1 ∷ z) c.in_ok-add-in-None.ensures)))
+    c.add-in-None.ensures
 
 pub visible-cell-requires-clause-right : goal.visible-cell-requires-clause-right
 visible-cell-requires-clause-right c = c.requires.can.1.lets.linked
@@ -51,5 +56,5 @@ place-requires c = omega (arith, c.visible-cell.ensures.there, links_long c.args
 pub part-outer-requires : goal.part-outer-requires
 part-outer-requires c = omega (arith, c.visible-cell.ensures.there, links_long c.args.self.now.cells.cells.items)
 
-pub returns-in_ok-put-in-Some-place-clause-less : goal.returns-in_ok-put-in-Some-place-clause-less
-returns-in_ok-put-in-Some-place-clause-less c = omega arith
+pub returns-in-Some-place-clause-less : goal.returns-in-Some-place-clause-less
+returns-in-Some-place-clause-less c = on_ok_weaker c.put.result (λ bytes. omega arith) c.put.ensures.bytes

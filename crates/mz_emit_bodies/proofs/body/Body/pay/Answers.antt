@@ -1,4 +1,5 @@
 use Rattle.std.proofs.Common.{ap, ◌∙◌, ◌<◌, sym, subst, arith, ◌∷◌, []}
+use Rattle.std.proofs.lemmas.Result.{on_ok_weaker}
 use Rattle.std.specs.Prelude.{OnOk}
 use Rattle.mz_logic_theory.specs.Conversions.{unfold_conv}
 use Rattle.mz_mmu_theory.specs.ConvView.{conversion}
@@ -9,45 +10,49 @@ use Rattle.mz_emit_bodies.specs.Going.{Job, Does, steps_left}
 use Rattle.mz_emit_bodies.proofs.Paying.{refl_paid, sym_paid, cong_paid, gap_paid}
 use Rattle.mz_emit_bodies.proofs.body.Body.pay.Goals as goal
 
-pub returns-in_ok-put-in-Refl-clause-does : goal.returns-in_ok-put-in-Refl-clause-does
-returns-in_ok-put-in-Refl-clause-does c = λ o d. refl_paid _ o _ _ _ _ _ _ _ _ _ _ c.in_ok-put-in-Refl.ensures.bytes
-    (subst (λ z. Does o c.args.self.now (pay z ∷ [])) (ap conversion c.in-Refl.is) d)
+pub returns-in-Refl-clause-does : goal.returns-in-Refl-clause-does
+returns-in-Refl-clause-does c = on_ok_weaker c.put.result (λ bytes o d. refl_paid _ o _ _ _ _ _ _ _ _ _ _ bytes
+    (subst (λ z. Does o c.args.self.now (pay z ∷ [])) (ap conversion c.in-Refl.is) d))
+    c.put.ensures.bytes
 
-pub returns-in_ok-put-in-Sym-clause-does : goal.returns-in_ok-put-in-Sym-clause-does
-returns-in_ok-put-in-Sym-clause-does c = λ o d. sym_paid _ o _ _ _ _ _ _ (to_do c.args.self.now.tasks.items) _ _ c.in-Sym.part (to_do c.add.new.tasks.items)
+pub returns-in_ok-add-in-Sym-clause-does : goal.returns-in_ok-add-in-Sym-clause-does
+returns-in_ok-add-in-Sym-clause-does c = on_ok_weaker c.put-in-Sym.result (λ bytes o d. sym_paid _ o _ _ _ _ _ _ (to_do c.args.self.now.tasks.items) _ _ c.in-Sym.part (to_do c.add.new.tasks.items)
     (c.in_ok-add-in-Sym.ensures ∙ ap (λ z. pay z ∷ to_do c.args.self.now.tasks.items) c.get.ensures)
-    c.in_ok-put-in-Sym.ensures.bytes
-    (subst (λ z. Does o c.args.self.now (pay z ∷ [])) (ap conversion c.in-Sym.is) d)
+    bytes
+    (subst (λ z. Does o c.args.self.now (pay z ∷ [])) (ap conversion c.in-Sym.is) d))
+    c.put-in-Sym.ensures.bytes
 
-pub returns-in_ok-put-in-Cong-clause-does : goal.returns-in_ok-put-in-Cong-clause-does
-returns-in_ok-put-in-Cong-clause-does c = λ o d. cong_paid _ o _ _ _ _ _ _ (to_do c.args.self.now.tasks.items) _ _ _ c.in-Cong.parts (to_do c.add-in-Cong.new.tasks.items)
+pub returns-in_ok-add-in-Cong-clause-does : goal.returns-in_ok-add-in-Cong-clause-does
+returns-in_ok-add-in-Cong-clause-does c = on_ok_weaker c.put-in-Cong.result (λ bytes o d. cong_paid _ o _ _ _ _ _ _ (to_do c.args.self.now.tasks.items) _ _ _ c.in-Cong.parts (to_do c.add-in-Cong.new.tasks.items)
     (c.in_ok-add-in-Cong.ensures ∙ ap (λ z. pay_all z ∷ to_do c.args.self.now.tasks.items) c.as_slice.ensures)
-    c.in_ok-put-in-Cong.ensures.bytes
-    (subst (λ z. Does o c.args.self.now (pay z ∷ [])) (ap conversion c.in-Cong.is) d)
+    bytes
+    (subst (λ z. Does o c.args.self.now (pay z ∷ [])) (ap conversion c.in-Cong.is) d))
+    c.put-in-Cong.ensures.bytes
 
-pub returns-in_ok-put-in-Gap-clause-does : goal.returns-in_ok-put-in-Gap-clause-does
-returns-in_ok-put-in-Gap-clause-does c = λ o d. gap_paid _ o _ _ _ _ _ _ _ _ _ _ _ c.in_ok-put-in-Gap.ensures.bytes
-    (subst (λ z. Does o c.args.self.now (pay z ∷ [])) (ap conversion c.in-Gap.is) d)
+pub returns-in-Gap-clause-does : goal.returns-in-Gap-clause-does
+returns-in-Gap-clause-does c = on_ok_weaker c.put-in-Gap.result (λ bytes o d. gap_paid _ o _ _ _ _ _ _ _ _ _ _ _ bytes
+    (subst (λ z. Does o c.args.self.now (pay z ∷ [])) (ap conversion c.in-Gap.is) d))
+    c.put-in-Gap.ensures.bytes
 
-pub returns-in_ok-put-in-Refl-clause-less : goal.returns-in_ok-put-in-Refl-clause-less
-returns-in_ok-put-in-Refl-clause-less c = let paid = ap (λ x. pay_cost c.args.self.now.before.env.now (conversion x)) c.in-Refl.is in omega (arith, paid)
+pub returns-in-Refl-clause-less : goal.returns-in-Refl-clause-less
+returns-in-Refl-clause-less c = let paid = ap (λ x. pay_cost c.args.self.now.before.env.now (conversion x)) c.in-Refl.is in on_ok_weaker c.put.result (λ bytes. omega (arith, paid)) c.put.ensures.bytes
 
-pub returns-in_ok-put-in-Gap-clause-less : goal.returns-in_ok-put-in-Gap-clause-less
-returns-in_ok-put-in-Gap-clause-less c = let paid = ap (λ x. pay_cost c.args.self.now.before.env.now (conversion x)) c.in-Gap.is in omega (arith, paid)
+pub returns-in-Gap-clause-less : goal.returns-in-Gap-clause-less
+returns-in-Gap-clause-less c = let paid = ap (λ x. pay_cost c.args.self.now.before.env.now (conversion x)) c.in-Gap.is in on_ok_weaker c.put-in-Gap.result (λ bytes. omega (arith, paid)) c.put-in-Gap.ensures.bytes
 
-pub returns-in_ok-put-in-Sym-clause-less : goal.returns-in_ok-put-in-Sym-clause-less
-returns-in_ok-put-in-Sym-clause-less c =
+pub returns-in_ok-add-in-Sym-clause-less : goal.returns-in_ok-add-in-Sym-clause-less
+returns-in_ok-add-in-Sym-clause-less c =
     let paid = ap (λ x. pay_cost c.args.self.now.before.env.now (conversion x)) c.in-Sym.is in
     let part = ap (pay_cost c.args.self.now.before.env.now) c.get.ensures in
     let steps = ap (left c.args.self.now.before.env.now c.args.self.now.shared.store (parts c.args.self.now.cells.cells.items)) c.in_ok-add-in-Sym.ensures in
-    omega (arith, paid, part, steps)
+    on_ok_weaker c.put-in-Sym.result (λ bytes. omega (arith, paid, part, steps)) c.put-in-Sym.ensures.bytes
 
-pub returns-in_ok-put-in-Cong-clause-less : goal.returns-in_ok-put-in-Cong-clause-less
-returns-in_ok-put-in-Cong-clause-less c =
+pub returns-in_ok-add-in-Cong-clause-less : goal.returns-in_ok-add-in-Cong-clause-less
+returns-in_ok-add-in-Cong-clause-less c =
     let paid = ap (λ x. pay_cost c.args.self.now.before.env.now (conversion x)) c.in-Cong.is in
     let part = ap (pay_costs c.args.self.now.before.env.now) c.as_slice.ensures in
     let steps = ap (left c.args.self.now.before.env.now c.args.self.now.shared.store (parts c.args.self.now.cells.cells.items)) c.in_ok-add-in-Cong.ensures in
-    omega (arith, paid, part, steps)
+    on_ok_weaker c.put-in-Cong.result (λ bytes. omega (arith, paid, part, steps)) c.put-in-Cong.ensures.bytes
 
 pub unfold-requires-clause-can : goal.unfold-requires-clause-can
 unfold-requires-clause-can c =

@@ -1,7 +1,6 @@
-use Rattle.std.proofs.Common.{◌∙◌, refl, length, sym, ap, subst}
+use Rattle.std.proofs.Common.{◌∙◌, refl, sym, ap, subst}
 use Rattle.std.specs.Prelude.{IfSome}
 use Rattle.mz_base.specs.Gaps.{gaps_of}
-use Rattle.mz_store.specs.Bits.{bound_vars}
 use Rattle.mz_machine_theory.specs.MachineState.{signatures_in}
 use Rattle.mz_machine_env.specs.OwnRow.{byte_of, kind_of, own_words, first_items}
 use Rattle.mz_machine_theory.specs.Headings.{kind_at, heading_of}
@@ -10,8 +9,8 @@ use Rattle.mz_machine.specs.Parameters.{Remembers}
 use Rattle.mz_machine.specs.declared.params.Entered.{Entered}
 use Rattle.mz_machine.proofs.GapRows.{start-plain}
 use Rattle.mz_machine_env.proofs.Offered.{kind-byte, own-bits}
-use Rattle.mz_machine.proofs.Beginning.{params-are, params-many, is-begun, state-begun}
-use Rattle.mz_machine.proofs.KnownParams.{entered-as}
+use Rattle.mz_machine.proofs.Beginning.{params-many, is-begun, state-begun}
+use Rattle.mz_machine.proofs.KnownParams.{entered-as, own-as, own-few, own-words}
 use Rattle.mz_machine.proofs.machine.Setting.begin.Goals as goal
 
 pub enter-requires-clause-next : goal.enter-requires-clause-next
@@ -23,8 +22,8 @@ enter-requires-clause-bits c = rw (c.new-earlier.ensures.file, sym (kind-byte c.
 pub enter-requires-clause-last : goal.enter-requires-clause-last
 enter-requires-clause-last c = subst (λ f. IfSome c.args.last (λ (last : Entered). Remembers f last c.args.parts.now.store)) (sym c.new-earlier.ensures.file) c.requires.last
 
-pub own_arity-requires : goal.own_arity-requires
-own_arity-requires c = rw (c.new-earlier.ensures.file, c.new-earlier.ensures.rows, sym (kind-byte c.args.kind)) c.requires.may_run.next
+pub enter-requires-clause-few : goal.enter-requires-clause-few
+enter-requires-clause-few c = rw (c.new-earlier.ensures.file, sym (kind-byte c.args.kind)) (own-few c.args.mmb.now c.args.before c.args.row (kind_at (byte_of c.args.kind)) c.file.ensures.binary c.requires.may_run.next)
 
 pub returns-clause-running : goal.returns-clause-running
 returns-clause-running c =
@@ -32,11 +31,11 @@ returns-clause-running c =
     let file = c.args.mmb.now in
     let kind = kind_at (byte_of c.args.kind) in
     let ws = own_words file c.args.row kind in
-    let e = entered-as c.new-earlier.result.file file c.args.row (kind_of c.args.kind) kind s c.new-earlier.ensures.file (sym (kind-byte c.args.kind)) c.in_ok-enter.ensures in
+    let e = entered-as c.new-earlier.result.file file c.args.row (kind_of c.args.kind) kind s c.new-earlier.ensures.file (sym (kind-byte c.args.kind)) c.in_ok-entered.ensures.entered in
     let begun = is-begun file (byte_of c.args.kind) c.args.row c.args.before s ws c.requires.may_run refl e.context e.many e.trees (e.over (signatures_in (tables_before file c.args.before))) e.mode in
-    let bound = c.bound_count-bound_params.ensures.many ∙ ap (λ ps. length (bound_vars ps)) (e.context ∙ sym (params-are file (byte_of c.args.kind) c.args.row c.args.before s ws c.requires.may_run refl e.context e.many e.trees)) in
-    let many = c.own_arity.ensures.words ∙ ap (λ f. length (own_words f c.args.row (kind_of c.args.kind))) c.new-earlier.ensures.file ∙ ap (λ k. length (own_words file c.args.row k)) (sym (kind-byte c.args.kind)) in
-    rw (c.new-earlier.ensures.file, c.new-earlier.ensures.rows, c.in_ok-begin.ensures ∙ ap first_items many, c.clear.ensures.items, c.clear-2.ensures.items, c.clear-3.ensures.items) (begun, bound, (tt, tt))
+    let own = own-as c.new-earlier.result.file file c.args.row (kind_of c.args.kind) kind c.in_ok-entered.entered c.new-earlier.ensures.file (sym (kind-byte c.args.kind)) c.in_ok-entered.ensures.own in
+    let many = own-words file c.args.row kind c.in_ok-entered.entered own in
+    rw (c.new-earlier.ensures.file, c.new-earlier.ensures.rows, c.in_ok-begin.ensures ∙ ap first_items many, c.clear.ensures.items, c.clear-2.ensures.items, c.clear-3.ensures.items) (begun, own, (tt, tt))
 
 pub returns-clause-begun : goal.returns-clause-begun
 returns-clause-begun c =
@@ -44,8 +43,9 @@ returns-clause-begun c =
     let file = c.args.mmb.now in
     let kind = kind_at (byte_of c.args.kind) in
     let ws = own_words file c.args.row kind in
-    let e = entered-as c.new-earlier.result.file file c.args.row (kind_of c.args.kind) kind s c.new-earlier.ensures.file (sym (kind-byte c.args.kind)) c.in_ok-enter.ensures in
-    let many = c.own_arity.ensures.words ∙ ap (λ f. length (own_words f c.args.row (kind_of c.args.kind))) c.new-earlier.ensures.file ∙ ap (λ k. length (own_words file c.args.row k)) (sym (kind-byte c.args.kind)) in
+    let e = entered-as c.new-earlier.result.file file c.args.row (kind_of c.args.kind) kind s c.new-earlier.ensures.file (sym (kind-byte c.args.kind)) c.in_ok-entered.ensures.entered in
+    let own = own-as c.new-earlier.result.file file c.args.row (kind_of c.args.kind) kind c.in_ok-entered.entered c.new-earlier.ensures.file (sym (kind-byte c.args.kind)) c.in_ok-entered.ensures.own in
+    let many = own-words file c.args.row kind c.in_ok-entered.entered own in
     record {
       gaps_are = refl;
       file_is = c.new-earlier.ensures.file;

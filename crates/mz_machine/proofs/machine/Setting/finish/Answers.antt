@@ -20,6 +20,7 @@ use Rattle.mz_machine.specs.OverStore.{state_at, AreFirst, IsContextOf}
 use Rattle.mz_machine.proofs.GapRows.{ends-steps}
 use Rattle.mz_machine_theory.proofs.Offered.{end-plain}
 use Rattle.mz_machine.proofs.Dummies.{bound-more, context-longer}
+use Rattle.mz_machine.proofs.KnownParams.{own-bound, own-many}
 use Rattle.mz_machine.proofs.Machines.{same-three}
 use Rattle.mz_machine.proofs.Stopping.{stopped}
 use Rattle.mz_machine.proofs.WholeEnds.{end-counts, end-refused, end-whole}
@@ -43,12 +44,18 @@ end-requires-clause-params g c =
     let t = c.args.self.now in
     subst (λ (k : Kind). AreFirst c.args.parts.now.store (length (heading_by t.earlier.file t.row k).params)) (kind-byte t.kind) c.requires.0.params
 
+pub end-requires-clause-many : goal.end-requires-clause-many
+end-requires-clause-many g c =
+    let t = c.args.self.now in
+    subst (λ (k : Kind). t.entered.params ≡ length (heading_by t.earlier.file t.row k).params) (kind-byte t.kind) (own-many t.earlier.file t.row (kind_at (byte_of t.kind)) t.entered c.requires.1)
+
 pub counted-requires-clause-bound : goal.counted-requires-clause-bound
 counted-requires-clause-bound g c =
-    let ps = (heading_of c.args.self.now.earlier.file (byte_of c.args.self.now.kind) c.args.self.now.row).params in
+    let t = c.args.self.now in
+    let ps = (heading_of t.earlier.file (byte_of t.kind) t.row).params in
     omega (
       arith,
-      c.requires.1,
+      own-bound t.earlier.file t.row (kind_at (byte_of t.kind)) t.entered c.requires.1,
       bound-more ps c.args.parts.now.store.context c.requires.0.context,
       context-longer ps c.args.parts.now.store.context c.requires.0.context,
     )
@@ -65,7 +72,7 @@ returns-in-Ok-clause-run g c =
     let is = ap (λ (stack : List Kept). state_at s heap stack c.deref-2.result.now) c.deref.ensures.value ∙ ap (λ (hyps : List Id). state_at s heap c.args.parts.now.stack.items hyps) c.deref-2.ensures.value in
     let hyps : c.counted.result.hyps ≡ length c.args.parts.now.hyps.items = c.counted.ensures.hyps ∙ ap length c.deref-in-Ok.ensures.value in
     let dummies : c.counted.result.dummies + length h.params ≡ length s.context =
-    omega (arith, c.counted.ensures.dummies, c.requires.1, bound-more h.params s.context c.requires.0.context) in
+    omega (arith, c.counted.ensures.dummies, own-bound c.args.self.now.earlier.file c.args.self.now.row (kind_at (byte_of c.args.self.now.kind)) c.args.self.now.entered c.requires.1, bound-more h.params s.context c.requires.0.context) in
     let tables = tables_before c.args.self.now.earlier.file c.args.self.now.earlier.rows in
     let es = reverse c.args.parts.now.equations.items in
     let written = end-plain (gaps_of c.args.self.now.mode) tables h st ∙ sym ended ∙ c.in-Ok.ensures.row heap ∙ ap Ok is in

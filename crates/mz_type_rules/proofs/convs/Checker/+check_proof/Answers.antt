@@ -19,12 +19,12 @@ use Rattle.mz_mmu_theory.specs.Names.{ProofThere, ProofsThere}
 use Rattle.mz_mmu_theory.specs.Parts.{part, after}
 use Rattle.mz_mmu_theory.specs.Rules.{expr_rules, conv_rules, proof_rules, proofs_rules}
 use Rattle.mz_mmu_theory.specs.Sides.{proved, all_proved, with_fact}
-use Rattle.mz_type_rules.proofs.Building.{builds_more, built_whole}
+use Rattle.mz_type_rules.proofs.Building.{builds_more}
 use Rattle.mz_type_rules.proofs.Judging.{stop_handed_on, stopped_before, stopped_after, stopped_within, left_step}
 use Rattle.mz_type_rules.specs.Scopes.{with_let}
 use Rattle.mz_type_rules.proofs.Keeping.{fact_many}
 use Rattle.mz_type_rules.proofs.ProofSteps as step
-use Rattle.mz_type_rules.proofs.Stacked.{front_same, behind_same, many_behind, last_same, stopped_still, judged_still, on_ok, citation_judged, converted_stop}
+use Rattle.mz_type_rules.proofs.Stacked.{front_same, many_behind, last_same, others_within, others_before, own_behind, let_named, stopped_still, judged_still, on_ok, citation_judged, converted_stop}
 use Rattle.mz_type_rules.proofs.convs.Checker.+check_proof.Goals as goal
 
 pub check_citation-returns-in_err-check_part_exprs-clause-judged : goal.check_citation-returns-in_err-check_part_exprs-clause-judged
@@ -71,8 +71,6 @@ check_citation-loop-proof-preserved t c =
     let hyps = c.args.self.now.hyps.now in
     let lets = c.args.lets.now.lets in
     let n = first c.args.nodes.now in
-    let T = c.args.number in
-    let es = c.args.es.now in
     let ps = c.args.proofs.now in
     let items = c.as_slice-proof-items.result.now in
     let i = c.loop-proof.proof-index in
@@ -102,25 +100,8 @@ check_citation-loop-proof-preserved t c =
 pub check_citation-check_cited-requires-clause-within : goal.check_citation-check_cited-requires-clause-within
 check_citation-check_cited-requires-clause-within t c =
     let from : c.len-from.result ≡ length c.args.claims.now.items = omega (arith, c.len-from.ensures) in
-    let env = c.args.self.now.env.now in
-    let ctx = c.args.self.now.ctx.now in
-    let hyps = c.args.self.now.hyps.now in
-    let lets = c.args.lets.now.lets in
-    let n = first c.args.nodes.now in
-    let T = c.args.number in
-    let es = c.args.es.now in
-    let ps = c.args.proofs.now in
-    let items = c.as_slice-proof-items.result.now in
-    let i = c.loop-proof.proof-index in
-    let whole = proofs_rules env ctx hyps lets ps (after 2 (parts n)) in
-    let ends = drop_all i items c.loop-proof-test.false in
-    let old = c.args.claims.now.items in
-    let new = c.loop-proof.claims.items in
-    let all = all_proved env hyps lets ps in
-    let are : claim_trees new ≡ followed_by (claim_trees old) all =
-    built_whole (claim_trees new) (all_proved env hyps lets (proofs_view (drop i items))) (followed_by (claim_trees old) all) (ap (λ qs. all_proved env hyps lets (proofs_view qs)) ends) c.loop-proof.invariant.builds in
-    let many = many_behind old new all are in
-    omega (arith, many, from)
+    others_within c.args.self.now.env.now c.args.self.now.hyps.now c.args.lets.now.lets c.args.proofs.now c.as_slice-proof-items.result.now c.loop-proof.proof-index
+    c.len-from.result c.args.claims.now.items c.loop-proof.claims.items c.loop-proof-test.false from c.loop-proof.invariant.builds
 
 pub check_citation-check_cited-requires-clause-env : goal.check_citation-check_cited-requires-clause-env
 check_citation-check_cited-requires-clause-env t c = c.loop-proof.invariant.over.0
@@ -132,16 +113,9 @@ check_citation-check_cited-requires-clause-proved t c =
     let hyps = c.args.self.now.hyps.now in
     let lets = c.args.lets.now.lets in
     let ps = c.args.proofs.now in
-    let items = c.as_slice-proof-items.result.now in
-    let i = c.loop-proof.proof-index in
-    let ends = drop_all i items c.loop-proof-test.false in
-    let old = c.args.claims.now.items in
-    let new = c.loop-proof.claims.items in
-    let all = all_proved env hyps lets ps in
     let z = c.loop-proof.lets in
-    let are : claim_trees new ≡ followed_by (claim_trees old) all =
-    built_whole (claim_trees new) (all_proved env hyps lets (proofs_view (drop i items))) (followed_by (claim_trees old) all) (ap (λ qs. all_proved env hyps lets (proofs_view qs)) ends) c.loop-proof.invariant.builds in
-    ap (λ k. claim_trees (drop k new)) from ∙ behind_same old new all are
+    own_behind env hyps lets ps c.as_slice-proof-items.result.now c.loop-proof.proof-index c.len-from.result c.args.claims.now.items c.loop-proof.claims.items c.loop-proof-test.false
+    from c.loop-proof.invariant.builds
     ∙ ap (λ e. all_proved e hyps lets ps) (sym c.loop-proof.invariant.over.0) ∙ ap (λ h. all_proved z.env h lets ps) (sym c.loop-proof.invariant.over.1)
     ∙ ap (λ y. all_proved z.env z.hyps y.lets ps) (sym c.loop-proof.invariant.same) ∙ ap (all_proved z.env z.hyps z.lets) (sym c.as_slice.ensures)
 
@@ -152,46 +126,26 @@ check_citation-returns-clause-judged t c =
     let ctx = c.args.self.now.ctx.now in
     let hyps = c.args.self.now.hyps.now in
     let lets = c.args.lets.now.lets in
-    let n = first c.args.nodes.now in
-    let T = c.args.number in
-    let es = c.args.es.now in
     let ps = c.args.proofs.now in
     let items = c.as_slice-proof-items.result.now in
     let i = c.loop-proof.proof-index in
-    let whole = proofs_rules env ctx hyps lets ps (after 2 (parts n)) in
-    let ends = drop_all i items c.loop-proof-test.false in
-    let old = c.args.claims.now.items in
     let new = c.loop-proof.claims.items in
-    let all = all_proved env hyps lets ps in
-    let are : claim_trees new ≡ followed_by (claim_trees old) all =
-    built_whole (claim_trees new) (all_proved env hyps lets (proofs_view (drop i items))) (followed_by (claim_trees old) all) (ap (λ qs. all_proved env hyps lets (proofs_view qs)) ends) c.loop-proof.invariant.builds in
-    citation_judged env ctx hyps lets n T es ps c.check_cited.result (claim_trees (drop c.len-from.result new)) c.in_ok-check_part_exprs.ensures
-    (c.loop-proof.invariant.decides.holds (subst (λ qs. AllHold (proofs_rules env ctx hyps lets (proofs_view qs) c.loop-proof.left)) (sym ends) tt))
-    (ap (λ k. claim_trees (drop k new)) from ∙ behind_same old new all are) c.check_cited.ensures.judged
+    citation_judged env ctx hyps lets (first c.args.nodes.now) c.args.number c.args.es.now ps c.check_cited.result (claim_trees (drop c.len-from.result new)) c.in_ok-check_part_exprs.ensures
+    (c.loop-proof.invariant.decides.holds
+    (subst (λ qs. AllHold (proofs_rules env ctx hyps lets (proofs_view qs) c.loop-proof.left)) (sym (drop_all i items c.loop-proof-test.false)) tt))
+    (own_behind env hyps lets ps items i c.len-from.result c.args.claims.now.items new c.loop-proof-test.false from c.loop-proof.invariant.builds) c.check_cited.ensures.judged
 
 pub check_citation-returns-clause-claims : goal.check_citation-returns-clause-claims
 check_citation-returns-clause-claims t c =
     let from : c.len-from.result ≡ length c.args.claims.now.items = omega (arith, c.len-from.ensures) in
     let env = c.args.self.now.env.now in
-    let ctx = c.args.self.now.ctx.now in
     let hyps = c.args.self.now.hyps.now in
     let lets = c.args.lets.now.lets in
-    let n = first c.args.nodes.now in
-    let T = c.args.number in
-    let es = c.args.es.now in
     let ps = c.args.proofs.now in
-    let items = c.as_slice-proof-items.result.now in
-    let i = c.loop-proof.proof-index in
-    let whole = proofs_rules env ctx hyps lets ps (after 2 (parts n)) in
-    let ends = drop_all i items c.loop-proof-test.false in
-    let old = c.args.claims.now.items in
-    let new = c.loop-proof.claims.items in
-    let all = all_proved env hyps lets ps in
-    let are : claim_trees new ≡ followed_by (claim_trees old) all =
-    built_whole (claim_trees new) (all_proved env hyps lets (proofs_view (drop i items))) (followed_by (claim_trees old) all) (ap (λ qs. all_proved env hyps lets (proofs_view qs)) ends) c.loop-proof.invariant.builds in
-    let x = proved env hyps lets (by_citation T es ps) in
+    let x = proved env hyps lets (by_citation c.args.number c.args.es.now ps) in
     on_ok_weaker c.check_cited.result
-    (λ same. same ∙ ap (λ k. with_fact (claim_trees (take k new)) x) from ∙ ap (λ ts. with_fact ts x) (front_same old new all are)) c.check_cited.ensures.claims
+    (λ same. same ∙ ap (λ ts. with_fact ts x) (others_before env hyps lets ps c.as_slice-proof-items.result.now c.loop-proof.proof-index c.len-from.result c.args.claims.now.items
+    c.loop-proof.claims.items c.loop-proof-test.false from c.loop-proof.invariant.builds)) c.check_cited.ensures.claims
 
 pub check_citation-returns-clause-same : goal.check_citation-returns-clause-same
 check_citation-returns-clause-same t c =
@@ -227,10 +181,8 @@ pub check_conversion-goes_between-requires : goal.check_conversion-goes_between-
 check_conversion-goes_between-requires t c =
     let from : c.len-from.result ≡ length c.args.claims.now.items = omega (arith, c.len-from.ensures) in
     let env = c.args.self.now.env.now in
-    let ctx = c.args.self.now.ctx.now in
     let hyps = c.args.self.now.hyps.now in
     let lets = c.args.lets.now.lets in
-    let n = first c.args.nodes.now in
     let old = c.args.claims.now.items in
     let new = c.check_proof.new.claims.items in
     let x = proved env hyps lets (proof_view c.args.proof.now) in
@@ -290,10 +242,8 @@ pub check_conversion-returns-clause-claims : goal.check_conversion-returns-claus
 check_conversion-returns-clause-claims t c =
     let from : c.len-from.result ≡ length c.args.claims.now.items = omega (arith, c.len-from.ensures) in
     let env = c.args.self.now.env.now in
-    let ctx = c.args.self.now.ctx.now in
     let hyps = c.args.self.now.hyps.now in
     let lets = c.args.lets.now.lets in
-    let n = first c.args.nodes.now in
     let old = c.args.claims.now.items in
     let new = c.check_proof.new.claims.items in
     let x = proved env hyps lets (proof_view c.args.proof.now) in
@@ -348,14 +298,11 @@ check_let-check_proof-requires-2 t c =
     let ctx = c.args.self.now.ctx.now in
     let hyps = c.args.self.now.hyps.now in
     let lets = c.args.lets.now.lets in
-    let n = first c.args.nodes.now in
     let p = proof_view c.args.stated.now in
     let q = proof_view c.args.proof.now in
     let x = proved env hyps lets p in
-    let one = c.check_proof.new.claims.items in
-    let named : c.name_claim.new.lets.lets ≡ with_fact lets x =
-    ap (λ z. z.lets) c.in_ok-name_claim.ensures.lets ∙ ap (λ ls. with_fact ls.lets (operand (claim_trees one) c.len-from.result)) c.in_ok-check_proof.ensures.same
-    ∙ ap (with_fact lets) (ap (operand (claim_trees one)) from ∙ last_same c.args.claims.now.items one x c.in_ok-check_proof.ensures.claims) in
+    let named = let_named c.args.lets.now c.check_proof.new.lets c.name_claim.new.lets c.args.claims.now.items c.check_proof.new.claims.items c.len-from.result x
+    c.in_ok-name_claim.ensures.lets c.in_ok-check_proof.ensures.same from c.in_ok-check_proof.ensures.claims in
     let many = sym (ap (λ ts. length (listed ts)) named ∙ fact_many lets x) in
     let same = ap (λ z. z.env) c.in_ok-name_claim.ensures.lets ∙ ap (λ z. z.env) c.in_ok-check_proof.ensures.same ∙ c.requires.over.0 in
     let same-hyps = ap (λ z. z.hyps) c.in_ok-name_claim.ensures.lets ∙ ap (λ z. z.hyps) c.in_ok-check_proof.ensures.same ∙ c.requires.over.1 in
@@ -372,10 +319,8 @@ check_let-returns-in_err-check_proof-2-clause-judged t c =
     let p = proof_view c.args.stated.now in
     let q = proof_view c.args.proof.now in
     let x = proved env hyps lets p in
-    let one = c.check_proof.new.claims.items in
-    let named : c.name_claim.new.lets.lets ≡ with_fact lets x =
-    ap (λ z. z.lets) c.in_ok-name_claim.ensures.lets ∙ ap (λ ls. with_fact ls.lets (operand (claim_trees one) c.len-from.result)) c.in_ok-check_proof.ensures.same
-    ∙ ap (with_fact lets) (ap (operand (claim_trees one)) from ∙ last_same c.args.claims.now.items one x c.in_ok-check_proof.ensures.claims) in
+    let named = let_named c.args.lets.now c.check_proof.new.lets c.name_claim.new.lets c.args.claims.now.items c.check_proof.new.claims.items c.len-from.result x
+    c.in_ok-name_claim.ensures.lets c.in_ok-check_proof.ensures.same from c.in_ok-check_proof.ensures.claims in
     let A = proof_rules env ctx hyps lets p (part (parts n) 2) in
     let B = proof_rules env ctx hyps (with_fact lets x) q (part (parts n) 3) in
     let held = subst (λ m. AllHold (proof_rules env ctx hyps lets p m)) c.part.ensures c.in_ok-check_proof.ensures.judged in
@@ -395,10 +340,8 @@ check_let-returns-clause-judged t c =
     let p = proof_view c.args.stated.now in
     let q = proof_view c.args.proof.now in
     let x = proved env hyps lets p in
-    let one = c.check_proof.new.claims.items in
-    let named : c.name_claim.new.lets.lets ≡ with_fact lets x =
-    ap (λ z. z.lets) c.in_ok-name_claim.ensures.lets ∙ ap (λ ls. with_fact ls.lets (operand (claim_trees one) c.len-from.result)) c.in_ok-check_proof.ensures.same
-    ∙ ap (with_fact lets) (ap (operand (claim_trees one)) from ∙ last_same c.args.claims.now.items one x c.in_ok-check_proof.ensures.claims) in
+    let named = let_named c.args.lets.now c.check_proof.new.lets c.name_claim.new.lets c.args.claims.now.items c.check_proof.new.claims.items c.len-from.result x
+    c.in_ok-name_claim.ensures.lets c.in_ok-check_proof.ensures.same from c.in_ok-check_proof.ensures.claims in
     let A = proof_rules env ctx hyps lets p (part (parts n) 2) in
     let B = proof_rules env ctx hyps (with_fact lets x) q (part (parts n) 3) in
     let held = subst (λ m. AllHold (proof_rules env ctx hyps lets p m)) c.part.ensures c.in_ok-check_proof.ensures.judged in
@@ -409,17 +352,14 @@ pub check_let-returns-clause-claims : goal.check_let-returns-clause-claims
 check_let-returns-clause-claims t c =
     let from : c.len-from.result ≡ length c.args.claims.now.items = omega (arith, c.len-from.ensures) in
     let env = c.args.self.now.env.now in
-    let ctx = c.args.self.now.ctx.now in
     let hyps = c.args.self.now.hyps.now in
     let lets = c.args.lets.now.lets in
-    let n = first c.args.nodes.now in
     let p = proof_view c.args.stated.now in
     let q = proof_view c.args.proof.now in
     let x = proved env hyps lets p in
     let one = c.check_proof.new.claims.items in
-    let named : c.name_claim.new.lets.lets ≡ with_fact lets x =
-    ap (λ z. z.lets) c.in_ok-name_claim.ensures.lets ∙ ap (λ ls. with_fact ls.lets (operand (claim_trees one) c.len-from.result)) c.in_ok-check_proof.ensures.same
-    ∙ ap (with_fact lets) (ap (operand (claim_trees one)) from ∙ last_same c.args.claims.now.items one x c.in_ok-check_proof.ensures.claims) in
+    let named = let_named c.args.lets.now c.check_proof.new.lets c.name_claim.new.lets c.args.claims.now.items c.check_proof.new.claims.items c.len-from.result x
+    c.in_ok-name_claim.ensures.lets c.in_ok-check_proof.ensures.same from c.in_ok-check_proof.ensures.claims in
     let y = proved env hyps c.name_claim.new.lets.lets q in
     c.in_ok-check_proof-2.ensures.claims ∙ ap (λ xs. with_fact (claim_trees xs) y) c.in_ok-name_claim.ensures.claims ∙ ap (λ k. with_fact (claim_trees (take k one)) y) from
     ∙ ap (λ ts. with_fact ts y) (front_same c.args.claims.now.items one (more x none) c.in_ok-check_proof.ensures.claims)

@@ -1,9 +1,0 @@
-use Rattle.std.proofs.Common.{◌≡◌, ◌↔◌}
-use Rattle.mz_type_rules.specs.Claims.{claim_tree, AllSame, turns}
-use Rattle.mz_type_rules.proofs.claim.same_claim_in.Given as goal
-
-abbrev pub invariant-comparing : goal.invariant-comparing
-invariant-comparing l = AllSame l.waiting.items ↔ (claim_tree l.fn.a ≡ claim_tree l.fn.b)
-
-abbrev pub decreases-comparing : goal.decreases-comparing
-decreases-comparing l = turns l.waiting.items
