@@ -110,7 +110,7 @@ impl<'a, B: Bodies> Checker<'a, B> {
 
     /// Runs the statement's body, and goes past it.
     fn past_body<L: Ledger>(
-        mut self,
+        self,
         head: Head,
         right: Option<RightWords>,
         steps: &mut Steps<L>,
@@ -128,15 +128,16 @@ impl<'a, B: Bodies> Checker<'a, B> {
         let kind = body_kind(head.code);
         let row = rows.next(head.code);
         let body = (head.body, head.next);
-        match self
-            .bodies
-            .check_body(alloc, mmb, kind, row, rows, body, steps)
-        {
+        // Lent as a local: were it lent as a field, all of the checker would be put into memory for the call.
+        let mut bodies = self.bodies;
+        let checked = bodies.check_body(alloc, mmb, kind, row, rows, body, steps);
+        let after = Checker { bodies, ..self };
+        match checked {
             BodyChecked::Good(end) => {
-                let gap = self.rests_on_gap(head, end.sorry);
-                self.past(head, gap, right)
+                let gap = after.rests_on_gap(head, end.sorry);
+                after.past(head, gap, right)
             }
-            BodyChecked::Refused { at, rule } => self.refused((at, rule)),
+            BodyChecked::Refused { at, rule } => after.refused((at, rule)),
             BodyChecked::Mem => Next::Mem,
         }
     }

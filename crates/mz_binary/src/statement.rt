@@ -26,6 +26,7 @@ pub enum Found {
 
 /// What stands at a place of the list after statements that took these rows. `right` are words of
 /// parameters that were right before, and then the last ones that are.
+#[inline(always)]
 pub fn found_at(
     mmb: &Mmb,
     rows: Rows,

@@ -20,7 +20,7 @@ impl RightWords {
     fn are(self, sorts: u32, at: u32, params: u32) -> bool
         ensures { IsTrue result → (self.sorts ≡ sorts) × (self.at ≡ at) × (self.params ≡ params) }
     {
-        self.sorts == sorts && self.at == at && self.params == params
+        self.at == at && self.params == params && self.sorts == sorts
     }
 }
 

@@ -1,7 +1,7 @@
 -- Rows of the machine that go through, where what they take is there.
 use Rattle.std.proofs.Common.{◌≡◌, ℕ, suc, ◌+◌, ◌<◌, ◌≤◌, Bool, true, false, List, [], ◌∷◌, ◌++◌, length, map, Some, Ok, refl, sym, ap, subst, ◌∙◌, arith, eq-eqb, append_assoc, append-nil, length-append}
 use Rattle.std.specs.Prelude.{slice_get, reverse, nat_le}
-use Rattle.std.proofs.lemmas.List.{reverse-append, reverse-reverse, length-reverse, length-map}
+use Rattle.std.proofs.lemmas.List.{reverse-append, reverse-reverse, length-reverse, length-map, map-id}
 use Rattle.std.proofs.lemmas.Bool.{le-leb, lt-ltb}
 use Rattle.mz_cmd.specs.declared.code.ProofCode.TheVariants as code
 use Rattle.mz_logic_theory.specs.Tree.{Tree, Trees, var, app, listed}
@@ -14,7 +14,6 @@ use Rattle.mz_unify_theory.proofs.Offered.{same_tree-refl, listed-trees_of}
 use Rattle.mz_machine_theory.specs.MachineState.{RowsBefore, signatures_in, State}
 use Rattle.mz_machine_theory.specs.Premises.{pop_exprs, pop_operands, is_obligation, may_be_dummy_sort, is_provable_sort, bound_count, operands_fit, are_apart}
 use Rattle.mz_machine_theory.specs.ProofMachine.{built, citation, cited, sides, unfolding_of, proof_step}
-use Rattle.mz_machine_theory.proofs.Offered.{same-trees}
 use Rattle.mz_emit_theory.specs.Steps.{above}
 
 -- ---- operands on the stack
@@ -39,7 +38,7 @@ module _ (gaps : Bool) (tables : RowsBefore) (at : ℕ) (st : State Tree) where
   pub built-row : (t : ℕ) (es : List Tree) (rest : List (Item Tree)) (row : SpelledTerm) → slice_get tables.terms t ≡ Some row → length es ≡ length row.signature.params → st.stack ≡ above es rest
       → operands_fit (signatures_in tables) st.ctx es row.signature.params ≡ Ok tt → built (plain gaps) tables at t st ≡ Ok (app t (trees_of es), rest)
   unfolding built
-  built-row t es rest row row-at len is fit = rw (row-at, is, pops es rest (length row.signature.params) len, same-trees es, fit) refl
+  built-row t es rest row row-at len is fit = rw (row-at, is, pops es rest (length row.signature.params) len, map-id es, fit) refl
 
   pub term-row : (t : ℕ) (e : Tree) (rest : List (Item Tree)) → built (plain gaps) tables at t st ≡ Ok (e, rest) → proof_step (plain gaps) tables at code.Term t st ≡ Ok (record st { stack = expr e ∷ rest })
   unfolding proof_step
@@ -92,7 +91,7 @@ module _ (gaps : Bool) (tables : RowsBefore) (at : ℕ) (st : State Tree) where
   cited-row t e es items rest row u row-at len is fit apart ran left =
       let many : length (above es items) ≡ length es + length items = length-append (map expr (reverse es)) items ∙ ap (λ (z : ℕ). z + length items) (length-map (reverse es) expr ∙ length-reverse es) in
       let enough : nat_le (suc (length row.params)) (suc (length (above es items))) ≡ true = le-leb (suc (length row.params)) (suc (length (above es items))) (let le : suc (length row.params) ≤ suc (length (above es items)) = omega (arith, many, len) in le) in
-      rw (row-at, is, enough, pops es items (length row.params) len, same-trees es, fit, apart, ran, left) refl
+      rw (row-at, is, enough, pops es items (length row.params) len, map-id es, fit, apart, ran, left) refl
 
   pub thm-row : (t : ℕ) (e : Tree) (rest : List (Item Tree)) → cited (plain gaps) tables t st ≡ Ok (e, rest) → proof_step (plain gaps) tables at code.Thm t st ≡ Ok (record st { stack = proof e ∷ rest })
   unfolding proof_step

@@ -259,7 +259,7 @@ impl<'a> Setting<'a> {
         ensures most { steps.new ≤ steps.old + (1 + length self.now.earlier.file) }
         ensures nodes { length parts.new.store.entries ≤ length parts.old.store.entries + 1 }
     {
-        parts.sorry = has_gap(parts.sorry, cmd.code);
+        note_gap(&mut parts.sorry, cmd.code);
         proceed(
             &self.earlier,
             self.mode,
@@ -345,12 +345,14 @@ fn proceed<L: Ledger>(
     }
 }
 
-/// Whether a gap was left before, or the command with this code leaves one.
+/// Notes that a gap is left, where the command with this code leaves one.
 #[inline(always)]
-fn has_gap(before: bool, code: u8) -> bool
-    ensures { result ≡ (before || is_sorry (proof_code code)) }
+fn note_gap(sorry: &mut bool, code: u8)
+    ensures { sorry.new ≡ (sorry.old || is_sorry (proof_code code)) }
 {
-    before || is_sorry(code)
+    if is_sorry(code) {
+        *sorry = true;
+    }
 }
 
 /// Whether the command with this code leaves a gap.
@@ -358,11 +360,7 @@ fn has_gap(before: bool, code: u8) -> bool
 fn is_sorry(code: u8) -> bool
     ensures { result ≡ is_sorry (proof_code code) }
 {
-    match ProofCode::try_from(code) {
-        Ok(ProofCode::Sorry) => true,
-        Ok(_) => false,
-        Err(_) => false,
-    }
+    code == u8::from(ProofCode::Sorry)
 }
 
 /// The hypotheses, and the bound variables that aren't parameters.

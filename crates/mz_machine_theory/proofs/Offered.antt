@@ -11,7 +11,7 @@ pub use Rattle.mz_machine_theory.proofs.Operands.{apart-from-test, fits-from, or
 pub use Rattle.mz_machine_theory.proofs.Outcomes.{bodies-checked, one-outcome}
 pub use Rattle.mz_machine_theory.proofs.PlainRows.{citation-plain, end-plain, ends-plain, own-plain, row-plain, unfolding-plain}
 pub use Rattle.mz_machine_theory.proofs.Renaming.{first-operand, no-app}
-pub use Rattle.mz_machine_theory.proofs.RowsKeep.{definition-of, keeps, pop-is, same-trees, stream-row}
+pub use Rattle.mz_machine_theory.proofs.RowsKeep.{definition-of, keeps, pop-is, stream-row}
 pub use Rattle.mz_machine_theory.proofs.Stacks.{expr-top, operands-top, sides-top}
 pub use Rattle.mz_machine_theory.proofs.Steps.{more-steps, within-steps}
 pub use Rattle.mz_machine_theory.proofs.StrictRuns.{command-plain}

@@ -2,6 +2,7 @@
 use Rattle.std.proofs.Common.{◌≡◌, ℕ, zero, suc, ◌+◌, ◌<◌, Bool, true, false, cond, eqb, leb, ltb, List, [], ◌∷◌, ◌++◌, length, map, Option, Some, None, Ok, refl, sym, ap, subst, ◌∙◌, ◌⊎◌, inl, inr, append_assoc}
 use Rattle.std.specs.Prelude.{slice_get, reverse, ◌&&◌, not}
 use Rattle.std.proofs.lemmas.Bool.{eqb-true}
+use Rattle.std.proofs.lemmas.List.{map-id}
 use Rattle.std.proofs.lemmas.Option.{slice_get_within}
 use Rattle.mz_base_theory.proofs.Offered.{slice_get-last, both-true}
 use Rattle.mz_cmd.specs.declared.rule.K.TheVariants as k
@@ -34,10 +35,6 @@ use Rattle.mz_machine_theory.proofs.Declared.{pair-at, signatures-are, signature
 use Rattle.mz_machine_theory.proofs.Operands.{provable-sort, dummy-sort, fits-from, apart-from-test}
 use Rattle.mz_machine_theory.proofs.PlainRows.{row-plain}
 use Rattle.mz_machine_theory.proofs.Stacks.{item-at, holds-at, sorted-push, holds-push, claims-push, expr-top, proof-top, obligation-top, conversion-top, sides-top, operands-top, heap-hyps, stack-hyps, each-reverse, derive-all, proofs-below, sorted-below, sides-sorted, sides-hold}
-
-pub same-trees : (es : List Tree) → map (λ e. e) es ≡ es
-same-trees [] = refl
-same-trees (e ∷ es) = ap (λ (fs : List Tree). e ∷ fs) (same-trees es)
 
 get-more : {A : Type 0} (xs : List A) (y : A) (i : ℕ) (x : A) → slice_get xs i ≡ Some x → slice_get (xs ++ y ∷ []) i ≡ Some x
 get-more [] y i x e = absurd cc
@@ -125,7 +122,7 @@ module _ (P : Uses) (tables : RowsBefore) (env : List Declaration) (declares : D
       from_bind (pop_operands (length row.signature.params) st.stack) _ r e1 λ es popping e2.
       from_then (operands_fit (signatures_in tables) st.ctx (map (λ x. x) es.0) row.signature.params) _ r e2 λ u fit e3.
       let (sorted, rest-sorted, rest-holds, len) = operands-top P env full st.ctx st.hyps (length row.signature.params) st.stack es popping fact.stack_sorted fact.stack_holds in
-      let fit' : operands_fit Sigs st.ctx es.0 row.signature.params ≡ Ok u = subst (λ (z : List Signature). operands_fit z st.ctx es.0 row.signature.params ≡ Ok u) (signatures-are tables env declares) (rw same-trees at fit) in
+      let fit' : operands_fit Sigs st.ctx es.0 row.signature.params ≡ Ok u = subst (λ (z : List Signature). operands_fit z st.ctx es.0 row.signature.params ≡ Ok u) (signatures-are tables env declares) (rw map-id at fit) in
       let fits : Fits Sigs st.ctx (trees_of es.0) row.signature.params = fits-from Sigs st.ctx es.0 row.signature.params u fit' len sorted in
       subst (Made st) (taken-is (app t (trees_of es.0), es.1) r e3)
       ((row.signature.result.sort, (row.signature, signature-at tables env declares t row row-at, refl, fits)), rest-sorted, rest-holds)
@@ -387,9 +384,9 @@ module _ (P : Uses) (tables : RowsBefore) (env : List Declaration) (declares : D
       let (sorted, rest-sorted, rest-holds, len) = operands-top P env full st.ctx st.hyps (length row.params) x.1 es popping-es x-rest x-holds in
       let (a, a-at, spells) = pair-at (SpellsThm Sigs) tables.thms (assertions env) declares.thms_are t row row-at in
       let (hs, hs-are, x-is, items-are) = citation-is Sigs st.ctx row a spells es.0 x.0 es.1 u len x-sorted rest-sorted run-is in
-      let fit' : operands_fit Sigs st.ctx es.0 row.params ≡ Ok u1 = subst (λ (z : List Signature). operands_fit z st.ctx es.0 row.params ≡ Ok u1) (signatures-are tables env declares) (rw same-trees at fit) in
+      let fit' : operands_fit Sigs st.ctx es.0 row.params ≡ Ok u1 = subst (λ (z : List Signature). operands_fit z st.ctx es.0 row.params ≡ Ok u1) (signatures-are tables env declares) (rw map-id at fit) in
       let fits : Fits Sigs st.ctx (trees_of es.0) row.params = fits-from Sigs st.ctx es.0 row.params u1 fit' len sorted in
-      let is-apart : Apart st.ctx (trees_of es.0) row.params = apart-from-test st.ctx es.0 row.params len (rw same-trees at apart) in
+      let is-apart : Apart st.ctx (trees_of es.0) row.params = apart-from-test st.ctx es.0 row.params len (rw map-id at apart) in
       let fits-full : Fits Sigs full (trees_of es.0) a.params = subst (Fits Sigs full (trees_of es.0)) spells.0 (fits_extends Sigs Sigs st.ctx full (extends_itself Sigs) front (trees_of es.0) row.params fits) in
       let apart-full : Apart full (trees_of es.0) a.params = subst (Apart full (trees_of es.0)) spells.0 (apart_extends Sigs st.ctx full front (trees_of es.0) row.params fits is-apart) in
       let (each, below) = proofs-below P env full st.hyps (reverse hs) u.items (subst (StackHolds P env full st.hyps) items-are rest-holds) in

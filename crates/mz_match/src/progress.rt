@@ -47,6 +47,7 @@ impl Matching {
     ///
     /// The verdict where a public statement differs from its declaration, or out
     /// of memory.
+    #[inline(always)]
     pub fn pass(
         &mut self,
         alloc: Global,

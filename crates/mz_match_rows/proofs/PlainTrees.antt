@@ -1,6 +1,6 @@
 -- The expressions of an assertion: over parameters alone, where the same trees have the same variables.
 use Rattle.std.proofs.Common.{◌≡◌, ◌≤◌, ◌<◌, ◌+◌, ◌-◌, ◌⊎◌, ℕ, zero, suc, Bool, true, false, ltb, eqb, List, [], ◌∷◌, ◌++◌, length, take, reverse, get_or, Option, Some, None, slice_get, refl, ap, sym, ◌∙◌, subst, arith, inl, inr}
-use Rattle.std.specs.Prelude.{IsTrue, ◌↔◌, ⊤, is_some}
+use Rattle.std.specs.Prelude.{IsTrue, ◌↔◌, ⊤, is_some, not}
 use Rattle.std.proofs.lemmas.List.{reverse-append, length-take-le, take_all}
 use Rattle.std.proofs.lemmas.Bool.{false≢true, ltb-true, ltb-false, eqb-true}
 use Rattle.mz_cmd.specs.declared.code.UnifyCode.{UnifyCode}
@@ -195,6 +195,16 @@ module _ (file : List ℕ) (n : ℕ) (m : Marks) where
       → SameTrees rows (trees (take 0 xs)) (trees_of (reverse rest)) → ⊥
   hyp-left rows xs q [] ends stands same = stands ends
   hyp-left rows xs q (h ∷ rest) hyps stands same = none-beside-more rows xs h rest same
+
+  -- beside none, all are compared exactly where no hypothesis stands
+  pub none-answer : (rows : List ℕ) (q : ℕ) (rest : List Tree) (o : Option ℕ) (r : Bool) → HypsAreSaid file n m q rest → (step_at file q ≡ None → o ≡ None)
+      → ((v next : ℕ) → Says file q codes.Hyp v next → o ≡ Some next) → is_some o ≡ not r → IsTrue r ↔ SameTrees rows none (trees_of (reverse rest))
+  none-answer rows q [] (Some x) r ends end hyp is = absurd (let found = end ends in cc)
+  none-answer rows q [] None false ends end hyp is = absurd (false≢true is)
+  none-answer rows q [] None true ends end hyp is = ((λ _. tt), λ _. refl)
+  none-answer rows q (h ∷ rest) None r (v, next, to, says, said, later) end hyp is = absurd (let found = hyp v next says in cc)
+  none-answer rows q (h ∷ rest) (Some x) true hyps end hyp is = absurd (false≢true (sym is))
+  none-answer rows q (h ∷ rest) (Some x) false hyps end hyp is = ((λ yes-is. absurd (false≢true yes-is)), λ same. absurd (none-beside-more rows [] h rest same))
 
   -- the next hypothesis is there
   hyp-there : (q : ℕ) (rest : List Tree) → HypsAreSaid file n m q rest → (step_at file q ≡ None → ⊥) → (next : ℕ) → ((v next' : ℕ) → Says file q codes.Hyp v next' → next ≡ next')

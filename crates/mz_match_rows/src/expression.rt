@@ -81,6 +81,10 @@ pub fn same_hyps(sides: &Sides, hyps: &Hyps) -> bool
     ensures { (m : Marks) (hs : List Tree) → IsPlainStream sides.now m → HypsSaidAt sides.now m hs
         → (IsTrue result ↔ SameTrees sides.now.publics.now hyps.now (trees_of (reverse hs))) }
 {
+    // most statements have none: they need no formulas
+    if hyps.len() == 0 {
+        return next_hyp(sides.mmb.file(), sides.start).is_none();
+    }
     let mut left = hyps.len();
     let mut at = sides.start;
     // no hypothesis stands at `left` yet, so nothing is known of it
@@ -168,7 +172,8 @@ fn same_tree(sides: &Sides, expr: &Expr, from: Cursor) -> bool
     ensures { (m : Marks) (f : Tree) (to : Cursor) → IsPlainStream sides.now m → SaidAt sides.now m from f to
         → (IsTrue result ↔ SameTree sides.now.publics.now (tree expr.now) f) }
 {
-    let mut pairs = no_pairs();
+    // an assertion has no dummies to pair
+    let mut pairs: [Option<u32>; 0] = [];
     same_at(sides, &expr.lent(), from, &mut pairs).is_some()
 }
 

@@ -44,7 +44,9 @@ impl Formulas {
         ensures number { (e : Tree) → slice_get (listed hyps.now) (i - 1) ≡ Some e → HasNumber publics.now self.new e }
         ensures kept { result ≡ self.new.number }
     {
-        if !hyps.shares_with_previous(i) {
+        // Where each formula is of one hypothesis, no two share one.
+        let are_apart = hyps.formulas().len() == hyps.len();
+        if are_apart || !hyps.shares_with_previous(i) {
             self.number = None;
             return None;
         }

@@ -1,6 +1,9 @@
 // The expression that a tree of the notation grammar stands for.
-ghost use Rattle.std.specs.Prelude.{◌≡◌, ◌↔◌, [], ℕ, IfOk, IsTrue, MatchOption, length};
+ghost use Rattle.std.specs.Prelude.{◌≡◌, ◌↔◌, [], ℕ, List, IfOk, IsTrue, MatchOption, length};
+ghost use Rattle.mz_logic_theory.specs.declared.binder.Binder.{Binder as Param};
 ghost use Rattle.mz_logic_theory.specs.Declaration.{signatures};
+ghost use Rattle.mz_logic_theory.specs.Signature.{Signature};
+ghost use Rattle.mz_logic_theory.specs.Sorts.{IsBoundVar};
 ghost use Rattle.mz_logic_theory.specs.Tree.{Tree, Trees, none, var};
 ghost use Rattle.mz_logic_theory.specs.View.{tree as tree_lem};
 ghost use Rattle.mz_math_theory.specs.FormulaAnswers.{FitsParam, IsBuilt, IsAdded, AreAdded, AddsWrapped};
@@ -9,9 +12,7 @@ ghost use Rattle.mz_math_theory.specs.Meaning.{Coerced, CoercedAll};
 ghost use Rattle.mz_math_coercions.specs.Found.{AreFound};
 
 use crate::height::is_low;
-use mz_logic_theory::{
-    Binder, Context, Env, Expr, ExprRef, Exprs, Operands, Shape, lent_is_bound_var,
-};
+use mz_logic_theory::{Binder, Context, Env, Expr, ExprRef, Exprs, Operands, Shape};
 use mz_math_coercions::{Coercions, Paths, distance, reaches, wrap};
 use mz_math_theory::{Added, Built};
 use std::alloc::{AllocError, Global};
@@ -121,16 +122,44 @@ fn fits(
     ensures found { AreFound coercions.now paths.new }
     ensures fit { IfOk result (λ fit. IsTrue fit ↔ ((f : Tree) × FitsParam (signatures env.now) coercions.now ctx.now operand.now param.now f)) }
 {
-    let Some(sort) = sort_of(alloc, env, coercions, paths, ctx, operand)? else {
-        return Ok(false);
-    };
-    if !param.bound {
-        return reaches(alloc, coercions, paths, sort, param.sort);
+    match operand.shape() {
+        Shape::Var(x) => match ctx.get(x) {
+            None => Ok(false),
+            Some(binder) => sort_fits(alloc, coercions, paths, binder.sort, binder.bound, param),
+        },
+        Shape::App(_, _) => match sort_of(alloc, env, coercions, paths, ctx, operand)? {
+            None => Ok(false),
+            Some(sort) => sort_fits(alloc, coercions, paths, sort, false, param),
+        },
     }
-    if sort != param.sort {
+}
+
+/// Whether an operand of this sort, a bound variable or not, can be wrapped to its parameter's sort.
+///
+/// # Errors
+///
+/// Where there is no memory.
+fn sort_fits(
+    alloc: Global,
+    coercions: &Coercions,
+    paths: &mut Paths,
+    sort: u32,
+    is_bound: bool,
+    param: &Binder,
+) -> Result<bool, AllocError>
+    requires found { AreFound coercions.now paths.old }
+    ensures found { AreFound coercions.now paths.new }
+    ensures fit { (sigs : List Signature) (ctx : List Param) (e f : Tree) → OnePath coercions.now → Coerced sigs coercions.now ctx e f sort → (IsTrue is_bound ↔ IsBoundVar ctx e)
+        → IfOk result (λ fit. IsTrue fit ↔ ((g : Tree) × FitsParam sigs coercions.now ctx e param.now g)) }
+{
+    // Most sorts are the same, and then no path is looked for.
+    if sort == param.sort {
+        return Ok(!param.bound || is_bound);
+    }
+    if param.bound {
         return Ok(false);
     }
-    Ok(lent_is_bound_var(ctx, operand))
+    reaches(alloc, coercions, paths, sort, param.sort)
 }
 
 /// The tree with its operands wrapped, where it is at most so high. Without coercions it is the tree

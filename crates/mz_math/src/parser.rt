@@ -1,6 +1,5 @@
 // Expressions of the notation grammar.
 ghost use Rattle.std.specs.Prelude.{◌≡◌, ◌↔◌, ◌≤◌, ◌<◌, ◌+◌, ◌*◌, ◌-◌, ◌^◌, ◌∷◌, ⊤, [], ℕ, List, IsTrue, MatchOption, length, drop, codes};
-ghost use Rattle.mz_logic_theory.specs.Tree.{none};
 ghost use Rattle.mz_logic_theory.specs.View.{tree};
 ghost use Rattle.mz_math_theory.specs.Readable.{IsReadable};
 ghost use Rattle.mz_math_theory.specs.FormulaAnswers.{IfParsed, IfNotParsed};
@@ -155,29 +154,31 @@ fn begin<'w>(
         return Step::Begun(found, level);
     }
     if let Some(notation) = words.leading(token) {
-        let pending = begun(alloc, Form::Leading(notation), 1, level);
+        let pending = Pending {
+            form: Form::Leading(notation),
+            part: 1,
+            operands: Exprs::new(alloc),
+            level,
+        };
         return Step::Parts(pending, at + 1);
     }
     if let Some((term, many)) = words.term(token) {
-        let pending = begun(alloc, Form::Term(term, many), 0, level);
+        // Room for few: whether so many operands follow isn't known.
+        let Ok(operands) = Exprs::with_capacity(alloc, many.min(4)) else {
+            return Step::Mem;
+        };
+        let pending = Pending {
+            form: Form::Term(term, many),
+            part: 0,
+            operands,
+            level,
+        };
         return Step::Parts(pending, at + 1);
     }
     if is_open(token) {
         return Step::Inner(Outer::Parens(level), 0, at + 1);
     }
     Step::No
-}
-
-/// A form with no operand so far.
-fn begun<'w>(alloc: Global, form: Form<'w>, part: usize, level: u32) -> Pending<'w>
-    ensures { result ≡ record { form = form.entry; part = part; operands = none; level = level } }
-{
-    Pending {
-        form,
-        part,
-        operands: Exprs::new(alloc),
-        level,
-    }
 }
 
 /// The next part of a form.
@@ -265,7 +266,9 @@ fn joined<'w>(
                 return Step::No;
             }
             let next = before.next;
-            let mut operands = Exprs::new(alloc);
+            let Ok(mut operands) = Exprs::with_capacity(alloc, 2) else {
+                return Step::Mem;
+            };
             match operands.push(before.tree) {
                 Err(_) => Step::Mem,
                 Ok(()) => {

@@ -1,11 +1,11 @@
 -- Coercions in chains, and what a walk along them reaches.
-use Rattle.std.proofs.Common.{◌≡◌, ◌<◌, ◌≤◌, ◌+◌, ◌↔◌, ◌⊎◌, ◌++◌, ◌∙◌, ℕ, zero, suc, List, [], ◌∷◌, length, Bool, true, false, Some, None, Option, slice_get, slice_set, get_or, ap, sym, refl, subst, inl, inr, arith, Contains, length-append, append-nil, append_assoc, take, drop}
+use Rattle.std.proofs.Common.{◌≡◌, ◌<◌, ◌≤◌, ◌+◌, ◌↔◌, ◌⊎◌, ◌++◌, ◌∙◌, ℕ, zero, suc, List, [], ◌∷◌, length, Bool, true, false, Some, None, Option, slice_get, slice_set, get_or, ap, sym, refl, subst, inl, inr, arith, Contains, length-append, append-nil, append_assoc}
 use Rattle.std.specs.Prelude.{cond, if◌then◌else◌, MatchOption}
 use Rattle.std.specs.Map.{lookup}
 use Rattle.std.proofs.lemmas.Bool.{true≢false, cases_order}
 use Rattle.std.proofs.lemmas.Option.{slice_get_within, same_Some, none-some}
-use Rattle.std.proofs.lemmas.List.{drop-append-le, get_or-set_same, get_or-set_other, take-append-drop}
-use Rattle.std.proofs.lemmas.List.Elements.{Contains-append_cases, Contains-append_left, Contains-append_right, Contains-push, Contains-push_cases}
+use Rattle.std.proofs.lemmas.List.{get_or-set_same, get_or-set_other}
+use Rattle.std.proofs.lemmas.List.Elements.{Contains-append_left, Contains-push, Contains-push_cases}
 use Rattle.indexmap.specs.IndexMap.{insert_entry}
 use Rattle.mz_base_theory.proofs.Offered.{contains_at, contains_cases, contains_head, contains_tail, nil-cons, place-of, slice_get-append, slice_get-front, slice_get-last, slice_get-push_cases}
 use Rattle.mz_math_theory.specs.declared.coercion.Coercion.{Coercion}
@@ -13,7 +13,7 @@ use Rattle.mz_math_theory.specs.Coercions.{IsPath}
 use Rattle.mz_math_theory.specs.CoercionAnswers.{HasPath}
 use Rattle.mz_math_theory.proofs.Offered.{path-join}
 use Rattle.mz_math_coercions.specs.Graph.{AreChained, IsLink}
-use Rattle.mz_math_coercions.specs.Reached.{AreReached, Has, IsStep}
+use Rattle.mz_math_coercions.specs.Reached.{AreFoundIn, AreReached, Has, IsStep}
 
 -- ---- the sorts that are listed
 
@@ -40,18 +40,6 @@ pub looked : (s : ℕ) (test : ℕ → Bool) → ((k : ℕ) → test k ≡ true 
 looked s test same own es None is = not-looked-up s test own es (sym is)
 looked s test same own es (Some p) is = looked-up s test same es p (sym is)
 
-new-entry : (s v : ℕ) (eq : ℕ → ℕ → Bool) → ((k : ℕ) → eq s k ≡ true → s ≡ k) → (es : List (ℕ × ℕ)) → (Has es s → ⊥) → insert_entry eq es s v ≡ es ++ (s, v) ∷ []
-new-entry s v eq same [] none = refl
-new-entry s v eq same ((k, w) ∷ es) none = go (eq s k) refl (new-entry s v eq same es (λ has. none (has.0, contains_tail (k, w) (s, has.0) es has.1)))
-  where
-    go : (b : Bool) → eq s k ≡ b → insert_entry eq es s v ≡ es ++ (s, v) ∷ [] → (if b then (k, v) ∷ es else (k, w) ∷ insert_entry eq es s v) ≡ (k, w) ∷ (es ++ (s, v) ∷ [])
-    go true here later = absurd (none (w, subst (λ x. Contains ((k, w) ∷ es) (x, w)) (sym (same k here)) (contains_head (k, w) es)))
-    go false here later = ap (λ xs. (k, w) ∷ xs) later
-
-pushed : (s v : ℕ) (eq : ℕ → ℕ → Bool) → ((k : ℕ) → eq s k ≡ true → s ≡ k) → (es now new : List (ℕ × ℕ)) → es ≡ now → (Has now s → ⊥) → new ≡ insert_entry eq es s v → new ≡ now ++ (s, v) ∷ []
-pushed s v eq same es now new is none made =
-    made ∙ new-entry s v eq same es (λ has. none (subst (λ (xs : List (ℕ × ℕ)). Has xs s) is has)) ∙ ap (λ xs. xs ++ (s, v) ∷ []) is
-
 pub pushed-only : (s v t p : ℕ) (now new : List (ℕ × ℕ)) → new ≡ now ++ (s, v) ∷ [] → Contains new (t, p) → Contains now (t, p) ⊎ ((t ≡ s) × (p ≡ v))
 pushed-only s v t p now new is has = elim (Contains-push_cases now (s, v) (t, p) (subst (λ (xs : List (ℕ × ℕ)). Contains xs (t, p)) is has)) [
   | inl old ↦ inl old
@@ -61,32 +49,62 @@ pushed-only s v t p now new is has = elim (Contains-push_cases now (s, v) (t, p)
 pub pushed-there : (s v : ℕ) (now new : List (ℕ × ℕ)) → new ≡ now ++ (s, v) ∷ [] → Has new s
 pushed-there s v now new is = (v, subst (λ (xs : List (ℕ × ℕ)). Contains xs (s, v)) (sym is) (Contains-push now (s, v)))
 
--- ---- the first few, and the others
+-- ---- the entries of a map
 
-module _ (n : ℕ) (steps : List (ℕ × ℕ)) where
-  pub of-first : (x : ℕ × ℕ) → Contains (take n steps) x → Contains steps x
-  of-first x has = subst (λ (xs : List (ℕ × ℕ)). Contains xs x) (take-append-drop n steps) (Contains-append_left (take n steps) (drop n steps) x has)
+pub found-in : (entries steps : List (ℕ × ℕ)) (s : ℕ) (o : Option ℕ) → AreFoundIn entries steps → MatchOption o (Has entries s → ⊥) (λ p. Contains entries (s, p)) → MatchOption o (Has steps s → ⊥) (λ p. Contains steps (s, p))
+found-in entries steps s None is none = λ has. none (is.1 s has)
+found-in entries steps s (Some p) is has = is.0 s p has
 
-  of-others : (x : ℕ × ℕ) → Contains (drop n steps) x → Contains steps x
-  of-others x has = subst (λ (xs : List (ℕ × ℕ)). Contains xs x) (take-append-drop n steps) (Contains-append_right (take n steps) (drop n steps) x has)
+pub found-none : (entries : List (ℕ × ℕ)) → entries ≡ [] → AreFoundIn entries []
+found-none entries none = (λ s p has. subst (λ (es : List (ℕ × ℕ)). Contains es (s, p)) none has, λ s has. subst (λ (es : List (ℕ × ℕ)). Has es s) (sym none) has)
 
-  module _ (others : List (ℕ × ℕ)) (is : others ≡ drop n steps) where
-    pub among-others : (s : ℕ) (o : Option ℕ) → (Has (take n steps) s → ⊥) → MatchOption o (Has others s → ⊥) (λ p. Contains others (s, p)) → MatchOption o (Has steps s → ⊥) (λ p. Contains steps (s, p))
-    among-others s None before behind = λ has. go has.0 (Contains-append_cases (take n steps) (drop n steps) (s, has.0) (subst (λ (xs : List (ℕ × ℕ)). Contains xs (s, has.0)) (sym (take-append-drop n steps)) has.1))
-      where
-        go : (p : ℕ) → Contains (take n steps) (s, p) ⊎ Contains (drop n steps) (s, p) → ⊥
-        go p (inl first) = before (p, first)
-        go p (inr other) = behind (p, subst (λ (xs : List (ℕ × ℕ)). Contains xs (s, p)) (sym is) other)
-    among-others s (Some p) before behind = of-others (s, p) (subst (λ (xs : List (ℕ × ℕ)). Contains xs (s, p)) is behind)
+module _ (s v : ℕ) (eq : ℕ → ℕ → Bool) (same : (k : ℕ) → eq s k ≡ true → s ≡ k) where
+  entry-only : (es : List (ℕ × ℕ)) (e : ℕ × ℕ) → Contains (insert_entry eq es s v) e → Contains es e ⊎ (e ≡ (s, v))
+  entry-only [] e has = elim (contains_cases (s, v) e [] has) [ inl first ↦ inr (sym first) | inr rest ↦ inl rest ]
+  entry-only ((k, w) ∷ es) e has = go (eq s k) refl has (entry-only es e)
+    where
+      go : (b : Bool) → eq s k ≡ b → Contains (if b then (k, v) ∷ es else (k, w) ∷ insert_entry eq es s v) e → (Contains (insert_entry eq es s v) e → Contains es e ⊎ (e ≡ (s, v))) → Contains ((k, w) ∷ es) e ⊎ (e ≡ (s, v))
+      go true here among later = elim (contains_cases (k, v) e es among) [
+        | inl first ↦ inr (sym first ∙ ap (λ (x : ℕ). (x, v)) (sym (same k here)))
+        | inr rest ↦ inl (contains_tail (k, w) e es rest)
+      ]
+      go false here among later = elim (contains_cases (k, w) e (insert_entry eq es s v) among) [
+        | inl first ↦ inl (subst (Contains ((k, w) ∷ es)) first (contains_head (k, w) es))
+        | inr rest ↦ elim (later rest) [ inl old ↦ inl (contains_tail (k, w) e es old) | inr new ↦ inr new ]
+      ]
 
-    module _ (s v : ℕ) (more : List (ℕ × ℕ)) (pushed-is : more ≡ steps ++ (s, v) ∷ []) where
-      longer : length more ≡ length steps + 1
-      longer = ap length pushed-is ∙ length-append steps ((s, v) ∷ [])
+  entry-all : (es : List (ℕ × ℕ)) (t : ℕ) → Has (es ++ (s, v) ∷ []) t → Has (insert_entry eq es s v) t
+  entry-all [] t has = has
+  entry-all ((k, w) ∷ es) t (p, has) = go (eq s k) refl (entry-all es t)
+    where
+      go : (b : Bool) → eq s k ≡ b → (Has (es ++ (s, v) ∷ []) t → Has (insert_entry eq es s v) t) → Has (if b then (k, v) ∷ es else (k, w) ∷ insert_entry eq es s v) t
+      go true here later = elim (contains_cases (k, w) (t, p) (es ++ (s, v) ∷ []) has) [
+        | inl first ↦ (v, subst (λ x. Contains ((k, v) ∷ es) (x, v)) (ap (λ (e : ℕ × ℕ). e.0) first) (contains_head (k, v) es))
+        | inr rest ↦ elim (Contains-push_cases es (s, v) (t, p) rest) [
+          | inl old ↦ (p, contains_tail (k, v) (t, p) es old)
+          | inr new ↦ (v, subst (λ x. Contains ((k, v) ∷ es) (x, v)) (sym (same k here) ∙ ap (λ (e : ℕ × ℕ). e.0) new) (contains_head (k, v) es))
+        ]
+      ]
+      go false here later = elim (contains_cases (k, w) (t, p) (es ++ (s, v) ∷ []) has) [
+        | inl first ↦ (w, subst (λ x. Contains ((k, w) ∷ insert_entry eq es s v) (x, w)) (ap (λ (e : ℕ × ℕ). e.0) first) (contains_head (k, w) (insert_entry eq es s v)))
+        | inr rest ↦ let there = later (p, rest) in (there.0, contains_tail (k, w) (t, there.0) (insert_entry eq es s v) there.1)
+      ]
 
-      pub others-pushed : (eq : ℕ → ℕ → Bool) → ((k : ℕ) → eq s k ≡ true → s ≡ k) → (Has steps s → ⊥) → n < length more → (new : List (ℕ × ℕ)) → new ≡ insert_entry eq others s v → new ≡ drop n more
-      others-pushed eq same none many new made =
-          pushed s v eq same others (drop n steps) new is (λ has. none (has.0, of-others (s, has.0) has.1)) made
-          ∙ sym (ap (drop n) pushed-is ∙ drop-append-le n steps ((s, v) ∷ []) (omega (arith, longer, many)))
+  -- one more entry
+  pub found-push : (es new steps : List (ℕ × ℕ)) → new ≡ insert_entry eq es s v → AreFoundIn es steps → AreFoundIn new (steps ++ (s, v) ∷ [])
+  found-push es new steps made is = (only, all)
+    where
+      only : (t p : ℕ) → Contains new (t, p) → Contains (steps ++ (s, v) ∷ []) (t, p)
+      only t p has = elim (entry-only es (t, p) (subst (λ (xs : List (ℕ × ℕ)). Contains xs (t, p)) made has)) [
+        | inl old ↦ Contains-append_left steps ((s, v) ∷ []) (t, p) (is.0 t p old)
+        | inr last ↦ subst (Contains (steps ++ (s, v) ∷ [])) (sym last) (Contains-push steps (s, v))
+      ]
+
+      all : (t : ℕ) → Has (steps ++ (s, v) ∷ []) t → Has new t
+      all t (p, has) = subst (λ (xs : List (ℕ × ℕ)). Has xs t) (sym made) (entry-all es t (elim (Contains-push_cases steps (s, v) (t, p) has) [
+        | inl old ↦ let there = is.1 t (p, old) in (there.0, Contains-append_left es ((s, v) ∷ []) (t, there.0) there.1)
+        | inr last ↦ (p, subst (Contains (es ++ (s, v) ∷ [])) last (Contains-push es (s, v)))
+      ]))
 
 -- ---- chains
 

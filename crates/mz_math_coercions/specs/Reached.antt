@@ -7,6 +7,10 @@ use Rattle.mz_math_theory.specs.CoercionAnswers.{HasPath}
 abbrev pub Has : List (ℕ × ℕ) → ℕ → Type 0
 Has steps s = (p : ℕ) × Contains steps (s, p)
 
+-- the same sorts as are listed, each with a place that stands beside it
+abbrev pub AreFoundIn : List (ℕ × ℕ) → List (ℕ × ℕ) → Type 0
+AreFoundIn entries steps = ((s p : ℕ) → Contains entries (s, p) → Contains steps (s, p)) × ((s : ℕ) → Has steps s → Has entries s)
+
 -- the p-th coercion leads from a sort to another
 abbrev pub IsStep : List Coercion → ℕ → ℕ → ℕ → Type 0
 IsStep cs s p t = (c : Coercion) × (slice_get cs p ≡ Some c) × (c.from ≡ s) × (c.to ≡ t)

@@ -1,31 +1,32 @@
 // The sorts that a walk along coercions has reached.
 ghost use Rattle.std.specs.Prelude.{◌≡◌, ◌<◌, ◌≤◌, ◌↔◌, ◌⊎◌, ◌++◌, ◌∷◌, [], ◌^◌, ℕ, List, Contains, IsTrue, OnErr, OnOk, MatchOption, Some, length, slice_get};
-ghost use Rattle.mz_math_coercions.specs.Reached.{Has};
+ghost use Rattle.mz_math_coercions.specs.Reached.{AreFoundIn, Has};
 
 use indexmap::IndexMap;
 use std::alloc::{AllocError, Global};
 use std::marker::Model;
 
 /// So many sorts are gone through faster than they are found by their hashes.
-const FEW: usize = 8;
+const FEW: usize = 32;
 
 /// Sorts, each once and in the order in which a walk has come to them, with the place of a coercion
 /// that leads to it.
 #[derive(Drop)]
 pub struct Reached {
     steps: Vec<(u32, usize)>,
-    // those behind the first few
-    others: IndexMap<u32, usize>,
+    // all of them, where there are more than a few
+    places: IndexMap<u32, usize>,
 }
 
 impl Model for Reached {
-    ghost use Rattle.std.specs.Prelude.{◌≡◌, List, ℕ, drop};
+    ghost use Rattle.std.specs.Prelude.{◌<◌, List, ℕ, length};
+    ghost use Rattle.mz_math_coercions.specs.Reached.{AreFoundIn};
 
     ghost Value = { List (ℕ × ℕ) };
 
     ghost view = { λ a. a.steps.items };
 
-    ghost invariant = { λ a. a.others.entries ≡ drop 8 a.steps.items };
+    ghost invariant = { λ a. 32 < length a.steps.items → AreFoundIn a.places.entries a.steps.items };
 }
 
 impl Reached {
@@ -35,7 +36,7 @@ impl Reached {
     {
         Reached {
             steps: Vec::new(alloc),
-            others: IndexMap::new(alloc),
+            places: IndexMap::new(alloc),
         }
     }
 
@@ -71,10 +72,7 @@ impl Reached {
         if self.steps.len() <= FEW {
             return place_in(&self.steps, sort);
         }
-        match place_in(&self.steps[..FEW], sort) {
-            None => self.others.get(&sort).copied(),
-            Some(place) => Some(place),
-        }
+        self.places.get(&sort).copied()
     }
 
     /// Whether a sort is one of them.
@@ -112,12 +110,35 @@ impl Reached {
         if self.steps.len() <= FEW {
             return Ok(());
         }
-        let Ok(_) = self.others.insert(sort, place) else {
+        let Ok(()) = note(&mut self.places, &self.steps, sort, place) else {
             drop_last(&mut self.steps);
             return Err(AllocError);
         };
         Ok(())
     }
+}
+
+/// Notes the place beside the last of these steps; where there were no more than a few before it,
+/// those beside all of them.
+fn note(
+    places: &mut IndexMap<u32, usize>,
+    steps: &[(u32, usize)],
+    sort: u32,
+    place: usize,
+) -> Result<(), AllocError>
+    ensures ok { OnOk result ((front : List (ℕ × ℕ)) → steps.now ≡ front ++ (sort, place) ∷ [] → (32 < length front → AreFoundIn places.old.entries front) → AreFoundIn places.new.entries steps.now) }
+    ensures err { OnErr result (33 < length steps.now → places.new.entries ≡ places.old.entries) }
+{
+    if steps.len() > FEW + 1 {
+        places.insert(sort, place)?;
+        return Ok(());
+    }
+    places.clear();
+    'steps: for i in 0..steps.len() {
+        let (other, beside) = steps[i];
+        places.insert(other, beside)?;
+    }
+    Ok(())
 }
 
 /// Takes the last item away.

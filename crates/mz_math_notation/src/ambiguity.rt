@@ -8,6 +8,7 @@ ghost use Rattle.mz_math_theory.specs.declared.notation.Notation.{Notation};
 ghost use Rattle.mz_math_theory.specs.NotationAnswers.{GroupAlike, GroupsWith, HaveOneLevel, KeepsLevels, KeepsOwnLevels, NoOtherJoined, NoOtherLed};
 
 use crate::notations::NotationList;
+use mz_base::Hashing;
 use mz_math_theory::{Element, MAX, Notation};
 use mz_math_tokens::Places;
 use std::alloc::{AllocError, Global};
@@ -89,10 +90,14 @@ fn keeps_levels(elements: &[Element], notations: &NotationList) -> bool
 }
 
 /// Whether each constant among the elements has one precedence.
-fn keeps_own_levels(alloc: Global, elements: &[Element]) -> Result<bool, AllocError>
+fn keeps_own_levels(
+    alloc: Global,
+    hashing: Hashing,
+    elements: &[Element],
+) -> Result<bool, AllocError>
     ensures { IfOk result (λ keeps. IsTrue keeps ↔ KeepsOwnLevels elements.now) }
 {
-    let mut levels: Places<u32> = Places::new(alloc);
+    let mut levels: Places<u32> = Places::new(alloc, hashing);
     for element in elements {
         let is_noted = note_level(element, alloc, &mut levels)?;
         if !is_noted {
@@ -143,6 +148,7 @@ fn none_is_joined(infixes: &NotationList, notation: &Notation) -> bool
 /// notations.
 fn levels_are_kept(
     alloc: Global,
+    hashing: Hashing,
     leading: &NotationList,
     infixes: &NotationList,
     notation: &Notation,
@@ -151,7 +157,7 @@ fn levels_are_kept(
     ensures { IfOk result (λ are_kept. IsTrue are_kept ↔ (KeepsOwnLevels notation.now.elements × KeepsLevels notation.now.elements leading.now × KeepsLevels notation.now.elements infixes.now)) }
 {
     let elements = notation.elements.listed();
-    let keeps_own = keeps_own_levels(alloc, elements)?;
+    let keeps_own = keeps_own_levels(alloc, hashing, elements)?;
     if !keeps_own {
         return Ok(false);
     }
@@ -168,6 +174,7 @@ fn levels_are_kept(
 /// Where there is no memory.
 pub fn is_clear_with_leading(
     alloc: Global,
+    hashing: Hashing,
     leading: &NotationList,
     infixes: &NotationList,
     notation: &Notation,
@@ -175,7 +182,7 @@ pub fn is_clear_with_leading(
     requires { IsClear leading.now infixes.now }
     ensures { IfOk result (λ is_clear. IsTrue is_clear ↔ IsClear (leading.now ++ notation.now ∷ []) infixes.now) }
 {
-    let are_kept = levels_are_kept(alloc, leading, infixes, notation)?;
+    let are_kept = levels_are_kept(alloc, hashing, leading, infixes, notation)?;
     if !are_kept {
         return Ok(false);
     }
@@ -189,6 +196,7 @@ pub fn is_clear_with_leading(
 /// Where there is no memory.
 pub fn is_clear_with_infix(
     alloc: Global,
+    hashing: Hashing,
     leading: &NotationList,
     infixes: &NotationList,
     notation: &Notation,
@@ -199,7 +207,7 @@ pub fn is_clear_with_infix(
     if notation.level == MAX {
         return Ok(false);
     }
-    let are_kept = levels_are_kept(alloc, leading, infixes, notation)?;
+    let are_kept = levels_are_kept(alloc, hashing, leading, infixes, notation)?;
     if !are_kept {
         return Ok(false);
     }

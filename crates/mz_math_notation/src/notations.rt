@@ -5,6 +5,7 @@ ghost use Rattle.mz_math_notation.specs.Headed.{AreFound, AreLevelled, IsHeadedB
 ghost use Rattle.mz_math_tokens.specs.Places.{place_of};
 ghost use Rattle.mz_math_theory.specs.declared.notation.Notation.{Notation};
 
+use mz_base::Hashing;
 use mz_math_theory::{ElementRef, Notation};
 use mz_math_tokens::Places;
 use std::alloc::{AllocError, Global};
@@ -45,13 +46,13 @@ impl Model for NotationList {
 
 impl NotationList {
     /// No notations.
-    pub fn new(alloc: Global) -> NotationList
+    pub fn new(alloc: Global, hashing: Hashing) -> NotationList
         ensures { result ≡ [] }
     {
         NotationList {
             items: Vec::new(alloc),
-            heads: Places::new(alloc),
-            constants: Places::new(alloc),
+            heads: Places::new(alloc, hashing),
+            constants: Places::new(alloc, hashing),
             levels: BTreeMap::new(alloc),
         }
     }

@@ -5,6 +5,7 @@ ghost use Rattle.mz_logic_theory.specs.Alike.{deps_at};
 ghost use Rattle.mz_math_theory.specs.Notation.{with_variable};
 ghost use Rattle.mz_math_theory.specs.Kept.{AreVariables};
 
+use mz_base::Hashing;
 use mz_logic_theory::{Binder, Binders};
 use mz_math_tokens::VariableNames;
 use std::alloc::{AllocError, Global};
@@ -33,12 +34,12 @@ impl Model for Scope {
 
 impl Scope {
     /// No variables.
-    pub fn new(alloc: Global) -> Scope
+    pub fn new(alloc: Global, hashing: Hashing) -> Scope
         ensures { result ≡ record { names = []; binders = [] } }
     {
         Scope {
             alloc,
-            names: VariableNames::new(alloc),
+            names: VariableNames::new(alloc, hashing),
             binders: Binders::new(alloc),
         }
     }

@@ -29,6 +29,7 @@ use std::marker::Model;
 #[derive(Drop)]
 pub struct Notations {
     alloc: Global,
+    hashing: Hashing,
     delimiters: Delimiters,
     leading: NotationList,
     infixes: NotationList,
@@ -56,15 +57,16 @@ impl Notations {
         Notations::with_hashing(alloc, Hashing::fixed())
     }
 
-    /// Nothing is declared; the names of terms will be hashed like this.
+    /// Nothing is declared; constants and the names of terms will be hashed like this.
     pub fn with_hashing(alloc: Global, hashing: Hashing) -> Notations
         ensures { result ≡ empty_table }
     {
         Notations {
             alloc,
+            hashing,
             delimiters: Delimiters::new(alloc),
-            leading: NotationList::new(alloc),
-            infixes: NotationList::new(alloc),
+            leading: NotationList::new(alloc, hashing),
+            infixes: NotationList::new(alloc, hashing),
             names: TermNames::new(alloc, hashing),
             coercions: Coercions::new(alloc),
         }
@@ -275,7 +277,13 @@ impl Notations {
         requires plain { IsPlain notation }
         ensures { IsAdded result self.old (with_infix self.old notation) self.new }
     {
-        let is_clear = is_clear_with_infix(self.alloc, &self.leading, &self.infixes, &notation)?;
+        let is_clear = is_clear_with_infix(
+            self.alloc,
+            self.hashing,
+            &self.leading,
+            &self.infixes,
+            &notation,
+        )?;
         if !is_clear {
             return Err(NoteFault::Clash);
         }
@@ -290,7 +298,13 @@ impl Notations {
         requires plain { IsPlain notation }
         ensures { IsAdded result self.old (with_leading self.old notation) self.new }
     {
-        let is_clear = is_clear_with_leading(self.alloc, &self.leading, &self.infixes, &notation)?;
+        let is_clear = is_clear_with_leading(
+            self.alloc,
+            self.hashing,
+            &self.leading,
+            &self.infixes,
+            &notation,
+        )?;
         if !is_clear {
             return Err(NoteFault::Clash);
         }

@@ -9,7 +9,7 @@ pub use Rattle.mz_math_theory.proofs.KnownTokens.{AllKnown, checks-hold, known-b
 pub use Rattle.mz_math_theory.proofs.Lawful.{notations-keep, one-meaning, one-misreading, one-reading, one-tokens, one-tree}
 pub use Rattle.mz_math_theory.proofs.Listing.{constant-at, constant-listed, keeps, keeps-own, listed-element, listed-keeps, listed-own, none-at, slot-no-constant}
 pub use Rattle.mz_math_theory.proofs.MadeNotations.{general-judged, infix-judged, prefix-judged, some-with}
-pub use Rattle.mz_math_theory.proofs.Meanings.{add-application, add-variable, all-length, app-coerced, fits-bound, fits-never, fits-other, fits-path, fits-regular, high-operands, none-left, operand-low, operands-there, pushed-all, put-one, take-one, too-high, trees_height-push}
+pub use Rattle.mz_math_theory.proofs.Meanings.{add-application, add-variable, all-length, app-coerced, fits-bound, fits-never, fits-other, fits-path, fits-regular, height-some, high-operands, none-left, operand-low, operands-there, pushed-all, put-one, take-one, too-high, trees_height-push}
 pub use Rattle.mz_math_theory.proofs.Paths.{clash-two, contains-middle, no-return, path-join, path-more, path-reaches, path-short, stays-one, taken}
 pub use Rattle.mz_math_theory.proofs.Readable.{table-readable}
 pub use Rattle.mz_math_theory.proofs.Readings.{applied-begun, applied-low, applied-never, begun-read, joined-more, joined-never, joined-stuck, leading-begun, leading-low, leading-never, low-infix, never-read, no-expr, no-items, no-rest, no-token, no-tokens, none-begins, not-infix, one-part, one-token, parens-begun, parens-never, parens-open, some-left, variable-begun}

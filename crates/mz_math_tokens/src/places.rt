@@ -2,15 +2,19 @@
 ghost use Rattle.std.specs.Prelude.{◌≡◌, Some, List, ℕ, [], OnOk, OnErr, bytes_eq, if◌then◌else◌};
 ghost use Rattle.mz_math_tokens.specs.Places.{place_of};
 
+use indexmap::IndexMap;
+use mz_base::Hashing;
 use std::alloc::{AllocError, Global};
-use std::collections::BTreeMap;
 use std::marker::Model;
 
-/// Keys with a place each. They are kept in their order, so that no text can choose keys that are
-/// slow to find.
+/// So many keys are gone through faster than they are hashed.
+pub(crate) const FEW: usize = 8;
+
+/// Keys with a place each. They are hashed from the run's seed, so that no text can choose keys that
+/// are slow to find.
 #[derive(Drop)]
 pub struct Places<P> {
-    tree: BTreeMap<Vec<u8>, P>,
+    places: IndexMap<Vec<u8>, P, Hashing>,
 }
 
 impl<P> Model for Places<P> {
@@ -18,16 +22,16 @@ impl<P> Model for Places<P> {
 
     ghost Value = { List (List ℕ × P) };
 
-    ghost view = { λ a. map (λ e. (e.0.items, e.1)) a.tree.entries };
+    ghost view = { λ a. map (λ e. (e.0.items, e.1)) a.places.entries };
 }
 
 impl<P: Copy + Drop> Places<P> {
     /// No keys.
-    pub fn new(alloc: Global) -> Places<P>
+    pub fn new(alloc: Global, hashing: Hashing) -> Places<P>
         ensures { result ≡ [] }
     {
         Places {
-            tree: BTreeMap::new(alloc),
+            places: IndexMap::with_hasher(alloc, hashing),
         }
     }
 
@@ -35,7 +39,25 @@ impl<P: Copy + Drop> Places<P> {
     pub fn get(&self, word: &[u8]) -> Option<P>
         ensures { result ≡ place_of self.now word.now }
     {
-        self.tree.get(word).copied()
+        if self.places.len() <= FEW {
+            return self.among_few(word);
+        }
+        self.places.get(word).copied()
+    }
+
+    /// The place of the key, by going through all.
+    fn among_few(&self, word: &[u8]) -> Option<P>
+        ensures { result ≡ place_of self.now word.now }
+    {
+        'keys: for i in 0..self.places.len() {
+            let Some((key, place)) = self.places.get_index(i) else {
+                return None;
+            };
+            if word == key.as_slice() {
+                return Some(*place);
+            }
+        }
+        None
     }
 
     /// Gives the key this place. The key is copied.
@@ -48,7 +70,7 @@ impl<P: Copy + Drop> Places<P> {
         ensures err { OnErr result (self.new ≡ self.old) }
     {
         let word = word.to_vec(alloc)?;
-        self.tree.insert(word, place)?;
+        self.places.insert(word, place)?;
         Ok(())
     }
 }

@@ -1,42 +1,40 @@
 // The names of variables, found by their bytes.
-ghost use Rattle.std.specs.Prelude.{◌≡◌, ◌≢◌, ◌++◌, ◌∷◌, ◌<◌, [], List, ℕ, MatchOption, OnOk, OnErr, Contains, length, slice_get, Some};
-ghost use Rattle.mz_math_tokens.specs.Names.{AreFoundFrom};
+ghost use Rattle.std.specs.Prelude.{◌≡◌, ◌≢◌, ◌++◌, ◌∷◌, ◌<◌, ◌≤◌, [], List, ℕ, MatchOption, OnOk, OnErr, Contains, length, slice_get, Some};
+ghost use Rattle.mz_math_tokens.specs.Names.{AreFoundBeyond};
 
 use crate::bytes::Bytes;
-use crate::places::Places;
+use crate::places::{FEW, Places};
+use mz_base::Hashing;
 use std::alloc::{AllocError, Global};
 use std::marker::Model;
-
-/// So many names are gone through faster than they are found in a tree.
-const FEW: usize = 8;
 
 /// Names by place. A name is empty where there is none.
 #[derive(Drop)]
 pub struct VariableNames {
     items: Vec<Bytes>,
-    // where each name behind the first few stands
+    // where each name stands, where there are more than a few
     places: Places<usize>,
 }
 
 impl Model for VariableNames {
     ghost use Rattle.std.specs.Prelude.{List, ℕ};
-    ghost use Rattle.mz_math_tokens.specs.Names.{AreFoundFrom};
+    ghost use Rattle.mz_math_tokens.specs.Names.{AreFoundBeyond};
 
     ghost Value = { List (List ℕ) };
 
     ghost view = { λ a. a.items.items };
 
-    ghost invariant = { λ a. AreFoundFrom 8 a.places a.items.items };
+    ghost invariant = { λ a. AreFoundBeyond 8 a.places a.items.items };
 }
 
 impl VariableNames {
     /// No names.
-    pub fn new(alloc: Global) -> VariableNames
+    pub fn new(alloc: Global, hashing: Hashing) -> VariableNames
         ensures { result ≡ [] }
     {
         VariableNames {
             items: Vec::new(alloc),
-            places: Places::new(alloc),
+            places: Places::new(alloc, hashing),
         }
     }
 
@@ -51,11 +49,8 @@ impl VariableNames {
     pub fn place_of(&self, name: &[u8]) -> Option<usize>
         ensures { MatchOption result (name.now ≢ [] → Contains self.now name.now → ⊥) (λ x. (x < length self.now) × (slice_get self.now x ≡ Some name.now)) }
     {
-        if let Some(place) = place_among_first(&self.items, name) {
-            return Some(place);
-        }
         if self.items.len() <= FEW {
-            return None;
+            return place_among(&self.items, name);
         }
         let place = self.places.get(name)?;
         let found = self.items.get(place)?;
@@ -73,7 +68,7 @@ impl VariableNames {
         ensures err { OnErr result (self.new ≡ self.old) }
     {
         let copy = Bytes::copy_of(alloc, name)?;
-        note(&mut self.places, alloc, name, self.items.len())?;
+        note(&mut self.places, alloc, &self.items, name)?;
         self.items.push(copy)?;
         Ok(())
     }
@@ -86,28 +81,43 @@ impl VariableNames {
     }
 }
 
-/// Notes the place at which a name is put, where it isn't one of the first.
+/// Notes the place of one more name, where there are more than a few with it.
 fn note(
     places: &mut Places<usize>,
     alloc: Global,
+    names: &[Bytes],
     name: &[u8],
-    place: usize,
 ) -> Result<(), AllocError>
-    ensures ok { OnOk result ((names : List (List ℕ)) → length names ≡ place → (name.now ≢ [] → Contains names name.now → ⊥) → AreFoundFrom 8 places.old names → AreFoundFrom 8 places.new (names ++ name.now ∷ [])) }
-    ensures err { OnErr result (places.new ≡ places.old) }
+    ensures ok { OnOk result ((name.now ≢ [] → Contains names.now name.now → ⊥) → AreFoundBeyond 8 places.old names.now → AreFoundBeyond 8 places.new (names.now ++ name.now ∷ [])) }
+    ensures err { OnErr result (AreFoundBeyond 8 places.old names.now → AreFoundBeyond 8 places.new names.now) }
 {
-    if place < FEW {
+    if names.len() < FEW {
         return Ok(());
     }
-    places.insert(alloc, name, place)
+    note_first(places, alloc, names)?;
+    places.insert(alloc, name, names.len())
 }
 
-/// The place of a name among the first ones.
-#[inline]
-fn place_among_first(names: &[Bytes], name: &[u8]) -> Option<usize>
-    ensures { MatchOption result ((i : ℕ) → i < 8 → slice_get names.now i ≡ Some name.now → ⊥) (λ i. slice_get names.now i ≡ Some name.now) }
+/// Notes the places of the first few names, where there are no more yet.
+fn note_first(places: &mut Places<usize>, alloc: Global, names: &[Bytes]) -> Result<(), AllocError>
+    ensures ok { OnOk result (AreFoundBeyond 8 places.old names.now → AreFoundBeyond 0 places.new names.now) }
+    ensures err { OnErr result (length names.now ≤ 8) }
 {
-    for i in 0..names.len().min(FEW) {
+    if names.len() > FEW {
+        return Ok(());
+    }
+    'names: for i in 0..names.len() {
+        places.insert(alloc, names[i].as_slice(), i)?;
+    }
+    Ok(())
+}
+
+/// The place of a name among these.
+#[inline]
+fn place_among(names: &[Bytes], name: &[u8]) -> Option<usize>
+    ensures { MatchOption result ((i : ℕ) → slice_get names.now i ≡ Some name.now → ⊥) (λ i. slice_get names.now i ≡ Some name.now) }
+{
+    for i in 0..names.len() {
         if names[i].is(name) {
             return Some(i);
         }

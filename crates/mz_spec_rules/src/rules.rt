@@ -1,6 +1,7 @@
 // The rules of a statement on its names and binders.
 ghost use Rattle.std.specs.Prelude.{◌≡◌, ◌↔◌, ◌⊎◌, ◌≤◌, ◌++◌, ⊤, ℕ, [], IfOk, IsTrue, List, MatchOption, OnOk, Some, length, map, option_map, take};
 ghost use Rattle.mz_base_theory.specs.Checks.{Judges, each_in_order};
+ghost use Rattle.mz_lex.specs.declared.rule.S.TheVariants.{NameTwice};
 ghost use Rattle.mz_logic_theory.specs.Modifiers.{IsPure, IsStrict, IsFree};
 ghost use Rattle.mz_spec_theory.specs.StatementCode.{lexeme, type_text};
 ghost use Rattle.mz_spec_rules.specs.Answers.{JudgesOrMem};
@@ -26,12 +27,19 @@ pub fn check_new<'a>(names: &NameMap<'a>, name: Lexeme<'a>) -> Result<(), Fault>
     ensures { Judges result (new_name names.now (lexeme name.entry)) }
 {
     if names.number_of(name.bytes).is_some() {
-        return Err(Fault {
-            at: name.from,
-            rule: S::NameTwice,
-        });
+        return Err(name_twice(name));
     }
     Ok(())
+}
+
+/// The fault of a name that isn't new.
+fn name_twice(name: Lexeme<'_>) -> Fault
+    ensures { result ≡ record { at = name.entry.from; rule = NameTwice } }
+{
+    Fault {
+        at: name.from,
+        rule: S::NameTwice,
+    }
 }
 
 /// The name is one of these.
@@ -62,8 +70,9 @@ fn push_name<'a>(names: &mut NameMap<'a>, name: Option<Lexeme<'a>>) -> Result<()
     ensures names { OnOk result (names.new ≡ names.old ++ name_texts (option_map lexeme name.entry)) }
 {
     if let Some(name) = name {
-        check_new(names, name)?;
-        names.push(name.bytes)?;
+        if !names.insert(name.bytes)? {
+            return Err(Halt::Fault(name_twice(name)));
+        }
     }
     Ok(())
 }
@@ -86,10 +95,7 @@ impl<'a> State<'a> {
         ensures { Judges result (new_name (state self.now).term_names (lexeme name.entry)) }
     {
         if self.notations.names_term(name.bytes) {
-            return Err(Fault {
-                at: name.from,
-                rule: S::NameTwice,
-            });
+            return Err(name_twice(name));
         }
         Ok(())
     }

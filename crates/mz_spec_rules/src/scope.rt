@@ -221,7 +221,7 @@ impl<'a> State<'a> {
         requires grouped_dummies { AreGrouped parts.now.dummies.items }
         ensures { IfOk result (λ scope. (vs : List VariableLem) (types results : List TypeLem) → AreParts parts.now vs types results → scope ≡ scope_of_lem (state self.now) vs) }
     {
-        let mut scope = Scope::new(alloc);
+        let mut scope = Scope::new(alloc, self.hashing);
         self.push_variables(alloc, index, &mut scope, &parts.params, &parts.params)?;
         self.push_variables(alloc, index, &mut scope, &parts.params, &parts.dummies)?;
         Ok(scope)

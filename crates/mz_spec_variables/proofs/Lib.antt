@@ -3,4 +3,5 @@ mod Chosen
 pub mod Grouped
 pub mod Joins
 pub mod Indexed
+mod Inserted
 pub mod Offered

@@ -1,6 +1,7 @@
 // The names of a space.
-ghost use Rattle.std.specs.Prelude.{◌≡◌, ◌<◌, ◌++◌, ◌∷◌, [], length, map, IfSome, OnOk};
-ghost use Rattle.mz_base.specs.Names.{IsNew, number_of as number_lem};
+ghost use Rattle.std.specs.Prelude.{◌≡◌, ◌<◌, ◌++◌, ◌∷◌, [], length, map, IfOk, IfSome, MatchBool, OnOk};
+ghost use Rattle.mz_base.specs.Names.{IsKnown, IsNew, number_of as number_lem};
+ghost use Rattle.mz_spec_variables.specs.NewNames.{AreNew};
 
 use indexmap::IndexSet;
 use mz_base::Hashing;
@@ -13,18 +14,21 @@ const FEW: usize = 8;
 /// Names in the order in which they were declared, borrowed from the text.
 #[derive(Drop)]
 pub struct NameMap<'a> {
-    // the first ones
+    // all of them while they are few, none later
     first: Vec<&'a [u8]>,
-    // those behind them
+    // all of them once they are more
     others: IndexSet<&'a [u8], Hashing>,
 }
 
 impl<'a> Model for NameMap<'a> {
-    ghost use Rattle.std.specs.Prelude.{List, ℕ, map, ◌++◌};
+    ghost use Rattle.std.specs.Prelude.{List, [], ℕ, map, ◌++◌};
+    ghost use Rattle.mz_spec_variables.specs.NewNames.{AreNew};
 
     ghost Value = { List (List ℕ) };
 
     ghost view = { λ a. map (λ name. name.now) a.first.items ++ map (λ name. name.now) a.others.keys };
+
+    ghost invariant = { λ a. AreNew [] (map (λ name. name.now) a.first.items) };
 }
 
 impl<'a> NameMap<'a> {
@@ -64,6 +68,31 @@ impl<'a> NameMap<'a> {
         }
     }
 
+    /// Adds a name, unless it is one of them; whether it was added.
+    ///
+    /// # Errors
+    ///
+    /// Where there is no memory.
+    pub fn insert(&mut self, name: &'a [u8]) -> Result<bool, AllocError>
+        ensures { IfOk result (λ added. MatchBool added
+            (IsNew self.old name.now × (self.new ≡ self.old ++ name.now ∷ []))
+            (IsKnown self.old name.now × (self.new ≡ self.old))) }
+    {
+        if number_among(&self.first, name).is_some() {
+            return Ok(false);
+        }
+        if self.others.is_empty() {
+            if self.first.len() < FEW {
+                self.first.push(name)?;
+                return Ok(true);
+            }
+            // From now on a look-up compares with none before it hashes.
+            insert_all(&mut self.others, &self.first)?;
+            self.first.clear();
+        }
+        Ok(self.others.insert(name)?)
+    }
+
     /// Adds a name that is new.
     ///
     /// # Errors
@@ -73,13 +102,24 @@ impl<'a> NameMap<'a> {
         requires { IsNew self.old name.now }
         ensures { OnOk result (self.new ≡ self.old ++ name.now ∷ []) }
     {
-        if self.others.is_empty() && self.first.len() < FEW {
-            self.first.push(name)?;
-        } else {
-            self.others.insert(name)?;
-        }
+        self.insert(name)?;
         Ok(())
     }
+}
+
+/// Puts names that differ into a set that has none.
+fn insert_all<'a>(
+    set: &mut IndexSet<&'a [u8], Hashing>,
+    names: &[&'a [u8]],
+) -> Result<(), AllocError>
+    requires empty { set.old.keys ≡ [] }
+    requires new { AreNew [] (map (λ name. name.now) names.now) }
+    ensures { OnOk result (set.new.keys ≡ names.now) }
+{
+    for name in names {
+        set.insert(*name)?;
+    }
+    Ok(())
 }
 
 /// The number of the name among these, if it is one of them.

@@ -2,6 +2,7 @@ pub mod BothModes
 pub mod Turned
 pub mod Shaping
 pub mod Limits
+mod Paths
 mod StatedSteps
 mod TypedSteps
 mod Weighing

@@ -3,45 +3,30 @@ ghost use Rattle.std.specs.Prelude.{◌≡◌, ◌<◌, ◌^◌, ◌+◌};
 ghost use Rattle.mz_logic_theory.specs.Tree.{size, trees_size};
 ghost use Rattle.mz_logic_theory.specs.View.{tree};
 
-use mz_logic_theory::{Expr, ExprRef, Exprs, Hyps, Operands, Shape};
+use mz_logic_theory::{Expr, ExprKind, Exprs, Hyps};
 
 /// How many variables and terms stand in the expression.
+#[cycle(size_of)]
 pub(crate) fn size_of(expr: &Expr) -> u128
     requires { size (tree expr.now) < 2 ^ 128 }
     ensures { result ≡ size (tree expr.now) }
 {
-    lent_size_of(&expr.lent())
-}
-
-/// The same of an expression that is lent.
-#[cycle(lent_size_of)]
-fn lent_size_of(expr: &ExprRef) -> u128
-    requires { size expr.now < 2 ^ 128 }
-    ensures { result ≡ size expr.now }
-{
-    match expr.shape() {
-        Shape::Var(_) => 1,
-        Shape::App(_, es) => 1 + lent_sizes_of(&es),
+    match expr.kind() {
+        ExprKind::Var(_) => 1,
+        ExprKind::App(_, es) => 1 + sizes_of(es),
+        ExprKind::Under(path, e) => path.as_slice().len() as u128 + size_of(e),
     }
 }
 
 /// How many stand in the expressions.
+#[cycle(size_of)]
 pub(crate) fn sizes_of(es: &Exprs) -> u128
     requires { trees_size es.now < 2 ^ 128 }
     ensures { result ≡ trees_size es.now }
 {
-    lent_sizes_of(&es.lent())
-}
-
-/// The same of expressions that are lent.
-#[cycle(lent_size_of)]
-fn lent_sizes_of(es: &Operands) -> u128
-    requires { trees_size es.now < 2 ^ 128 }
-    ensures { result ≡ trees_size es.now }
-{
     let mut total: u128 = 0;
-    for i in 0..es.len() {
-        total += lent_size_of(&es.at(i));
+    for e in es.as_slice() {
+        total += size_of(e);
     }
     total
 }

@@ -1,5 +1,6 @@
 pub mod Judging
 pub mod Steps
+pub mod Passing
 pub mod Building
 mod Differing
 pub mod Claims

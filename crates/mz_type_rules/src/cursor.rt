@@ -71,13 +71,17 @@ impl<'n, 'a> Cursor<'n, 'a> {
     pub(crate) fn after(&self, count: usize) -> Cursor<'n, 'a>
         ensures { result ≡ Parts.after count self.now }
     {
-        if count == 0 {
-            return Cursor {
-                nodes: self.nodes,
-                first: self.first,
+        let nodes = self.nodes;
+        let mut first = self.first;
+        let mut left = count;
+        'passing: while left > 0 {
+            let Some(n) = first else {
+                break;
             };
+            first = nodes.next(n);
+            left -= 1;
         }
-        self.rest().after(count - 1)
+        Cursor { nodes, first }
     }
 
     /// The first node's part at the place, and those behind it.

@@ -35,7 +35,6 @@ pub(crate) fn check_expr(env: &Env, ctx: &Context, expr: &Expr, nodes: &Cursor) 
 }
 
 /// The same of an expression that is lent.
-#[cycle(check_lent_expr)]
 fn check_lent_expr(env: &Env, ctx: &Context, expr: &ExprRef, nodes: &Cursor) -> Result<(), Fault>
     ensures { Judges result (expr_rules (signatures env.now) ctx.now expr.now (first nodes.now)) }
 {
@@ -46,7 +45,7 @@ fn check_lent_expr(env: &Env, ctx: &Context, expr: &ExprRef, nodes: &Cursor) -> 
 }
 
 /// The rules of a term's application, at the first node.
-#[cycle(check_lent_expr)]
+#[cycle(check_app)]
 fn check_app(
     env: &Env,
     ctx: &Context,
@@ -88,13 +87,16 @@ pub(crate) fn check_exprs(env: &Env, ctx: &Context, es: &Exprs, nodes: &Cursor) 
 }
 
 /// The same of expressions that are lent.
-#[cycle(check_lent_expr)]
+#[cycle(check_app)]
 fn check_lent_exprs(env: &Env, ctx: &Context, es: &Operands, nodes: &Cursor) -> Result<(), Fault>
     ensures { Judges result (exprs_rules (signatures env.now) ctx.now es.now nodes.now) }
 {
     let mut left = nodes.after(0);
     for i in 0..es.len() {
-        check_lent_expr(env, ctx, &es.at(i), &left)?;
+        match es.at(i).shape() {
+            Shape::Var(_) => (),
+            Shape::App(t, operands) => check_app(env, ctx, t, &operands, &left)?,
+        }
         left = left.rest();
     }
     Ok(())

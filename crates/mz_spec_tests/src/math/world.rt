@@ -2,7 +2,7 @@
 ghost use Rattle.std.specs.Prelude.{◌<◌, ◌^◌, length};
 
 use crate::expect::expect_bytes;
-use mz_base::is_identifier;
+use mz_base::{Hashing, is_identifier};
 use mz_lex::S;
 use mz_logic::check_decl;
 use mz_logic_theory::{
@@ -126,7 +126,7 @@ fn add_variable(alloc: Global, scope: &mut Scope, var: &Var<'_>) -> Result<(), A
 }
 
 fn scope_of(alloc: Global, vars: &[Var<'_>]) -> Result<Scope, AllocError> {
-    let mut scope = Scope::new(alloc);
+    let mut scope = Scope::new(alloc, Hashing::fixed());
     for var in vars {
         add_variable(alloc, &mut scope, var)?;
     }
@@ -139,7 +139,7 @@ impl World {
             alloc,
             env: Env::new(alloc),
             notations: Notations::new(alloc),
-            scope: Scope::new(alloc),
+            scope: Scope::new(alloc, Hashing::fixed()),
             terms: Vec::new(alloc),
             variables: Vec::new(alloc),
             page: Vec::new(alloc),

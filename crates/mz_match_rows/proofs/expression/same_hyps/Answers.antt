@@ -11,7 +11,7 @@ use Rattle.mz_spec_proved_theory.specs.AlphaTrees.{SameTrees}
 use Rattle.mz_match_rows.specs.Streams.{step_at, Passes, Says}
 use Rattle.mz_match_rows.proofs.Steps.{step-takes}
 use Rattle.mz_match_rows.proofs.Numbering.{nothing-yet}
-use Rattle.mz_match_rows.proofs.PlainTrees.{said-passes, next-hyp-same, all-left, left-answer, hyp-left, hyp-found}
+use Rattle.mz_match_rows.proofs.PlainTrees.{said-passes, next-hyp-same, all-left, none-answer, left-answer, hyp-left, hyp-found}
 use Rattle.mz_match_rows.proofs.expression.same_hyps.Goals as goal
 
 pub hyps-init : goal.hyps-init
@@ -36,11 +36,25 @@ hyps-init c =
           );
     }
 
+pub returns-then-len-eq0 : goal.returns-then-len-eq0
+returns-then-len-eq0 c = λ m hs plain (conclusion, to, said, hyps).
+    let (n, passes) = said-passes c.args.sides.now.mmb.now c.args.sides.now.params m c.args.sides.now.start 0 conclusion to.at to.dummies said in
+    let passes' = subst (λ (xs : List ℕ). Passes xs n c.args.sides.now.start to.at) (sym c.file.ensures.file) passes in
+    let no-hyps : length (exprs_of c.args.hyps.now) ≡ 0 = length-exprs c.args.hyps.now ∙ sym c.len.ensures ∙ c.if-len-eq0.true in
+    let whole = all-left c.args.sides.now.publics.now (exprs_of c.args.hyps.now) c.args.hyps.now hs (trees-exprs c.args.hyps.now) in
+    let exact = subst (λ (k : ℕ). SameTrees c.args.sides.now.publics.now c.args.hyps.now (trees_of (reverse hs))
+    ↔ SameTrees c.args.sides.now.publics.now (trees (take k (exprs_of c.args.hyps.now))) (trees_of (reverse hs))) no-hyps whole in
+    let answer = none-answer c.args.sides.now.mmb.now c.args.sides.now.params m c.args.sides.now.publics.now to.at hs c.next_hyp.result c.is_none.result hyps
+    (λ ends. c.next_hyp.ensures.end n to.at passes' (ap (λ (xs : List ℕ). step_at xs to.at) c.file.ensures.file ∙ ends))
+    (λ v next says. c.next_hyp.ensures.hyp n to.at v next passes' (subst (λ (xs : List ℕ). Says xs to.at codes.Hyp v next) (sym c.file.ensures.file) says))
+    c.is_none.ensures in
+    ((λ yes-is. exact.1 (answer.0 yes-is)), λ same. answer.1 (exact.0 same))
+
 pub returns-in_default : goal.returns-in_default
 returns-in_default c = λ m hs plain said.
     let (rest, n, q, passes, hyps, exact) = c.hyps.invariant.goes_on m hs plain said in
     left-answer c.args.sides.now.mmb.now c.args.sides.now.params m c.args.sides.now.publics.now (exprs_of c.args.hyps.now) c.hyps.left q rest _ c.hyps.invariant.few hyps
-    (λ v next says. let found = c.in_default.ensures.hyp n q v next (subst (λ (xs : List ℕ). Passes xs n c.hyps.at q) (sym c.file.ensures.file) passes) (subst (λ (xs : List ℕ). Says xs q codes.Hyp v next) (sym c.file.ensures.file) says) in absurd cc)
+    (λ v next says. let found = c.in_default.ensures.hyp n q v next (subst (λ (xs : List ℕ). Passes xs n c.hyps.at q) (sym c.file-in-hyps.ensures.file) passes) (subst (λ (xs : List ℕ). Says xs q codes.Hyp v next) (sym c.file-in-hyps.ensures.file) says) in absurd cc)
     exact
 
 pub returns-then-left-eq0 : goal.returns-then-left-eq0
@@ -48,7 +62,7 @@ returns-then-left-eq0 c = λ m hs plain said.
     let (rest, n, q, passes, hyps, exact) = c.hyps.invariant.goes_on m hs plain said in (
       (λ yes-is. absurd (false≢true yes-is)),
       λ same. absurd (hyp-left c.args.sides.now.mmb.now c.args.sides.now.params m c.args.sides.now.publics.now (exprs_of c.args.hyps.now) q rest hyps
-          (λ ends. let found = c.in-Some.ensures.end n q (subst (λ (xs : List ℕ). Passes xs n c.hyps.at q) (sym c.file.ensures.file) passes) (ap (λ (xs : List ℕ). step_at xs q) c.file.ensures.file ∙ ends) in absurd cc)
+          (λ ends. let found = c.in-Some.ensures.end n q (subst (λ (xs : List ℕ). Passes xs n c.hyps.at q) (sym c.file-in-hyps.ensures.file) passes) (ap (λ (xs : List ℕ). step_at xs q) c.file-in-hyps.ensures.file ∙ ends) in absurd cc)
           (subst (λ (k : ℕ). SameTrees c.args.sides.now.publics.now (trees (take k (exprs_of c.args.hyps.now))) (trees_of (reverse rest))) c.if-left-eq0.true (exact.0 same))),
     )
 
@@ -56,7 +70,7 @@ pub made_at-made-requires : goal.made_at-made-requires
 made_at-made-requires c =
     let (m, hs, plain, said) = c.requires in
     let (rest, k, q, passes, hyps, exact) = c.hyps.invariant.goes_on m hs plain said in
-    let (h, later, v, to, rest-is, says, said-h, hyps-later) = hyp-found c.args.sides.now.mmb.now c.args.sides.now.params m _ k c.hyps.at q rest c.in-Some.next c.file.ensures.file passes hyps c.in-Some.ensures.end c.in-Some.ensures.hyp in
+    let (h, later, v, to, rest-is, says, said-h, hyps-later) = hyp-found c.args.sides.now.mmb.now c.args.sides.now.params m _ k c.hyps.at q rest c.in-Some.next c.file-in-hyps.ensures.file passes hyps c.in-Some.ensures.end c.in-Some.ensures.hyp in
     (m, h, record { at = to; dummies = 0 }, plain.stream, said-h)
 
 pub same_hyp-requires-clause-some : goal.same_hyp-requires-clause-some
@@ -75,14 +89,14 @@ pub same_hyp-requires-clause-said : goal.same_hyp-requires-clause-said
 same_hyp-requires-clause-said c =
     let (m, hs, plain, said) = c.requires in
     let (rest, k, q, passes, hyps, exact) = c.hyps.invariant.goes_on m hs plain said in
-    let (h, later, v, to, rest-is, says, said-h, hyps-later) = hyp-found c.args.sides.now.mmb.now c.args.sides.now.params m _ k c.hyps.at q rest c.in-Some.next c.file.ensures.file passes hyps c.in-Some.ensures.end c.in-Some.ensures.hyp in
+    let (h, later, v, to, rest-is, says, said-h, hyps-later) = hyp-found c.args.sides.now.mmb.now c.args.sides.now.params m _ k c.hyps.at q rest c.in-Some.next c.file-in-hyps.ensures.file passes hyps c.in-Some.ensures.end c.in-Some.ensures.hyp in
     let (end, made) = c.made_at-made.ensures m h (record { at = to; dummies = 0 }) plain.stream said-h in
     (m, h, end, plain, made)
 
 pub returns-then-not-same_hyp : goal.returns-then-not-same_hyp
 returns-then-not-same_hyp c = λ m hs plain said.
     let (rest, k, q, passes, hyps, exact) = c.hyps.invariant.goes_on m hs plain said in
-    let (h, later, v, to, rest-is, says, said-h, hyps-later) = hyp-found c.args.sides.now.mmb.now c.args.sides.now.params m _ k c.hyps.at q rest c.in-Some.next c.file.ensures.file passes hyps c.in-Some.ensures.end c.in-Some.ensures.hyp in
+    let (h, later, v, to, rest-is, says, said-h, hyps-later) = hyp-found c.args.sides.now.mmb.now c.args.sides.now.params m _ k c.hyps.at q rest c.in-Some.next c.file-in-hyps.ensures.file passes hyps c.in-Some.ensures.end c.in-Some.ensures.hyp in
     let (end, made) = c.made_at-made.ensures m h (record { at = to; dummies = 0 }) plain.stream said-h in
     let one-less : suc (c.hyps.left - 1) ≡ c.hyps.left = omega (arith, c.if-left-eq0.false) in
     let below : c.hyps.left - 1 < length (exprs_of c.args.hyps.now) = omega (arith, one-less, c.hyps.invariant.few) in
@@ -98,7 +112,7 @@ pub hyps-preserved : goal.hyps-preserved
 hyps-preserved c =
     let (m, hs, plain, said) = c.requires in
     let (rest, k, q, passes, hyps, exact) = c.hyps.invariant.goes_on m hs plain said in
-    let (h, later, v, to, rest-is, says, said-h, hyps-later) = hyp-found c.args.sides.now.mmb.now c.args.sides.now.params m _ k c.hyps.at q rest c.in-Some.next c.file.ensures.file passes hyps c.in-Some.ensures.end c.in-Some.ensures.hyp in
+    let (h, later, v, to, rest-is, says, said-h, hyps-later) = hyp-found c.args.sides.now.mmb.now c.args.sides.now.params m _ k c.hyps.at q rest c.in-Some.next c.file-in-hyps.ensures.file passes hyps c.in-Some.ensures.end c.in-Some.ensures.hyp in
     record {
       within = (step-takes c.args.sides.now.mmb.now q (record { code = codes.Hyp; value = v; next = c.in-Some.next }) says).1;
       few = omega (arith, c.hyps.invariant.few);
@@ -106,7 +120,7 @@ hyps-preserved c =
       right = c.same_hyp.ensures.right;
       goes_on = λ m hs plain said.
           let (rest, k, q, passes, hyps, exact) = c.hyps.invariant.goes_on m hs plain said in
-          let (h, later, v, to, rest-is, says, said-h, hyps-later) = hyp-found c.args.sides.now.mmb.now c.args.sides.now.params m _ k c.hyps.at q rest c.in-Some.next c.file.ensures.file passes hyps c.in-Some.ensures.end c.in-Some.ensures.hyp in
+          let (h, later, v, to, rest-is, says, said-h, hyps-later) = hyp-found c.args.sides.now.mmb.now c.args.sides.now.params m _ k c.hyps.at q rest c.in-Some.next c.file-in-hyps.ensures.file passes hyps c.in-Some.ensures.end c.in-Some.ensures.hyp in
           let (end, made) = c.made_at-made.ensures m h (record { at = to; dummies = 0 }) plain.stream said-h in
           let (k', passes') = said-passes c.args.sides.now.mmb.now c.args.sides.now.params m c.in-Some.next 0 h to 0 said-h in
           let one-less : suc (c.hyps.left - 1) ≡ c.hyps.left = omega (arith, c.if-left-eq0.false) in

@@ -1,4 +1,4 @@
-use Rattle.std.proofs.Common.{subst, arith}
+use Rattle.std.proofs.Common.{[], ap, arith, length, refl, subst}
 use Rattle.mz_logic_theory.specs.Tree.{Tree}
 use Rattle.mz_logic_theory.specs.View.{tree}
 use Rattle.mz_match_rows.specs.Beside.{beside}
@@ -13,9 +13,7 @@ same_at-requires c = let (m, f, to, plain, said) = c.requires in (m, f, to, plai
 
 pub returns : goal.returns
 returns c = λ m f to plain said.
-    let pairs = c.no_pairs-pairs in
-    let few = plain.stream.marks.few in
-    plain-answer (beside c.args.sides.now m) pairs.result c.same_at.new.pairs (tree c.args.expr.now) f c.same_at.result to c.is_some.result plain.none_beside
-    (says-nothing pairs.result pairs.ensures.none_yet) (omega (arith, few, pairs.ensures.many))
+    plain-answer (beside c.args.sides.now m) [] c.same_at.new.pairs (tree c.args.expr.now) f c.same_at.result to c.is_some.result plain.none_beside
+    (says-nothing [] refl) (let none = ap length plain.no_dummies in omega (arith, none))
     (said-below c.args.sides.now.mmb.now c.args.sides.now.params c.args.sides.now.start m plain.stream.marks plain.no_dummies c.args.from.at c.args.from.dummies f to.at to.dummies said)
-    c.is_some.ensures (subst (λ (e : Tree). Answers c.same_at.result c.same_at.new.pairs (compared (beside c.args.sides.now m) pairs.result e f) to) c.lent.ensures (c.same_at.ensures m f to plain.stream said))
+    c.is_some.ensures (subst (λ (e : Tree). Answers c.same_at.result c.same_at.new.pairs (compared (beside c.args.sides.now m) [] e f) to) c.lent.ensures (c.same_at.ensures m f to plain.stream said))

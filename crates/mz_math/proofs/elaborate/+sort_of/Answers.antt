@@ -1,14 +1,13 @@
 use Rattle.std.proofs.Common.{◌∙◌, ◌<◌, List, ap, arith, length, sym, subst, refl}
 use Rattle.std.proofs.lemmas.Bool.{true≢false, false≢true}
-use Rattle.std.proofs.lemmas.Result.{IfOk-weaker}
 use Rattle.mz_logic_theory.specs.Tree.{Tree, none, more, var, app, listed}
 use Rattle.mz_logic_theory.specs.DeclView.{signature}
 use Rattle.mz_logic_theory.specs.Declaration.{signatures}
 use Rattle.mz_logic_theory.specs.Shapes.{shape_tree}
 use Rattle.mz_logic_theory.specs.declared.binder.Binder.{Binder}
 use Rattle.mz_math_theory.specs.Meaning.{Coerced, CoercedAll}
-use Rattle.mz_math_theory.proofs.Offered.{fits-regular, fits-never, fits-other, fits-bound, all-length, take-one, put-one, none-left, app-coerced}
-use Rattle.mz_math.proofs.Found.{no-sort, some-sort}
+use Rattle.mz_math_theory.proofs.Offered.{fits-never, all-length, take-one, put-one, none-left, app-coerced}
+use Rattle.mz_math.proofs.Found.{bound-variable, no-sort, no-variable, some-sort, unbound-application, variable-stands}
 use Rattle.mz_math.proofs.elaborate.+sort_of.Goals as goal
 
 pub all_fit-returns-then-len-params-clause-fit : goal.all_fit-returns-then-len-params-clause-fit
@@ -42,28 +41,38 @@ all_fit-returns-clause-fit t c = (
   λ h. refl,
 )
 
-pub fits-returns-in_default-clause-fit : goal.fits-returns-in_default-clause-fit
-fits-returns-in_default-clause-fit t c = (
+pub fits-returns-in-None-clause-fit : goal.fits-returns-in-None-clause-fit
+fits-returns-in-None-clause-fit t c = (
   λ f. absurd (false≢true f),
   λ h. absurd (fits-never (signatures c.args.env.now) c.args.coercions.now c.args.ctx.now c.requires.one c.args.operand.now c.args.param.now
-      (no-sort (signatures c.args.env.now) c.args.coercions.now c.args.ctx.now c.args.operand.now _ c.in_ok-sort.ensures.sort c.in_default.is) h),
+      (no-variable (signatures c.args.env.now) c.args.coercions.now c.args.ctx.now c.args.operand.now c.in-Var.x (sym c.shape.ensures ∙ ap shape_tree c.in-Var.is) (sym c.in-None.ensures)) h),
 )
 
-pub fits-returns-then-not-param-clause-fit : goal.fits-returns-then-not-param-clause-fit
-fits-returns-then-not-param-clause-fit t c =
-    let found = some-sort (signatures c.args.env.now) c.args.coercions.now c.args.ctx.now c.args.operand.now _ c.in_ok-sort.ensures.sort c.in-Some.sort c.in-Some.is in
-    IfOk-weaker c.reaches.result _ _
-    (λ fit is. fits-regular (signatures c.args.env.now) c.args.coercions.now c.args.ctx.now c.requires.one c.args.operand.now found.0 c.in-Some.sort c.args.param.now fit found.1 c.if-not-param.true is) c.reaches.ensures.there
+pub fits-returns-in-Some-clause-fit : goal.fits-returns-in-Some-clause-fit
+fits-returns-in-Some-clause-fit t c =
+    let sigs = signatures c.args.env.now in
+    let ctx = c.args.ctx.now in
+    let operand = c.args.operand.now in
+    let x = c.in-Var.x in
+    let b = c.in-Some.binder.now in
+    let is = sym c.shape.ensures ∙ ap shape_tree c.in-Var.is in
+    let at = sym c.in-Some.ensures in
+    c.sort_fits.ensures.fit sigs ctx operand (var x) c.requires.one (variable-stands sigs c.args.coercions.now ctx operand x is b at) (bound-variable ctx operand x b is at)
 
-pub fits-returns-then-sort-param-clause-fit : goal.fits-returns-then-sort-param-clause-fit
-fits-returns-then-sort-param-clause-fit t c =
-    let found = some-sort (signatures c.args.env.now) c.args.coercions.now c.args.ctx.now c.args.operand.now _ c.in_ok-sort.ensures.sort c.in-Some.sort c.in-Some.is in
-    (λ f. absurd (false≢true f), λ h. absurd (fits-other (signatures c.args.env.now) c.args.coercions.now c.args.ctx.now c.requires.one c.args.operand.now found.0 c.in-Some.sort c.args.param.now found.1 c.if-not-param.false c.if-sort-param.true h))
+pub fits-returns-in-None-2-clause-fit : goal.fits-returns-in-None-2-clause-fit
+fits-returns-in-None-2-clause-fit t c = (
+  λ f. absurd (false≢true f),
+  λ h. absurd (fits-never (signatures c.args.env.now) c.args.coercions.now c.args.ctx.now c.requires.one c.args.operand.now c.args.param.now
+      (no-sort (signatures c.args.env.now) c.args.coercions.now c.args.ctx.now c.args.operand.now _ c.in_ok-sort_of-in-App.ensures.sort c.in-None-2.is) h),
+)
 
-pub fits-returns-clause-fit : goal.fits-returns-clause-fit
-fits-returns-clause-fit t c =
-    let found = some-sort (signatures c.args.env.now) c.args.coercions.now c.args.ctx.now c.args.operand.now _ c.in_ok-sort.ensures.sort c.in-Some.sort c.in-Some.is in
-    fits-bound (signatures c.args.env.now) c.args.coercions.now c.args.ctx.now c.requires.one c.args.operand.now found.0 c.in-Some.sort c.args.param.now c.lent_is_bound_var.result found.1 c.if-not-param.false c.if-sort-param.false c.lent_is_bound_var.ensures
+pub fits-returns-in-Some-2-clause-fit : goal.fits-returns-in-Some-2-clause-fit
+fits-returns-in-Some-2-clause-fit t c =
+    let sigs = signatures c.args.env.now in
+    let ctx = c.args.ctx.now in
+    let operand = c.args.operand.now in
+    let found = some-sort sigs c.args.coercions.now ctx operand _ c.in_ok-sort_of-in-App.ensures.sort c.in-Some-2.sort c.in-Some-2.is in
+    c.sort_fits-in-Some-2.ensures.fit sigs ctx operand found.0 c.requires.one found.1 (unbound-application ctx operand c.in-App.field-0 c.in-App.field-1 (sym c.shape.ensures ∙ ap shape_tree c.in-App.is))
 
 pub sort_of-returns-in-Some-clause-sort : goal.sort_of-returns-in-Some-clause-sort
 sort_of-returns-in-Some-clause-sort t c =

@@ -1,10 +1,10 @@
 use Rattle.std.proofs.Common.{◌≡◌, ◌∙◌, ◌+◌, ◌-◌, [], false, refl, sym, subst, drop, arith}
 use Rattle.std.proofs.lemmas.Bool.{true≢false}
-use Rattle.mz_math_theory.specs.Grammar.{operands_at_max, head_level, applied}
+use Rattle.mz_math_theory.specs.Grammar.{items, notated_tree, operands_at_max, head_level, applied}
 use Rattle.mz_logic_theory.specs.Tree.{app, none}
 use Rattle.mz_math_theory.specs.Notation.{max_level}
 use Rattle.mz_math_theory.specs.Reading.{IsBegun, NoReading}
-use Rattle.mz_math.specs.Steps.{IsPending, IsUnderWay}
+use Rattle.mz_math.specs.Steps.{IsUnderWay}
 use Rattle.mz_math.proofs.Waiting.{leading-under-way, applied-under-way}
 use Rattle.mz_math_theory.proofs.Offered.{no-tokens, variable-begun, none-begins}
 use Rattle.mz_math.proofs.parser.begin.Goals as goal
@@ -29,11 +29,12 @@ returns-clause-says c =
 
 pub returns-in-Some-leading-clause-says : goal.returns-in-Some-leading-clause-says
 returns-in-Some-leading-clause-says c =
-    let found = c.in-Some-leading.ensures in
-    subst (λ p. (p.level ≡ c.args.level) × IsPending c.args.words.now (drop c.args.at c.args.tokens.now) (drop (c.args.at + 1) c.args.tokens.now) p) (sym c.begun-pending.ensures) (
+    let k = c.in-Some-leading.notation.now in
+    let found = c.in-Some-leading.ensures in (
       refl,
-      leading-under-way c.args.words.now c.requires.readable c.args.level (drop c.args.at c.args.tokens.now) (drop (c.args.at + 1) c.args.tokens.now) c.in-Some-leading.notation.now c.in-Some.token.now
-          c.in-Some.ensures.token found.0 found.1 c.in_default.ensures,
+      subst (λ es. IsUnderWay c.args.words.now c.args.level (drop c.args.at c.args.tokens.now) (drop (c.args.at + 1) c.args.tokens.now) (items (drop 1 k.elements) k.level) es (notated_tree k) k.level false) (sym c.new.ensures)
+          (leading-under-way c.args.words.now c.requires.readable c.args.level (drop c.args.at c.args.tokens.now) (drop (c.args.at + 1) c.args.tokens.now) k c.in-Some.token.now
+          c.in-Some.ensures.token found.0 found.1 c.in_default.ensures),
     )
 
 pub returns-in-Some-term-clause-says : goal.returns-in-Some-term-clause-says
@@ -43,9 +44,9 @@ returns-in-Some-term-clause-says c =
     let here = drop (c.args.at + 1) c.args.tokens.now in
     let t = c.in-Some-term.term in
     let n = c.in-Some-term.many in
-    let all : n ≡ n - 0 = omega arith in
-    subst (λ p. (p.level ≡ c.args.level) × IsPending ws from here p) (sym c.begun-pending-in-Some-term.ensures) (
+    let all : n ≡ n - 0 = omega arith in (
       refl,
-      subst (λ m. IsUnderWay ws c.args.level from here (operands_at_max m) none (app t) (head_level (applied [] 0 n)) false) all
-          (applied-under-way ws c.requires.readable c.args.level from here c.in-Some.token.now t n c.in-Some.ensures.token c.in-Some-term.ensures c.in_default.ensures c.in_default-leading.ensures),
+      subst (λ es. IsUnderWay ws c.args.level from here (operands_at_max (n - 0)) es (app t) (head_level (applied [] 0 n)) false) (sym c.in-Ok.ensures)
+          (subst (λ m. IsUnderWay ws c.args.level from here (operands_at_max m) none (app t) (head_level (applied [] 0 n)) false) all
+          (applied-under-way ws c.requires.readable c.args.level from here c.in-Some.token.now t n c.in-Some.ensures.token c.in-Some-term.ensures c.in_default.ensures c.in_default-leading.ensures)),
     )

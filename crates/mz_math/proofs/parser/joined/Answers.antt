@@ -56,7 +56,7 @@ returns-clause-says c = λ from begun.
     let k = c.in-Some-infix.notation.now in (
       refl,
       subst (λ es. IsUnderWay ws c.args.level from rest (items (drop 2 k.elements) (last_level k)) es (notated_tree k) k.level (not k.is_right))
-          (sym (c.in-Ok.ensures.ok ∙ ap (λ es. followed_by es (more first none)) c.new-operands.ensures))
+          (sym (c.in-Ok-push.ensures.ok ∙ ap (λ es. followed_by es (more first none)) c.in-Ok.ensures))
           (infix-under-way ws c.requires.readable c.args.level from here rest first c.args.before.level c.args.before.is_left k c.in-Some.token.now begun
           c.in-Some.ensures.token found.0 found.1 c.if-notation-level.false (c.can_lead.ensures.0 c.if-not-can_lead.false)),
     )

@@ -25,8 +25,8 @@ use Rattle.mz_binary.proofs.checker.Checker.past_body.Goals as goal
 abbrev IsFound : Head → Progress → Type 0
 IsFound head q = find_at q.file (taken_before q.file q.rows) q.at ≡ Ok (found_of q.file q.rows (seen.WithBody head))
 
-pub check_body-requires-clause-may_run : goal.check_body-requires-clause-may_run
-check_body-requires-clause-may_run g c =
+pub check_body-checked-requires-clause-may_run : goal.check_body-checked-requires-clause-may_run
+check_body-checked-requires-clause-may_run g c =
     let p : Progress = c.args.self in
     let head = c.args.head in
     let taken : Taken = taken_before p.file p.rows in
@@ -41,11 +41,11 @@ check_body-requires-clause-may_run g c =
     subst (λ (k : ℕ). MayRun c.self.inside.mmb.now k c.next-row.result c.self.inside.rows) (sym byte)
     (subst (λ (row : ℕ). MayRun c.self.inside.mmb.now (kind_byte head.code) row c.self.inside.rows) (sym c.next-row.ensures) inside)
 
-pub check_body-requires-clause-order : goal.check_body-requires-clause-order
-check_body-requires-clause-order g c = (head-at c.args.self.file c.args.head.at (statement_byte c.args.head.code) c.args.head.body c.args.head.next c.requires.head).order
+pub check_body-checked-requires-clause-order : goal.check_body-checked-requires-clause-order
+check_body-checked-requires-clause-order g c = (head-at c.args.self.file c.args.head.at (statement_byte c.args.head.code) c.args.head.body c.args.head.next c.requires.head).order
 
-pub check_body-requires-clause-within : goal.check_body-requires-clause-within
-check_body-requires-clause-within g c =
+pub check_body-checked-requires-clause-within : goal.check_body-checked-requires-clause-within
+check_body-checked-requires-clause-within g c =
     subst (λ (q : Progress). c.args.head.next ≤ length q.file) (sym c.self.view_is)
     (head-at c.args.self.file c.args.head.at (statement_byte c.args.head.code) c.args.head.body c.args.head.next c.requires.head).within
 
@@ -68,8 +68,8 @@ returns-in-Good-clause-left g c = subst (λ (q : Progress). IsLeft q c.past.resu
 -- of the body, over the checker's file
 pub returns-in-Good-clause-most : goal.returns-in-Good-clause-most
 returns-in-Good-clause-most g c =
-    subst (λ (q : Progress). IsMost q c.args.steps.now c.check_body.new.steps c.past.result) c.self.view_is
-    (c.past.ensures.most c.args.steps.now c.check_body.new.steps c.check_body.ensures.most)
+    subst (λ (q : Progress). IsMost q c.args.steps.now c.check_body-checked.new.steps c.past.result) c.self.view_is
+    (c.past.ensures.most c.args.steps.now c.check_body-checked.new.steps c.check_body-checked.ensures.most)
 
 -- what the body executes is what is executed at the place
 pub returns-in-Good-clause-steps : goal.returns-in-Good-clause-steps
@@ -78,8 +78,8 @@ returns-in-Good-clause-steps g c =
     let s = c.self.inside in
     let counted = body-counts g.B.Bodies.STANDARD s.mmb.now s.rows s.at head (subst (IsFound head) (sym c.self.view_is) c.requires.body)
     (kind_at (byte_of c.body_kind-kind.result)) c.next-row.result (kind-byte c.body_kind-kind.result ∙ c.body_kind-kind.ensures) c.next-row.ensures
-    c.args.steps.now c.check_body.new.steps c.in-Good.ensures.steps in
-    if-told c.past.result _ (subst (λ (q : Progress). c.check_body.new.steps ≡ c.args.steps.now + next_steps q) c.self.view_is counted)
+    c.args.steps.now c.check_body-checked.new.steps c.in-Good.ensures.steps in
+    if-told c.past.result _ (subst (λ (q : Progress). c.check_body-checked.new.steps ≡ c.args.steps.now + next_steps q) c.self.view_is counted)
 
 pub returns-in-Refused-clause-steps : goal.returns-in-Refused-clause-steps
 returns-in-Refused-clause-steps g c =
@@ -87,8 +87,8 @@ returns-in-Refused-clause-steps g c =
     let s = c.self.inside in
     let counted = body-counts g.B.Bodies.STANDARD s.mmb.now s.rows s.at head (subst (IsFound head) (sym c.self.view_is) c.requires.body)
     (kind_at (byte_of c.body_kind-kind.result)) c.next-row.result (kind-byte c.body_kind-kind.result ∙ c.body_kind-kind.ensures) c.next-row.ensures
-    c.args.steps.now c.check_body.new.steps c.in-Refused.ensures.steps in
-    if-told c.refused.result _ (subst (λ (q : Progress). c.check_body.new.steps ≡ c.args.steps.now + next_steps q) c.self.view_is counted)
+    c.args.steps.now c.check_body-checked.new.steps c.in-Refused.ensures.steps in
+    if-told c.refused.result _ (subst (λ (q : Progress). c.check_body-checked.new.steps ≡ c.args.steps.now + next_steps q) c.self.view_is counted)
 
 pub returns-in-Refused-clause-next : goal.returns-in-Refused-clause-next
 returns-in-Refused-clause-next g c = λ ss env before.
@@ -102,18 +102,18 @@ returns-in-Refused-clause-most g c =
     let p : Progress = c.args.self in
     let head = c.args.head in
     let at-head = head-at p.file head.at (statement_byte head.code) head.body head.next c.requires.head in
-    let few = most-here (length p.file) p.at head.body head.next c.args.steps.now c.check_body.new.steps (omega (arith, at-head.before, c.requires.at)) at-head.order at-head.within
-    (subst (λ (q : Progress). c.check_body.new.steps ≤ c.args.steps.now + (head.next - head.body) * (length q.file + 1)) c.self.view_is c.check_body.ensures.most) in
-    subst (λ (q : Progress). IsMost q c.args.steps.now c.check_body.new.steps c.refused.result) c.self.view_is
-    (c.refused.ensures.most c.args.steps.now c.check_body.new.steps (subst (λ (q : Progress). c.check_body.new.steps ≤ c.args.steps.now + most_left q) (sym c.self.view_is) few))
+    let few = most-here (length p.file) p.at head.body head.next c.args.steps.now c.check_body-checked.new.steps (omega (arith, at-head.before, c.requires.at)) at-head.order at-head.within
+    (subst (λ (q : Progress). c.check_body-checked.new.steps ≤ c.args.steps.now + (head.next - head.body) * (length q.file + 1)) c.self.view_is c.check_body-checked.ensures.most) in
+    subst (λ (q : Progress). IsMost q c.args.steps.now c.check_body-checked.new.steps c.refused.result) c.self.view_is
+    (c.refused.ensures.most c.args.steps.now c.check_body-checked.new.steps (subst (λ (q : Progress). c.check_body-checked.new.steps ≤ c.args.steps.now + most_left q) (sym c.self.view_is) few))
 
 pub returns-clause-most : goal.returns-clause-most
 returns-clause-most g c =
     let p : Progress = c.args.self in
     let head = c.args.head in
     let at-head = head-at p.file head.at (statement_byte head.code) head.body head.next c.requires.head in
-    most-here (length p.file) p.at head.body head.next c.args.steps.now c.check_body.new.steps (omega (arith, at-head.before, c.requires.at)) at-head.order at-head.within
-    (subst (λ (q : Progress). c.check_body.new.steps ≤ c.args.steps.now + (head.next - head.body) * (length q.file + 1)) c.self.view_is c.check_body.ensures.most)
+    most-here (length p.file) p.at head.body head.next c.args.steps.now c.check_body-checked.new.steps (omega (arith, at-head.before, c.requires.at)) at-head.order at-head.within
+    (subst (λ (q : Progress). c.check_body-checked.new.steps ≤ c.args.steps.now + (head.next - head.body) * (length q.file + 1)) c.self.view_is c.check_body-checked.ensures.most)
 
 pub rests_on_gap-gap-requires-clause-head : goal.rests_on_gap-gap-requires-clause-head
 rests_on_gap-gap-requires-clause-head g c = subst (λ (q : Progress). IsHead q.file c.args.head) (sym c.self.view_is) c.requires.head

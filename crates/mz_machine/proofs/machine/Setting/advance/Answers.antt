@@ -10,13 +10,13 @@ proceed-requires-clause-told g c = c.requires.running.0.mode ∙ ap mode_for (ki
 
 pub returns-clause-running : goal.returns-clause-running
 returns-clause-running g c =
-    let after : Parts = record { store = c.proceed.new.store; heap = c.proceed.new.heap; stack = c.proceed.new.stack; equations = c.proceed.new.equations; hyps = c.proceed.new.hyps; sorry = c.has_gap-parts.result; spare = c.proceed.new.spare } in
+    let after : Parts = record { store = c.proceed.new.store; heap = c.proceed.new.heap; stack = c.proceed.new.stack; equations = c.proceed.new.equations; hyps = c.proceed.new.hyps; sorry = c.note_gap.new.sorry; spare = c.proceed.new.spare } in
     keeps c.args.self.now c.args.parts.now after c.args.cmd c.proceed.result c.requires.running c.proceed.ensures.done
 
 pub returns-clause-row : goal.returns-clause-row
 returns-clause-row g c at =
-    let after : Parts = record { store = c.proceed.new.store; heap = c.proceed.new.heap; stack = c.proceed.new.stack; equations = c.proceed.new.equations; hyps = c.proceed.new.hyps; sorry = c.has_gap-parts.result; spare = c.proceed.new.spare } in
-    stepped c.args.self.now c.args.parts.now after c.args.cmd at c.proceed.result c.proceed.ensures.done c.has_gap-parts.ensures
+    let after : Parts = record { store = c.proceed.new.store; heap = c.proceed.new.heap; stack = c.proceed.new.stack; equations = c.proceed.new.equations; hyps = c.proceed.new.hyps; sorry = c.note_gap.new.sorry; spare = c.proceed.new.spare } in
+    stepped c.args.self.now c.args.parts.now after c.args.cmd at c.proceed.result c.proceed.ensures.done c.note_gap.ensures
 
 pub returns-clause-steps : goal.returns-clause-steps
 returns-clause-steps g c = counted c.args.self.now c.args.parts.now c.args.parts.now c.args.cmd c.proceed.result c.args.steps.now c.proceed.new.steps c.proceed.ensures.steps.0

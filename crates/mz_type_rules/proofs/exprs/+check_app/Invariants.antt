@@ -1,18 +1,15 @@
 use Rattle.std.proofs.Common.{◌+◌, ◌*◌}
 use Rattle.mz_base_theory.proofs.Offered.{Decides}
 use Rattle.mz_logic_theory.specs.Declaration.{signatures}
-use Rattle.mz_logic_theory.specs.Tree.{past, size, trees_size}
+use Rattle.mz_logic_theory.specs.Tree.{past, trees_size}
 use Rattle.mz_mmu_theory.specs.Rules.{exprs_rules}
-use Rattle.mz_type_rules.proofs.exprs.+check_lent_expr.Given as goal
-
-abbrev pub decreases-check_lent_expr : goal.decreases-check_lent_expr
-decreases-check_lent_expr l = 3 * size l.expr.now
+use Rattle.mz_type_rules.proofs.exprs.+check_app.Given as goal
 
 abbrev pub decreases-check_app : goal.decreases-check_app
-decreases-check_app l = 3 * trees_size l.es.now + 2
+decreases-check_app l = 2 * trees_size l.es.now + 1
 
 abbrev pub decreases-check_lent_exprs : goal.decreases-check_lent_exprs
-decreases-check_lent_exprs l = 3 * trees_size l.es.now + 1
+decreases-check_lent_exprs l = 2 * trees_size l.es.now
 
 abbrev pub invariant-check_lent_exprs-loop-i : goal.invariant-check_lent_exprs-loop-i
 invariant-check_lent_exprs-loop-i l = Decides (exprs_rules (signatures l.env) l.ctx (past l.i l.es) l.left) (exprs_rules (signatures l.env) l.ctx l.es l.nodes)
