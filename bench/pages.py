@@ -1,4 +1,4 @@
-"""The tables of docs/PERFORMANCE.md, each between its comments."""
+"""The tables of docs/PERFORMANCE.md, each between its comments: the rows that a reader of the page wants, of all that are measured."""
 import os
 
 PAGE = os.path.join(os.path.dirname(os.path.dirname(os.path.abspath(__file__))), "docs", "PERFORMANCE.md")
@@ -21,21 +21,22 @@ def cells(line):
 
 
 def joined(old, new, keys):
-    """The new table, and in it the rows of the old one that weren't measured this time; a row is known by its first cells."""
-    key = lambda line: cells(line)[:keys]
-    if not old or old[:2] != new[:2]:
-        return new
-    measured = {tuple(key(line)): line for line in new[2:]}
-    kept = [measured.pop(tuple(key(line)), line) for line in old[2:]]
-    return new[:2] + kept + list(measured.values())
+    """The page's table with what was measured of its rows. A row is known by its first cells; others aren't put in."""
+    key = lambda line: tuple(cells(line)[:keys])
+    measured = {key(line): line for line in new[2:]}
+    is_of_columns = old[:2] == new[:2]
+    rows = [measured.get(key(line), line if is_of_columns else None) for line in old[2:]]
+    return new[:2] + [it for it in rows if it]
 
 
-def put(name, table, keys=1, is_whole=False, path=PAGE):
-    """Prints a table, and writes it in place of the page's; where it isn't whole, its rows alone."""
+def put(name, table, keys=1, path=PAGE):
+    """Prints a table whole, and puts what was measured in the place of the page's rows, where the page has this table."""
     table = list(table)
     print("\n".join(table), flush=True)
     with open(path) as file:
-        before, old, behind = parted(file.read(), name)
-    lines = table if is_whole else joined(old, table, keys)
+        page = file.read()
+    if marks(name)[0] not in page:
+        return
+    before, old, behind = parted(page, name)
     with open(path, "w") as file:
-        file.write(before + "".join(line + "\n" for line in lines) + behind)
+        file.write(before + "".join(line + "\n" for line in joined(old, table, keys)) + behind)

@@ -73,6 +73,29 @@ function completion(it) {
   const made = new vscode.CompletionItem(it.label, it.kind - 1);
   made.detail = it.detail;
   made.documentation = it.documentation;
+  made.sortText = it.sortText;
+  made.asked = it; // what the server is asked for more with
+  return made;
+}
+
+function lens(it) {
+  const made = new vscode.CodeLens(range(it.range));
+  made.asked = it;
+  return made;
+}
+
+function action(it) {
+  const made = new vscode.CodeAction(it.title, vscode.CodeActionKind.QuickFix);
+  made.asked = it;
+  return made;
+}
+
+/** The edits of an answer, as the editor has them. */
+function edits({ changes }) {
+  const made = new vscode.WorkspaceEdit();
+  for (const [uri, list] of Object.entries(changes)) {
+    for (const it of list) made.replace(vscode.Uri.parse(uri), range(it.range), it.newText);
+  }
   return made;
 }
 
@@ -98,9 +121,62 @@ function register(server) {
     vscode.languages.registerDocumentSymbolProvider(languages, {
       provideDocumentSymbols: document => ask("textDocument/documentSymbol", named(document)).then(all(symbol)) }),
     vscode.languages.registerCompletionItemProvider(languages, {
-      provideCompletionItems: (document, at) => ask("textDocument/completion", placed(document, at)).then(all(completion)) },
-      "(", ":", "$"),
+      provideCompletionItems: (document, at) => ask("textDocument/completion", placed(document, at)).then(all(completion)),
+      resolveCompletionItem: async item => {
+        if (!item.detail && item.asked.data) item.detail = (await ask("completionItem/resolve", item.asked)).detail;
+        return item;
+      } },
+      "(", ":", "$", ","),
+    vscode.languages.registerCodeLensProvider("proofs", {
+      provideCodeLenses: document => ask("textDocument/codeLens", named(document)).then(all(lens)),
+      resolveCodeLens: async it => {
+        it.command = (await ask("codeLens/resolve", it.asked)).command;
+        return it;
+      } }),
+    vscode.languages.registerCodeActionsProvider("proofs", {
+      provideCodeActions: (document, at) => ask("textDocument/codeAction",
+        { ...named(document), range: at, context: { diagnostics: [] } }).then(all(action)),
+      resolveCodeAction: async it => {
+        const { edit } = await ask("codeAction/resolve", it.asked);
+        if (edit) it.edit = edits(edit);
+        return it;
+      } }),
   ];
+}
+
+/** The panel beside the text: what is to be proved where the cursor is, and what the step there does. */
+class Goals {
+  constructor(server) {
+    this.server = server;
+    this.asked = 0;
+  }
+
+  open() {
+    if (this.panel) {
+      this.panel.reveal(undefined, true);
+    } else {
+      const column = { viewColumn: vscode.ViewColumn.Beside, preserveFocus: true };
+      this.panel = vscode.window.createWebviewPanel("mz.goal", "Goal", column, {});
+      this.panel.onDidDispose(() => (this.panel = undefined));
+    }
+    return this.show(vscode.window.activeTextEditor);
+  }
+
+  async show(editor) {
+    if (!this.panel || !editor || editor.document.languageId !== "proofs") return;
+    const number = ++this.asked;
+    const found = await this.server.ask("mz/goal", placed(editor.document, editor.selection.active));
+    if (number !== this.asked || !this.panel) return;
+    const text = found ? found.text : "There is no proof here.";
+    this.panel.webview.html = `<pre>${text.replace(/[&<>]/g, it => `&#${it.charCodeAt(0)};`)}</pre>`;
+  }
+
+  register() {
+    return [
+      vscode.commands.registerCommand("mz.goal", () => this.open()),
+      vscode.window.onDidChangeTextEditorSelection(({ textEditor }) => this.show(textEditor)),
+    ];
+  }
 }
 
 /** Notifies the server of documents that are opened, changed, saved and closed. */
@@ -136,7 +212,7 @@ async function activate(context) {
   });
   await server.ask("initialize", { processId: null, rootUri: null, capabilities: {} });
   server.tell("initialized", {});
-  context.subscriptions.push(found, ...register(server), ...follow(server));
+  context.subscriptions.push(found, ...register(server), ...follow(server), ...new Goals(server).register());
 }
 
 async function deactivate() {

@@ -1,42 +1,26 @@
-"""What is left of a build, by what the proof of each crate once cost.
-
-    scripts/build/costs.py            compares costs.txt with the table of docs/GATE.md
-    scripts/build/costs.py --write    makes costs.txt of that table
-"""
+"""What is left of a build, by what the proof of each crate once cost: costs.txt, which `scripts/costs --record` makes."""
 import heapq
 import os
-import re
-import sys
 
-HERE = os.path.dirname(os.path.abspath(__file__))
-COSTS = os.path.join(HERE, "costs.txt")
-PAGE = os.path.join(os.path.dirname(os.path.dirname(HERE)), "docs", "GATE.md")
-ROW = re.compile(r"\| `(\w+)` \| *(\d*) *\| *(\d*) *\| *(\d*) *\|$")
-HEAD = "# Of each crate the processor seconds of its proof, of its proof with tests, and of its edits: docs/GATE.md's table,\n# by scripts/build/costs.py --write.\n"
-SECONDS_A_LINE = 0.06  # of a crate that the table doesn't have, beside some seconds to begin
+COSTS = os.path.join(os.path.dirname(os.path.abspath(__file__)), "costs.txt")
+HEAD = "# Of each crate the processor seconds of its proof, read off a gate's run by scripts/costs --watch and kept by scripts/costs --record.\n"
+SECONDS_A_LINE = 0.06  # of a crate that isn't recorded, beside some seconds to begin
 
 
-def of_page():
-    """The rows of the page's table; what stands there twice is added up."""
-    found = {}
-    with open(PAGE, encoding="utf-8") as file:
-        for row in filter(None, map(ROW.match, file)):
-            old = found.get(row[1], (0, 0, 0))
-            found[row[1]] = tuple(a + int(b or 0) for a, b in zip(old, row.groups()[1:]))
-    return found
-
-
-def written():
-    return HEAD + "".join(f"{name} {' '.join(map(str, found))}\n" for name, found in sorted(of_page().items()))
-
-
-def recorded():
+def recorded(path=COSTS):
     """The seconds of each crate's proof."""
-    if not os.path.exists(COSTS):
+    if not os.path.exists(path):
         return {}
-    with open(COSTS, encoding="utf-8") as file:
+    with open(path, encoding="utf-8") as file:
         rows = [it.split() for it in file if not it.startswith("#")]
-    return {it[0]: int(it[1]) for it in rows if len(it) == 4}
+    return {it[0]: int(it[1]) for it in rows if len(it) == 2}
+
+
+def keep(seconds, crates, path=COSTS):
+    """Records the seconds of these proofs, beside those of the other crates that there are."""
+    whole = {**recorded(path), **{crate: round(it) for crate, it in seconds.items()}}
+    with open(path, "w", encoding="utf-8") as file:
+        file.write(HEAD + "".join(f"{crate} {whole[crate]}\n" for crate in sorted(crates) if crate in whole))
 
 
 class Plan:
@@ -109,20 +93,3 @@ def costs_of(names, lines):
     """The costs of these crates; `lines` says how long one is that isn't recorded."""
     known = recorded()
     return {it: float(known[it]) if it in known else 5 + SECONDS_A_LINE * lines(it) for it in names}
-
-
-def main():
-    if sys.argv[1:] == ["--write"]:
-        with open(COSTS, "w", encoding="utf-8") as file:
-            file.write(written())
-        return 0
-    if sys.argv[1:]:
-        sys.exit(__doc__.strip())
-    with open(COSTS, encoding="utf-8") as file:
-        same = file.read() == written()
-    print("scripts/build/costs.txt is the table of docs/GATE.md" if same else "scripts/build/costs.txt isn't the table of docs/GATE.md: scripts/build/costs.py --write")
-    return 0 if same else 1
-
-
-if __name__ == "__main__":
-    sys.exit(main())

@@ -1,7 +1,9 @@
 """Proves the crates of a program, builds it, and puts it into its place.
 
-A program stands in PLACE/program/CRATE-SUM/, where SUM is the checksum of its sources and PLACE is the folder out/ of the
-checkout or, where that can't be written, ${XDG_CACHE_HOME:-~/.cache}/mz. Beside it stands BUILT, which says what it is.
+A program stands in PLACE/program/CRATE-SUM/, where SUM is the checksum of its sources and the kit, and PLACE is the folder
+out/ of the checkout or, where that can't be used, ${XDG_CACHE_HOME:-~/.cache}/mz. Beside it stands BUILT, which says what it
+is. The same text is kept in the record, ${XDG_STATE_HOME:-~/.local/state}/mz/built/CRATE-SUM, by which scripts/build/found
+knows the program again.
 """
 import contextlib
 import fcntl
@@ -20,7 +22,10 @@ from build.progress import Progress, about, clock, say
 
 FAILED, INTERRUPTED, ENDED = 125, 130, 143
 WHOLE = "mz_main"
+COSTS = "2.5 GB of memory for each of these side by side, and 5.5 GB of disk"
 MEMORY_A_PROOF = 2_500_000_000
+WITHOUT = "docs/INSTALL.md says what can be done without it"
+FOUND = os.path.join(os.path.dirname(os.path.abspath(__file__)), "found")
 
 
 class Stopped(Exception):
@@ -31,15 +36,32 @@ def stop(number, _):
     raise Stopped(INTERRUPTED if number == signal.SIGINT else ENDED)
 
 
+def of_user(variable, otherwise):
+    """A folder of the user's, as the variable names it."""
+    return os.environ.get(variable) or f"{os.environ.get('HOME', '')}/{otherwise}"
+
+
+def own_folder(path, mode):
+    """Whether the folder, made where it isn't there, is the user's own, and can be written by the user alone."""
+    with contextlib.suppress(OSError):
+        os.makedirs(path, exist_ok=True)
+        if os.stat(path).st_uid == os.geteuid():
+            os.chmod(path, mode)
+            with tempfile.TemporaryFile(dir=path):
+                return True
+    return False
+
+
 def place_of(root):
-    """Where programs are kept, which can be written; or None."""
-    cache = os.environ.get("XDG_CACHE_HOME") or os.path.join(os.path.expanduser("~"), ".cache")
-    for place in (os.path.join(root, "out", "program"), os.path.join(cache, "mz", "program")):
-        with contextlib.suppress(OSError):
-            os.makedirs(place, exist_ok=True)
-            with tempfile.TemporaryFile(dir=place):
-                return place
-    return None
+    """Where programs are kept; or None."""
+    places = (os.path.join(root, "out", "program"), os.path.join(of_user("XDG_CACHE_HOME", ".cache"), "mz", "program"))
+    return next((it for it in places if own_folder(it, 0o755)), None)
+
+
+def record_of():
+    """Where it is recorded what was built; or None."""
+    record = os.path.join(of_user("XDG_STATE_HOME", ".local/state"), "mz", "built")
+    return record if own_folder(record, 0o700) else None
 
 
 @contextlib.contextmanager
@@ -120,27 +142,42 @@ def prove(room, progress):
         end(ran)
 
 
-def install(place, crate, checksum, made):
-    """Puts the program into its place at once, and removes older ones of this crate."""
+def written(path, text):
+    """Writes a file, the whole of it at once."""
+    with open(f"{path}.new", "w", encoding="utf-8") as file:
+        file.write(text)
+    os.replace(f"{path}.new", path)
+
+
+def install(place, record, name, made):
+    """Puts the program into its place at once, records it, and removes older ones of this crate."""
+    crate, _, checksum = name.rpartition("-")
     with open(made, "rb") as file:
         own = hashlib.sha256(file.read()).hexdigest()
-    name = f"{crate}-{checksum}"
+    built = f"program  {crate}\nsha256   {own}\nsources  {checksum}\nkit      {first_line('rt', 'version') or 'unknown'}\n"
     with tempfile.TemporaryDirectory(prefix="new-", dir=place) as room:
         new = os.path.join(room, name)
         os.mkdir(new)
         shutil.copyfile(made, os.path.join(new, crate))
         os.chmod(os.path.join(new, crate), 0o755)
-        with open(os.path.join(new, "BUILT"), "w", encoding="utf-8") as file:
-            file.write(f"program  {crate}\nsha256   {own}\nsources  {checksum}\nkit      {first_line('rt', 'version') or 'unknown'}\n")
+        os.chmod(new, 0o755)
+        written(os.path.join(new, "BUILT"), built)
         shutil.rmtree(os.path.join(place, name), ignore_errors=True)
         os.rename(new, os.path.join(place, name))
+    written(os.path.join(record, name), built)
     for old in os.listdir(place):
         if old.startswith((f"{crate}-", "new-")) and old != name:
             shutil.rmtree(os.path.join(place, old), ignore_errors=True)
     return os.path.join(place, name, crate)
 
 
-def build(root, place, crate):
+def found(root, crate):
+    """The path of the program, where it was built already; or an empty text."""
+    ran = subprocess.run(["sh", FOUND, root, crate], stdout=subprocess.PIPE, stderr=subprocess.DEVNULL, text=True, check=False)
+    return ran.stdout.strip()
+
+
+def build(root, place, record, crate):
     """Proves the crates and builds the program. Returns its path, or None where it could not be built."""
     sweep()
     rows = crates.rows_of(root, crate)
@@ -154,15 +191,17 @@ def build(root, place, crate):
         estimate = costs.Estimate(crates.below_of(rows), wanted, lanes)
         what = "the program" if crate == WHOLE else "the verifier, and not yet the whole program,"
         say(f"{what} is proved and built from these sources: {len(names)} crates, up to {lanes} side by side. "
-            f"From nothing that takes {about(estimate.left(0))} by what was recorded, and is done once. rt first reads all sources")
+            f"From nothing that takes {about(estimate.left(0))} by what was recorded, and is done once")
+        say(f"it takes some {COSTS}. ./mz try verify SPEC BIN gives an unproved answer in about a minute. rt first reads all sources")
         progress = Progress(names, lambda it: crates.subject(room, it), estimate)
         status, last = prove(room, progress)
         made = os.path.join(room, "crates", crate, "out", crate)
         if status or not os.access(made, os.X_OK):
             sys.stderr.writelines(last)
-            say(f"{crate} could not be proved and built, after {clock(progress.seconds())}")
+            how = f"rt ci was ended by signal {-status}" if status < 0 else f"rt ci ended with {status}"
+            say(f"{crate} could not be proved and built, after {clock(progress.seconds())}: {how}")
             return None
-        program = install(place, crate, checksum, made)
+        program = install(place, record, f"{crate}-{checksum}", made)
         say(f"built in {clock(progress.seconds())}; what was proved is kept for later runs of rt ci")
         return program
 
@@ -171,22 +210,20 @@ def main(root, crate):
     for number in (signal.SIGINT, signal.SIGTERM, signal.SIGHUP):
         signal.signal(number, stop)
     if not shutil.which("rt"):
-        say("the program isn't built, and there is no rt, the command of the Rattle kit, to build it")
+        say(f"the program isn't built, and there is no rt, the command of the Rattle kit, to build it: {WITHOUT}")
         return FAILED
-    checksum = crates.checksum(root, crate)
-    if not checksum:
+    if not crates.rows_of(root, crate):
         say(f"crates.txt has no crate {crate}")
         return FAILED
-    place = place_of(root)
-    if not place:
-        say("neither the folder out/ of the checkout nor the one for caches can be written")
+    place, record = place_of(root), record_of()
+    if not place or not record:
+        say("there is no folder of one's own for the program" if not place else "there is no folder of one's own for the record of what is built")
+        say("the program stands in out/ of the checkout or in XDG_CACHE_HOME, the record in XDG_STATE_HOME: folders of other users aren't used")
         return FAILED
     try:
         with alone(place):
-            program = os.path.join(place, f"{crate}-{crates.checksum(root, crate)}", crate)
             # (whoever held the place may have built it)
-            if not os.access(program, os.X_OK):
-                program = build(root, place, crate)
+            program = found(root, crate) or build(root, place, record, crate)
     except Stopped as stopped:
         say("interrupted; what was proved so far is kept, and the next run goes on from there")
         return stopped.args[0]

@@ -1,5 +1,4 @@
 """What is said of a refused binary, beside its rule: the statement, its command, and the stack with names."""
-import os
 
 from . import specs
 from .binaries import ASSERTIONS, COMMANDS, SORTS, STATEMENTS, TERMS, Binary, Names, command, named
@@ -62,7 +61,7 @@ class Explaining:
         if it is None:
             return [f"the list has {many(len(self.listing), 'statement')} before it"]
         made = self.declaration()
-        where = f", which line {self.source.line(made.at)} of {os.path.basename(self.source.path)} declares" if made and made.name == self.name() else ""
+        where = f", declared at {self.source.named(made.at)}" if made and made.name == self.name() else ""
         return [f"statement {it.number} is the {KINDS[it.code]} {self.name()} of row {it.row}{where}; it begins at byte {it.at}"]
 
     def declaration(self):

@@ -77,7 +77,7 @@ def unspecified(source, refusal):
     """Why a text has no specification."""
     start = start_of_number(source.data, refusal.statement)
     node, _ = read_one(source.data, start)
-    said = [f"{source.path}, line {source.line(start)}: {source.first_line(start)}"]
+    said = [f"{source.named(start)}: {source.first_line(start)}"]
     if refusal.code == "depth":
         return [*said, "a formula of a specification has at most 4,096 tokens, and its expression is at most 4,096 high"]
     terms = Theory(source.data, start).terms

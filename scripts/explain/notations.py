@@ -24,7 +24,7 @@ def level_of(text):
 
 class Notations:
     def __init__(self):
-        self.left, self.right = set("("), set(")")
+        self.left, self.right = set(), set()
         self.leading, self.infix, self.by_term = {}, {}, {}
         self.coercions, self.forms, self.delimiters = [], [], []
 

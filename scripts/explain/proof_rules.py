@@ -2,39 +2,23 @@
 import difflib
 import re
 
+from . import characters
 from .notations import Writer
 from .source import many, specification_of
 from .specs import Spec
-from .texts import Atom, Statement, Theory, exact_start, is_comment, read_one, start_of, tree, written
+from .texts import TOP, Atom, Statement, Theory, exact_start, given_by, is_comment, read_one, start_of, tree, written
 from .trees import TooLarge, first_difference, instance, is_same, prefix
 
-BYTES = {
-    0: "a zero byte",
-    9: "a tab",
-    13: "a carriage return: the file has line ends of Windows",
-    127: "a delete",
-    0xA0: "perhaps a space that doesn't break",
-    0xEF: "the first of a byte order mark, or of a letter outside ASCII",
-    0xFE: "perhaps of UTF-16",
-    0xFF: "perhaps of UTF-16",
-}
+
+STATEMENTS = ("sort", "term", "axiom", "def", "theorem", "local")
 
 
 def named_byte(data, at):
     """A byte in hexadecimal, with its name where it has one, and the letter that it begins."""
     if at >= len(data):
         return "the text ends there"
-    byte = data[at]
-    name = BYTES.get(byte) or ("a control byte" if byte < 32 else "a byte of a letter outside ASCII" if byte > 127 else "")
-    for size in (2, 3, 4):
-        try:
-            letter = data[at : at + size].decode("utf-8")
-        except UnicodeDecodeError:
-            continue
-        if byte > 127 and len(letter) == 1 and letter.isprintable():
-            name = f"the first byte of the letter {letter} (U+{ord(letter):04X})"
-        break
-    return f"the byte is {byte:02X} in hexadecimal" + (f", {name}" if name else "")
+    name = characters.named(data, at)
+    return f"the byte is {data[at]:02X} in hexadecimal" + (f", {name}" if name else "")
 
 
 class Explaining:
@@ -120,7 +104,19 @@ class Explaining:
 
     # forms and names
 
+    def is_between(self):
+        """Whether the place is between two statements, and not in one."""
+        marks = [it.group() for it in TOP.finditer(self.data, self.start, self.at)]
+        return self.data[self.at : self.at + 1] != b"(" and marks.count(b"(") == marks.count(b")")
+
+    def statement_begins(self, word=""):
+        """How a statement begins, with the nearest of these words."""
+        near = difflib.get_close_matches(word, STATEMENTS, 1)
+        return [f"a statement begins with sort, term, axiom, def, theorem, local def or local theorem{f'; near it: {near[0]}' if near else ''}"]
+
     def rule_U3(self):
+        if self.is_between():
+            return [f"found here: {self.word()}, which stands between two statements", *self.statement_begins()]
         nodes = self.path_to(self.at)
         head = str(self.statement.node[0]) if self.statement.node and isinstance(self.statement.node[0], str) else ""
         shapes = {"sort": "(sort NAME modifier..)", "term": "(term NAME (binder..) (sort (dependency..)))", "axiom": "(axiom NAME (binder..) (hypothesis..) conclusion)",
@@ -129,11 +125,11 @@ class Explaining:
         said = [f"found here: {cut(written(found))}" if found is not None and not isinstance(found, Atom) else f"found here: {self.word()}"]
         if head in shapes:
             said.append(f"a statement that begins with {head} is written {shapes[head]}")
-            if found is self.statement.node or found is None:
+            if len(nodes) < 2:
                 parts = len(self.statement.node)
                 said.append(f"this one has {parts - 1} parts behind the keyword {head}")
-        elif found is self.statement.node or not head:
-            said.append("a statement begins with sort, term, axiom, def, theorem, local def or local theorem")
+        elif len(nodes) < 2 or not head:
+            said += self.statement_begins(head)
         if len(nodes) > 1:
             said.append(self.form_wanted(nodes))
         return said
@@ -353,11 +349,17 @@ class Explaining:
             where = f"line {self.source.line(found.at)}: {self.signature(found)}"
             if kind == "proof":
                 return [f"{name} has {many(len(found.binders), 'variable')} and {many(len(found.hypotheses), 'hypothesis', 'hypotheses')}; "
-                        f"given are {many(len(operands), 'operand')} and {many(len(node) - 2, 'subproof')}", where]
+                        f"given are {many(len(operands), 'operand')} and {many(len(node) - 2, 'subproof')}", *self.left_out(found, operands, node), where]
             if node[0] == ":unfold":
                 return [f"{name} has {many(len(found.binders), 'operand')} and {many(len(found.dummies), 'dummy', 'dummies')}; given are {len(operands)} and {len(node[3])}", where]
             return [f"{name} has {many(len(found.binders), 'operand')}; given are {len(operands)}", where]
         return []
+
+    def left_out(self, cited, operands, node):
+        """The hypotheses that have no subproof, with the operands put in."""
+        given = given_by(cited.binders, operands)
+        return [f"left out is a proof of hypothesis {number}: {self.say(instance(it, given))}"
+                for number, it in enumerate(cited.hypotheses, 1) if number > len(node) - 2 and len(operands) == len(cited.binders)]
 
     def signature(self, found):
         """The statement as the text has it, without its proof or body."""

@@ -39,7 +39,7 @@ class Reading:
     def take(self, wanted):
         token = self.peek()
         if token is None:
-            raise Stopped(self.at, f"the string ends where {wanted} belongs")
+            raise Stopped(self.at, f"the string ends, and {wanted} belongs here")
         self.at += 1
         return token
 
@@ -58,8 +58,9 @@ class Reading:
         begun, token = self.at, self.take("an operand")
         if token == "(":
             e = self.level(0)
-            if self.take("a `)`") != ")":
-                raise Stopped(self.at - 1, f"a `)` belongs here, and not `{self.tokens[self.at - 1]}`")
+            opened = f"for the `(` of token {begun + 1}"
+            if self.take(f"a `)` {opened}") != ")":
+                raise Stopped(self.at - 1, f"a `)` {opened} belongs here, and not `{self.tokens[self.at - 1]}`")
             return e
         if token in self.variables:
             return token, self.variables[token].sort

@@ -38,7 +38,11 @@ class Source:
         before, behind = ".." if first else "", ".." if start + first + SHOWN < end else ""
         text = before + "".join(chr(it) if 32 <= it <= 126 else "?" for it in piece) + behind
         mark = " " * (len(before) + column - first) + "^"
-        return [f"{self.path}, line {self.line(at)}, column {column + 1}{said}:", f"    {text}", f"    {mark}"]
+        return [f"{self.named(at)}{said}:", f"    {text}", f"    {mark}"]
+
+    def named(self, at):
+        """The place as FILE:LINE:COLUMN."""
+        return f"{self.path}:{self.line(at)}:{at - self.bounds(at)[0] + 1}"
 
     def settled(self, at):
         """The place to show: of one behind the end, after blanks, the end of the last line that says something."""

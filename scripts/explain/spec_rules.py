@@ -2,7 +2,7 @@
 import difflib
 import re
 
-from . import grammar, specs
+from . import characters, grammar, specs
 from .notations import MAX
 from .proof_rules import named_byte
 from .reading import Reading, Stopped
@@ -53,13 +53,13 @@ class Explaining:
 
     def rule_S2(self):
         if self.data[self.at : self.at + 1] == b"$":
-            return [f"the math string that begins on line {self.source.line(self.at)} has no second $"]
+            return [f"the math string that begins at {self.source.named(self.at)} has no second $"]
         return [named_byte(self.data, self.at), "a lexeme is a name, a number, a math string in $ $, or one of * . : ; ( ) > { } = _"]
 
     def rule_S3(self):
         before = [it for it in self.found if it.at < self.at]
         wanted = grammar.wanted_behind(before)
-        said = ["found: the text ends here" if self.at >= len(self.data) else f"found: {self.word()}"]
+        said = ["found: the text ends here" if self.at >= len(self.data) else f"found: {self.word()}", *self.running_on(before)]
         if before:
             said.append(f"the statement begins on line {self.source.line(self.start)}, and behind `{shown(before)}` belongs: {', '.join(wanted) or 'nothing more'}")
         else:
@@ -67,6 +67,15 @@ class Explaining:
             near = difflib.get_close_matches(self.word(), [*grammar.STATEMENTS, "input", "output"], 1)
             said += [f"near it: {near[0]}"] if near else []
         return said
+
+    def running_on(self, before):
+        """A math string that runs on into the next statement: its `$` is likely forgotten."""
+        for it in before:
+            found = it.kind == "math" and re.search(rf";\s*\n\s*({'|'.join(grammar.STATEMENTS)})\b", it.text)
+            if found:
+                begin = self.data[it.at : it.at + 1 + found.start() + 1].decode("latin-1")
+                return [f"the math string of {self.source.named(it.at)} runs on into the next statement: a $ is likely missing in `{begin}`"]
+        return []
 
     def rule_S15(self):
         return [f"the precedence is {self.word()}, and 4294967294 is the greatest; above all is max"]
@@ -84,10 +93,7 @@ class Explaining:
         if self.at == name_at and word in space:
             return [f"{word} is a {what} already, of {self.line(space[word].at)}"]
         others = [it for it in self.found if it.text == word and it.kind == "name" and it.at < self.at]
-        return [f"{word} is a variable of this statement already, at line {self.source.line(others[0].at)}, column {self.column(others[0].at)}"] if others else []
-
-    def column(self, at):
-        return at - self.source.bounds(at)[0] + 1
+        return [f"{word} is a variable of this statement already, at {self.source.named(others[0].at)}"] if others else []
 
     def rule_S5(self):
         word = self.word()
@@ -177,9 +183,9 @@ class Explaining:
         text, start = self.math()
         token = next((it for it, at in self.spec.notations.placed_tokens(text) if start + at == self.at), self.word())
         said = [f"the token is `{token}`"]
-        parts = self.parted(token)
+        parts = characters.parted(token, {*self.known(), *self.spec.terms.all()}, bool(self.spec.notations.delimiters))
         if parts:
-            return [f"the token is `{token}`; a delimiter or spaces are missing: `{' '.join(parts)}`", *self.delimiters()]
+            return [*said, *parts, *self.delimiters()]
         later = [it for it in specs.Spec(self.data).notations.forms if it.at > self.start and token in constants(it)]
         if later:
             return [*said, f"a notation with it is declared only later, on line {self.source.line(later[0].at)}"]
@@ -192,23 +198,10 @@ class Explaining:
 
     def known(self):
         notations = self.spec.notations
-        return {*self.variables(), *notations.leading, *notations.infix, *(it for form in notations.forms for it in constants(form)), "(", ")"}
-
-    def parted(self, token):
-        """The token as known tokens one behind the other, if it is some."""
-        known = self.known()
-        ways = {len(token): []}
-        for at in range(len(token) - 1, -1, -1):
-            ends = [end for end in range(len(token), at, -1) if end in ways and (token[at:end] in known or token[at:end] in self.spec.terms)]
-            if ends:
-                ways[at] = [token[at : ends[0]], *ways[ends[0]]]
-        return ways[0] if len(ways.get(0, [])) > 1 else None
+        return {*self.variables(), *notations.leading, *notations.infix, *(it for form in notations.forms for it in constants(form)), *self.spec.notations.left, *self.spec.notations.right}
 
     def delimiters(self):
-        found = self.spec.notations.delimiters
-        if not found:
-            return ["no delimiter is declared: only spaces and ( ) part tokens"]
-        return [f"delimiters are those of {self.line(it)}" for it in found[:3]]
+        return [f"delimiters are those of {self.line(it)}" for it in self.spec.notations.delimiters[:3]]
 
     def rule_S17(self):
         tokens = self.reading().tokens
@@ -221,7 +214,9 @@ class Explaining:
         try:
             reading.whole()
         except Stopped as stopped:
-            return [f"token {stopped.at + 1} of {len(reading.tokens)}: {stopped.why}", self.marked(reading.tokens, stopped.at), *self.infix_here()]
+            count = len(reading.tokens)
+            where = f"token {stopped.at + 1} of {count}" if stopped.at < count else f"behind the last of {many(count, 'token')}"
+            return [f"{where}: {stopped.why}", self.marked(reading.tokens, stopped.at), *self.infix_here()]
         return []
 
     def marked(self, tokens, at):

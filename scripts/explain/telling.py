@@ -2,7 +2,7 @@
 import sys
 import threading
 
-from . import rules, words
+from . import kinds, rules, words
 from .lines import Refusal
 from .source import Source
 
@@ -27,18 +27,27 @@ def with_room(call, *given):
         thread = threading.Thread(target=run, daemon=True)
         thread.start()
         thread.join(SECONDS)
+    except RuntimeError:  # there is no memory for its stack
+        sys.setrecursionlimit(limit)
+        run()
     finally:
         sys.setrecursionlimit(limit)
         threading.stack_size(size)
     return given_back[0] if given_back else None
 
 
-def path_of(refusal, given):
-    """The file that a refusal speaks of, by the program's arguments."""
+def number_of(refusal, given):
+    """Which of the program's arguments is the file that a refusal speaks of; nothing where it speaks of several."""
     number = {"specification": 1, "text": 1, "listing": 1, "limit": 1}.get(refusal.of)
     if refusal.of == "binary":
         number = 1 if given[0] == "show" else 2
-    return given[number] if number is not None and number < len(given) else None
+    return number if number is not None and number < len(given) else None
+
+
+def path_of(refusal, given):
+    """The file that a refusal speaks of, by the program's arguments."""
+    number = number_of(refusal, given)
+    return None if number is None else given[number]
 
 
 def place(refusal, given):
@@ -69,6 +78,9 @@ def refusal(line, given):
     found = Refusal.of_line(line)
     if found is None or not given:
         return ""
+    other = with_room(kinds.told, given, number_of(found, given))
+    if other:
+        return "\n".join(other)
     said = with_room(rules.sentences) or {}
     head = f"{found.code} {found.words}. {said.get(found.code, '')}".rstrip() if found.code != found.words else found.words.capitalize() + "."
     more = with_room(details, found, given) or []

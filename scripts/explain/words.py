@@ -44,6 +44,12 @@ def inputs_and_outputs(words):
     return [path for word, path in pairs if word not in ("OUT", "N")], [path for word, path in pairs if word == "OUT"]
 
 
+def not_there(words):
+    """Why the files that the words name for reading can't be read. One that can be read only once is left alone."""
+    read, _ = inputs_and_outputs(words)
+    return [it for path in read if os.path.isfile(path) or os.path.isdir(path) or not os.path.exists(path) for it in [why_not_read(path)] if it]
+
+
 def why_not_read(path):
     try:
         with open(path, "rb") as file:

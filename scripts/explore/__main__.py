@@ -9,21 +9,22 @@ Each formula is read back by the specification's rules before its page is writte
 """
 import os
 import sys
-import threading
 
 sys.dont_write_bytecode = True
 sys.path.insert(0, os.path.dirname(os.path.dirname(os.path.abspath(__file__))))
 
+import running  # noqa: E402
 from explore.check import dead_links  # noqa: E402
 from explore.development import judged  # noqa: E402
 from explore.lexemes import Unreadable  # noqa: E402
 from explore.program import Refused  # noqa: E402
 from explore.site import Site  # noqa: E402
 
-DEEPEST = 50_000  # calls in each other: an expression is at most 4,096 high
-
 
 def check(folder):
+    if not os.path.isdir(folder):
+        print(f"{folder} is no folder", file=sys.stderr)
+        return 3
     count, dead = dead_links(folder)
     for page, address in dead:
         print(f"{page}: {address} leads nowhere")
@@ -34,7 +35,7 @@ def check(folder):
 def write(specification, other, folder):
     counts = Site(judged(specification, other), folder).write()
     print(f"{counts.pages} pages: {counts.theorems} theorems in {counts.steps} steps; {counts.formulas} formulas, "
-          "each read back")
+          "each read back" + (f"; {counts.kept} pages stay as they were" if counts.kept else ""))
     return 0
 
 
@@ -49,23 +50,10 @@ def main(words):
     except Refused as refused:
         print(refused)
         return refused.status
-    except OSError as fault:
-        print(fault, file=sys.stderr)
-        return 3
     except (AssertionError, Unreadable) as wrong:
         print(f"this can't be shown: {wrong}", file=sys.stderr)
         return 1
 
 
-def run():
-    statuses.append(main(sys.argv[1:]))
-
-
 if __name__ == "__main__":
-    statuses = []
-    sys.setrecursionlimit(DEEPEST)
-    threading.stack_size(512 * 1024 * 1024)
-    runner = threading.Thread(target=run)
-    runner.start()
-    runner.join()
-    sys.exit(statuses[0] if statuses else 1)
+    running.whole(lambda: running.deep(lambda: main(sys.argv[1:])))

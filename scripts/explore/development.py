@@ -15,6 +15,7 @@ class Development:
     verdict: str
     gaps: frozenset = frozenset()
     axioms: dict = field(default_factory=dict)  # theorem: the names of the axioms on which it rests
+    symbols: dict = field(default_factory=dict)  # token: how pages show it
 
 
 def _read(path):
@@ -27,8 +28,23 @@ def is_binary(path):
         return file.read(4) == b"MM0B"
 
 
+def _symbols(specification):
+    """The file of symbols that lies beside a specification: each line is a token and how pages show it."""
+    path = os.path.splitext(specification)[0] + ".symbols"
+    if not os.path.isfile(path):
+        return {}
+    with open(path, encoding="utf-8") as file:
+        return {token: shown.strip() for token, _, shown in (line.partition(" ") for line in file) if shown.strip()}
+
+
 def judged(specification, other):
     """Has the program judge a specification with a binary or a proof text."""
+    made = _judged(specification, other)
+    made.symbols = _symbols(specification)
+    return made
+
+
+def _judged(specification, other):
     title = os.path.splitext(os.path.basename(specification))[0]
     with tempfile.TemporaryDirectory(prefix="mz-explore-") as room:
         if is_binary(other):

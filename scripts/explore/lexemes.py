@@ -38,7 +38,8 @@ def lexemes(text):
 
 
 def comment_above(text, at):
-    """The comment whose lines end right above this place, as one line of words."""
+    """The comment whose lines end right above this place, as one line of words: where some of them begin with `--|`, as the
+    field writes what documents a statement, these and those behind them."""
     lines = []
     start = text.rfind("\n", 0, at) + 1
     while start > 0:
@@ -46,27 +47,22 @@ def comment_above(text, at):
         line = text[above : start - 1]
         if not line.startswith("--"):
             break
-        lines.append(line.lstrip("-").strip())
+        lines.insert(0, line)
         start = above
-    return " ".join(reversed(lines))
+    first = next((i for i, it in enumerate(lines) if it.startswith("--|")), 0)
+    return " ".join(it.lstrip("-").removeprefix("|").strip() for it in lines[first:])
 
 
 class Lexer:
     """Lexemes one by one, with a look at the next."""
 
     def __init__(self, text):
-        self._all = list(lexemes(text))
-        self._end = Lexeme("end", "", len(text))
-        self._place = 0
+        self._rest, self._end = lexemes(text), Lexeme("end", "", len(text))
+        self.last, self.next = None, next(self._rest, self._end)  # the lexeme that was taken last, and the one behind it
 
-    @property
-    def next(self):
-        return self._all[self._place] if self._place < len(self._all) else self._end
-
-    @property
-    def last(self):
-        """The lexeme that was taken last."""
-        return self._all[self._place - 1]
+    def _step(self):
+        self.last, self.next = self.next, next(self._rest, self._end)
+        return self.last
 
     def is_next(self, text):
         return self.next.text == text and self.next.kind in ("name", "symbol")
@@ -76,14 +72,13 @@ class Lexer:
         lexeme = self.next
         if lexeme.kind != kind:
             raise Unreadable(lexeme.at, f"a {kind} belongs here, and not {lexeme.text!r}")
-        self._place += 1
-        return lexeme
+        return self._step()
 
     def skip(self, text):
         """Takes the next lexeme if it is this."""
         if not self.is_next(text):
             return False
-        self._place += 1
+        self._step()
         return True
 
     def want(self, text):
@@ -93,4 +88,4 @@ class Lexer:
     def leave_statement(self):
         """Goes behind the next `;`."""
         while self.next.kind != "end" and not self.skip(";"):
-            self._place += 1
+            self._step()

@@ -15,6 +15,10 @@ class Names:
                 counts[variable.sort, variable.bound][variable.name] += 1
         self._usual = {key: [name for name, _ in found.most_common()] for key, found in counts.items()}
 
+    def usual(self):
+        """The names that are usual for each sort, in order."""
+        return sorted(self._usual.items())
+
     def term(self, name, is_local):
         """The name by which a term is written: its own, or where that would be read as something else, a longer one."""
         written = name

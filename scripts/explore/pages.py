@@ -49,12 +49,12 @@ def said(hypotheses, conclusion):
 
 def steps(rows):
     """The table of a proof: of each step what it uses, by what it goes, and what it says."""
-    made = ["<h2>Proof</h2><div class=scroll><table class=wide><tr><th>Step<th>Uses<th>By<th>Says\n"]
+    made = ["<h2>Proof</h2><div class=scroll><table id=steps class=wide><tr><th>Step<th>Uses<th>By<th>Says\n"]
     for number, (uses, by, formula, is_gap) in enumerate(rows, 1):
         used = ", ".join([f"<a href=#s{it}>{it}</a>" for it in uses])
         mark = " class=gap" if is_gap else ""
         made.append(f"<tr id=s{number}{mark}><td>{number}<td>{used}<td class=n>{by}<td class=f>{formula}\n")
-    return "".join(made) + "</table></div>\n"
+    return "".join(made) + "</table></div>\n<script src=../fold.js></script>\n"
 
 
 def listed(title, links):

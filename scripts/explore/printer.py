@@ -24,8 +24,8 @@ class _Literal(NamedTuple):
 class Printer:
     """How each term is written."""
 
-    def __init__(self, theory):
-        self.theory, self.notations = theory, theory.notations
+    def __init__(self, theory, symbols=()):
+        self.theory, self.notations, self.symbols = theory, theory.notations, symbols
         self._forms = {}
         self.coercions = {it.name for path in self.notations.paths.values() for it in path}
         self.parentheses = self._glued("("), self._glued(")")
@@ -49,11 +49,16 @@ class Printer:
                 return form
         return None
 
+    def token(self, word):
+        """A token in HTML; one that has a symbol is marked, so that `typeset` puts it there when all is read back."""
+        shown = escape(word, quote=False)
+        return f"<u>{shown}</u>" if word in self.symbols else shown
+
     def _glued(self, word):
         """A token in HTML, with a mark where a delimiter makes the space beside it needless. Browsers would break an arrow."""
         before = _GLUE if word[0] in self.notations.right else ""
         after = _GLUE if word[-1] in self.notations.left else ""
-        shown = escape(word, quote=False)
+        shown = self.token(word)
         return before + (f"<span>{shown}</span>" if "-" in word and len(word) > 1 else shown) + after
 
 
@@ -74,7 +79,8 @@ class Page:
 
     def __init__(self, printer, trees):
         self.printer, self.trees = printer, trees
-        self._variables = [f"<b>{it.name}</b>" if it.bound else f"<i>{it.name}</i>" for it in trees.variables]
+        shown = ((printer.token(it.name), "b" if it.bound else "i") for it in trees.variables)
+        self._variables = [f"<{mark}>{name}</{mark}>" for name, mark in shown]
 
     def formula(self, number, link=None):
         """A formula; with `link`, which gives an address for a term, its constants lead to their terms."""
@@ -184,6 +190,14 @@ class ReadBack:
             if not self._is_same(trees, operand, read):
                 return False
         return True
+
+
+def typeset(html, symbols):
+    """HTML with symbols in the place of marked tokens."""
+    if not symbols:
+        return html
+    shown = lambda it: f'<span title="{it[1]}">{escape(symbols[unescape(it[1])], quote=False)}</span>'
+    return re.sub("<u>([^<]*)</u>", shown, html)
 
 
 def plain(html):

@@ -17,6 +17,7 @@ class Proof:
         self.scope = text.scope(theorem)
         self.trees = self.scope.trees
         self.steps, self._numbers = [], {}
+        self.operands = {}  # a step that cites: what stands for the variables there
         self.lets = {}  # a let's name, where it is named: its step
         given = list(range(len(theorem.parameters)))
         self.hypotheses = [self.trees.instance(it, given) for it in theorem.hypotheses]
@@ -63,7 +64,9 @@ class Proof:
         cited = self.text.assertions[node[0]]
         operands = [self.scope.expression(it) for it in node[1]]
         parts = tuple([self._proof(it, lets) for it in node[2:]])
-        return self._add(Step("cited", cited, parts, self.trees.instance(cited.conclusion, operands)))
+        step = Step("cited", cited, parts, self.trees.instance(cited.conclusion, operands))
+        self.operands.setdefault(step, operands)
+        return self._add(step)
 
     def _name(self, word, lets):
         if word not in lets:

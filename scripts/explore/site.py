@@ -1,15 +1,18 @@
 """Writes the pages of a development."""
 import json
 import os
+import re
 import shutil
 from dataclasses import dataclass, field
 from html import escape
 
 from . import pages, sources
+from .crew import Crew
 from .files import Files
+from .kept import END, Kept, digest, of_scripts
 from .names import Names
 from .pages import link
-from .printer import Page, Printer, ReadBack, plain
+from .printer import Page, Printer, ReadBack, plain, typeset
 from .proofs import Proof
 from .specification import Notation, read_specification
 from .texts import Term, Text
@@ -17,6 +20,8 @@ from .trees import Trees
 
 HERE = os.path.dirname(os.path.abspath(__file__))
 ROWS = 400  # statements on one page of the list
+BATCH = 100  # axioms and theorems that a process prints at a time
+LONGEST_OVER = 40  # symbols of an expression that is shown over a link
 
 
 @dataclass
@@ -33,6 +38,7 @@ class Counts:
     steps: int = 0
     theorems: int = 0
     formulas: int = 0
+    kept: int = 0
 
 
 @dataclass
@@ -48,13 +54,39 @@ class Uses:
                 pages.listed("In the statements of", self.mentioned))
 
 
+@dataclass
+class Prepared:
+    """A statement that is to be printed, with what its page needs."""
+
+    it: object
+    proof: object
+    trees: object
+    numbers: list
+    fate: Fate
+    before: object
+    behind: object
+    made_of: str  # a digest of all that its page is made of; empty where the page is always printed
+
+
+@dataclass
+class Printed:
+    """What comes of printing a batch besides its pages: of each page what it is made of, and what stands of it in lists: its
+    row, its entry for the search, and a link where it has a gap."""
+
+    pages: list = field(default_factory=list)
+    counts: Counts = field(default_factory=Counts)
+
+
 class Site:
-    def __init__(self, development, folder):
+    def __init__(self, development, folder, processes=None):
         self.development, self.folder = development, folder
+        total = len(re.findall(r"\((?:local\s+)?(?:axiom|theorem)\s", development.text))
+        processes = processes or (os.cpu_count() if total > BATCH else 1)
+        self.crew, self.batch = Crew(processes, self._take, total), []
         self.statements, self.theory = read_specification(development.specification)
         self.names = Names(self.statements, self.theory, development.is_made)
         self.text = Text(development.text, self.theory, self.names)
-        self.printer = Printer(self.theory)
+        self.printer = Printer(self.theory, development.symbols)
         self.read_back = ReadBack(self.printer)
         self.files = Files(it for it in self.statements if it.space)
         self.lines = _lines(self.statements, development.specification)
@@ -62,32 +94,40 @@ class Site:
         self.source_page = {id(it): sources.part_name(i) for i, part in enumerate(self.parts) for it in part[2]}
         self.notations = _by_term(self.statements)
         self.fates, self.axioms, self.uses = {}, [], {}
-        self.counts, self.rows, self.found, self.gapped = Counts(), [], [], []
+        grammar = [development.specification[it.at : it.end] for it in self.statements if it.space != "assertion"]
+        self.grammar = digest(of_scripts(), development.title, development.is_made, grammar, self.names.usual())
+        self.printed, self.counts = Printed(), Counts()
+        self.rows, self.found, self.gapped = [], [], []
         self.list_parts, self.symbols = [], {}
 
     def write(self):
         """Writes all pages, and says how many there are."""
         for it in ("", "sorts", "terms", "theorems"):
             os.makedirs(os.path.join(self.folder, it), exist_ok=True)
-        for it in ("style.css", "find.js"):
+        for it in ("style.css", "find.js", "fold.js"):
             shutil.copyfile(os.path.join(HERE, it), os.path.join(self.folder, it))
+        self.read_before, self.kept = self.read_back.count, Kept(self.folder)
         self._sources()
         self._sorts()
         before = None
         for here, behind in _with_next(self.text.statements()):
             self._statement(before, here, behind)
             before = here
+        self._hand_over()
+        self.crew.finish()
         self._tails()
         self._index()
-        self.counts.formulas = self.read_back.count
+        self.kept.finish()
+        self.counts.pages += self.printed.counts.pages
+        self.counts.formulas += self.read_back.count - self.read_before
         return self.counts
 
     # Files and links.
 
     def _put(self, path, text, mode="w"):
         with open(os.path.join(self.folder, path), mode, encoding="utf-8") as file:
-            file.write(text)
-        self.counts.pages += mode == "w"
+            file.write(typeset(text, self.development.symbols))
+        self.printed.counts.pages += mode == "w"
 
     def _file(self, it):
         """The page of a term or an assertion, from the top of the folder."""
@@ -138,13 +178,53 @@ class Site:
 
     def _statement(self, before, here, behind):
         self.uses[here] = Uses()
+        self._file(here)  # which has its name from now on
         if isinstance(here, Term):
+            self._hand_over()  # what stands before doesn't know this term
+            self.grammar = digest(self.grammar, here.name, here.kind, here.parameters, here.sort, here.needs, here.written, self._file(here))
             self.read_back.add(here)
-            body = self._term(here)
-        else:
-            body = self._assertion(here)
-            here.node = here.trees = None  # what it says is kept as patterns
-        self._put(self._file(here), self._page(here.name, body, before, behind))
+            self._put(self._file(here), self._page(here.name, self._term(here), before, behind))
+            return
+        if behind:
+            self._file(behind)
+        self.batch.append(self._prepared(here, before, behind))
+        here.node = here.trees = None  # what it says is kept as patterns
+        if len(self.batch) == BATCH:
+            self._hand_over()
+
+    def _hand_over(self):
+        """Has the pages of what is prepared printed."""
+        if self.batch:
+            self.crew.hand_over(self.batch, self._print)
+            self.batch = []
+
+    def _print(self, batch):
+        """Prints the pages of a batch; what is found by the way."""
+        kept, self.printed = self.printed, Printed()
+        count = self.read_back.count
+        for it in batch:
+            page = self._file(it.it)
+            if it.made_of and self.kept.stays(page, it.made_of):
+                self.printed.pages.append((page, it.it.name, *self.kept.before[page]))
+                self._count(it.proof)
+                self.printed.counts.kept += 1
+            else:
+                self._put(page, self._page(it.it.name, self._assertion(it) + END, it.before, it.behind))
+        made, self.printed = self.printed, kept
+        made.counts.formulas, self.read_back.count = self.read_back.count - count, count
+        return made
+
+    def _take(self, made):
+        """Takes what was found while a batch was printed."""
+        for name in ("pages", "steps", "theorems", "formulas", "kept"):
+            setattr(self.counts, name, getattr(self.counts, name) + getattr(made.counts, name))
+        for page, name, made_of, row, found, gapped in made.pages:
+            self.kept.note(page, made_of, (row, found, gapped))
+            self.found.append(found)
+            self.gapped += [gapped] if gapped else []
+            self.rows.append((name, row))
+            if len(self.rows) == ROWS:
+                self._list_part()
 
     def _term_link(self, term):
         return f"../{self._file(term)}"
@@ -186,42 +266,54 @@ class Site:
         self.read_back.check(page.trees, number, made)
         return made
 
-    def _assertion(self, it):
+    def _prepared(self, it, before, behind):
+        """What the page of an assertion needs, and what others have to know of it."""
         proof = Proof(self.text, it) if it.node else None
         trees = proof.trees if proof else it.trees
         given = list(range(len(it.parameters)))
         numbers = [trees.instance(pattern, given) for pattern in (*it.hypotheses, it.conclusion)]
-        page = Page(self.printer, trees)
-        shown = [self._formula(page, number, self._term_link) for number in numbers]
         self._mention(it, trees, numbers)
         fate = self.fates[it] = self._fate(it, proof)
-        self._list(it, page, numbers, fate)
+        return Prepared(it, proof, trees, numbers, fate, before, behind, self._made_of(it, proof, fate, before, behind))
+
+    def _made_of(self, it, proof, fate, before, behind):
+        """A digest of all that a theorem's page is made of; an axiom's is always printed."""
+        if proof is None:
+            return ""
+        declared = it.declared
+        where = (declared.about, self.lines[id(declared)], self.source_page[id(declared)]) if declared else ()
+        around = [(one.name, self._file(one)) for one in (before, it, behind) if one]
+        cited = [(one.name, self._file(one), self.fates[one].is_gapped, one.parameters) for one in proof.cited]
+        rests = [(one.name, self._file(one)) for one in self._axioms(fate)]
+        return digest(self.grammar, it.node, it.parameters, it.names, where, before is None, around, cited, rests, fate.is_gapped)
+
+    def _assertion(self, prepared):
+        it, proof, numbers, fate = prepared.it, prepared.proof, prepared.numbers, prepared.fate
+        page = Page(self.printer, prepared.trees)
+        shown = [self._formula(page, number, self._term_link) for number in numbers]
+        self._list(it, page, numbers, fate, prepared.made_of)
         declared = it.declared
         body = (pages.heading(it.kind, it.name, declared is None) + pages.about(declared.about if declared else "") +
                 pages.variables(it.parameters) + pages.apart(it.parameters) +
                 pages.said(list(zip(it.names, shown)), shown[-1]) + (self._said_at(declared) if declared else ""))
         if proof:
             body += self._gap_note(proof, fate) + self._steps(it, proof, page) + self._rests(fate, proof)
-        return body + self._symbols(trees, proof.expressions() if proof else numbers)
+        return body + self._symbols(prepared.trees, proof.expressions() if proof else numbers)
 
-    def _list(self, it, page, numbers, fate):
+    def _list(self, it, page, numbers, fate, made_of):
         """Notes a statement for the list and for the search."""
         shown = [self._formula(page, number) for number in numbers]
         address = self._file(it)
         kind = f"local {it.kind}" if it.declared is None else it.kind
-        self.rows.append((it, pages.statement_row(it.kind, it.declared is None, address, it.name, shown[:-1], shown[-1],
-                                                  fate.is_gapped)))
+        row = pages.statement_row(it.kind, it.declared is None, address, it.name, shown[:-1], shown[-1], fate.is_gapped)
         words = "; ".join(map(plain, shown[:-1])) + (" ⊢ " if shown[:-1] else "") + plain(shown[-1])
-        self.found.append(json.dumps([it.name, kind, address, words], ensure_ascii=False, separators=(",", ":")))
-        if fate.is_gapped:
-            self.gapped.append(link(address, it.name))
-        if len(self.rows) == ROWS:
-            self._list_part()
+        found = json.dumps([it.name, kind, address, words], ensure_ascii=False, separators=(",", ":"))
+        self.printed.pages.append((address, it.name, made_of, row, found, link(address, it.name) if fate.is_gapped else ""))
 
     def _list_part(self):
         """Writes a page of the list with what has been noted."""
         name = f"list-{len(self.list_parts) + 1}.html"
-        first, last, body = self.rows[0][0].name, self.rows[-1][0].name, "".join(row for _, row in self.rows)
+        first, last, body = self.rows[0][0], self.rows[-1][0], "".join(row for _, row in self.rows)
         self.rows.clear()
         self.list_parts.append(link(name, f"{first} – {last}"))
         table = pages.rows(("Kind", "Name", "Says"), [body])
@@ -265,16 +357,27 @@ class Site:
         return ""
 
     def _steps(self, it, proof, page):
-        self.counts.theorems += 1
-        self.counts.steps += len(proof.steps)
-        by = {"hypothesis": lambda number: f"hypothesis {escape(it.names[number])}", "cited": self._cited,
+        self._count(proof)
+        by = {"hypothesis": lambda number: f"hypothesis {escape(it.names[number])}",
               "unfolded": lambda terms: "unfolding " + ", ".join(map(self._to, terms)) if terms else "conversion",
               "gap": lambda _: "gap"}
-        return pages.steps(([part + 1 for part in step.parts], by[step.kind](step.by), self._formula(page, step.says),
-                            step.kind == "gap") for step in proof.steps)
+        return pages.steps(([part + 1 for part in step.parts],
+                            self._cited(step.by, proof.operands[step], page) if step.kind == "cited" else by[step.kind](step.by),
+                            self._formula(page, step.says), step.kind == "gap") for step in proof.steps)
 
-    def _cited(self, other):
-        return self._to(other) + (" (gap)" if self.fates[other].is_gapped else "")
+    def _count(self, proof):
+        self.printed.counts.theorems += 1
+        self.printed.counts.steps += len(proof.steps)
+
+    def _cited(self, other, operands, page):
+        """A link to what a step cites. Over it stands what is put in for its variables."""
+        given = "; ".join(f"{it.name} := {self._short(page, number, it.sort)}" for it, number in zip(other.parameters, operands))
+        shown = link(f"../{self._file(other)}", other.name, f' title="{escape(given)}"' if given else "")
+        return shown + (" (gap)" if self.fates[other].is_gapped else "")
+
+    def _short(self, page, number, sort):
+        """An expression as plain text; a long one isn't shown."""
+        return plain(page.expression(number, sort)) if page.trees.sizes[number] <= LONGEST_OVER else ".."
 
     def _rests(self, fate, proof):
         axioms = [self._to(it) for it in self._axioms(fate)]
@@ -367,5 +470,5 @@ def _opening(text):
     for line in text.split("\n"):
         if not line.startswith("--") or not line.strip("- "):
             break
-        words.append(line.strip("- "))
+        words.append(line.lstrip("-").removeprefix("|").strip("- "))
     return " ".join(words)

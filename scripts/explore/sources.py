@@ -64,10 +64,13 @@ def _variable(it, name, start, word):
 
 
 def _plain(text):
-    """What stands between statements: comments, softer than the rest."""
+    """What stands between statements: comments, softer than the rest, but for headings, which begin with `-- #`."""
     made = []
     for line in text.split("\n"):
         before, dashes, comment = line.partition("--")
-        made.append(escape(before, quote=False) +
-                    (f"<span class=c>--{escape(comment, quote=False)}</span>" if dashes else ""))
+        shown = escape(comment, quote=False)
+        if line.startswith("-- #"):
+            made.append(f"<b>--{shown}</b>")
+        else:
+            made.append(escape(before, quote=False) + (f"<span class=c>--{shown}</span>" if dashes else ""))
     return "\n".join(made)

@@ -12,8 +12,9 @@ import sys
 TOP = os.path.dirname(os.path.dirname(os.path.dirname(os.path.abspath(__file__))))
 sys.path.insert(0, os.path.join(TOP, "scripts"))
 
-import manual
-from manual import completion, pages
+import manual  # noqa: E402
+import running  # noqa: E402
+from manual import completion, pages  # noqa: E402
 
 MAN = os.path.join(TOP, "mz.1")
 BASH = os.path.join(TOP, "editors", "bash", "mz.bash")
@@ -62,7 +63,8 @@ def explain(book, name):
     return 2
 
 
-def main(words):
+def main():
+    words = sys.argv[1:]
     book = manual.read()
     if not words:
         print(pages.overview(book))
@@ -75,4 +77,4 @@ def main(words):
 
 
 if __name__ == "__main__":
-    sys.exit(main(sys.argv[1:]))
+    running.whole(main)

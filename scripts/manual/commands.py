@@ -7,6 +7,14 @@ SOURCE = os.path.join(os.path.dirname(os.path.abspath(__file__)), "commands.txt"
 
 
 @dataclass
+class Option:
+    """Another form of a command: the words behind its name, and what it does."""
+
+    shape: str
+    does: str
+
+
+@dataclass
 class Command:
     """One command: its name, the arguments behind it, and what is said of it."""
 
@@ -17,10 +25,15 @@ class Command:
     files: list = field(default_factory=list)
     example: str = ""
     read: str = ""
+    options: list = field(default_factory=list)
     more: list = field(default_factory=list)
 
     def shape(self):
         return " ".join([self.name, *self.words])
+
+    def flags(self):
+        """The words with which its other forms begin."""
+        return [it.shape.split()[0] for it in self.options]
 
 
 @dataclass
@@ -28,6 +41,7 @@ class Manual:
     """All of commands.txt."""
 
     commands: list = field(default_factory=list)
+    kinds: list = field(default_factory=list)
     exits: list = field(default_factory=list)
     variables: list = field(default_factory=list)
 
@@ -44,6 +58,9 @@ def add_to(command, line):
         setattr(command, key, text)
     elif colon and key == "files":
         command.files = text.split()
+    elif colon and key == "option":
+        shape, _, does = text.partition(" = ")
+        command.options.append(Option(shape, does))
     else:
         command.more.append(line)
 
@@ -58,7 +75,7 @@ def read():
             part = heading[1]
         elif not line or line.startswith("#"):
             continue
-        elif part in ("exits", "variables"):
+        elif part in ("kinds", "exits", "variables"):
             getattr(manual, part).append(tuple(line.split(" ", 1)))
         elif line.startswith(" "):
             add_to(manual.commands[-1], line.strip())

@@ -11,6 +11,8 @@ def table(manual):
         for number, ending in enumerate(it.files, 1):
             ends.setdefault(ending, []).append(f"{number}:{it.name}")
     lines += [f"        {' | '.join(places)}) echo {ending} ;;" for ending, places in sorted(ends.items())]
+    lines += ["    esac", "}", "_mz_options() { # the options of a command", "    case $1 in"]
+    lines += [f"        {it.name}) echo '{' '.join(it.flags())}' ;;" for it in manual.commands if it.options]
     return "\n".join([BEGIN, *lines, "    esac", "}", END])
 
 

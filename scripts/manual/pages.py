@@ -4,8 +4,8 @@ import textwrap
 WIDTH = 100
 TITLE = "mz: a verifier for Metamath Zero and a compiler of proof texts, proved right"
 EXAMPLE = "./mz verify examples/double_negation.mm0 examples/double_negation.mmb"
-FIRST = ("The first command that needs the program proves and builds it, for verify and show the verifier alone. "
-         "That takes some minutes, is reported step by step, and is done once.")
+FIRST = ("The first command that needs the program proves and builds it, for verify and show the verifier alone. On four "
+         "processors that took 19 minutes, and 32 more for the rest; it is reported step by step, and done once.")
 
 
 def wrapped(text, before=""):
@@ -27,10 +27,11 @@ def overview(manual):
         "The program:\n" + "\n".join(row(it.shape(), it.does) for it in manual.of_program()),
         "Around it:\n" + "\n".join(row(it.shape(), it.does) for it in manual.commands if not it.of_program),
         f"An example:\n  {EXAMPLE}",
+        "Files:\n" + "\n".join(row(*it) for it in manual.kinds),
         "Exit numbers:\n" + "\n".join(f"  {number:>3}  {text}" for number, text in manual.exits),
         wrapped(FIRST),
-        "To read on: mz help COMMAND, README.md, examples/README.md, docs/RULES.md (what each refusal says),\n"
-        "docs/TUTORIAL.md (a theory of one's own)",
+        "To read on: mz help COMMAND, or mz COMMAND --help; README.md, examples/README.md; docs/RULES.md\n"
+        "(what each refusal says), docs/TUTORIAL.md (a theory of one's own)",
     ]
     return "\n\n".join(parts)
 
@@ -38,6 +39,8 @@ def overview(manual):
 def of_command(command):
     """What one command does."""
     parts = [f"usage: mz {command.shape()}", wrapped(command.does[0].upper() + command.does[1:] + ".")]
+    if command.options:
+        parts.append("Also:\n" + "\n".join(row(f"{command.name} {it.shape}", it.does) for it in command.options))
     if command.more:
         parts.append(wrapped(" ".join(command.more)))
     if command.files:
@@ -60,7 +63,8 @@ def man_entry(command):
     words = " ".join(f"\\fI{roff(it)}\\fR" for it in command.words)
     does = roff(command.does[0].upper() + command.does[1:] + ".")
     lines = [".TP", f"\\fB{roff(command.name)}\\fR {words}".rstrip(), " ".join([does, *map(roff, command.more)])]
-    return "\n".join([*lines, ".br", f"Example: \\fB{roff(command.example)}\\fR"])
+    forms = [line for it in command.options for line in (".br", f"\\fB{roff(f'{command.name} {it.shape}')}\\fR: {roff(it.does)}.")]
+    return "\n".join([*lines, *forms, ".br", f"Example: \\fB{roff(command.example)}\\fR"])
 
 
 def man_page(manual):
@@ -76,6 +80,8 @@ def man_page(manual):
         *map(man_entry, manual.of_program()),
         ".SH COMMANDS AROUND IT",
         *(man_entry(it) for it in manual.commands if not it.of_program),
+        ".SH FILES",
+        *(f".TP\n{roff(ending)}\n{roff(text[0].upper() + text[1:])}." for ending, text in manual.kinds),
         ".SH EXIT STATUS",
         *(f".TP\n{number}\n{roff(text[0].upper() + text[1:])}." for number, text in manual.exits),
         ".PP\nFrom 2 to 7 a word on standard error names the cause.",

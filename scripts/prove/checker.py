@@ -2,7 +2,7 @@
 Nothing rests on it. It shares no step with unification."""
 from .logic import App, Var, walk
 from .places import Wrong
-from .proofs import Cited, Converted, Gap, Let, Named
+from .proofs import Cited, Converted, Gap, Later, Let, Named
 from .unify import Cong, Refl, Sym
 
 
@@ -27,6 +27,8 @@ class Checker:
             return self.known[proof.name]
         if isinstance(proof, Gap):
             return proof.goal
+        if isinstance(proof, Later):
+            return self.proves(proof.made)
         if isinstance(proof, Cited):
             return self.cited(proof)
         if isinstance(proof, Converted):

@@ -1,9 +1,14 @@
 """Makes the whole proof of a theorem from its short form: what variables stand for, and where definitions are unfolded."""
+from functools import cached_property
+
 from .checker import Checker
-from .logic import App, Var, instance, walk
+from .equality import Known
+from .lexemes import Math
+from .logic import App, Hole, Var, holes_of, instance, walk
 from .places import Wrong
-from .proofs import Cited, Converted, Gap, Let, Named
-from .sources import Claim, Copy, Have, Sorry
+from .proofs import Cited, Converted, Gap, Later, Let, Named
+from .rewriting import rewritten, tautology
+from .sources import Claim, Copy, Have, Rewrite, Sorry, Tautology
 from .unify import Refl, Unifier
 
 
@@ -15,6 +20,12 @@ class Elaborator:
         self.variables = {it.name: it for it in (*theorem.binders, *dummies) if it.name != "_"}
         self.visible = dict(theorem.hypotheses)
         self.unifier, self.gaps = Unifier(), []
+        self.later = []  # what waits until more is known of its goal: the node, the proof, the goal, and what is visible there
+
+    @cached_property
+    def known(self):
+        """What `rw` and `prop` may use."""
+        return Known(self.scope, self.theorem)
 
     def whole(self, proof):
         """The whole proof; then `dummies` are all that it takes, and `gaps` what is open."""
@@ -23,6 +34,7 @@ class Elaborator:
         if twice:
             raise Wrong(f"the variable {twice} is declared twice")
         made = self.proved(proof, self.theorem.conclusion)
+        self.make_later()
         for hole in self.unifier.holes:
             if hole.value is None and hole.bound:
                 hole.value = self.new_dummy(hole)
@@ -56,17 +68,19 @@ class Elaborator:
         return self.unifier.hole(None, False, "_", None, place)
 
     def formula(self, math, sort=None):
-        return self.scope.formula(math, self.variables, sort, self.left_out)
+        """A formula of the source; what is an expression already is taken as it is."""
+        return math if not isinstance(math, Math) else self.scope.formula(math, self.variables, sort, self.left_out)
 
     def proved(self, proof, goal):
         """A proof of just this formula."""
         if isinstance(proof, Have):
             return self.had(proof, goal)
         if isinstance(proof, Sorry):
-            self.gaps.append(Gap(proof.place, goal, dict(self.visible)))
-            return self.gaps[-1]
+            return self.gap(proof, goal)
         if isinstance(proof, Claim):
             return self.claimed(proof, goal)
+        if isinstance(proof, (Rewrite, Tautology)):
+            return self.found(proof, goal)
         if isinstance(proof, Copy):
             return self.copied(proof, goal)
         if proof.name in self.visible:
@@ -74,6 +88,33 @@ class Elaborator:
                 raise Wrong(f"{proof.name} is a hypothesis, and takes nothing", proof.place)
             return self.turned(goal, self.visible[proof.name], Named(proof.place, proof.name), proof.name)
         return self.cited(proof, goal)
+
+    def gap(self, proof, goal):
+        made = Gap(proof, goal, dict(self.visible), self, len(self.scope.writer.assertions))
+        self.gaps.append(made)
+        return made
+
+    def found(self, proof, goal):
+        """A proof that is looked for: at once, or where the goal isn't known yet, when all else is done."""
+        if is_open(goal, isinstance(proof, Rewrite)):
+            node = Later(proof.place)
+            self.later.append((node, proof, goal, dict(self.visible)))
+            return node
+        return self.proved((rewritten if isinstance(proof, Rewrite) else tautology)(self, proof, goal), goal)
+
+    def make_later(self):
+        """Makes what waited until more is known."""
+        while self.later:
+            known = next((it for it in self.later if not is_open(it[2])), self.later[0])
+            self.later.remove(known)
+            self.made_now(*known)
+
+    def made_now(self, node, proof, goal, visible):
+        if is_open(goal):
+            raise Wrong("nothing says what is to be proved here", proof.place, [("goal", self.printer.formulas([goal]))])
+        self.visible, before = visible, self.visible
+        node.made = self.found(proof, goal)
+        self.visible = before
 
     def had(self, proof, goal):
         if proof.name in self.visible:
@@ -108,10 +149,18 @@ class Elaborator:
             self.give(cited, given, place, name, math)
         conversion = self.conversion(goal, instance(cited.conclusion, given), step.place, f"{step.name} proves")
         wanted = [instance(e, given) for _, e in cited.hypotheses]
+        self.noted(step, cited, given)
+        parts = [self.proved(part, e) for part, e in zip(self.parts(step, wanted), wanted)]
+        return self.converted(goal, conversion, Cited(step.place, cited, [given[it] for it in cited.binders], parts))
+
+    def noted(self, step, cited, given):
+        """For those who look on."""
+
+    def parts(self, step, wanted):
+        """The proofs that a step gives, as many as are wanted."""
         if len(step.parts) != len(wanted):
             raise self.other_count(step, wanted)
-        parts = [self.proved(part, e) for part, e in zip(step.parts, wanted)]
-        return self.converted(goal, conversion, Cited(step.place, cited, [given[it] for it in cited.binders], parts))
+        return step.parts
 
     def give(self, cited, given, place, name, math):
         binder = next((it for it in cited.binders if it.name == name), None)
@@ -150,10 +199,21 @@ class Elaborator:
         hypotheses = [f"{name}: {text}" for name, text in zip(self.visible, texts[2:])]
         return details + ([("visible", hypotheses)] if hypotheses else [])
 
-    def goal_details(self, gap):
-        texts = self.printer.formulas([gap.goal, *gap.visible.values()])
-        hypotheses = [f"{name}: {text}" for name, text in zip(gap.visible, texts[1:])]
+    def goal_details(self, goal, visible):
+        texts = self.printer.formulas([goal, *visible.values()])
+        hypotheses = [f"{name}: {text}" for name, text in zip(visible, texts[1:])]
         return [("goal", texts[:1])] + ([("visible", hypotheses)] if hypotheses else [])
+
+
+def is_open(goal, may_end_open=False):
+    """Whether what is to be proved isn't known yet. A hole that binds is no matter, and where that may be the last operand."""
+    goal = walk(goal)
+    last = goal
+    while may_end_open and isinstance(last, App) and last.operands:
+        *firsts, last = map(walk, last.operands)
+        if any(not it.bound for e in firsts for it in holes_of(e)):
+            return True
+    return isinstance(goal, Hole) or (not may_end_open or last is goal) and any(not it.bound for it in holes_of(goal))
 
 
 def counted(number, one, many):

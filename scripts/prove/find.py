@@ -1,12 +1,16 @@
-"""Finds what may be cited: the axioms and theorems whose conclusion has a form."""
+"""Finds what may be cited: the axioms and theorems whose conclusion has a form, or that fit a goal."""
 import re
 
 from .checker import same
+from .elaborate import Elaborator
 from .formulas import Formula
 from .lexemes import Math
 from .logic import App, Hole, walk
-from .places import Source, Wrong
+from .places import Source, Wrong, report
 from .printer import Printer
+from .search import Surroundings, candidates, surroundings
+
+MOST = 20  # so many are shown for a goal
 
 
 def found(development, form):
@@ -52,3 +56,28 @@ def shown(assertion, development):
     printer = Printer(development.theory)
     formulas = printer.formulas([*(e for _, e in assertion.hypotheses), assertion.conclusion])
     return f"{assertion.name} ({development.name}): {' > '.join(f'$ {it} $' for it in formulas)}"
+
+
+def fitting(writer, name):
+    """Lines: what may be cited for the open goals of a theorem, or for its conclusion where none is open, with what is left
+    open then."""
+    item = writer.development.proofs.get(name)
+    if item is None:
+        raise Wrong(f"the source has no theorem {name}")
+    theorem = writer.assertions[name]
+    gaps = [it for it in writer.goals if it.elaborator.theorem is theorem]
+    if gaps:
+        return [offered(it.place, it.goal, surroundings(it)) for it in gaps]
+    elaborator = Elaborator(writer.scope, theorem, writer.scope.binders(item.dummies, {}), writer.printer)
+    scope = Surroundings(elaborator, dict(theorem.hypotheses), writer.numbers[name])
+    return [offered(item.place, theorem.conclusion, scope)]
+
+
+def offered(place, goal, scope):
+    """A report: a goal, and what may be cited for it."""
+    found = candidates(goal, scope)
+    printer, own = scope.printer, scope.writer.development.name
+    details = [(it.name if it.origin in ("", own) else f"{it.name} ({it.origin})", printer.formulas(it.open) or ["nothing is left"])
+               for it in found[:MOST]]
+    more = [("", [f"and {len(found) - MOST} more"])] if len(found) > MOST else []
+    return report(printer.formula(goal), place, details + more or [("", ["nothing fits"])])

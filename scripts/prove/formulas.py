@@ -1,4 +1,6 @@
 """Notations, and the formulas that are written in them."""
+from explain import characters
+
 from .logic import App, Hole, Var
 from .places import Wrong
 
@@ -13,6 +15,22 @@ class Notations:
         self.leading = {}  # constant: (level, term, the literals behind it)
         self.infix = {}  # constant: (level, term, whether it groups to the left, the number before it, the literals behind)
         self.coercions = {}  # sort, sort: the terms on the way
+        self.notes = []  # all that was noted, in order
+
+    def note(self, what, *given):
+        """Takes a notation: `what` is the name of the method that does."""
+        self.notes.append((what, given))
+        getattr(self, what)(*given)
+
+    def delimit(self, left, right):
+        self.left |= set(left)
+        self.right |= set(right)
+
+    def lead(self, constant, form):
+        self.leading[constant] = form
+
+    def join(self, constant, form):
+        self.infix[constant] = form
 
     def tokens(self, text):
         """The tokens, each with where it begins."""
@@ -76,10 +94,10 @@ class Formula:
         wanted = sorts[0] if len(sorts) == 1 else "a provable sort"
         raise self.wrong(f"this has the sort {e.sort}, and {wanted} is wanted", 0)
 
-    def wrong(self, why, at=None):
+    def wrong(self, why, at=None, details=()):
         at = self.at if at is None else at
         offset = self.tokens[at][1] if at < len(self.tokens) else len(self.math.text.rstrip())
-        return Wrong(why, self.math.place(offset))
+        return Wrong(why, self.math.place(offset), details)
 
     def peek(self):
         return self.tokens[self.at][0] if self.at < len(self.tokens) else None
@@ -108,7 +126,8 @@ class Formula:
         if token == "(":
             e = self.level(0)
             if self.peek() != ")":
-                raise self.wrong(f"'{self.peek()}' stands where ')' is wanted" if self.peek() else "a ')' is wanting")
+                opened = [("opened", [f"'(', {self.math.place(self.tokens[begin][1])}"])]
+                raise self.wrong(f"'{self.peek()}' stands where ')' is wanted" if self.peek() else "a ')' is wanting", details=opened)
             self.at += 1
             return e
         if token in self.variables:
@@ -124,7 +143,9 @@ class Formula:
         if token == "_" and self.left_out:
             return self.left_out(self.math.place(self.tokens[begin][1]))
         infix = " (it stands between two operands)" if token in self.notations.infix else ""
-        raise self.wrong(f"'{token}' is no variable, constant or term here{infix}", begin)
+        known = {*self.variables, *self.notations.leading, *self.notations.infix, *self.theory.terms}
+        parted = characters.parted(token, known, bool(self.notations.left or self.notations.right))
+        raise self.wrong(f"'{token}' is no variable, constant or term here{infix}", begin, [("", [it]) for it in parted])
 
     def operands(self, last, term, literals, found):
         """The operands with where they begin; some are found; `last` is the precedence of one in the last place."""

@@ -28,6 +28,10 @@ class Hole:
         self.value = None
 
 
+class Blank(Hole):
+    """A place in a pattern, for which any expression may stand."""
+
+
 class Sort:
     kind = "sort"
 
@@ -64,6 +68,12 @@ def walk(e):
     return e
 
 
+def resolved(e):
+    """The expression with what was found for its holes."""
+    e = walk(e)
+    return App(e.term, map(resolved, e.operands)) if isinstance(e, App) and e.operands else e
+
+
 def instance(e, given):
     """The expression with others for its variables."""
     e = walk(e)
@@ -82,6 +92,30 @@ def holes_of(e):
     elif isinstance(e, App):
         for it in e.operands:
             yield from holes_of(it)
+
+
+def blanks_of(e):
+    return {it for it in holes_of(e) if isinstance(it, Blank)}
+
+
+def put(e, given):
+    """An expression with others for its holes."""
+    e = walk(e)
+    if isinstance(e, Hole):
+        return given.get(e, e)
+    return App(e.term, [put(it, given) for it in e.operands]) if isinstance(e, App) and e.operands else e
+
+
+def free_variables(e):
+    """The bound variables of an expression that don't stand in a place that binds, nor are bound there, in their order."""
+    e = walk(e)
+    if isinstance(e, Var):
+        return [e] if e.bound else []
+    if isinstance(e, Hole):
+        return []
+    bound = [walk(it) for binder, it in zip(e.term.binders, e.operands) if binder.bound]
+    found = dict.fromkeys(v for binder, it in zip(e.term.binders, e.operands) if not binder.bound for v in free_variables(it))
+    return [it for it in found if it not in bound]
 
 
 def written(e):

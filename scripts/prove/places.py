@@ -3,15 +3,40 @@ import bisect
 import os
 import re
 from functools import cached_property
-from typing import NamedTuple
+
+from explain import characters
 
 
-class Place(NamedTuple):
-    """A line and a column of a file, both counted from 1."""
+class Place:
+    """A place of a source. What moves with its source moves too: path, line and column are asked for when they are told."""
 
-    path: str
-    line: int
-    column: int
+    __slots__ = ("source", "offset")
+
+    def __init__(self, source, offset):
+        self.source, self.offset = source, offset
+
+    @property
+    def path(self):
+        return self.source.path
+
+    @property
+    def line(self):
+        return self.source.position(self.offset)[0]
+
+    @property
+    def column(self):
+        return self.source.position(self.offset)[1]
+
+    @property
+    def at(self):
+        """The place counted in characters from the beginning of the file."""
+        return self.source.start + self.offset
+
+    def __eq__(self, other):
+        return isinstance(other, Place) and (self.source, self.offset) == (other.source, other.offset)
+
+    def __hash__(self):
+        return hash((self.source, self.offset))
 
     def __str__(self):
         return f"{shown_path(self.path)}:{self.line}:{self.column}"
@@ -24,7 +49,10 @@ def shown_path(path):
 
 
 class Source:
-    """The text of a file."""
+    """The text of a file, or a piece of it that begins at `start`, in this line and column."""
+
+    start, line, column = 0, 1, 1
+    after = ""  # what stands behind the piece, where that matters
 
     def __init__(self, path, text=None):
         self.path = path
@@ -36,11 +64,12 @@ class Source:
                 found = file.read()
         except OSError as why:
             raise Wrong(f"{shown_path(self.path)} can't be read: {why.strerror}") from None
-        try:
-            return found.decode("ascii")
-        except UnicodeDecodeError as why:
-            self.text = found[: why.start].decode("ascii")
-            raise Wrong("a byte that isn't ASCII can't stand here", self.place(why.start)) from None
+        return found.decode("utf-8", "surrogateescape")
+
+    def odd(self):
+        """What is wrong with the characters, or nothing."""
+        found = characters.odd(self.text)
+        return found and Wrong(f"no file may have this character, {found[1]}", self.place(found[0]))
 
     @cached_property
     def starts(self):
@@ -48,8 +77,13 @@ class Source:
         return [0, *(found.end() for found in re.finditer("\n", self.text))]
 
     def place(self, offset):
+        return Place(self, offset)
+
+    def position(self, offset):
+        """The line and the column in the file, both counted from 1."""
         line = bisect.bisect_right(self.starts, offset)
-        return Place(self.path, line, offset - self.starts[line - 1] + 1)
+        column = offset - self.starts[line - 1] + 1
+        return self.line + line - 1, column + (self.column - 1 if line == 1 else 0)
 
 
 class Wrong(Exception):

@@ -25,11 +25,21 @@ class Let:
         self.place, self.name, self.first, self.rest = place, name, first, rest
 
 
-class Gap:
-    """A proof that is left open, with what was visible there."""
+class Later:
+    """A proof that is made when more is known of its goal."""
 
-    def __init__(self, place, goal, visible):
-        self.place, self.goal, self.visible = place, goal, visible
+    def __init__(self, place):
+        self.place, self.made = place, None
+
+
+class Gap:
+    """A proof that is left open by a Sorry of the source, with what was visible there. `elaborator` makes the proof in which it
+    stands, and `before` is how many statements were written then."""
+
+    def __init__(self, sorry, goal, visible, elaborator, before):
+        self.sorry, self.place = sorry, sorry.place
+        self.goal, self.visible = goal, visible
+        self.elaborator, self.before = elaborator, before
 
 
 class Node(list):
@@ -54,6 +64,8 @@ def proof_node(proof):
     place = proof.place
     if isinstance(proof, Named):
         return Atom(place, proof.name)
+    if isinstance(proof, Later):
+        return proof_node(proof.made)
     if isinstance(proof, Cited):
         return Node(place, [proof.theorem.name, [written(it) for it in proof.operands], *map(proof_node, proof.parts)])
     if isinstance(proof, Converted):

@@ -1,6 +1,11 @@
 """Reads a proof source (.proofs); docs/PROVING.md has its grammar."""
+from functools import wraps
+
 from .places import Wrong
 from .specification import Reader
+
+ROLES = ("refl", "symm", "trans", "mp")  # what theorems say of an equality
+DEPTH = 2  # so far is looked for a `?` without a number
 
 
 class Step:
@@ -32,10 +37,34 @@ class Copy:
 
 
 class Sorry:
-    """A proof that is left open."""
+    """A proof that is left open. Where it is a `?`, proofs are looked for up to a depth. `span` is where it begins and ends in
+    the text."""
 
-    def __init__(self, place):
-        self.place = place
+    def __init__(self, place, span, depth=None):
+        self.place, self.span, self.depth = place, span, depth
+
+
+class Rewrite:
+    """`rw`: a proof by equations. Each is a proof, taken from left to right, or from right to left where `turned` says so; with
+    `proof` the goal is turned by them into what this proves."""
+
+    def __init__(self, place, equations, turned, proof):
+        self.place, self.equations, self.turned, self.proof = place, equations, turned, proof
+
+    @property
+    def parts(self):
+        return [*self.equations, *([self.proof] if self.proof else [])]
+
+
+class Tautology:
+    """`prop`: a proof of what follows by propositional logic from others."""
+
+    def __init__(self, place, parts):
+        self.place, self.parts = place, parts
+
+
+class Missing(Sorry):
+    """The proof of a theorem that the source leaves out."""
 
 
 class Item:
@@ -44,7 +73,35 @@ class Item:
     def __init__(self, kind, name, place, **parts):
         self.kind, self.name, self.place = kind, name, place
         self.made, self.dummies, self.proof, self.body, self.words = None, (), None, None, ()
+        self.made_of = {}  # of a body: a definition that is left open, and what it is with this body
         self.__dict__.update(parts)
+
+
+def steps(proof):
+    """The names that a proof cites, of hypotheses too."""
+    if isinstance(proof, Step):
+        yield proof.name
+    for part in parts_of(proof):
+        yield from steps(part)
+
+
+def parts_of(proof):
+    """The proofs in a proof."""
+    inner = [getattr(proof, it) for it in ("first", "proof") if getattr(proof, it, None) and not isinstance(proof, Rewrite)]
+    return [*getattr(proof, "parts", ()), *inner]
+
+
+def marked(read):
+    """A reader of proofs that notes from where to where in its piece each stands."""
+
+    @wraps(read)
+    def reads(reader, *given):
+        start = reader.lexer.next().start
+        made = read(reader, *given)
+        made.extent = start, reader.lexer.end()
+        return made
+
+    return reads
 
 
 class SourceReader(Reader):
@@ -59,9 +116,10 @@ class SourceReader(Reader):
         word = lexer.take("name")
         if word == "local":
             return self.local(place)
-        readers = {"import": self.import_, "theorem": self.theorem, "def": self.body, "neighbour": self.neighbour}
+        readers = {"import": self.import_, "theorem": self.theorem, "def": self.body, "equality": self.equality, "congruence": self.congruence, "propositional": self.propositional}
         if word not in readers:
-            raise Wrong(f"'{word}' begins no item: import, theorem, def, local theorem, local def", place)
+            raise Wrong(f"'{word}' begins no item: import, theorem, def, local theorem, local def, equality, congruence, propositional",
+                        place)
         name_place, name = lexer.place(), lexer.take("name")
         made = readers[word](name, name_place)
         lexer.want(";")
@@ -92,9 +150,29 @@ class SourceReader(Reader):
         self.lexer.want("=")
         return Item("def", name, place, dummies=dummies, body=self.lexer.math())
 
-    def neighbour(self, name, place):
-        of = self.lexer.take("name") if self.lexer.skip("of") else None
-        return Item("neighbour", name, place, words=(of, self.lexer.take("string"), self.lexer.take("string")))
+    def equality(self, term, place):
+        """An equality, and the theorems that make it one."""
+        roles = {}
+        while not self.lexer.is_next(";"):
+            role_place, role = self.lexer.place(), self.lexer.take("name")
+            if role not in ROLES or role in roles:
+                raise Wrong(f"'{role}' says nothing of an equality here: {', '.join(it for it in ROLES if it not in roles)}", role_place)
+            roles[role] = self.names(self.lexer.take("name"))
+        return Item("equality", term, place, words=roles)
+
+    def congruence(self, name, place):
+        return Item("congruence", name, place, words=self.names(name))
+
+    def names(self, first):
+        """A list of names, whose first one is taken."""
+        found = [first]
+        while self.lexer.skip(","):
+            found.append(self.lexer.take("name"))
+        return found
+
+    def propositional(self, name, place):
+        """Implication, negation, three axioms, and modus ponens."""
+        return Item("propositional", name, place, words=[name, *(self.lexer.take("name") for _ in range(5))])
 
     def local(self, place):
         word_place, word = self.lexer.place(), self.lexer.take("name")
@@ -113,6 +191,7 @@ class SourceReader(Reader):
         """Whether this word begins a form here: a theorem may have its name."""
         return self.lexer.is_next(word) and self.lexer.is_kind(kind, 1)
 
+    @marked
     def proof(self, copied):
         lexer, place = self.lexer, self.lexer.place()
         if self.is_word("where", "name"):
@@ -132,6 +211,7 @@ class SourceReader(Reader):
             return Have(place, name, formula, first, self.proof(copied))
         return self.step(copied)
 
+    @marked
     def step(self, copied):
         lexer, place = self.lexer, self.lexer.place()
         if lexer.is_kind("math"):
@@ -142,12 +222,42 @@ class SourceReader(Reader):
             proof = self.proof(copied)
             lexer.want(")")
             return proof
+        start = lexer.next().start
+        if lexer.skip("?"):
+            depth = int(lexer.take("number")) if lexer.is_kind("number") else DEPTH
+            return Sorry(place, (start, lexer.end()), depth)
         name = self.name()
         if name == "sorry":
-            return Sorry(place)
+            return Sorry(place, (start, lexer.end()))
+        if name == "rw":
+            return self.rewrite(place, copied)
+        if name == "prop":
+            return Tautology(place, self.listed(copied))
         if name in copied:
             return Copy(place, name, copied[name])
         return Step(place, name, self.given(), self.parts(copied))
+
+    def rewrite(self, place, copied):
+        """`rw`, with the equations in brackets, and the proof of what the goal is turned into in parentheses."""
+        turned = []
+        equations = self.listed(copied, turned)
+        proof = None
+        if self.lexer.skip("("):
+            proof = self.proof(copied)
+            self.lexer.want(")")
+        return Rewrite(place, equations, turned, proof)
+
+    def listed(self, copied, turned=None):
+        """Proofs in brackets. Where `<-` may stand before them, `turned` takes whether it does."""
+        found = []
+        if self.lexer.skip("["):
+            while not self.lexer.skip("]"):
+                if turned is not None:
+                    turned.append(self.lexer.skip("<-"))
+                found.append(self.proof(copied))
+                if not self.lexer.is_next("]"):
+                    self.lexer.want(",")
+        return found
 
     def name(self):
         if not self.lexer.is_kind("name"):
@@ -175,6 +285,7 @@ class SourceReader(Reader):
                     self.lexer.want(",")
         return found
 
+    @marked
     def claim(self, copied):
         place, formula = self.lexer.place(), self.lexer.math()
         self.lexer.want("by")

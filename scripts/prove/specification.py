@@ -8,12 +8,25 @@ MODIFIERS = ("pure", "strict", "provable", "free")
 
 
 class Theory:
-    """What is declared so far, by name."""
+    """What is declared so far, by name. `state` is another number wherever something else can be written."""
 
     def __init__(self):
         self.sorts, self.terms, self.assertions = {}, {}, {}
         self.notations = Notations()
         self.places = {}  # what is declared: its place
+        self.state = 0
+
+    def turned(self, text):
+        """Notes that a text changes what can be written."""
+        self.state = hash((self.state, text))
+
+    def meanings(self, words):
+        """All that the reading of a text with these words rests on."""
+        notations = self.notations
+        spaces = self.sorts, self.terms, notations.leading, notations.infix
+        meant = {word: tuple(space.get(word) for space in spaces) for word in words}
+        provable = [it.name for it in self.sorts.values() if "provable" in it.modifiers]
+        return meant, frozenset(notations.left), frozenset(notations.right), dict(notations.coercions), provable
 
     def space(self, it):
         return {Sort: self.sorts, Term: self.terms, Assertion: self.assertions}[type(it)]
@@ -33,9 +46,13 @@ class Reader:
 
     def __init__(self, source, theory):
         self.lexer, self.theory = Lexer(source), theory
+        self.tokens = set()  # those of the formulas that are read
 
     def specification(self):
         """The declarations, one after the other; each is known to the theory when it is given."""
+        odd = self.lexer.source.odd()
+        if odd:
+            raise odd
         while not self.lexer.is_kind("end"):
             place = self.lexer.place()
             made = self.statement()
@@ -111,7 +128,9 @@ class Reader:
         return binders, dummies, hypotheses, variables
 
     def formula(self, math, variables, sort=None):
-        return Formula(math, self.theory, variables).whole(sort)
+        made = Formula(math, self.theory, variables)
+        self.tokens.update(token for token, _ in made.tokens)
+        return made.whole(sort)
 
     def term(self):
         name = self.lexer.take("name")
@@ -161,8 +180,7 @@ class Reader:
     def delimiter(self, _):
         first = self.lexer.take("math").split()
         second = self.lexer.take("math").split() if self.lexer.is_kind("math") else first
-        self.theory.notations.left |= set(first)
-        self.theory.notations.right |= set(second)
+        self.theory.notations.note("delimit", first, second)
 
     def prec(self):
         return MAX if self.lexer.skip("max") else int(self.lexer.take("number"))
@@ -173,10 +191,12 @@ class Reader:
         constant = self.lexer.take("math").strip()
         self.lexer.want("prec")
         level = self.prec()
+        if word != "prefix" and len(term.binders) != 2:
+            raise Wrong(f"{term.name} hasn't two parameters", self.lexer.place())
         if word == "prefix":
-            self.theory.notations.leading[constant] = level, term, list(range(len(term.binders)))
+            self.theory.notations.note("lead", constant, (level, term, list(range(len(term.binders)))))
         else:
-            self.theory.notations.infix[constant] = level, term, word == "infixl", 0, [1]
+            self.theory.notations.note("join", constant, (level, term, word == "infixl", 0, [1]))
 
     def notation(self, _):
         term = self.known(self.theory.terms, "term")
@@ -198,19 +218,27 @@ class Reader:
                 if name not in names:
                     raise Wrong(f"there is no parameter {name}", place)
                 literals.append(names.index(name))
+        self.want_form(literals, names)
         if self.lexer.skip(":"):
             level, side = self.prec(), self.lexer.take("name")
-            self.theory.notations.infix[literals[1][0]] = level, term, side == "lassoc", literals[0], literals[2:]
+            self.theory.notations.note("join", literals[1][0], (level, term, side == "lassoc", literals[0], literals[2:]))
         else:
             constant, level = literals[0]
-            self.theory.notations.leading[constant] = level, term, literals[1:]
+            self.theory.notations.note("lead", constant, (level, term, literals[1:]))
+
+    def want_form(self, literals, names):
+        """Each parameter once, and a constant where one has to stand: at the first place, or behind it."""
+        numbers = sorted(it for it in literals if isinstance(it, int))
+        first = literals[1:2] if self.lexer.is_next(":") else literals[:1]
+        if numbers != list(range(len(names))) or not first or isinstance(first[0], int):
+            raise Wrong("this makes no notation: each parameter stands in it once, and a constant at its head", self.lexer.place())
 
     def coercion(self, _):
         term = self.known(self.theory.terms, "term")
         self.lexer.want(":")
         low = self.lexer.take("name")
         self.lexer.want(">")
-        self.theory.notations.add_coercion(term, low, self.lexer.take("name"))
+        self.theory.notations.note("add_coercion", term, low, self.lexer.take("name"))
 
 
 def named(hypotheses):

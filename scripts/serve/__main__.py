@@ -7,17 +7,15 @@ The environment's MZ names the program; where it isn't built, it isn't built for
 """
 import os
 import sys
-import threading
 
 sys.dont_write_bytecode = True
 sys.path.insert(0, os.path.dirname(os.path.dirname(os.path.abspath(__file__))))
 
+import running  # noqa: E402
 from serve.diagnostics import ERROR, Diagnostics, NoProgram  # noqa: E402
 from serve.documents import ENDINGS, Workspace, uri_of  # noqa: E402
 from serve.protocol import Channel  # noqa: E402
 from serve.server import Server  # noqa: E402
-
-DEEPEST = 50_000
 
 
 def check(paths):
@@ -51,16 +49,11 @@ def main(words):
     return Server(Channel(sys.stdin.buffer, sys.stdout.buffer)).run()
 
 
-def run():
-    statuses.append(main(sys.argv[1:]))
+def serve():
+    status = running.deep(lambda: main(sys.argv[1:]))
+    sys.stdout.flush()
+    os._exit(status)  # what still waits for the editor is left
 
 
 if __name__ == "__main__":
-    statuses = []
-    sys.setrecursionlimit(DEEPEST)
-    threading.stack_size(512 * 1024 * 1024)
-    runner = threading.Thread(target=run)
-    runner.start()
-    runner.join()
-    sys.stdout.flush()
-    os._exit(statuses[0] if statuses else 1)  # what still waits for the editor is left
+    running.whole(serve)

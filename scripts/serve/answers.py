@@ -3,6 +3,7 @@ import os
 import re
 
 from .documents import uri_of
+from .goals import Goals
 from .wordings import wording
 
 SYMBOLS = {"sort": 5, "term": 12, "def": 12, "axiom": 14, "theorem": 12}  # as the protocol counts kinds of symbols
@@ -11,23 +12,26 @@ WORDS = {
     "mm0": ("sort term def axiom theorem pure strict provable free delimiter infixl infixr prefix notation coercion "
             "prec max").split(),
     "mmu": "sort term def axiom theorem local :conv :let :refl :sym :unfold :sorry".split(),
-    "proofs": "theorem def local import have where by sorry".split(),
+    "proofs": "theorem def local import equality congruence propositional have where by calc rw prop sorry".split(),
 }
 
 
 class Answers:
     def __init__(self, workspace):
-        self.workspace = workspace
+        self.workspace, self.goals = workspace, Goals(workspace)
 
     def _name(self, document, offset):
         names = self.workspace.names(document)
         return names.at(offset) if names else None
 
     def _documents(self, document):
-        """Where a name of this document may be declared: its family, and what its source imports."""
+        """Where a name of this document may be declared: its family, and what its source imports. A text that is made of a
+        source comes last."""
         family = self.workspace.family(document)
-        made = [it for it in family if it.kind == "mmu" and document.kind == "proofs"]  # the text is made of the source
-        return [*(it for it in family if it not in made), *self._imported(document, {document.stem}), *made]
+        made = [it for it in family if it.kind == "mmu" and document.kind == "proofs"]
+        yield from (it for it in family if it not in made)
+        yield from self._imported(document, {document.stem})
+        yield from made
 
     def _imported(self, document, seen):
         source = document if document.kind == "proofs" else self.workspace.beside(document, "proofs")
@@ -42,32 +46,41 @@ class Answers:
                     yield from self._imported(it, seen) if it else ()
 
     def _entries(self, document, name):
-        """The declarations of a name, with their documents; the specification's first."""
-        found = []
+        """The declarations of a name, with their documents, one by one; the specification's first."""
         for it in self._documents(document):
             names = self.workspace.names(it)
             entry = names.entry(name.space, name.text) if names else None
             if entry:
-                found.append((it, entry))
-        return found
+                yield it, entry
 
     def hover(self, document, offset):
-        """What a name stands for, in the specification's words where it has some."""
+        """What a name stands for, in the specification's words where it has some; in a proof with the goal there."""
+        made = self._named(document, offset)
+        goal = self.goals.hover(document, offset) if document.kind == "proofs" else None
+        if goal is None:
+            return made
+        made = made or {"contents": {"kind": "markdown", "value": ""}, "range": document.range(offset, offset)}
+        parts = [goal, made["contents"]["value"]]
+        made["contents"]["value"] = "\n\n".join(filter(None, parts))
+        return made
+
+    def _named(self, document, offset):
         name = self._name(document, offset)
         if name is None:
             return None
         if name.home is not None:
-            shown = self._worded(document, name) or self.workspace.names(document).notes.get(name.key)
+            shown = self._worded(document, name) or self.workspace.names(document).note(name.key)
             return _hover(document, name, [_code(document.kind, shown)]) if shown else None
-        found = self._entries(document, name)
+        found = next(self._entries(document, name), None)
         if not found:
             return None
-        where, entry = found[0]
+        where, entry = found
         parts = [_code(where.kind, "\n".join([entry.shown, *entry.notations]))]
         if entry.about:
             parts.append(entry.about)
         if where.stem != document.stem or where.kind != document.kind:
-            parts.append(f"{os.path.basename(where.path)}, line {where.position(entry.start)['line'] + 1}")
+            at = where.position(entry.start)
+            parts.append(f"{os.path.basename(where.path)}:{at['line'] + 1}:{at['character'] + 1}")
         return _hover(document, name, parts)
 
     def _worded(self, document, name):
@@ -88,7 +101,7 @@ class Answers:
             return None
         if name.home is not None:
             return [_location(document, it.start, it.end) for it in self.workspace.names(document).of(name.key) if it.declares]
-        found = self._entries(document, name)
+        found = list(self._entries(document, name))
         others = [it for it in found if it[0] is not document]
         chosen = others if name.declares and others else [it for it in found if it[0] is document] or found
         return [_location(where, it.name_start, it.name_start + len(it.name)) for where, it in chosen[:1]]
@@ -113,6 +126,10 @@ class Answers:
         names = self.workspace.names(document)
         if names is None:
             return []
+        if document.kind == "proofs" and not self._is_formula(document, offset):
+            steps = self.goals.steps(document, offset)
+            if steps is not None:
+                return steps
         spaces = self._spaces(document, offset)
         items = {}
         for where in self._documents(document):
@@ -120,9 +137,8 @@ class Answers:
                 is_behind = where is document and it.start >= offset
                 if it.space in spaces and not is_behind:
                     items.setdefault(it.name, _item(it.name, ITEMS[it.kind], it.shown, it.about))
-        statement = next((it for it in reversed(names.entries) if it.start <= offset), None)
-        for (space, word, home), note in names.notes.items():
-            if space in spaces and statement and home == statement.home:
+        for (space, word), note in names.notes_of(names.before(offset)).items():
+            if space in spaces:
                 items.setdefault(word, _item(word, ITEMS[space], note))
         if not self._is_formula(document, offset):
             items |= {word: _item(word, ITEMS["word"], "") for word in WORDS[document.kind]}

@@ -27,7 +27,7 @@ class Diagnostics:
 
     def _put(self, name, text):
         path = os.path.join(self.room, name)
-        with open(path, "w", encoding="utf-8", newline="") as file:
+        with open(path, "w", encoding="utf-8", errors="surrogateescape", newline="") as file:
             file.write(text)
         return path
 
@@ -79,21 +79,19 @@ class Diagnostics:
         return [_diagnostic(document.range(start, end), f"{os.path.basename(spec.path)}: {message}", ERROR, found[2])]
 
     def _source(self, document):
-        """What the script that proves sources says; nothing where it isn't there."""
-        try:
-            from prove.command import examined
-        except ImportError:
-            return []
-        writer, problems = examined(document.path, document.text)
+        """What is said of a source, without the program."""
+        writer, problems = self.workspace.examined(document)
         made = [self._problem(document, it, ERROR) for it in problems]
         return made + [self._problem(document, it, WARNING) for it in (writer.gaps if writer else ())]
 
     def _problem(self, document, problem, severity):
-        place = problem.place
-        start = 0
-        if place and os.path.abspath(place.path) == os.path.abspath(document.path):
-            start = document.offset({"line": place.line - 1, "character": place.column - 1})
-        said = [problem.why, *(f"{label}: {text}" for label, texts in problem.details for text in texts)]
+        """A problem at its place; of one in another file the place is told, and it stands at the top."""
+        place, why = problem.place, problem.why
+        is_here = place and os.path.abspath(place.path) == os.path.abspath(document.path)
+        start = place.at if is_here else 0
+        if place and not is_here:
+            why = f"{os.path.basename(place.path)}:{place.line}:{place.column}: {why}"
+        said = [why, *(f"{label}: {text}" for label, texts in problem.details for text in texts)]
         return _diagnostic(document.range(start, _end(document, start)), "\n".join(said), severity, None)
 
     def _at_byte(self, document, line, words):

@@ -6,9 +6,17 @@ import threading
 from .answers import Answers
 from .diagnostics import Diagnostics, NoProgram
 from .documents import Document, Workspace
+from .protocol import Unreadable
 
-PAUSE = 0.15  # seconds without a message, after which what was changed is judged
-NO_METHOD, INVALID, INTERNAL = -32601, -32600, -32603
+PAUSE = 0.05  # seconds without a message, after which what was changed is judged
+NO_METHOD, INVALID, INTERNAL, NO_JSON = -32601, -32600, -32603, -32700
+CAPABILITIES = {
+    "textDocumentSync": {"openClose": True, "change": 1, "save": True},
+    "hoverProvider": True, "definitionProvider": True, "referencesProvider": True, "documentSymbolProvider": True,
+    "completionProvider": {"triggerCharacters": ["(", ":", "$", ","], "resolveProvider": True},
+    "codeLensProvider": {"resolveProvider": True},
+    "codeActionProvider": {"codeActionKinds": ["quickfix"], "resolveProvider": True},
+}
 
 
 class Server:
@@ -16,6 +24,7 @@ class Server:
         self.channel = channel
         self.workspace = Workspace()
         self.answers, self.diagnostics = Answers(self.workspace), Diagnostics(self.workspace)
+        self.goals = self.answers.goals
         self.messages, self.changed = queue.Queue(), {}
         self.is_shut = self.has_warned = False
         self._requests = {
@@ -25,6 +34,10 @@ class Server:
             "textDocument/references": self._references,
             "textDocument/documentSymbol": lambda it: self.answers.symbols(self._document(it)),
             "textDocument/completion": lambda it: self.answers.completion(*self._place(it)),
+            "completionItem/resolve": self._completed,
+            "textDocument/codeLens": lambda it: self.goals.lenses(self._document(it)), "codeLens/resolve": self._lens,
+            "textDocument/codeAction": self._actions, "codeAction/resolve": self._acted,
+            "mz/goal": lambda it: self.goals.here(*self._place(it)),
         }
         self._notices = {
             "textDocument/didOpen": self._opened, "textDocument/didChange": self._edited,
@@ -40,20 +53,28 @@ class Server:
             except queue.Empty:
                 self._guarded(self._judge)
                 continue
-            if message is None or message.get("method") == "exit":
+            if isinstance(message, Unreadable):
+                self._refuse({}, NO_JSON, str(message))
+            elif message is None or is_message(message) and message.get("method") == "exit":
                 return 0 if self.is_shut else 1
-            self._take(message)
+            else:
+                self._take(message)
 
     def _listen(self):
         message = True
         while message is not None:
             try:
                 message = self.channel.read()
-            except ValueError:
+            except Unreadable as why:
+                message = why
+            except (OSError, ValueError):
                 message = None
             self.messages.put(message)
 
     def _take(self, message):
+        if not is_message(message):
+            self._refuse(message if isinstance(message, dict) else {}, INVALID, "this is no message of the protocol")
+            return
         method, parameters = message.get("method"), message.get("params") or {}
         if "id" not in message:
             self._guarded(self._notices.get(method, lambda _: None), parameters)
@@ -71,7 +92,7 @@ class Server:
             self._refuse(message, INTERNAL, f"{type(fault).__name__}: {fault}")
 
     def _refuse(self, message, code, why):
-        self.channel.write({"id": message["id"], "error": {"code": code, "message": why}})
+        self.channel.write({"id": message.get("id"), "error": {"code": code, "message": why}})
 
     def _guarded(self, call, *given):
         """Calls, and says on standard error what goes wrong: the server goes on."""
@@ -81,14 +102,7 @@ class Server:
             print(f"mz serve: {type(fault).__name__}: {fault}", file=sys.stderr, flush=True)
 
     def _initialize(self, _):
-        return {
-            "capabilities": {
-                "textDocumentSync": {"openClose": True, "change": 1, "save": True},
-                "hoverProvider": True, "definitionProvider": True, "referencesProvider": True,
-                "documentSymbolProvider": True, "completionProvider": {"triggerCharacters": ["(", ":", "$"]},
-            },
-            "serverInfo": {"name": "mz"},
-        }
+        return {"capabilities": CAPABILITIES, "serverInfo": {"name": "mz"}}
 
     def _shutdown(self, _):
         self.is_shut = True
@@ -103,6 +117,30 @@ class Server:
     def _references(self, parameters):
         return self.answers.references(*self._place(parameters), parameters["context"]["includeDeclaration"])
 
+    def _completed(self, item):
+        document = self.workspace.open.get(item.get("data"))
+        return {**item, "detail": self.goals.detail(document, item["label"])} if document else item
+
+    def _lens(self, lens):
+        document = self.workspace.open[lens["data"]["uri"]]
+        return {**lens, "command": {"title": self.goals.lens(document, lens["data"]["at"]), "command": ""}}
+
+    def _actions(self, parameters):
+        document, places = self._document(parameters), parameters["range"]
+        return self.goals.actions(document, document.offset(places["start"]), document.offset(places["end"]))
+
+    def _acted(self, action):
+        """Looks for the proof that an action is to write."""
+        it = action["data"]
+        edits, said = self.goals.found(self.workspace.open[it["uri"]], it["from"], it["to"], it["depth"])
+        if not edits:
+            self._show(f"Nothing is found: {said}")
+            return action
+        return {**action, "edit": {"changes": {it["uri"]: edits[:1]}}}
+
+    def _show(self, text):
+        self.channel.write({"method": "window/showMessage", "params": {"type": 2, "message": text}})
+
     def _opened(self, parameters):
         it = parameters["textDocument"]
         self._set(it["uri"], it["text"])
@@ -112,8 +150,10 @@ class Server:
             self._set(parameters["textDocument"]["uri"], parameters["contentChanges"][-1]["text"])
 
     def _set(self, uri, text):
-        self.workspace.open[uri] = Document(uri, text)
+        self.workspace.open[uri] = document = Document(uri, text)
         self.changed[uri] = None
+        if document.kind in ("mm0", "proofs"):  # the open sources may rest on it
+            self.changed.update({it.uri: None for it in self.workspace.open.values() if it.kind == "proofs" and it is not document})
 
     def _saved(self, parameters):
         """Another document of the family may be judged by what was saved."""
@@ -136,8 +176,14 @@ class Server:
             self._publish(uri, self.diagnostics.of(self.workspace.open[uri]))
         except NoProgram as why:
             if not self.has_warned:
-                self.channel.write({"method": "window/showMessage", "params": {"type": 2, "message": str(why)}})
+                self._show(str(why))
             self.has_warned = True
 
     def _publish(self, uri, found):
         self.channel.write({"method": "textDocument/publishDiagnostics", "params": {"uri": uri, "diagnostics": found}})
+
+
+def is_message(message):
+    """Whether this is a request, a notice or an answer."""
+    return isinstance(message, dict) and isinstance(message.get("method", ""), str) and isinstance(message.get("params") or {}, dict) \
+        and ("method" in message or "result" in message or "error" in message)

@@ -97,27 +97,25 @@ class Heaps(unittest.TestCase):
 
 
 class Tables(unittest.TestCase):
-    def put(self, table, **how):
+    def put(self, table, name="some"):
         with tempfile.NamedTemporaryFile("w+") as file:
             file.write(PAGE)
             file.flush()
             with contextlib.redirect_stdout(io.StringIO()):
-                pages.put("some", table, path=file.name, **how)
+                pages.put(name, table, path=file.name)
             file.seek(0)
             before, lines, behind = pages.parted(file.read(), "some")
         self.assertTrue(before.startswith("before\n") and behind.endswith("behind\n"))
         return lines
 
-    def test_some_rows(self):
-        self.assertEqual(self.put(["| A | B |", "|---|---|", "| y | 3 |", "| z | 4 |"]), ["| A | B |", "|---|---|", "| x | 1 |", "| y | 3 |", "| z | 4 |"])
-
-    def test_whole(self):
-        whole = ["| A | B |", "|---|---|", "| z | 4 |"]
-        self.assertEqual(self.put(whole, is_whole=True), whole)
+    def test_rows_of_the_page(self):
+        self.assertEqual(self.put(["| A | B |", "|---|---|", "| y | 3 |", "| z | 4 |"]), ["| A | B |", "|---|---|", "| x | 1 |", "| y | 3 |"])
 
     def test_other_columns(self):
-        other = ["| A | C |", "|---|---|", "| y | 3 |"]
-        self.assertEqual(self.put(other), other)
+        self.assertEqual(self.put(["| A | C |", "|---|---|", "| y | 3 |"]), ["| A | C |", "|---|---|", "| y | 3 |"])
+
+    def test_a_table_that_the_page_does_not_have(self):
+        self.assertEqual(self.put(["| A | B |", "|---|---|", "| y | 3 |"], name="other"), ["| A | B |", "|---|---|", "| x | 1 |", "| y | 2 |"])
 
 
 class Rows(unittest.TestCase):

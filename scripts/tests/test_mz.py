@@ -1,16 +1,28 @@
 """Tries ./mz over a small repository, with a kit that proves nothing and a program that only prints what it was given."""
+import hashlib
 import os
 import shutil
 import signal
 import subprocess
+import sys
 import tempfile
 import time
 import unittest
 
 TOP = os.path.dirname(os.path.dirname(os.path.dirname(os.path.abspath(__file__))))
+sys.path.insert(0, os.path.join(TOP, "scripts"))
+
+import manual  # noqa: E402
 
 KIT = r"""#!/bin/sh
 if [ "$1" = version ]; then echo "kit-of-tests"; exit; fi
+if [ "$1" = try ]; then
+    echo "try ${PWD##*/}" >>"$FAKE_TRIED"
+    shift 4
+    "$FAKE_PROGRAM" "$@"
+    printf 'checked: ended status=%s\nrun=ended status=%s runners=1 proved=no\n' "$?" "$?" >&2
+    exit
+fi
 echo "$$ $(sed 's/[ :].*//' crates.txt | tr '\n' ' ')" >>"$FAKE_LOG"
 sleep "${FAKE_SLEEP:-0}"
 for name in $(sed 's/[ :].*//' crates.txt); do
@@ -20,6 +32,7 @@ if [ -n "$FAKE_FAILS" ]; then echo "rt: $name NOT PROVED"; echo "1 passed, 1 fai
 mkdir -p "crates/$name/out"
 cp "$FAKE_PROGRAM" "crates/$name/out/$name"
 chmod +x "crates/$name/out/$name"
+if [ -n "$FAKE_ENDS" ]; then echo "1 passed, 1 failed"; exit 1; fi
 echo "2 passed, 0 failed"
 """
 PROGRAM = r"""#!/bin/sh
@@ -37,7 +50,7 @@ class Checkout:
         self.room = os.path.realpath(tempfile.mkdtemp(prefix="test mz "))
         self.top = os.path.join(self.room, "a checkout")
         self.log = os.path.join(self.room, "log")
-        for it in ("mz", "scripts/build", "scripts/manual", "scripts/explain", "docs/RULES.md", "examples/empty.mmb"):
+        for it in ("mz", "scripts/running.py", "scripts/build", "scripts/manual", "scripts/explain", "scripts/shell", "docs/RULES.md", "examples/empty.mmb", "mz.1", "editors/bash/mz.bash"):
             self.copy(it)
         for name in ("mz_base", "mz_verifier", "mz_tool", "mz_main"):
             self.write(f"a checkout/crates/{name}/src/{'lib' if name in ('mz_base', 'mz_tool') else 'main'}.rt", f"//! What {name} is.\n")
@@ -46,8 +59,10 @@ class Checkout:
         self.write("bin/rt", KIT, 0o755)
         self.write("program", PROGRAM, 0o755)
         os.mkdir(os.path.join(self.room, "tmp"))
+        for name in ("a", "b", "x", "a b", "--c d", "a spec", "text"):
+            self.write(name, "")
         self.environment = {"PATH": f"{self.room}/bin:{os.environ['PATH']}", "HOME": os.path.join(self.room, "home"), "TMPDIR": os.path.join(self.room, "tmp"),
-                            "FAKE_LOG": self.log, "FAKE_PROGRAM": os.path.join(self.room, "program")}
+                            "FAKE_LOG": self.log, "FAKE_TRIED": self.log + ".tried", "FAKE_PROGRAM": os.path.join(self.room, "program")}
 
     def copy(self, path):
         source, to = os.path.join(TOP, path), os.path.join(self.top, path)
@@ -68,6 +83,15 @@ class Checkout:
     def start(self, *words, script=None, **environment):
         how = {"stdin": subprocess.DEVNULL, "stdout": subprocess.PIPE, "stderr": subprocess.PIPE, "text": True, "cwd": self.room, "start_new_session": True}
         return subprocess.Popen([script or os.path.join(self.top, "mz"), *words], env={**self.environment, **environment}, **how)
+
+    def write_after(self, path, text):
+        """Adds to a file of the checkout."""
+        old = ""
+        whole = os.path.join(self.top, path)
+        if os.path.exists(whole):
+            with open(whole, encoding="utf-8") as file:
+                old = file.read()
+        return self.write(os.path.join("a checkout", path), old + text)
 
     def run(self, *words, **given):
         ran = self.start(*words, **given)
@@ -105,6 +129,10 @@ class Mz(unittest.TestCase):
         self.assertEqual(status, 0)
         self.assertTrue(said.startswith("usage: mz assemble LIST OUT\n"), said)
 
+    def test_help_behind_a_command(self):
+        for command in ("assemble", "export"):
+            self.assertEqual(self.at.run(command, "--help"), self.at.run("help", command))
+
     def test_help_of_no_command_names_the_nearest(self):
         status, _, complained = self.at.run("help", "asemble")
         self.assertEqual(status, 2)
@@ -118,6 +146,20 @@ class Mz(unittest.TestCase):
         status, said, _ = self.at.run("--version")
         for word in ("commit", "program  mz_main", "sha256", "sources", "kit      kit-of-tests"):
             self.assertIn(word, said)
+
+    def test_help_of_each_command_builds_nothing(self):
+        calls = [(it.name, "--help") for it in manual.read().commands]
+        for name, word in [*calls, ("verify", "-h")]:
+            status, said, complained = self.at.run(name, word)
+            self.assertEqual((status, complained), (0, ""), name)
+            self.assertTrue(said.startswith(f"usage: mz {name}"), said)
+        self.assertEqual(self.at.builds(), [])
+
+    def test_a_call_whose_files_are_not_there_builds_nothing(self):
+        for words in (["verify", "a", "c"], ["show", "no folder/c"], ["compile", "c", "b"], ["axioms", "bin", "b"], ["check", "c"]):
+            status, said, complained = self.at.run(*words)
+            self.assertEqual((status, said, self.at.builds()), (3, "", []), words)
+            self.assertTrue(complained.startswith("ReadFault\nmz: "), complained)
 
     def test_wrong_words_build_nothing(self):
         for words, wanted in ((["verfy", "a", "b"], "the nearest is verify SPEC BIN"), (["verify", "a"], "BIN is missing"), (["verify", "a", "b", "c"], "'c' is one too many"),
@@ -182,6 +224,9 @@ class Mz(unittest.TestCase):
         status, _, complained = self.at.run("verify", "a", "b", PATH=path)
         self.assertEqual(status, 125)
         self.assertIn("there is no rt", complained)
+        status, said, complained = self.at.run("try", "verify", "a", "b", PATH=path)
+        self.assertEqual((status, said), (125, ""))
+        self.assertIn("there is no rt", complained)
 
     def test_a_failed_build(self):
         status, said, complained = self.at.run("verify", "a", "b", FAKE_FAILS="1")
@@ -241,6 +286,129 @@ class Mz(unittest.TestCase):
         self.at.write("a checkout/crates/mz_tool/src/lib.rt", "//! What mz_tool is.\n")
         self.assertEqual(self.at.run("compile", "a", "b", MZ_BUILD="never")[0], 0)
 
+    # which command is whose
+
+    def test_each_command_is_served_by_a_program_that_has_it(self):
+        """Where the verifier alone is built, what it doesn't have makes the whole be built."""
+        self.at.run("verify", "a", "b")
+        for it in manual.read().of_program():
+            built = len(self.at.builds())
+            words = [it.name, *("2" if word == "N" else "out" if word == "OUT" else "a" for word in it.words)]
+            self.assertEqual(self.at.run(*words)[0], 0, words)
+            crates = [it[-1] for it in self.at.builds()[built:]]
+            self.assertEqual(crates, [] if it.name in ("verify", "show") else ["mz_main"], words)
+            shutil.rmtree(self.program_of("mz_main"), True) if crates else None
+
+    # what is built is what runs
+
+    def planted(self, crate="mz_verifier"):
+        """The path of the built program, in whose place another says yes to all."""
+        path = os.path.join(self.program_of(crate), crate)
+        self.at.write(os.path.relpath(path, self.at.room), "#!/bin/sh\necho accepted: 1 sorts\n", 0o755)
+        return path
+
+    def test_another_program_in_the_place_of_the_built_one_is_not_run(self):
+        self.at.run("verify", "a", "b")
+        path = self.planted()
+        status, said, complained = self.at.run("verify", "a", "b", MZ_BUILD="never")
+        self.assertEqual((status, said), (125, ""))
+        self.assertIn(f"{path} isn't run: its checksum isn't the one that the build recorded", complained)
+        self.assertEqual(self.at.run("verify", "a", "b")[:2], (0, "<verify><a><b>\n"))
+        self.assertEqual(len(self.at.builds()), 2)
+
+    def test_a_program_whose_text_beside_it_is_changed_too_is_not_run(self):
+        self.at.run("verify", "a", "b")
+        path = self.planted()
+        with open(path, "rb") as file:
+            own = hashlib.sha256(file.read()).hexdigest()
+        self.at.write(os.path.relpath(os.path.join(os.path.dirname(path), "BUILT"), self.at.room), f"program  mz_verifier\nsha256   {own}\n")
+        self.assertEqual(self.at.run("verify", "a", "b", MZ_BUILD="never")[:2], (125, ""))
+
+    def test_a_program_that_no_build_here_has_recorded_is_not_run(self):
+        self.at.run("verify", "a", "b")
+        status, said, complained = self.at.run("verify", "a", "b", MZ_BUILD="never", XDG_STATE_HOME=os.path.join(self.at.room, "another"))
+        self.assertEqual((status, said), (125, ""))
+        self.assertIn("isn't run: no build here has recorded it", complained)
+
+    def test_what_others_may_write_is_not_used(self):
+        self.at.run("verify", "a", "b")
+        place = self.program_of("mz_verifier")
+        record = os.path.join(self.at.room, "home/.local/state/mz/built")
+        for path in (os.path.dirname(place), place, os.path.join(place, "mz_verifier"), record):
+            mode = os.stat(path).st_mode
+            for wrong in (0o020, 0o002):
+                os.chmod(path, mode | wrong)
+                status, said, complained = self.at.run("verify", "a", "b", MZ_BUILD="never")
+                self.assertEqual((status, said), (125, ""), path)
+                self.assertIn("others may write", complained)
+            os.chmod(path, mode)
+        self.assertEqual(self.at.run("verify", "a", "b", MZ_BUILD="never")[0], 0)
+
+    @unittest.skipUnless(os.geteuid() == 0, "only root can give a folder away")
+    def test_what_belongs_to_another_user_is_not_used(self):
+        self.at.run("verify", "a", "b")
+        for path in (os.path.dirname(self.program_of("mz_verifier")), self.program_of("mz_verifier"), os.path.join(self.at.room, "home/.local/state/mz/built")):
+            os.chown(path, 65534, 65534)
+            self.assertEqual(self.at.run("verify", "a", "b", MZ_BUILD="never")[:2], (125, ""), path)
+            os.chown(path, 0, 0)
+
+    def test_another_kit_builds_anew(self):
+        self.at.run("verify", "a", "b")
+        self.at.write("bin/rt", KIT.replace("kit-of-tests", "another-kit"), 0o755)
+        self.assertEqual(self.at.run("verify", "a", "b", MZ_BUILD="never")[0], 125)
+        self.assertEqual(self.at.run("verify", "a", "b")[0], 0)
+        self.assertEqual(len(self.at.builds()), 2)
+
+    def test_each_kind_of_source_counts(self):
+        """What a program is built of: rows, handles, and the files of a crate but for its tests of the prover and its streams."""
+        parts = ["crates/mz_base/src/more.rt", "crates/mz_base/specs/One.antt", "crates/mz_base/proofs/One.antt", "crates/mz_base/c/one.c", "HANDLES", "crates.txt"]
+        for path in parts:
+            old = self.sum_of("mz_verifier")
+            self.at.write_after(path, "# more\n")
+            self.assertEqual(self.sum_of("mz_verifier") != old, path != "crates.txt", path)
+        old = self.sum_of("mz_verifier")
+        self.at.write("a checkout/crates.txt", CRATES.replace("mz_verifier: mz_base", "mz_verifier: mz_base mz_tool"))
+        self.assertNotEqual(self.sum_of("mz_verifier"), old)
+
+    def sum_of(self, crate):
+        """Both checksums of what the crate's program is built of."""
+        words = ["sh", os.path.join(self.at.top, "scripts/build/sum"), self.at.top, crate]
+        return subprocess.run(words, env=self.at.environment, stdout=subprocess.PIPE, text=True, check=True).stdout
+
+    def test_what_the_gate_refuses_is_not_built(self):
+        """The kit has made a program, and says that not all is proved."""
+        status, said, complained = self.at.run("verify", "a", "b", FAKE_ENDS="1")
+        self.assertEqual((status, said), (125, ""))
+        self.assertIn("rt ci ended with 1", complained)
+        self.assertEqual(self.at.run("verify", "a", "b", MZ_BUILD="never")[0], 125)
+
+    # unproved
+
+    def test_an_unproved_run_is_no_answer_and_leaves_nothing(self):
+        for words, crate in ((["verify", "a", "b"], "mz_verifier"), (["show", "b"], "mz_verifier"), (["compile", "a", "b"], "mz_main")):
+            status, said, complained = self.at.run("try", *words)
+            self.assertEqual((status, said), (125, ""))
+            shown = "".join(f"<{it if it in words[:1] else os.path.join(self.at.room, it)}>" for it in words)
+            self.assertIn(f"\nunproved: {shown}\n", complained)
+            self.assertIn("proof has not been checked on this machine", complained)
+            with open(self.at.log + ".tried", encoding="utf-8") as file:
+                self.assertEqual(file.read().split("\n")[-2], f"try {crate}")
+        self.assertEqual(self.at.builds(), [])
+        self.assertFalse(os.path.exists(os.path.join(self.at.top, "out")))
+        self.assertEqual(self.at.run("verify", "a", "b", MZ_BUILD="never")[0], 125)
+
+    def test_an_unproved_refusal_is_explained(self):
+        line = "refused: match declaration 1 statement 1: M4 modifiers"
+        status, said, complained = self.at.run("try", "verify", "a", "b", FAKE_STATUS="1", FAKE_LINE=line)
+        self.assertEqual((status, said), (125, ""))
+        self.assertIn(f"unproved: {line}\n", complained)
+        self.assertIn("Two sorts have other modifiers", complained)
+
+    def test_an_unproved_run_of_wrong_words_compiles_nothing(self):
+        for words, wanted in (([], 2), (["verify", "a"], 2), (["check", "a"], 2), (["verify", "a", "no such file"], 3)):
+            self.assertEqual(self.at.run("try", *words)[:2], (wanted, ""), words)
+        self.assertFalse(os.path.exists(self.at.log + ".tried"))
+
     # anywhere
 
     def test_through_links_and_from_any_folder(self):
@@ -251,17 +419,34 @@ class Mz(unittest.TestCase):
         for name in ("one", "two"):
             self.assertEqual(self.at.run("show", "x", script=os.path.join(self.at.room, "links", name))[:2], (0, "<show><x>\n"))
 
-    def test_install(self):
-        os.mkdir(os.path.join(self.at.room, "my bin"))
-        status, said, complained = self.at.run("install", "my bin")
-        self.assertEqual(status, 0, complained)
+    def test_install_brings_links_and_the_program_and_uninstall_takes_the_links_away(self):
+        os.makedirs(os.path.join(self.at.room, "my home/bin"))
+        links = [os.path.join(self.at.room, "my home", it) for it in ("bin/mz", "share/man/man1/mz.1", "share/bash-completion/completions/mz")]
+        for _ in range(2):
+            status, said, complained = self.at.run("install", "my home/bin")
+            self.assertEqual((status, all(map(os.path.exists, links))), (0, True), complained)
         self.assertIn("PATH doesn't name", complained)
-        self.assertEqual(self.at.run("show", "x", script=os.path.join(self.at.room, "my bin/mz"))[:2], (0, "<show><x>\n"))
-        self.assertEqual(self.at.run("install", "my bin")[0], 0)
-        os.remove(os.path.join(self.at.room, "my bin/mz"))
-        self.at.write("my bin/mz", "another")
-        self.assertEqual(self.at.run("install", "my bin")[0], 1)
-        self.assertEqual(self.at.run("install", "no folder")[0], 2)
+        self.assertIn("out/program/mz_main-", said)
+        self.assertEqual(len(self.at.builds()), 1)
+        self.assertEqual(self.at.run("show", "x", script=links[0])[:2], (0, "<show><x>\n"))
+        status, said, _ = self.at.run("uninstall", "my home/bin")
+        self.assertEqual((status, said.count("is gone"), any(map(os.path.lexists, links))), (0, 3, False))
+        self.assertTrue(os.path.exists(os.path.join(self.at.top, "mz.1")))
+
+    def test_install_into_the_home_folder(self):
+        self.assertEqual(self.at.run("install", MZ_BUILD="never")[0], 0)
+        self.assertTrue(os.path.exists(os.path.join(self.at.room, "home/.local/share/man/man1/mz.1")))
+        self.assertEqual(self.at.builds(), [])
+
+    def test_install_and_uninstall_leave_other_files_alone(self):
+        other = self.at.write("my bin/mz", "another")
+        for verb, wanted in (("install", 1), ("uninstall", 0)):
+            self.assertEqual(self.at.run(verb, "my bin")[0], wanted)
+            self.assertEqual(self.at.run(verb, "no folder")[0], 2)
+            self.assertEqual(self.at.run(verb, "my bin", "x")[0], 2)
+        with open(other, encoding="utf-8") as file:
+            self.assertEqual(file.read(), "another")
+        self.assertEqual(os.listdir(os.path.join(self.at.room, "my bin")), ["mz"])
 
     def test_names_with_blanks_and_dashes(self):
         for explains in ("0", "1"):
@@ -280,22 +465,33 @@ class Mz(unittest.TestCase):
 
     def test_status_and_lines_are_the_programs(self):
         line = "refused: match declaration 1 statement 1: M4 modifiers"
-        for explains in ("0", "1"):
-            status, said, complained = self.at.run("verify", "a", "b", MZ_EXPLAIN=explains, FAKE_STATUS="1", FAKE_LINE=line)
+        for explains in ({"MZ_EXPLAIN": "0"}, {"MZ_EXPLAIN": "1"}, {}):
+            status, said, complained = self.at.run("verify", "a", "b", FAKE_STATUS="1", FAKE_LINE=line, **explains)
             self.assertEqual((status, said), (1, f"{line}\n"))
-            self.assertEqual("Two sorts have other modifiers" in complained, explains == "1")
+            self.assertEqual("Two sorts have other modifiers" in complained, explains != {"MZ_EXPLAIN": "0"})
+
+    def test_each_status_is_the_programs(self):
+        for explains in ("0", "1"):
+            for status in range(8):
+                found, said, _ = self.at.run("verify", "a", "b", MZ_EXPLAIN=explains, FAKE_STATUS=str(status))
+                self.assertEqual((found, said), (status, "<verify><a><b>\n"))
 
     def test_faults_are_explained(self):
-        _, _, complained = self.at.run("verify", "no such file", "b", MZ_EXPLAIN="1", FAKE_STATUS="3")
+        _, _, complained = self.at.run("verify", "no such file", "b", FAKE_STATUS="3")
         self.assertIn("mz: no such file: no such file", complained)
-        _, _, complained = self.at.run("compile", self.at.log, "no folder/b", MZ_EXPLAIN="1", FAKE_STATUS="5")
+        _, _, complained = self.at.run("compile", "a", "no folder/b", FAKE_STATUS="5")
         self.assertIn("there is no directory no folder", complained)
 
-    def test_a_warning_where_out_is_read(self):
+    def test_what_is_read_is_not_written_over(self):
         text = self.at.write("text", "(sort s)")
-        self.assertIn("warning", self.at.run("compile", text, "./text")[2])
-        self.assertNotIn("warning", self.at.run("compile", text, "other")[2])
-        self.assertIn("warning", self.at.run("decompile", "spec", text, text)[2])
+        for words in (("compile", text, "./text"), ("compile_draft", text, text), ("spec", text, text), ("assemble", text, text),
+                      ("decompile", text, "b", text), ("decompile", "spec", text, text)):
+            status, said, complained = self.at.run(*words)
+            self.assertEqual((status, said), (2, ""), words)
+            self.assertIn("is read and written", complained)
+            status, said, _ = self.at.run(words[0], "--force", *words[1:])
+            self.assertEqual((status, said), (0, "".join(f"<{it}>" for it in words) + "\n"))
+        self.assertEqual(self.at.run("compile", text, "other")[0], 0)
 
     def test_check(self):
         for status, line, wanted in (

@@ -6,7 +6,7 @@ use Rattle.std.proofs.lemmas.Bool.{eqb-true, ne_eqb}
 use Rattle.std.proofs.lemmas.List.{take_at, drop_at, take_all}
 use Rattle.std.proofs.lemmas.List.Sums.{split_at_first, passes_at_first}
 use Rattle.std.proofs.lemmas.Option.{cond_some}
-use Rattle.mz_base_theory.proofs.Offered.{both-true, same-bytes, some-length}
+use Rattle.mz_base.proofs.Offered.{both-true, same-bytes, some-length, digit-between}
 use Rattle.mz_cmd.specs.declared.code.ProofCode.{ProofCode}
 use Rattle.mz_cmd.specs.declared.code.ProofCode.TheVariants as proofs
 use Rattle.mz_cmd.specs.declared.code.UnifyCode.{UnifyCode}
@@ -18,7 +18,6 @@ use Rattle.mz_asm.specs.declared.kind.Kind.TheVariants as kinds
 use Rattle.mz_asm.specs.declared.line.Line.{Line}
 use Rattle.mz_asm.specs.declared.line.Line.TheVariants as lines
 use Rattle.mz_base.specs.Identifiers.{is_digit}
-use Rattle.mz_base.proofs.Offered.{digit-between}
 use Rattle.mz_asm.specs.Numbers.{are_digits, IsNumber, number_in, word_in}
 use Rattle.mz_asm.specs.Lines.{kind_name, IsValue, IsLine}
 use Rattle.mz_asm.specs.Reading.{kind_of_word, local_kind_of_word, unify_named, plain_proof_named, proof_named, first_word, other_words, head_of, numbers_in, head_in, param_of, param_in, result_of, result_in, value_in, unify_valued, unify_of, unify_line_in, proof_valued, proof_of, proof_line_in, part_named, part_in, line_named, line_in}

@@ -8,13 +8,12 @@ use Rattle.std.proofs.lemmas.Fmt.{decimal-digits_value}
 use Rattle.std.proofs.lemmas.Str.Parse.{numerals_by_value, tells_digits}
 use Rattle.std.proofs.lemmas.List.Sums.{split_at_first, passes_at_first}
 use Rattle.std.proofs.lemmas.Str.{digit_value_digit}
-use Rattle.mz_base_theory.proofs.Offered.{both-true}
+use Rattle.mz_base.proofs.Offered.{both-true, digit-between}
 use Rattle.mz_show.specs.Tokens.{texts, numbered, param_line, result_line, command_words, unify_name, unify_has_number, proof_name, proof_has_number}
 use Rattle.mz_asm.specs.declared.line.Line.{Line}
 use Rattle.mz_asm.specs.declared.line.Line.TheVariants as lines
 use Rattle.mz_asm.specs.declared.rows.Rows.{Rows}
 use Rattle.mz_base.specs.Identifiers.{is_digit}
-use Rattle.mz_base.proofs.Offered.{digit-between}
 use Rattle.mz_asm.specs.Numbers.{are_digits, is_numeral, IsNumber}
 use Rattle.mz_asm.specs.Lines.{kind_name, IsValue, IsLine}
 use Rattle.mz_asm.specs.Rows.{rows_after, IsInRange}

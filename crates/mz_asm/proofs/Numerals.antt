@@ -7,13 +7,12 @@ use Rattle.std.proofs.lemmas.Int.Digits.{digits_value_more}
 use Rattle.std.proofs.lemmas.Nat.{be_bytes_8, from_be_bytes-to_be_bytes_8}
 use Rattle.std.proofs.lemmas.Str.{digit_value_digit}
 use Rattle.std.proofs.lemmas.Option.{cond_some}
-use Rattle.mz_base_theory.proofs.Offered.{both-true, same-bytes}
+use Rattle.mz_base.proofs.Offered.{both-true, same-bytes, digit-at, digit-between}
 use Rattle.hex.specs.Hex.{encode_lower, decode_sized, IsBytes}
 use Rattle.hex.specs.declared.error.FromHexError.{FromHexError}
 use Rattle.hex.proofs.HexLemmas.{decode_of-ok, decode_sized-ok, decode_sized-twice, decode_sized-encode_lower}
 use Rattle.mz_logic_theory.specs.declared.word.Word.{Word}
 use Rattle.mz_show.specs.Tokens.{word_text}
-use Rattle.mz_base.proofs.Offered.{digit-at, digit-between}
 use Rattle.mz_asm.specs.Numbers.{are_digits, is_numeral, number_of, IsNumber, number_in, word_from, word_in}
 
 -- ---- tests

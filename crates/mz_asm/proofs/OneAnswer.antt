@@ -2,8 +2,8 @@
 use Rattle.std.proofs.Common.{◌≡◌, ◌+◌, ◌⊎◌, ℕ, List, [], ◌∷◌, ◌++◌, length, refl, sym, ap, subst, ◌∙◌, arith, inl, inr, append_assoc, append-nil}
 use Rattle.std.specs.Prelude.{◌==◌}
 use Rattle.std.specs.List.{before_first}
-use Rattle.mz_base_theory.specs.Checks.{AllHold, FailsFirst}
-use Rattle.mz_base_theory.proofs.Offered.{all_hold-excludes, fails_first-unique}
+use Rattle.mz_base.specs.Checks.{AllHold, FailsFirst}
+use Rattle.mz_base.proofs.Offered.{all_hold-excludes, fails_first-unique}
 use Rattle.mz_asm.specs.declared.line.Line.{Line}
 use Rattle.mz_asm.specs.declared.rows.Rows.{Rows}
 use Rattle.mz_asm.specs.declared.rule.A.{A}

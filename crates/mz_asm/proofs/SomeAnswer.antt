@@ -4,8 +4,8 @@ use Rattle.std.specs.Prelude.{◌==◌}
 use Rattle.std.specs.List.{before_first}
 use Rattle.std.proofs.lemmas.List.{length-drop}
 use Rattle.std.proofs.lemmas.Bool.{eqb-true, eq-eqb, cases_lt}
-use Rattle.mz_base_theory.specs.Checks.{AllHold, FailsFirst, AreDecided}
-use Rattle.mz_base_theory.proofs.Offered.{Decided, all_hold-or_fails, at_most-decided, below-decided, three-decided, true-decided}
+use Rattle.mz_base.specs.Checks.{AllHold, FailsFirst, AreDecided}
+use Rattle.mz_base.proofs.Offered.{Decided, all_hold-or_fails, at_most-decided, below-decided, three-decided, true-decided}
 use Rattle.mz_layout_tables.specs.Normal.{file_length, file_of}
 use Rattle.mz_asm.specs.declared.line.Line.{Line}
 use Rattle.mz_asm.specs.declared.line.Line.TheVariants as lines

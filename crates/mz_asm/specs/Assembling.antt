@@ -1,7 +1,7 @@
 -- Which texts are listings, of which binaries, and which rule a text breaks (this project's own listing and rules).
 use Rattle.std.specs.Prelude.{◌≡◌, ◌≤◌, ◌<◌, ◌^◌, ◌+◌, ◌==◌, ⊤, ℕ, List, [], ◌∷◌, ◌++◌, length}
 use Rattle.std.specs.List.{position_or_len, before_first, after_first}
-use Rattle.mz_base_theory.specs.Checks.{Checks, demand, ◌>>◌, FailsFirst}
+use Rattle.mz_base.specs.Checks.{Checks, demand, ◌>>◌, FailsFirst}
 use Rattle.mz_layout_tables.specs.Normal.{file_length, file_of}
 use Rattle.mz_show.specs.Listing.{IsListing}
 use Rattle.mz_asm.specs.declared.line.Line.{Line}

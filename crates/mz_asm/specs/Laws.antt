@@ -1,6 +1,6 @@
 -- Laws of assembling.
 use Rattle.std.specs.Prelude.{◌≡◌, ◌<◌, ◌^◌, ◌⊎◌, ◌↔◌, ℕ, Bool, List, length}
-use Rattle.mz_emit_accepted_theory.specs.Compiling.{CompilesTo}
+use Rattle.mz_emit_theory.specs.Compiling.{CompilesTo}
 use Rattle.mz_show.specs.Listing.{IsListing}
 use Rattle.mz_asm.specs.declared.rule.A.{A}
 use Rattle.mz_asm.specs.Assembling.{IsBinaryOf, IsNormal, IsTooLong, Breaks}

@@ -1,6 +1,6 @@
 -- What the assembler has made of the lines so far, and of one line more.
 use Rattle.std.specs.Prelude.{◌≡◌, ℕ, List, [], ◌∷◌, ◌++◌, true, false, Bool, Some, None, Result, Ok, Err, ⊤, ◌⊎◌}
-use Rattle.mz_base_theory.specs.Checks.{AllHold, FailsFirst}
+use Rattle.mz_base.specs.Checks.{AllHold, FailsFirst}
 use Rattle.mz_cmd.specs.Codes.{statement_byte, unify_byte, proof_byte}
 use Rattle.mz_cmd.specs.Spelling.{shortest}
 use Rattle.mz_logic_theory.specs.declared.word.Word.{Word}

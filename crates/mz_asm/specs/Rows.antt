@@ -1,7 +1,7 @@
 -- Rows and numbers of a listing's lines: the statements of a kind take the rows of its table in order (this project's own
 -- listing; the .mmb format has room for so much).
 use Rattle.std.specs.Prelude.{◌≡◌, ◌≤◌, ◌<◌, ◌+◌, ⊤, ℕ, true, false, Bool, List, [], ◌∷◌, if◌then◌else◌}
-use Rattle.mz_base_theory.specs.Checks.{Checks, demand, ◌>>◌}
+use Rattle.mz_base.specs.Checks.{Checks, demand, ◌>>◌}
 use Rattle.mz_asm.specs.declared.kind.Kind.{Kind}
 use Rattle.mz_asm.specs.declared.kind.Kind.TheVariants as kinds
 use Rattle.mz_asm.specs.declared.line.Line.{Line}

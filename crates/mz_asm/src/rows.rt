@@ -1,6 +1,6 @@
 // The rows that the lines so far have taken.
 ghost use Rattle.std.specs.Prelude.{◌≡◌, ◌≤◌, OnOk};
-ghost use Rattle.mz_base_theory.specs.Checks.{Judges};
+ghost use Rattle.mz_base.specs.Checks.{Judges};
 ghost use Rattle.mz_asm.specs.Rows.{next_row, most_of, taken, number_checks, head_checks, value_checks};
 
 use crate::kind::Kind;

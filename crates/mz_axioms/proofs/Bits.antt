@@ -6,7 +6,7 @@ use Rattle.std.proofs.lemmas.Bool.{cases_lt}
 use Rattle.std.proofs.lemmas.List.{get_or_append_left, get_or-append_right}
 use Rattle.std.proofs.lemmas.List.Elements.{All-nil, All-cons, All-append, Contains-append_left, Contains-append_right, Contains-append_cases, Contains-push, Contains-push_cases}
 use Rattle.std.proofs.lemmas.Nat.{or_shr, or_mod, pow-add}
-use Rattle.mz_base_theory.proofs.Offered.{contains_none}
+use Rattle.mz_base.proofs.Offered.{contains_none}
 use Rattle.mz_axioms.specs.Members.{bits, low_bit}
 
 -- ---- a word of one bit more

@@ -4,7 +4,7 @@ use Rattle.std.specs.Prelude.{All, count_ones, if◌then◌else◌}
 use Rattle.std.proofs.lemmas.List.{length-map}
 use Rattle.std.proofs.lemmas.Nat.{ones-le, ones_cat, zero_from_ones}
 use Rattle.std.proofs.lemmas.Option.{get_or_from_slice_get, slice_get-get_or}
-use Rattle.mz_base_theory.proofs.Offered.{slice_get-append, slice_get-append_add, slice_get-map_at}
+use Rattle.mz_base.proofs.Offered.{slice_get-append, slice_get-append_add, slice_get-map_at}
 use Rattle.mz_axioms.specs.declared.lists.Support.{Support}
 use Rattle.mz_axioms.specs.declared.rows.Row.{Row}
 use Rattle.mz_axioms.specs.declared.rows.Table.{Table}

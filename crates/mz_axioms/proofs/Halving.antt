@@ -9,13 +9,10 @@ use Rattle.std.proofs.lemmas.List.Elements.{All-contains, All-map, All-weaker, C
 use Rattle.mz_axioms.specs.Members.{AreOnce, Grows, IsJoined, IsSet, IsSingle, IsStore, IsUnion, bits, left_of, node_at, node_in, other, right_of, span}
 use Rattle.mz_axioms.specs.declared.sets.Node.{Node}
 use Rattle.mz_axioms.proofs.Bits.{bits-none, bits-or}
-use Rattle.mz_base_theory.proofs.Offered.{contains_none}
+use Rattle.mz_base.proofs.Offered.{contains_none}
 use Rattle.mz_axioms.proofs.Joining.{set-kept, single-left, single-right, single-word, union-halves, union-once}
 
 -- ---- sizes
-
-pub span-next : (height n : ℕ) → n ≡ span height → n * 2 ≡ span (height + 1)
-span-next height n is = (let e : n * 2 ≡ span (suc height) = omega (arith, is) in e) ∙ ap span (let e : suc height ≡ height + 1 = omega arith in e)
 
 pub above-zero : (height : ℕ) → (height ≡ 0 → ⊥) → suc (height - 1) ≡ height
 above-zero zero is = absurd (is refl)
@@ -30,9 +27,6 @@ half-span height n some is =
 
 abbrev pub SoFar : (ids kept : List ℕ) → ℕ → Type 0
 SoFar ids kept last = AreOnce ids kept × ((last ≡ 0) ⊎ Contains kept last)
-
-pub once-first : (kept : List ℕ) → kept ≡ [] → SoFar [] kept 0
-once-first kept is = (record { back = λ id has. subst (λ (xs : List ℕ). Contains xs id) is has; there = λ id has. absurd (contains_none id has) }, inl refl)
 
 once-push : (ids kept : List ℕ) (id : ℕ) → AreOnce ids kept → AreOnce (ids ++ id ∷ []) (kept ++ id ∷ [])
 once-push ids kept id once = record {

@@ -7,20 +7,6 @@ use Rattle.std.proofs.lemmas.List.Elements.{Contains-get_or}
 use Rattle.std.proofs.lemmas.List.Kept.{AllPairs-from_increasing}
 use Rattle.std.proofs.lemmas.Bool.{cases_lt}
 
-pub increasing-push : (xs : List ℕ) (x : ℕ) → IsStrictlyIncreasing xs → All (λ y. y < x) xs → IsStrictlyIncreasing (xs ++ x ∷ [])
-increasing-push xs x up below k lt =
-    let long = length_push xs x in
-    let first : k < length xs = omega (arith, lt, long) in
-    let a = get_or_append_left xs (x ∷ []) 0 k first in
-    elim (cases_lt (k + 1) (length xs)) [
-      | inl inside ↦ (let b = get_or_append_left xs (x ∷ []) 0 (k + 1) inside in let c = up k inside in omega (arith, a, b, c))
-      | inr past ↦ (
-          let b = get_or_push xs x 0 (k + 1) (omega (arith, past, first)) in
-          let c = below k 0 first in
-          omega (arith, a, b, c)
-          )
-    ]
-
 pub increasing-map : (f : ℕ → ℕ) (xs : List ℕ) → IsStrictlyIncreasing xs → ((x y : ℕ) → Contains xs x → Contains xs y → x < y → f x < f y) → IsStrictlyIncreasing (map f xs)
 increasing-map f xs up grows k lt =
     let long : length (map f xs) ≡ length xs = length-map xs f in

@@ -8,7 +8,7 @@ use Rattle.std.proofs.lemmas.Option.{slice_get_within}
 use Rattle.mz_axioms.specs.declared.sets.Node.{Node}
 use Rattle.mz_axioms.specs.Members.{AreOnce, Grows, InSome, IsJoined, IsSet, IsSingle, IsStore, IsUnion, bits, left_of, members, node, node_at, node_in, right_of, span}
 use Rattle.mz_axioms.proofs.Bits.{Between, ascending-append, between-append, bits-none, bits-one, bits-up}
-use Rattle.mz_base_theory.proofs.Offered.{contains_none, slice_get-within}
+use Rattle.mz_base.proofs.Offered.{contains_none, slice_get-within}
 use Rattle.mz_axioms.proofs.Mapped.{contains-map, map-contains}
 
 -- ---- a store that grows

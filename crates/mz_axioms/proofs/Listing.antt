@@ -4,7 +4,7 @@ use Rattle.std.specs.Prelude.{All, Contains, flat_map, if◌then◌else◌, not,
 use Rattle.std.proofs.lemmas.List.{map-append}
 use Rattle.std.proofs.lemmas.List.Elements.{All-nil, All-cons, All-append}
 use Rattle.std.proofs.lemmas.Option.{none-some, slice_get_within}
-use Rattle.mz_base_theory.proofs.Offered.{slice_get-some, slice_get-map_at}
+use Rattle.mz_base.proofs.Offered.{slice_get-some, slice_get-map_at}
 use Rattle.mz_logic_theory.specs.Declaration.{Declaration, sort_decl, term_decl, assertion_decl}
 use Rattle.mz_logic_theory.specs.LegalLists.{Statement, declarations, IsProvedBy, Legal, gap_free}
 use Rattle.mz_logic_theory.proofs.Offered.{one_at, legal_at}
@@ -15,13 +15,12 @@ use Rattle.mz_binary_theory.proofs.Offered.{good-legal, one-list, good-spelled}
 use Rattle.mz_spec_proved_theory.specs.Match.{publics, Agrees}
 use Rattle.mz_match_theory.specs.Verdict.{Accepts}
 use Rattle.mz_axioms.specs.declared.rows.Place.{Place}
-use Rattle.mz_axioms.specs.Rows.{RowTold}
+use Rattle.mz_axioms.specs.Rows.{RowTold, Tells, TellsAll, number_at, number_in, support_of, supports_at, supports_of}
 use Rattle.mz_binary_theory.specs.Gapped.{AssertionBody, body_there, place_after, body_of, bodies_from, bodies_of}
 use Rattle.mz_axioms.specs.Supports.{IsKind, InSupport, within_support}
 use Rattle.mz_axioms.specs.Places.{StandsFor, theorems_of, place_there, places_from, is_listed}
 use Rattle.mz_binary_walk.specs.Walk.{past_public}
 use Rattle.mz_axioms.specs.Lists.{TheoremSupport, IsSupportOf, AreSupports}
-use Rattle.mz_axioms.specs.Rows.{Tells, TellsAll, number_at, number_in, support_of, supports_at, supports_of}
 use Rattle.mz_axioms.proofs.Increasing.{increasing-map}
 use Rattle.mz_axioms.proofs.Mapped.{contains-map, map-contains}
 use Rattle.mz_axioms.proofs.Supporting.{support-axiom, one-kind, kind-within}

@@ -1,7 +1,7 @@
 -- What is in a list of values.
 use Rattle.std.proofs.Common.{◌≡◌, List, map}
 use Rattle.std.specs.Prelude.{Contains}
-use Rattle.mz_base_theory.proofs.Offered.{slice_get-map_back, slice_get-map_at, place-of as contained-get, contains_at}
+use Rattle.mz_base.proofs.Offered.{slice_get-map_back, slice_get-map_at, place-of as contained-get, contains_at}
 
 pub contains-map : {A B : Type 0} (f : A → B) (xs : List A) (x : A) → Contains xs x → Contains (map f xs) (f x)
 contains-map f xs x has = let (k, at) = contained-get xs x has in contains_at (map f xs) k (f x) (slice_get-map_at f xs k x at)

@@ -5,7 +5,7 @@ use Rattle.std.proofs.lemmas.List.{map_push, map-append, length-map}
 use Rattle.std.proofs.lemmas.List.Elements.{All-contains, All-head, All-tail, All-push, All-weaker, All-nil, All-cons, All-append, Contains-append_left, Contains-get_or, Contains-push, Contains-push_cases}
 use Rattle.std.proofs.lemmas.Option.{slice_get-get_or, slice_get_within}
 use Rattle.mz_logic_theory.proofs.Offered.{one_at}
-use Rattle.mz_base_theory.proofs.Offered.{contains_at, slice_get-map_at, slice_get-map_back}
+use Rattle.mz_base.proofs.Offered.{contains_at, slice_get-map_at, slice_get-map_back}
 use Rattle.mz_cmd.specs.declared.code.StatementCode.{StatementCode}
 use Rattle.mz_cmd.specs.declared.code.StatementCode.TheVariants as codes
 use Rattle.mz_layout_tables.specs.Heads.{next_row, row_count, rows_after}
@@ -82,12 +82,6 @@ put-set rows U row old new at pushed id =
         | inr (r, there, is) ↦ subst (Contains (old ++ row.set ∷ [])) (ap (λ (x : Row). x.set) (one_at at there) ∙ is) (Contains-push old row.set)
       ],
     )
-
-pub put-no-set : (rows : List Row) (U : ℕ) (old : List ℕ) → length rows ≤ U → (id : ℕ) → Contains old id ↔ (Contains old id ⊎ HasSet rows U id)
-put-no-set rows U old past id = (
-  λ has. inl has,
-  λ h. elim h [ inl was ↦ was | inr (r, there, is) ↦ absurd (let lt = slice_get_within rows U r there in omega (arith, lt, past)) ],
-)
 
 -- ---- a row more
 

@@ -2,7 +2,7 @@
 use Rattle.std.proofs.Common.{◌≡◌, ◌∙◌, ◌≤◌, ◌<◌, ◌+◌, ◌⊎◌, ℕ, zero, suc, Bool, true, false, List, [], ◌∷◌, ◌++◌, length, slice_get, Some, refl, sym, ap, subst, inl, inr, arith, append_assoc, append-nil}
 use Rattle.std.specs.Prelude.{if◌then◌else◌, MatchBool, not, ◌&&◌, flat_map, option_to_list}
 use Rattle.std.proofs.lemmas.Option.{none-some}
-use Rattle.mz_base_theory.specs.Checks.{AllHold}
+use Rattle.mz_base.specs.Checks.{AllHold}
 use Rattle.mz_cmd.specs.declared.code.StatementCode.{StatementCode}
 use Rattle.mz_cmd.specs.declared.code.StatementCode.TheVariants as codes
 use Rattle.mz_cmd.specs.Codes.{statement_byte}
@@ -184,11 +184,6 @@ not-theorem : (f : Form) → kinds.Theorem ≡ kind_of_form f → ⊥
 not-theorem plain_form is = cc
 not-theorem abstract_form is = cc
 not-theorem (defined ds e) is = cc
-
-not-axiom : (f : Form) → kinds.Axiom ≡ kind_of_form f → ⊥
-not-axiom plain_form is = cc
-not-axiom abstract_form is = cc
-not-axiom (defined ds e) is = cc
 
 -- two declarations of one kind are both theorems, or none is
 same-numbers : (k : ℕ) (d e : Declaration) → kind_of d ≡ kind_of e → theorem_number k d ≡ theorem_number k e

@@ -1,3 +1,4 @@
 pub mod Identifiers
 pub mod Names
 pub mod Gaps
+pub mod Checks

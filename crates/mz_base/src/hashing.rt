@@ -1,11 +1,11 @@
-// How names are hashed.
+// How names and constants are hashed.
 use std::hash::{BuildHasher, FoldHasher, Hasher};
 
-/// Makes the hashers of maps by names. Each begins with what a seed left, which the program draws by
-/// chance, so that who makes a file doesn't know which names share their hash, which take long to be
-/// distinguished (`FoldHasher` isn't cryptographic; of an identifier no eight bytes are its
-/// multiplier, which would make it forget the seed). No answer but out of
-/// memory depends on it.
+/// Makes the hashers of maps by names and by constants of notations. Each begins with what a seed left, which the program draws
+/// by chance: who makes a file doesn't know which of its names share a hash, and such names take long to tell apart.
+///
+/// `FoldHasher` isn't cryptographic: eight bytes that are its multiplier would make it forget the seed, and no identifier has
+/// them. No answer but out of memory depends on it.
 #[derive(Clone, Copy)]
 pub struct Hashing {
     initial: FoldHasher,

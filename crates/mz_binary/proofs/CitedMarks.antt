@@ -1,7 +1,7 @@
 -- The citations of a body, one after another: whether one of them is of a tainted theorem.
 use Rattle.std.proofs.Common.{◌≡◌, ◌≤◌, ◌⊎◌, ◌∙◌, ℕ, zero, suc, Bool, true, false, List, length, drop, slice_get, Option, Some, None, Ok, Err, refl, sym, ap, subst, inl, inr, arith}
 use Rattle.std.specs.Prelude.{◌↔◌, ◌&&◌}
-use Rattle.mz_base_theory.proofs.Offered.{both-true as both}
+use Rattle.mz_base.proofs.Offered.{both-true as both}
 use Rattle.mz_cmd.specs.declared.command.Cmd.{Cmd}
 use Rattle.mz_cmd.specs.declared.command.CmdFault.{CmdFault}
 use Rattle.mz_cmd.specs.declared.code.ProofCode.{ProofCode}

@@ -1,7 +1,7 @@
 -- The commands executed in what is left of a list.
 use Rattle.std.proofs.Common.{◌≡◌, ◌<◌, ◌≤◌, ◌+◌, ◌∙◌, ℕ, suc, List, length, Result, Ok, Err, refl, sym, ap, arith, mul-suc, ◌-◌, ◌*◌}
-use Rattle.mz_base_theory.specs.Checks.{FailsFirst, Judges}
-use Rattle.mz_base_theory.proofs.Offered.{all_hold-excludes}
+use Rattle.mz_base.specs.Checks.{FailsFirst, Judges}
+use Rattle.mz_base.proofs.Offered.{all_hold-excludes}
 use Rattle.mz_cmd.specs.declared.rule.K.{K}
 use Rattle.mz_layout_tables.specs.Tables.{list_at}
 use Rattle.mz_layout_tables.specs.Layout.{Layout, layout_checks}
@@ -51,16 +51,6 @@ module _ (p : Progress) where
       (bounds ∙ ap (λ (x : Taken). list_steps p.standard p.file (length p.file + 1) x to) rows ∙ ap (λ (n : ℕ). list_steps p.standard p.file (length p.file + 1) (taken_before after.file after.rows) n) place
       ∙ sym (ap (λ (g : Standard). list_steps g after.file (length after.file + 1) (taken_before after.file after.rows) after.at) mode
       ∙ ap (λ (f : List ℕ). list_steps p.standard f (length f + 1) (taken_before after.file after.rows) after.at) same))
-
-  -- without a body nothing is executed
-  pub none-alone : (taken : Taken) (to : ℕ) → find_at p.file t p.at ≡ Ok (stands_alone taken to) → next_steps p ≡ 0
-  none-alone taken to e = ap (found_steps p.standard p.file t) e
-
-  pub none-at-end : find_at p.file t p.at ≡ Ok list_ends → next_steps p ≡ 0
-  none-at-end e = ap (found_steps p.standard p.file t) e
-
-  pub none-at-fault : (f : ℕ × K) → find_at p.file t p.at ≡ Err f → next_steps p ≡ 0
-  none-at-fault f e = ap (found_steps p.standard p.file t) e
 
 -- ---- the whole file
 

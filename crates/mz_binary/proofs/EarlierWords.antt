@@ -1,7 +1,7 @@
 -- The words of the rows before a statement were right in their turn.
 use Rattle.std.proofs.Common.{◌<◌, ◌≤◌, ℕ, List, [], ◌∷◌, ◌++◌, length, refl, sym, subst, inl, inr, arith}
-use Rattle.mz_base_theory.proofs.Offered.{below-or-last}
-use Rattle.mz_base_theory.specs.Checks.{AllHold}
+use Rattle.mz_base.proofs.Offered.{below-or-last}
+use Rattle.mz_base.specs.Checks.{AllHold}
 use Rattle.mz_logic_theory.specs.Declaration.{Declaration, sort_decl, term_decl, assertion_decl, sorts, terms, assertions}
 use Rattle.mz_logic_theory.specs.LegalLists.{Statement}
 use Rattle.mz_logic_theory.specs.declared.binder.SortMods.{SortMods}

@@ -1,8 +1,8 @@
 -- What is found at a place, from what is answered of its head, its words and its body.
 use Rattle.std.proofs.Common.{◌≡◌, ◌≤◌, ◌∙◌, ℕ, Bool, true, false, cond, List, drop, Option, Some, None, Result, Ok, Err, refl, sym, ap, subst, inl, inr}
 use Rattle.std.specs.Prelude.{IfOk}
-use Rattle.mz_base_theory.specs.Checks.{Checks, AllHold, FailsFirst, Judges}
-use Rattle.mz_base_theory.proofs.Offered.{all_hold-excludes, fails_first-unique}
+use Rattle.mz_base.specs.Checks.{Checks, AllHold, FailsFirst, Judges}
+use Rattle.mz_base.proofs.Offered.{all_hold-excludes, fails_first-unique}
 use Rattle.mz_cmd.specs.declared.code.StatementCode.{StatementCode}
 use Rattle.mz_cmd.specs.declared.code.StatementCode.TheVariants as codes
 use Rattle.mz_cmd.specs.declared.rule.K.{K}

@@ -1,7 +1,7 @@
 -- Past one statement more.
 use Rattle.std.proofs.Common.{◌≡◌, ◌⊎◌, ◌<◌, ◌≤◌, ◌+◌, ◌∙◌, ℕ, Bool, true, false, List, [], ◌∷◌, ◌++◌, length, Some, Result, Ok, Err, refl, sym, ap, subst, inl, inr, arith, length-append}
 use Rattle.std.specs.Prelude.{◌↔◌, MatchBool, if◌then◌else◌}
-use Rattle.mz_base_theory.specs.Checks.{AllHold, Judges}
+use Rattle.mz_base.specs.Checks.{AllHold, Judges}
 use Rattle.mz_cmd.specs.declared.code.StatementCode.{StatementCode}
 use Rattle.mz_cmd.specs.declared.code.StatementCode.TheVariants as codes
 use Rattle.mz_cmd.specs.declared.rule.K.{K}

@@ -1,6 +1,6 @@
 -- A statement whose body is to run: what is asked before it holds.
 use Rattle.std.proofs.Common.{◌≡◌, ◌⊎◌, ℕ, Bool, true, false, cond, List, length, drop, Some, None, Result, Ok, Err, refl, sym, subst, inl, inr, arith}
-use Rattle.mz_base_theory.specs.Checks.{Checks, AllHold, Judges}
+use Rattle.mz_base.specs.Checks.{Checks, AllHold, Judges}
 use Rattle.mz_cmd.specs.declared.code.StatementCode.{StatementCode}
 use Rattle.mz_cmd.specs.declared.code.StatementCode.TheVariants as codes
 use Rattle.mz_cmd.specs.declared.rule.K.{K}

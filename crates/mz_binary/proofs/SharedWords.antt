@@ -1,7 +1,7 @@
 -- Words of parameters that more than one row has.
 use Rattle.std.proofs.Common.{◌≡◌, ◌∙◌, ℕ, List, length, sym, ap, subst}
 use Rattle.std.proofs.lemmas.List.FromFn.{length-map-range_with_len}
-use Rattle.mz_base_theory.specs.Checks.{AllHold}
+use Rattle.mz_base.specs.Checks.{AllHold}
 use Rattle.mz_logic_theory.specs.declared.word.Word.{Word}
 use Rattle.mz_layout_tables.specs.RowWords.{first_sorts, param_checks}
 use Rattle.mz_layout_tables.specs.Tables.{thm_row}

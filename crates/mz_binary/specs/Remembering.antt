@@ -1,6 +1,6 @@
 -- Words of parameters that were right, for rows that share them.
 use Rattle.std.specs.Prelude.{ℕ, List, Option, IfSome}
-use Rattle.mz_base_theory.specs.Checks.{AllHold}
+use Rattle.mz_base.specs.Checks.{AllHold}
 use Rattle.mz_layout_tables.specs.RowWords.{first_sorts, param_checks}
 use Rattle.mz_machine_env.specs.OwnRow.{words_from}
 use Rattle.mz_binary.specs.declared.words.RightWords.{RightWords}

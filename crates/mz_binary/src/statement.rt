@@ -1,6 +1,6 @@
 // What stands at a place of the list of statements.
 ghost use Rattle.std.specs.Prelude.{◌≡◌, ◌≤◌, ◌<◌, IfOk, length};
-ghost use Rattle.mz_base_theory.specs.Checks.{AllHold, Judges};
+ghost use Rattle.mz_base.specs.Checks.{AllHold, Judges};
 ghost use Rattle.mz_layout_tables.specs.Heads.{empty_checks, row_checks};
 ghost use Rattle.mz_layout_tables.specs.Tables.{sort_count, term_count, thm_count};
 ghost use Rattle.mz_machine_env.specs.Before.{taken_before};

@@ -1,6 +1,6 @@
 //! The words of parameters, checked once where rows share them.
 ghost use Rattle.std.specs.Prelude.{◌≡◌, ◌≤◌, ◌<◌, IsTrue};
-ghost use Rattle.mz_base_theory.specs.Checks.{Judges};
+ghost use Rattle.mz_base.specs.Checks.{Judges};
 ghost use Rattle.mz_layout_tables.specs.Tables.{sort_count, thm_count, thm_row};
 ghost use Rattle.mz_layout_tables.specs.RowWords.{first_sorts, param_checks};
 ghost use Rattle.mz_binary.specs.Remembering.{AreRight};

@@ -1,8 +1,8 @@
 -- A statement whose checks hold, as an entry of a list of rows with their bodies.
 use Rattle.std.proofs.Common.{◌≡◌, ℕ, Bool, true, false, cond, List, length, drop, Some, None, refl}
 use Rattle.std.specs.Prelude.{MatchBool, ⊤}
-use Rattle.mz_base_theory.specs.Checks.{Checks, AllHold}
-use Rattle.mz_base_theory.proofs.Offered.{all_hold-first, all_hold-rest}
+use Rattle.mz_base.specs.Checks.{Checks, AllHold}
+use Rattle.mz_base.proofs.Offered.{all_hold-first, all_hold-rest}
 use Rattle.mz_cmd.specs.declared.code.StatementCode.{StatementCode}
 use Rattle.mz_cmd.specs.declared.code.StatementCode.TheVariants as codes
 use Rattle.mz_cmd.specs.declared.rule.K.{K}

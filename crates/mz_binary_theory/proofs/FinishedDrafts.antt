@@ -2,8 +2,8 @@
 use Rattle.std.proofs.Common.{◌≡◌, ◌∙◌, ◌⊎◌, ℕ, zero, suc, Bool, true, false, List, [], ◌∷◌, ◌++◌, slice_get, Some, Result, Ok, refl, sym, ap, subst, inl, inr}
 use Rattle.std.specs.Prelude.{⊤, MatchBool}
 use Rattle.std.proofs.lemmas.Option.{none-some}
-use Rattle.mz_base_theory.specs.Checks.{Checks, AllHold}
-use Rattle.mz_base_theory.proofs.Offered.{all_hold-rest}
+use Rattle.mz_base.specs.Checks.{Checks, AllHold}
+use Rattle.mz_base.proofs.Offered.{all_hold-rest}
 use Rattle.mz_cmd.specs.declared.rule.K.{K}
 use Rattle.mz_cmd.specs.declared.statement.StmtAt.{StmtAt}
 use Rattle.mz_cmd.specs.declared.statement.StmtAt.TheVariants.{Head}

@@ -1,7 +1,7 @@
 -- The commands executed in the first statements of a list, and in the rest.
 use Rattle.std.proofs.Common.{◌≡◌, ◌∙◌, ◌+◌, ℕ, suc, List, [], ◌∷◌, ◌++◌, length, Some, Result, Ok, Err, refl, sym, ap, ap₂, arith}
-use Rattle.mz_base_theory.specs.Checks.{Judges}
-use Rattle.mz_base_theory.proofs.Offered.{all_hold-excludes}
+use Rattle.mz_base.specs.Checks.{Judges}
+use Rattle.mz_base.proofs.Offered.{all_hold-excludes}
 use Rattle.mz_cmd.specs.declared.rule.K.{K}
 use Rattle.mz_cmd.specs.declared.statement.StmtAt.{StmtAt}
 use Rattle.mz_cmd.specs.declared.statement.StmtAt.TheVariants.{End, Head}

@@ -2,7 +2,7 @@
 use Rattle.std.proofs.Common.{◌≡◌, ◌∙◌, ◌<◌, ◌+◌, ◌⊎◌, ℕ, zero, suc, Bool, true, false, List, [], ◌∷◌, ◌++◌, length, slice_get, Some, refl, sym, ap, subst, inl, inr, arith, length-append, append_assoc, append-nil}
 use Rattle.std.specs.Prelude.{◌↔◌}
 use Rattle.std.proofs.lemmas.Option.{none-some, slice_get_within}
-use Rattle.mz_base_theory.proofs.Offered.{slice_get-within}
+use Rattle.mz_base.proofs.Offered.{slice_get-within}
 use Rattle.mz_cmd.specs.StatementList.{statement_at}
 use Rattle.mz_logic_theory.specs.Declaration.{Declaration, sort_decl, term_decl, assertion_decl, assertions}
 use Rattle.mz_logic_theory.specs.LegalLists.{Statement}

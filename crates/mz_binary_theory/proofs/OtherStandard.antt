@@ -1,8 +1,8 @@
 -- What passes by one standard passes by another by which its bodies run too.
 use Rattle.std.proofs.Common.{◌≡◌, ℕ, Bool, true, false, List, Option, None, Some, Result, Ok, Err, sym, subst}
 use Rattle.std.specs.Prelude.{⊤}
-use Rattle.mz_base_theory.specs.Checks.{Checks, AllHold}
-use Rattle.mz_base_theory.proofs.Offered.{all_hold-both, all_hold-first, all_hold-rest}
+use Rattle.mz_base.specs.Checks.{Checks, AllHold}
+use Rattle.mz_base.proofs.Offered.{all_hold-both, all_hold-first, all_hold-rest}
 use Rattle.mz_cmd.specs.declared.rule.K.{K}
 use Rattle.mz_cmd.specs.declared.code.StatementCode.{StatementCode}
 use Rattle.mz_cmd.specs.declared.code.StatementCode.TheVariants as codes

@@ -6,8 +6,8 @@ use Rattle.std.specs.List.{range_with_len}
 use Rattle.std.proofs.lemmas.Bool.{or_cases, or_left, or_right, cases_eq, eqb-true, eq-eqb}
 use Rattle.std.proofs.lemmas.Bool.Decides.{Decides-eqb, Decides-ltb, Decides-and, Decides-or}
 use Rattle.std.proofs.lemmas.Slice.Eq.{bytes_eq-Decides}
-use Rattle.mz_base_theory.specs.Checks.{Checks, demand, ◌>>◌, each_in_order, AllHold, FailsFirst, Judges}
-use Rattle.mz_base_theory.proofs.Offered.{fails-before, fails-after, all_hold-both, judges-after, Decides, decides-whole}
+use Rattle.mz_base.specs.Checks.{Checks, demand, ◌>>◌, each_in_order, AllHold, FailsFirst, Judges}
+use Rattle.mz_base.proofs.Offered.{fails-before, fails-after, all_hold-both, judges-after, Decides, decides-whole}
 use Rattle.mz_cmd.specs.declared.rule.K.{K}
 use Rattle.mz_unify_theory.specs.Steps.{◌>>=◌, ◌>>◌ as ◌then◌}
 use Rattle.mz_cmd.specs.declared.rule.K.TheVariants.{Header, Table}

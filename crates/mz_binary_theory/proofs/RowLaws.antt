@@ -2,8 +2,8 @@
 use Rattle.std.proofs.Common.{◌≡◌, ◌⊎◌, ◌<◌, ◌∙◌, ℕ, Bool, true, false, cond, List, length, drop, Option, None, Some, Result, refl, sym, subst, inl, inr, arith}
 use Rattle.std.specs.Prelude.{⊤, MatchBool}
 use Rattle.std.proofs.lemmas.Option.{slice_get_within}
-use Rattle.mz_base_theory.specs.Checks.{Checks, AllHold}
-use Rattle.mz_base_theory.proofs.Offered.{all_hold-first}
+use Rattle.mz_base.specs.Checks.{Checks, AllHold}
+use Rattle.mz_base.proofs.Offered.{all_hold-first}
 use Rattle.mz_cmd.specs.declared.code.StatementCode.{StatementCode}
 use Rattle.mz_cmd.specs.declared.code.StatementCode.TheVariants as codes
 use Rattle.mz_cmd.specs.declared.rule.K.{K}

@@ -1,8 +1,8 @@
 -- A whole file: its list is one, it is good or has one first fault, and its statements are a legal list.
 use Rattle.std.proofs.Common.{◌≡◌, ◌⊎◌, ◌<◌, ◌≤◌, ◌+◌, ◌-◌, ◌∙◌, ℕ, zero, suc, List, [], ◌∷◌, ◌++◌, length, Option, Some, Result, Ok, Err, refl, sym, ap, subst, inl, inr, arith, length-append}
 use Rattle.std.specs.Prelude.{◌↔◌}
-use Rattle.mz_base_theory.specs.Checks.{AllHold, FailsFirst, Judges}
-use Rattle.mz_base_theory.proofs.Offered.{all_hold-excludes, fails_first-unique}
+use Rattle.mz_base.specs.Checks.{AllHold, FailsFirst, Judges}
+use Rattle.mz_base.proofs.Offered.{all_hold-excludes, fails_first-unique}
 use Rattle.mz_cmd.specs.declared.rule.K.{K}
 use Rattle.mz_cmd.specs.declared.rule.Refusal.{Refusal}
 use Rattle.mz_cmd.specs.declared.code.StatementCode.{StatementCode}

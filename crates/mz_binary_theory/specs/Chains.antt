@@ -1,6 +1,6 @@
 -- Statements that follow one another in the list (the .mmb format, its list of statements).
 use Rattle.std.specs.Prelude.{◌≡◌, ℕ, List, [], ◌∷◌, ◌++◌, Ok}
-use Rattle.mz_base_theory.specs.Checks.{AllHold}
+use Rattle.mz_base.specs.Checks.{AllHold}
 use Rattle.mz_cmd.specs.declared.statement.StmtAt.TheVariants.{End}
 use Rattle.mz_cmd.specs.StatementList.{statement_at}
 use Rattle.mz_logic_theory.specs.Declaration.{Declaration}

@@ -1,7 +1,7 @@
 -- What is asked of a place of the list of statements, in order: of its head, then of the statement's words and its body
 -- (the .mmb format, its list of statements).
 use Rattle.std.specs.Prelude.{ℕ, Bool, true, false, List, length, Option, Some, None, Result, Ok, Err}
-use Rattle.mz_base_theory.specs.Checks.{Checks, nothing, ◌>>◌}
+use Rattle.mz_base.specs.Checks.{Checks, nothing, ◌>>◌}
 use Rattle.mz_cmd.specs.declared.code.StatementCode.{StatementCode}
 use Rattle.mz_cmd.specs.declared.code.StatementCode.TheVariants as codes
 use Rattle.mz_cmd.specs.declared.statement.StmtAt.{StmtAt}

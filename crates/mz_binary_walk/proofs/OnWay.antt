@@ -1,8 +1,8 @@
 -- The walk along the statements of a good file: those that were passed, and those that are left.
 use Rattle.std.proofs.Common.{◌≡◌, ◌∙◌, ◌⊎◌, ◌+◌, ℕ, Bool, true, false, List, [], ◌∷◌, ◌++◌, length, Ok, refl, sym, ap, subst, inl, inr, append_assoc, arith}
 use Rattle.std.specs.Prelude.{MatchBool}
-use Rattle.mz_base_theory.specs.Checks.{AllHold}
-use Rattle.mz_base_theory.proofs.Offered.{all_hold-first}
+use Rattle.mz_base.specs.Checks.{AllHold}
+use Rattle.mz_base.proofs.Offered.{all_hold-first}
 use Rattle.mz_cmd.specs.declared.code.StatementCode.{StatementCode}
 use Rattle.mz_cmd.specs.declared.code.StatementCode.TheVariants as codes
 use Rattle.mz_cmd.specs.declared.statement.StmtAt.TheVariants.{End, Head as AHead}

@@ -1,6 +1,6 @@
 // How far the list of statements was gone over.
 ghost use Rattle.std.specs.Prelude.{◌≡◌, ◌<◌, ◌+◌, ◌^◌, IfNone, IfSome};
-ghost use Rattle.mz_base_theory.specs.Checks.{AllHold};
+ghost use Rattle.mz_base.specs.Checks.{AllHold};
 ghost use Rattle.mz_layout_tables.specs.Heads.{head_checks, next_row};
 ghost use Rattle.mz_binary_theory.specs.Chains.{IsListEnd};
 ghost use Rattle.mz_binary_walk.specs.Walk.{GoesOn, IsPlaced, nothing_passed, passed_with, past_public};

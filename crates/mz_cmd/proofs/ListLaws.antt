@@ -2,7 +2,7 @@
 use Rattle.std.proofs.Common.{◌≡◌, ℕ, ◌+◌, Bool, true, false, cond, ltb, eqb, ◌||◌, List, length, Result, Ok, Err, refl, subst, arith, inl, inr}
 use Rattle.std.specs.Prelude.{◌↔◌, IsTrue}
 use Rattle.std.proofs.lemmas.Bool.{ltb-false, ltb-true, eqb-true, eq-eqb, le-ltb}
-use Rattle.mz_base_theory.specs.Checks.{Judges}
+use Rattle.mz_base.specs.Checks.{Judges}
 use Rattle.mz_cmd.proofs.SpellingLaws.{found-is}
 use Rattle.mz_cmd.specs.declared.command.Cmd.{Cmd}
 use Rattle.mz_cmd.specs.declared.command.CmdFault.{CmdFault}

@@ -2,7 +2,7 @@
 -- operands).
 use Rattle.std.specs.Prelude.{ℕ, ◌+◌, ◌/◌, ◌%◌, ◌<◌, ◌≤◌, ⊤, IsTrue, List, [], ◌∷◌, length, take, drop, Result, Ok, Err, nat_lt, if◌then◌else◌}
 use Rattle.byteorder.specs.Endian.{little_number}
-use Rattle.mz_base_theory.specs.Checks.{Checks, demand, ◌>>◌}
+use Rattle.mz_base.specs.Checks.{Checks, demand, ◌>>◌}
 use Rattle.mz_cmd.specs.declared.command.Cmd.{Cmd}
 use Rattle.mz_cmd.specs.declared.command.CmdFault.{CmdFault}
 use Rattle.mz_cmd.specs.declared.command.CmdFault.TheVariants.{Cut, Unknown}

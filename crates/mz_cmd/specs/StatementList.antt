@@ -1,7 +1,7 @@
 -- What stands at a place of the list of statements (the .mmb format, its list of statements): a command whose operand
 -- is the distance to the next statement, or the end.
 use Rattle.std.specs.Prelude.{◌≡◌, ℕ, ◌+◌, ◌≤◌, ◌||◌, IsTrue, List, length, ◌==◌, nat_lt, Result, Ok, Err, if◌then◌else◌}
-use Rattle.mz_base_theory.specs.Checks.{Checks, demand, ◌>>◌}
+use Rattle.mz_base.specs.Checks.{Checks, demand, ◌>>◌}
 use Rattle.mz_cmd.specs.declared.command.Cmd.{Cmd}
 use Rattle.mz_cmd.specs.declared.command.CmdFault.{CmdFault}
 use Rattle.mz_cmd.specs.declared.statement.StmtAt.{StmtAt}

@@ -1,6 +1,6 @@
 // Commands and their spellings.
 ghost use Rattle.std.specs.Prelude.{◌≡◌, ◌≤◌, ◌++◌, ◌^◌, ◌<◌, [], ℕ, List, length, drop, IsTrue, OnOk, OnErr, Ok, Err, ◌↔◌, if◌then◌else◌};
-ghost use Rattle.mz_base_theory.specs.Checks.{Judges};
+ghost use Rattle.mz_base.specs.Checks.{Judges};
 ghost use Rattle.mz_cmd.specs.Codes.{is_known};
 ghost use Rattle.mz_cmd.specs.Spelling.{Spells, shortest};
 ghost use Rattle.mz_cmd.specs.Reading.{StandsAt, command_checks, first_command, command_at};

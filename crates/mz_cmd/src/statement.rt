@@ -1,6 +1,6 @@
 // What stands at a place of the list of statements.
 ghost use Rattle.std.specs.Prelude.{◌≡◌, ◌≤◌, ◌^◌, ◌<◌, ◌+◌, length, Ok, ◌↔◌};
-ghost use Rattle.mz_base_theory.specs.Checks.{Judges};
+ghost use Rattle.mz_base.specs.Checks.{Judges};
 ghost use Rattle.mz_cmd.specs.StatementList.{IsListedAt, statement_checks, statement_of, statement_at};
 
 use crate::code::{END, StatementCode};

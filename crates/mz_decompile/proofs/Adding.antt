@@ -1,11 +1,11 @@
 -- Phrases that are added one after another.
 use Rattle.std.proofs.Common.{◌≡◌, ◌∙◌, ◌<◌, ℕ, zero, suc, All, List, [], ◌∷◌, ◌++◌, length, get_or, refl, sym, ap, subst, arith, append_assoc, length-append}
 use Rattle.std.proofs.lemmas.List.{append-nil, get_or_append_left, get_or_at}
-use Rattle.mz_decompile_text_theory.specs.Phrases.{Phrase, Phrases, a_word, a_list, no_phrases, one_more}
-use Rattle.mz_decompile_text_theory.specs.Phrasing.{of_parts, list_of, followed_by}
-use Rattle.mz_decompile_phrases.specs.ByNumber.{phrase_at, phrases_at, Grows}
-use Rattle.mz_decompile_rows.specs.Rows.{IsPhrase}
-use Rattle.mz_decompile_proofs.proofs.Offered.{grows-on}
+use Rattle.mz_decompile_text.specs.Phrases.{Phrase, Phrases, a_word, a_list, no_phrases, one_more}
+use Rattle.mz_decompile_text.specs.Phrasing.{of_parts, list_of, followed_by}
+use Rattle.mz_decompile_text.specs.ByNumber.{phrase_at, phrases_at, Grows}
+use Rattle.mz_decompile_text.specs.Rows.{IsPhrase}
+use Rattle.mz_decompile_text.proofs.Offered.{grows-on}
 use Rattle.mz_decompile.specs.Adding.{ArePhrases, Adds, AreAdded}
 
 -- ---- what was there stays

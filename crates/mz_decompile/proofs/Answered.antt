@@ -5,13 +5,13 @@ use Rattle.mz_logic_theory.specs.LegalLists.{Statement as Marked}
 use Rattle.mz_layout_tables.specs.Tables.{list_at}
 use Rattle.mz_mmu_theory.specs.Statements.{Statement}
 use Rattle.mz_match_theory.specs.Verdict.{Accepts}
-use Rattle.mz_trace_theory.specs.Laws.{BodiesMakeOne}
-use Rattle.mz_decompile_text_theory.specs.Naming.{Naming, vocabulary_by}
-use Rattle.mz_decompile_text_theory.specs.Names.{declared_names, statement_names, naming_of}
-use Rattle.mz_decompile_names.specs.Accepted.{AreNamed, IsNamingOf, naming_under}
-use Rattle.mz_decompile_names.proofs.Offered.{named-alike}
-use Rattle.mz_decompile_theory.specs.Restated.{AreRestated, Restates}
-use Rattle.mz_decompile_theory.specs.Laws.{AcceptedAreRestated, AreBytes, PlainTextsAreTexts}
+use Rattle.mz_trace.specs.Laws.{BodiesMakeOne}
+use Rattle.mz_decompile_text.specs.Naming.{Naming, vocabulary_by}
+use Rattle.mz_decompile_text.specs.Names.{declared_names, statement_names, naming_of}
+use Rattle.mz_decompile_text.specs.Accepted.{AreNamed, IsNamingOf, naming_under}
+use Rattle.mz_decompile_text.proofs.Offered.{named-alike}
+use Rattle.mz_decompile.specs.Restated.{AreRestated, Restates}
+use Rattle.mz_decompile.specs.Laws.{AcceptedAreRestated, AreBytes, PlainTextsAreTexts}
 use Rattle.mz_decompile.specs.Decompiling.{IsDecompilation, IsTextForPair}
 use Rattle.mz_decompile.specs.Passes.{IsAnswer, IsOfAccepted}
 use Rattle.mz_decompile.specs.Standing.{AreAll, SomeAreAll}

@@ -3,7 +3,7 @@ use Rattle.std.proofs.Common.{◌≡◌, ◌∙◌, ◌⊎◌, ◌<◌, ◌≤�
 use Rattle.std.specs.Prelude.{Result, MatchBool}
 use Rattle.std.proofs.lemmas.List.{append-nil, get_or_at}
 use Rattle.std.proofs.lemmas.Option.{slice_get_within}
-use Rattle.mz_base_theory.specs.Checks.{AllHold}
+use Rattle.mz_base.specs.Checks.{AllHold}
 use Rattle.mz_cmd.specs.declared.code.StatementCode.{StatementCode}
 use Rattle.mz_cmd.specs.declared.code.StatementCode.TheVariants as codes
 use Rattle.mz_cmd.specs.declared.statement.StmtAt.{StmtAt}
@@ -43,20 +43,20 @@ use Rattle.mz_binary.proofs.Offered.{were-right}
 use Rattle.mz_mmu_theory.specs.Proof.{Proof}
 use Rattle.mz_mmu_theory.specs.Statements.{Statement}
 use Rattle.mz_mmu_theory.specs.DeclaredNames.{sort_name, term_name, sort_names, term_names, assertion_name, assertion_names}
-use Rattle.mz_trace_theory.specs.Laws.{BodiesMakeOne}
-use Rattle.mz_trace_theory.specs.Traces.{Made, under_lets}
+use Rattle.mz_trace.specs.Laws.{BodiesMakeOne}
+use Rattle.mz_trace.specs.Traces.{Made, under_lets}
 use Rattle.mz_trace.specs.Runs.{IsTheoremAt}
-use Rattle.mz_decompile_text_theory.specs.Naming.{Naming, vocabulary_by}
-use Rattle.mz_decompile_text_theory.specs.Names.{naming_of}
-use Rattle.mz_decompile_rows.specs.Rows.{AreArities}
-use Rattle.mz_decompile_theory.specs.Restated.{IsProofMade, IsRestated, AreRestated}
+use Rattle.mz_decompile_text.specs.Naming.{Naming, vocabulary_by}
+use Rattle.mz_decompile_text.specs.Names.{naming_of}
+use Rattle.mz_decompile_text.specs.Rows.{AreArities}
+use Rattle.mz_decompile.specs.Restated.{IsProofMade, IsRestated, AreRestated}
 use Rattle.mz_decompile.specs.Naming.{next_name}
 use Rattle.mz_decompile.specs.Telling.{Counts, HasProof, MakesProof, Stands}
 use Rattle.mz_decompile.specs.Tracing.{GoodTheoremsStand, rows_of}
 use Rattle.mz_binary_walk.specs.Walk.{nothing_passed, passed_with}
 use Rattle.mz_binary_walk.specs.declared.passed.Passed.{Passed}
 use Rattle.mz_binary_walk.proofs.Offered.{IsOnWay, one-code, way-asks, way-end, way-first, way-on}
-use Rattle.mz_decompile_theory.proofs.Offered.{theorem-asked}
+use Rattle.mz_decompile.proofs.Theorems.{theorem-asked}
 use Rattle.mz_decompile.specs.Standing.{AreStanding, AreAll}
 
 -- ---- names by their places

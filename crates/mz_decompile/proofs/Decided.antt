@@ -1,19 +1,19 @@
 -- Each pair that is accepted has one text, or one thing that stands first against it.
 use Rattle.std.proofs.Common.{◌≡◌, ◌⊎◌, ◌∙◌, ℕ, suc, inl, inr, List, [], ◌∷◌, refl, sym, subst}
-use Rattle.mz_base_theory.specs.Checks.{AllHold, FailsFirst, AreDecided}
-use Rattle.mz_base_theory.proofs.Offered.{fails_first-unique, all_hold-excludes, all_hold-or_fails, are_decided-both, at_most-decided}
+use Rattle.mz_base.specs.Checks.{AllHold, FailsFirst, AreDecided}
+use Rattle.mz_base.proofs.Offered.{fails_first-unique, all_hold-excludes, all_hold-or_fails, are_decided-both, at_most-decided}
 use Rattle.mz_sexpr.specs.Node.{depth_limit}
 use Rattle.mz_mmu_theory.specs.Statements.{Statement}
 use Rattle.mz_match_theory.specs.declared.verdict.Counts.{Counts}
 use Rattle.mz_match_theory.specs.declared.verdict.Verdict.{Verdict}
 use Rattle.mz_match_theory.specs.Verdict.{Accepts, AcceptsWith, FirstRefusal, counts_of}
-use Rattle.mz_decompile_text_theory.specs.Phrases.{depth}
-use Rattle.mz_decompile_text_theory.specs.Phrasing.{Vocabulary, statement, text_of}
-use Rattle.mz_decompile_text_theory.specs.Names.{vocabulary_of}
-use Rattle.mz_prefix_theory.specs.Wording.{longest}
-use Rattle.mz_decompile_theory.specs.Restated.{Restates, Unstated, depth_checks, greater_length, stating_checks}
-use Rattle.mz_decompile_theory.specs.Laws.{AcceptedAreRestated, RestatedAlike}
-use Rattle.mz_decompile_theory.specs.Texts.{IsPlainText, IsUnstated}
+use Rattle.mz_decompile_text.specs.Phrases.{depth}
+use Rattle.mz_decompile_text.specs.Phrasing.{Vocabulary, statement, text_of}
+use Rattle.mz_decompile_text.specs.Names.{vocabulary_of}
+use Rattle.mz_prefix.specs.Wording.{longest}
+use Rattle.mz_decompile.specs.Restated.{Restates, Unstated, depth_checks, greater_length, stating_checks}
+use Rattle.mz_decompile.specs.Laws.{AcceptedAreRestated, RestatedAlike}
+use Rattle.mz_decompile.specs.Texts.{IsPlainText, IsUnstated}
 use Rattle.mz_decompile.specs.Decompiling.{IsDecided}
 
 depth-decided : (v : Vocabulary) (k : ℕ) (ss : List Statement) → AreDecided (depth_checks v k ss)

@@ -2,13 +2,13 @@
 use Rattle.std.proofs.Common.{◌≡◌, ◌∙◌, ◌<◌, ◌≤◌, ◌+◌, ◌++◌, ℕ, suc, Bool, true, false, List, [], ◌∷◌, length, drop, get_or, refl, sym, ap, arith}
 use Rattle.std.proofs.lemmas.List.{get_or_default, drop_all, map-append}
 use Rattle.std.specs.Prelude.{◌==◌, ◌/◌, ◌%◌, codes, if◌then◌else◌, map}
-use Rattle.mz_base_theory.proofs.Offered.{drop-item}
+use Rattle.mz_base.proofs.Offered.{drop-item}
 use Rattle.mz_logic_theory.specs.declared.word.Word.{Word}
 use Rattle.mz_logic_theory.specs.Words.{word_bound, word_deps, word_sort, places_set, binder_of, binders_from}
 use Rattle.mz_unify_theory.specs.Spells.{dummy_of}
-use Rattle.mz_decompile_text_theory.specs.Phrases.{Phrase, Phrases, a_word, no_phrases, one_more}
-use Rattle.mz_decompile_text_theory.specs.Phrasing.{Vocabulary, list_of, followed_by, word_list, variable_names, binder, binders, marked_parts}
-use Rattle.mz_decompile_phrases.specs.ByNumber.{phrase_at, phrases_at}
+use Rattle.mz_decompile_text.specs.Phrases.{Phrase, Phrases, a_word, no_phrases, one_more}
+use Rattle.mz_decompile_text.specs.Phrasing.{Vocabulary, list_of, followed_by, word_list, variable_names, binder, binders, marked_parts}
+use Rattle.mz_decompile_text.specs.ByNumber.{phrase_at, phrases_at}
 use Rattle.mz_decompile.specs.Hypotheses.{named}
 
 -- the number at hand

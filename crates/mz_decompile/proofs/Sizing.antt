@@ -1,14 +1,14 @@
 -- What is answered, by what the first pass gives.
 use Rattle.std.proofs.Common.{◌≡◌, ◌<◌, ◌≤◌, ◌+◌, ◌*◌, ℕ, List, length, inl, ap, arith}
 use Rattle.std.specs.Prelude.{max}
-use Rattle.mz_base_theory.specs.Checks.{AllHold, FailsFirst, demand}
-use Rattle.mz_base_theory.proofs.Offered.{fails-before, fails-after, all_hold-both}
+use Rattle.mz_base.specs.Checks.{AllHold, FailsFirst, demand}
+use Rattle.mz_base.proofs.Offered.{fails-before, fails-after, all_hold-both}
 use Rattle.mz_mmu_theory.specs.Statements.{Statement}
 use Rattle.mz_mmu_theory.specs.Weight.{weight_of}
-use Rattle.mz_decompile_text_theory.specs.Phrasing.{Vocabulary, text_of}
-use Rattle.mz_decompile_phrases.specs.Measures.{capped}
-use Rattle.mz_prefix_theory.specs.Wording.{longest}
-use Rattle.mz_decompile_theory.specs.Restated.{deep, too_long, told_length, depth_checks, greater_length, stating_checks}
+use Rattle.mz_decompile_text.specs.Phrasing.{Vocabulary, text_of}
+use Rattle.mz_decompile_text.specs.Measures.{capped}
+use Rattle.mz_prefix.specs.Wording.{longest}
+use Rattle.mz_decompile.specs.Restated.{deep, too_long, told_length, depth_checks, greater_length, stating_checks}
 
 module _ (v : Vocabulary) (ts : List Statement) where
   pub too-deep : (k : ℕ) → FailsFirst (depth_checks v 1 ts) (deep k) → FailsFirst (stating_checks v ts) (deep k)

@@ -20,11 +20,11 @@ use Rattle.mz_binary_walk.proofs.Offered.{one-code}
 use Rattle.mz_mmu_theory.specs.Proof.{Proof}
 use Rattle.mz_mmu_theory.specs.Statements.{Statement}
 use Rattle.mz_mmu_theory.specs.Weight.{declaration_weight, stated_weight}
-use Rattle.mz_decompile_text_theory.specs.Phrases.{Phrase}
-use Rattle.mz_decompile_text_theory.specs.Phrasing.{Vocabulary, declared_parts, assertion_parts}
-use Rattle.mz_decompile_text_theory.specs.Naming.{Naming, vocabulary_by}
-use Rattle.mz_decompile_phrases.specs.Measures.{capped}
-use Rattle.mz_decompile_rows.specs.Rows.{AreArities}
+use Rattle.mz_decompile_text.specs.Phrases.{Phrase}
+use Rattle.mz_decompile_text.specs.Phrasing.{Vocabulary, declared_parts, assertion_parts}
+use Rattle.mz_decompile_text.specs.Naming.{Naming, vocabulary_by}
+use Rattle.mz_decompile_text.specs.Measures.{capped}
+use Rattle.mz_decompile_text.specs.Rows.{AreArities}
 use Rattle.mz_decompile.specs.Adding.{Adds}
 use Rattle.mz_decompile.specs.Naming.{next_name}
 use Rattle.mz_decompile.specs.Telling.{Counts, HasProof, MakesProof, MakesSome, Stands, SpellsSomeTerm, SpellsSomeThm, IsTerm, IsAxiom, IsTheorem, AreParts}

@@ -13,13 +13,13 @@ use Rattle.mz_unify_theory.specs.Spells.{SpellsTerm, SpellsThm, SpellsForm, dumm
 use Rattle.mz_machine_theory.specs.FileRows.{term_of_file, thm_of_file}
 use Rattle.mz_mmu_theory.specs.Proof.{Proof}
 use Rattle.mz_mmu_theory.specs.Weight.{proof_weight, stated_weight}
-use Rattle.mz_decompile_text_theory.specs.Phrases.{Phrase, Phrases, a_word, a_list, one_more}
-use Rattle.mz_decompile_text_theory.specs.Phrasing.{Vocabulary, list_of, expression, expressions, binders, result, term_parts, assertion_parts, named_hypotheses, proof as statement-proof-by}
-use Rattle.mz_decompile_phrases.specs.ByNumber.{phrase_at, phrases_at, Grows}
-use Rattle.mz_decompile_phrases.specs.Measures.{capped, word_count, words_of_all}
-use Rattle.mz_decompile_rows.specs.Rows.{IsSaid, IsDefined}
-use Rattle.mz_decompile_rows.specs.declared.row.Said.{Said}
-use Rattle.mz_decompile_rows.specs.declared.row.Defined.{Defined}
+use Rattle.mz_decompile_text.specs.Phrases.{Phrase, Phrases, a_word, a_list, one_more}
+use Rattle.mz_decompile_text.specs.Phrasing.{Vocabulary, list_of, expression, expressions, binders, result, term_parts, assertion_parts, named_hypotheses, proof as statement-proof-by}
+use Rattle.mz_decompile_text.specs.ByNumber.{phrase_at, phrases_at, Grows}
+use Rattle.mz_decompile_text.specs.Measures.{capped, word_count, words_of_all}
+use Rattle.mz_decompile_text.specs.Rows.{IsSaid, IsDefined}
+use Rattle.mz_decompile_text.specs.declared.row.Said.{Said}
+use Rattle.mz_decompile_text.specs.declared.row.Defined.{Defined}
 use Rattle.mz_decompile.specs.Adding.{Adds}
 use Rattle.mz_decompile.specs.Hypotheses.{named}
 use Rattle.mz_decompile.specs.Telling.{IsTerm, IsAxiom, IsTheorem, IsProved}

@@ -6,9 +6,9 @@ use Rattle.mz_binary_theory.specs.Standards.{strict_standard}
 use Rattle.mz_binary_theory.specs.WholeLaws.{OneListOfStatements, GoodFilesSpell}
 use Rattle.mz_spec_proved_theory.specs.Match.{publics, Agrees}
 use Rattle.mz_match_theory.specs.Verdict.{Accepts}
-use Rattle.mz_emit_accepted_theory.specs.Compiling.{CompilesTo}
-use Rattle.mz_decompile_theory.specs.Laws.{AreBytes, IsTextOfBinary, PlainTextsAreTexts}
-use Rattle.mz_decompile_theory.specs.Texts.{IsPlainText}
+use Rattle.mz_emit_theory.specs.Compiling.{CompilesTo}
+use Rattle.mz_decompile.specs.Laws.{AreBytes, IsTextOfBinary, PlainTextsAreTexts}
+use Rattle.mz_decompile.specs.Texts.{IsPlainText}
 use Rattle.mz_decompile.specs.Decompiling.{IsTextFor}
 
 module _ (typed_or_faulty : (gaps : Bool) (text : List ℕ) → IsTypedOrFaulty gaps text) (one_list : OneListOfStatements) (spells : GoodFilesSpell)

@@ -2,8 +2,8 @@
 use Rattle.std.proofs.Common.{◌≡◌, ◌∙◌, ◌⊎◌, ◌<◌, ◌≤◌, ◌+◌, ◌++◌, ℕ, suc, true, false, List, [], ◌∷◌, length, Ok, refl, sym, ap, subst, inl, inr, arith, append_assoc, append-nil, length-append}
 use Rattle.std.proofs.lemmas.Bool.{cases_lt, ltb-true, lt-ltb}
 use Rattle.std.specs.Prelude.{◌↔◌, IsTrue, nat_lt as ltb, codes as bytes-of}
-use Rattle.mz_base_theory.specs.Checks.{AllHold, FailsFirst}
-use Rattle.mz_base_theory.proofs.Offered.{Decides, decides-whole}
+use Rattle.mz_base.specs.Checks.{AllHold, FailsFirst}
+use Rattle.mz_base.proofs.Offered.{Decides, decides-whole}
 use Rattle.mz_cmd.specs.declared.code.StatementCode.{StatementCode}
 use Rattle.mz_cmd.specs.declared.statement.StmtAt.TheVariants as stands
 use Rattle.mz_cmd.specs.Codes.{statement_byte}
@@ -17,11 +17,11 @@ use Rattle.mz_binary_walk.specs.declared.passed.Passed.{Passed}
 use Rattle.mz_binary_walk.proofs.Offered.{head-here, one-code}
 use Rattle.mz_mmu_theory.specs.Statements.{Statement}
 use Rattle.mz_mmu_theory.specs.Weight.{statement_weight, weight_after, weight_of}
-use Rattle.mz_decompile_text_theory.specs.Phrases.{Phrase, depth, written}
-use Rattle.mz_decompile_text_theory.specs.Phrasing.{Vocabulary, statement, text_of}
-use Rattle.mz_decompile_text_theory.specs.Naming.{Naming}
-use Rattle.mz_decompile_phrases.specs.Measures.{capped}
-use Rattle.mz_decompile_theory.specs.Restated.{deep, depth_checks}
+use Rattle.mz_decompile_text.specs.Phrases.{Phrase, depth, written}
+use Rattle.mz_decompile_text.specs.Phrasing.{Vocabulary, statement, text_of}
+use Rattle.mz_decompile_text.specs.Naming.{Naming}
+use Rattle.mz_decompile_text.specs.Measures.{capped}
+use Rattle.mz_decompile.specs.Restated.{deep, depth_checks}
 use Rattle.mz_decompile.specs.Telling.{Stands, SomeStands}
 use Rattle.mz_decompile.specs.Standing.{AreStanding, AreAll}
 use Rattle.mz_decompile.specs.Passes.{AreSizes, IsLine}

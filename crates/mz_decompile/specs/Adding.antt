@@ -1,9 +1,9 @@
 -- Phrases that are added, and the numbers of those that are to stand in one list.
 use Rattle.std.specs.Prelude.{◌≡◌, ⊤, ℕ, List, [], ◌∷◌, ◌++◌}
-use Rattle.mz_decompile_text_theory.specs.Phrases.{Phrase, Phrases}
-use Rattle.mz_decompile_text_theory.specs.Phrasing.{followed_by}
-use Rattle.mz_decompile_phrases.specs.ByNumber.{Grows}
-use Rattle.mz_decompile_rows.specs.Rows.{IsPhrase}
+use Rattle.mz_decompile_text.specs.Phrases.{Phrase, Phrases}
+use Rattle.mz_decompile_text.specs.Phrasing.{followed_by}
+use Rattle.mz_decompile_text.specs.ByNumber.{Grows}
+use Rattle.mz_decompile_text.specs.Rows.{IsPhrase}
 
 -- these have these numbers
 abbrev pub ArePhrases : List Phrase → List ℕ → List Phrase → Type 0

@@ -2,12 +2,12 @@
 use Rattle.std.specs.Prelude.{◌≡◌, ◌⊎◌, ◌+◌, ⊤, ℕ, false, List}
 use Rattle.mz_binary_theory.specs.FileRun.{file_steps}
 use Rattle.mz_binary_theory.specs.Standards.{strict_standard}
-use Rattle.mz_emit_accepted_theory.specs.Compiling.{IsCompilable, CompilesTo}
+use Rattle.mz_emit_theory.specs.Compiling.{IsCompilable, CompilesTo}
 use Rattle.mz_match_theory.specs.declared.verdict.Verdict.{Verdict}
 use Rattle.mz_match_theory.specs.Verdict.{Accepts, FirstRefusal, Ticks}
-use Rattle.mz_decompile_theory.specs.Restated.{Unstated, deep, too_long}
-use Rattle.mz_decompile_theory.specs.Laws.{IsTextOfBinary}
-use Rattle.mz_decompile_theory.specs.Texts.{IsPlainText, IsUnstated}
+use Rattle.mz_decompile.specs.Restated.{Unstated, deep, too_long}
+use Rattle.mz_decompile.specs.Laws.{IsTextOfBinary}
+use Rattle.mz_decompile.specs.Texts.{IsPlainText, IsUnstated}
 use Rattle.mz_decompile.specs.declared.decompiled.Decompiled.{Decompiled}
 use Rattle.mz_decompile.specs.declared.decompiled.Decompiled.TheVariants as answers
 

@@ -1,7 +1,7 @@
 -- A statement's hypotheses, as phrases.
 use Rattle.std.specs.Prelude.{ℕ, suc, [], ◌∷◌}
-use Rattle.mz_decompile_text_theory.specs.Phrases.{Phrases, a_word, no_phrases, one_more}
-use Rattle.mz_decompile_text_theory.specs.Phrasing.{Vocabulary, list_of}
+use Rattle.mz_decompile_text.specs.Phrases.{Phrases, a_word, no_phrases, one_more}
+use Rattle.mz_decompile_text.specs.Phrasing.{Vocabulary, list_of}
 
 -- phrases as hypotheses, with their names, the first of them hypothesis i
 abbrev pub named : Vocabulary → ℕ → Phrases → Phrases

@@ -7,3 +7,6 @@ pub mod Decompiling
 pub mod Printed
 pub mod Standing
 pub mod Passes
+pub mod Restated
+pub mod Texts
+pub mod Laws

@@ -1,7 +1,7 @@
 -- The name of a statement, by its place among those of its kind.
 use Rattle.std.specs.Prelude.{ℕ, List, length}
 use Rattle.mz_logic_theory.specs.Declaration.{Declaration, sort_decl, term_decl, assertion_decl, sorts, terms, assertions}
-use Rattle.mz_decompile_text_theory.specs.Phrasing.{Vocabulary}
+use Rattle.mz_decompile_text.specs.Phrasing.{Vocabulary}
 
 -- of what is declared next after env
 abbrev pub next_name : Vocabulary → List Declaration → Declaration → List ℕ

@@ -1,14 +1,14 @@
 -- What the two passes over the statements give.
 use Rattle.std.specs.Prelude.{◌≡◌, ◌<◌, ◌↔◌, ⊤, IsTrue, List, ◌++◌, length, codes}
-use Rattle.mz_base_theory.specs.Checks.{AllHold, FailsFirst}
+use Rattle.mz_base.specs.Checks.{AllHold, FailsFirst}
 use Rattle.mz_sexpr.specs.Node.{depth_limit}
 use Rattle.mz_logic_theory.specs.Declaration.{Declaration}
 use Rattle.mz_mmu_theory.specs.Statements.{Statement}
 use Rattle.mz_mmu_theory.specs.Weight.{statement_weight, weight_of}
-use Rattle.mz_decompile_text_theory.specs.Phrases.{depth, written}
-use Rattle.mz_decompile_text_theory.specs.Phrasing.{Vocabulary, statement, text_of}
-use Rattle.mz_decompile_phrases.specs.Measures.{capped}
-use Rattle.mz_decompile_theory.specs.Restated.{deep, depth_checks, too_long, stating_checks}
+use Rattle.mz_decompile_text.specs.Phrases.{depth, written}
+use Rattle.mz_decompile_text.specs.Phrasing.{Vocabulary, statement, text_of}
+use Rattle.mz_decompile_text.specs.Measures.{capped}
+use Rattle.mz_decompile.specs.Restated.{deep, depth_checks, too_long, stating_checks}
 use Rattle.mz_decompile.specs.declared.decompiled.Decompiled.{Decompiled}
 use Rattle.mz_decompile.specs.declared.decompiled.Decompiled.TheVariants as answers
 use Rattle.mz_decompile.specs.declared.measure.Measured.{Measured}

@@ -1,6 +1,6 @@
 -- Statements of a text that stand in the list of a binary, one after another.
 use Rattle.std.specs.Prelude.{ℕ, List, [], ◌∷◌, ◌++◌}
-use Rattle.mz_base_theory.specs.Checks.{AllHold}
+use Rattle.mz_base.specs.Checks.{AllHold}
 use Rattle.mz_logic_theory.specs.Declaration.{Declaration}
 use Rattle.mz_layout_tables.specs.Heads.{IsHeadAt, head_checks}
 use Rattle.mz_layout_tables.specs.declared.head.Head.{Head}
@@ -8,7 +8,7 @@ use Rattle.mz_binary_theory.specs.Chains.{IsListEnd}
 use Rattle.mz_binary_walk.specs.Walk.{nothing_passed, passed_with}
 use Rattle.mz_binary_walk.specs.declared.passed.Passed.{Passed}
 use Rattle.mz_mmu_theory.specs.Statements.{Statement}
-use Rattle.mz_decompile_text_theory.specs.Naming.{Naming}
+use Rattle.mz_decompile_text.specs.Naming.{Naming}
 use Rattle.mz_decompile.specs.Telling.{Stands}
 
 -- behind what was passed, which declares env, each stands at its place, where nothing fails, up to the end of the list

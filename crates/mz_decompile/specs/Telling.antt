@@ -19,12 +19,12 @@ use Rattle.mz_binary_theory.specs.Spelling.{IsKindOf, is_local_code, SpellsRow}
 use Rattle.mz_mmu_theory.specs.Proof.{Proof}
 use Rattle.mz_mmu_theory.specs.Statements.{Statement}
 use Rattle.mz_mmu_theory.specs.Weight.{statement_weight, declaration_weight, proof_weight, stated_weight}
-use Rattle.mz_trace_theory.specs.Traces.{Made, under_lets}
-use Rattle.mz_decompile_text_theory.specs.Phrases.{Phrase}
-use Rattle.mz_decompile_text_theory.specs.Phrasing.{Vocabulary, statement, declared_parts, term_parts, assertion_parts, proof}
-use Rattle.mz_decompile_text_theory.specs.Naming.{Naming, vocabulary_by}
-use Rattle.mz_decompile_phrases.specs.Measures.{capped}
-use Rattle.mz_decompile_rows.specs.Rows.{AreArities, IsPhrase}
+use Rattle.mz_trace.specs.Traces.{Made, under_lets}
+use Rattle.mz_decompile_text.specs.Phrases.{Phrase}
+use Rattle.mz_decompile_text.specs.Phrasing.{Vocabulary, statement, declared_parts, term_parts, assertion_parts, proof}
+use Rattle.mz_decompile_text.specs.Naming.{Naming, vocabulary_by}
+use Rattle.mz_decompile_text.specs.Measures.{capped}
+use Rattle.mz_decompile_text.specs.Rows.{AreArities, IsPhrase}
 use Rattle.mz_decompile.specs.Adding.{Adds}
 use Rattle.mz_decompile.specs.Naming.{next_name}
 use Rattle.mz_decompile.specs.declared.size.Sized.{Sized}

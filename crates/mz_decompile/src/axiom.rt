@@ -6,10 +6,10 @@ ghost use Rattle.mz_logic_theory.specs.Words.{binders_of};
 ghost use Rattle.mz_layout_tables.specs.Tables.{thm_count, thm_row};
 ghost use Rattle.mz_unify_theory.specs.Spells.{SpellsThm};
 ghost use Rattle.mz_machine_theory.specs.FileRows.{thm_of_file};
-ghost use Rattle.mz_decompile_text_theory.specs.Phrases.{a_word, a_list};
-ghost use Rattle.mz_decompile_text_theory.specs.Phrasing.{binders};
-ghost use Rattle.mz_decompile_text_theory.specs.Naming.{vocabulary_by};
-ghost use Rattle.mz_decompile_rows.specs.Rows.{AreArities};
+ghost use Rattle.mz_decompile_text.specs.Phrases.{a_word, a_list};
+ghost use Rattle.mz_decompile_text.specs.Phrasing.{binders};
+ghost use Rattle.mz_decompile_text.specs.Naming.{vocabulary_by};
+ghost use Rattle.mz_decompile_text.specs.Rows.{AreArities};
 ghost use Rattle.mz_decompile.specs.Adding.{Adds};
 ghost use Rattle.mz_decompile.specs.Telling.{IsAxiom, SpellsSomeThm};
 
@@ -17,9 +17,7 @@ use crate::params::put_params;
 use crate::parts::{put_list, put_word};
 use crate::weight::weight_said;
 use mz_cmd::Mem;
-use mz_decompile_names::PairNames;
-use mz_decompile_phrases::Phrases;
-use mz_decompile_rows::assertion;
+use mz_decompile_text::{PairNames, Phrases, assertion};
 use mz_layout_tables::{Mmb, Row};
 use std::alloc::Global;
 

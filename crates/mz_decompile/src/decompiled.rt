@@ -5,15 +5,15 @@ ghost use Rattle.mz_decompile.specs.Decompiling.{IsDecompilation, IsTextForPair,
 ghost use Rattle.mz_decompile.specs.Passes.{IsOfAccepted};
 
 use crate::text_or_obstacle::answer;
+use crate::{accepted_are_restated, plain_texts_are_texts};
 use mz_cmd::{Mem, Steps};
-use mz_decompile_names::PairNames;
-use mz_decompile_theory::{accepted_are_restated, plain_texts_are_texts};
+use mz_decompile_text::PairNames;
 use mz_layout_tables::Mmb;
 use mz_match::verify_bytes;
 use mz_match_theory::Verdict;
 use mz_spec::Hashing;
 use mz_store::Seed;
-use mz_trace_theory::bodies_make_proofs;
+use mz_trace::bodies_make_proofs;
 use mz_type::typed_or_faulty;
 use std::alloc::Global;
 use std::sync::ledger::Ledger;

@@ -1,15 +1,14 @@
 //! Dummies.
 ghost use Rattle.std.specs.Prelude.{◌≡◌, ◌<◌, ◌≤◌, ◌+◌, ◌∷◌, [], OnOk, length, map};
 ghost use Rattle.mz_unify_theory.specs.Spells.{dummy_of};
-ghost use Rattle.mz_decompile_text_theory.specs.Phrases.{a_list};
-ghost use Rattle.mz_decompile_text_theory.specs.Phrasing.{binder, binders};
-ghost use Rattle.mz_decompile_text_theory.specs.Naming.{vocabulary_by};
+ghost use Rattle.mz_decompile_text.specs.Phrases.{a_list};
+ghost use Rattle.mz_decompile_text.specs.Phrasing.{binder, binders};
+ghost use Rattle.mz_decompile_text.specs.Naming.{vocabulary_by};
 ghost use Rattle.mz_decompile.specs.Adding.{Adds};
 
 use crate::parts::{put_list, put_variable, put_word};
 use mz_cmd::Mem;
-use mz_decompile_names::PairNames;
-use mz_decompile_phrases::Phrases;
+use mz_decompile_text::{PairNames, Phrases};
 use std::alloc::Global;
 
 /// Adds a list of dummies of these sorts, behind so many parameters.

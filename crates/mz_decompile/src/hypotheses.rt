@@ -1,16 +1,15 @@
 //! The hypotheses of a theorem, by their names.
 ghost use Rattle.std.specs.Prelude.{◌≡◌, ◌<◌, ◌∷◌, [], All, OnOk, length};
-ghost use Rattle.mz_decompile_text_theory.specs.Phrases.{a_word, a_list};
-ghost use Rattle.mz_decompile_text_theory.specs.Phrasing.{list_of};
-ghost use Rattle.mz_decompile_text_theory.specs.Naming.{vocabulary_by};
-ghost use Rattle.mz_decompile_phrases.specs.ByNumber.{phrase_at, phrases_at};
+ghost use Rattle.mz_decompile_text.specs.Phrases.{a_word, a_list};
+ghost use Rattle.mz_decompile_text.specs.Phrasing.{list_of};
+ghost use Rattle.mz_decompile_text.specs.Naming.{vocabulary_by};
+ghost use Rattle.mz_decompile_text.specs.ByNumber.{phrase_at, phrases_at};
 ghost use Rattle.mz_decompile.specs.Adding.{Adds};
 ghost use Rattle.mz_decompile.specs.Hypotheses.{named};
 
 use crate::parts::{put_hypothesis, put_list};
 use mz_cmd::Mem;
-use mz_decompile_names::PairNames;
-use mz_decompile_phrases::Phrases;
+use mz_decompile_text::{PairNames, Phrases};
 use std::alloc::Global;
 
 /// Adds a list of hypotheses, each with its name.

@@ -3,9 +3,9 @@ ghost use Rattle.std.specs.Prelude.{ℕ, List};
 ghost use Rattle.mz_decompile.specs.Decompiling.{IsDecided};
 ghost use Rattle.mz_decompile.specs.Tracing.{GoodTheoremsStand};
 
-use mz_decompile_theory::accepted_are_restated;
+use crate::accepted_are_restated;
 use mz_match_theory::each_pair_has_one_verdict;
-use mz_trace_theory::bodies_make_proofs;
+use mz_trace::bodies_make_proofs;
 
 /// Each pair that is accepted has one text, or one thing that stands first against it, and never both; and no other
 /// pair has either.

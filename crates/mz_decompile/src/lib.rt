@@ -1,8 +1,11 @@
 //! From a binary that proves a specification to a text that states it, proofs and all.
 //!
-//! `specs/Decompiling.antt` says what is answered; the text itself is defined in `mz_decompile_theory`. A statement's row, its
-//! stream and its body are read in place, and what they say is put together part by part (`specs/Adding.antt`);
-//! `specs/Telling.antt` says what is known of a statement, and what is said of it.
+//! `specs/Restated.antt` has the binary's statements under the specification's names, with the proofs that its bodies
+//! make, and what stands against their text. The law (`specs/Laws.antt`) is that the text is well typed and says the
+//! binary's statements.
+//!
+//! `specs/Decompiling.antt` says what is answered. A statement's row, its stream and its body are read in place, and what they say is
+//! put together part by part (`specs/Adding.antt`); `specs/Telling.antt` says what is known of a statement, and what is said of it.
 #![tactic(auto)]
 
 mod axiom;
@@ -19,6 +22,7 @@ mod size;
 mod sort;
 mod statement;
 mod term;
+mod text_laws;
 mod text_or_obstacle;
 mod theorem;
 mod weight;
@@ -27,3 +31,4 @@ mod write;
 pub use decompiled::{Decompiled, decompile_bytes};
 pub use laws::{decompilation_is_decided, good_theorems_are_traced};
 pub use printed::{decompiled_line, deep_line};
+pub use text_laws::{accepted_are_restated, plain_texts_are_texts};

@@ -2,8 +2,8 @@
 ghost use Rattle.std.specs.Prelude.{◌≡◌, ◌+◌, ℕ, IfOk, List};
 ghost use Rattle.mz_logic_theory.specs.Declaration.{Declaration};
 ghost use Rattle.mz_mmu_theory.specs.Statements.{Statement};
-ghost use Rattle.mz_decompile_text_theory.specs.Naming.{vocabulary_by};
-ghost use Rattle.mz_decompile_phrases.specs.Measures.{capped};
+ghost use Rattle.mz_decompile_text.specs.Naming.{vocabulary_by};
+ghost use Rattle.mz_decompile_text.specs.Measures.{capped};
 ghost use Rattle.mz_decompile.specs.Telling.{SomeStands, Stands};
 ghost use Rattle.mz_decompile.specs.Standing.{AreAll, SomeAreAll};
 ghost use Rattle.mz_decompile.specs.Passes.{IsLine, IsMeasured};
@@ -11,8 +11,7 @@ ghost use Rattle.mz_decompile.specs.Passes.{IsLine, IsMeasured};
 use crate::statement::statement;
 use mz_binary_walk::Passed;
 use mz_cmd::Mem;
-use mz_decompile_names::PairNames;
-use mz_decompile_phrases::Phrases;
+use mz_decompile_text::{PairNames, Phrases};
 use mz_layout_tables::{Head, Mmb, Rows};
 use std::alloc::Global;
 

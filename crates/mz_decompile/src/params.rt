@@ -2,15 +2,14 @@
 ghost use Rattle.std.specs.Prelude.{◌≡◌, ◌<◌, ◌++◌, ◌∷◌, [], IfOk, OnOk, if◌then◌else◌, length};
 ghost use Rattle.mz_logic_theory.specs.Words.{binder_of, binders_of, bound_places, places_set, word_bound, word_deps, word_sort};
 ghost use Rattle.mz_layout_tables.specs.Rows.{IsRow, params_of};
-ghost use Rattle.mz_decompile_text_theory.specs.Phrases.{a_word, a_list};
-ghost use Rattle.mz_decompile_text_theory.specs.Phrasing.{binder, binders, result as the_result, variable_names};
-ghost use Rattle.mz_decompile_text_theory.specs.Naming.{vocabulary_by};
+ghost use Rattle.mz_decompile_text.specs.Phrases.{a_word, a_list};
+ghost use Rattle.mz_decompile_text.specs.Phrasing.{binder, binders, result as the_result, variable_names};
+ghost use Rattle.mz_decompile_text.specs.Naming.{vocabulary_by};
 ghost use Rattle.mz_decompile.specs.Adding.{Adds};
 
 use crate::parts::{put_list, put_variable, put_word};
 use mz_cmd::Mem;
-use mz_decompile_names::PairNames;
-use mz_decompile_phrases::Phrases;
+use mz_decompile_text::{PairNames, Phrases};
 use mz_layout_tables::{Mmb, Row};
 use mz_logic_theory::Word;
 use std::alloc::Global;

@@ -1,13 +1,12 @@
 //! Parts of a list, one after another.
 ghost use Rattle.std.specs.Prelude.{◌≡◌, ◌<◌, ◌∷◌, [], All, OnOk, if◌then◌else◌, length};
-ghost use Rattle.mz_decompile_text_theory.specs.Phrases.{a_word, a_list};
-ghost use Rattle.mz_decompile_text_theory.specs.Naming.{vocabulary_by};
-ghost use Rattle.mz_decompile_phrases.specs.ByNumber.{phrases_at};
+ghost use Rattle.mz_decompile_text.specs.Phrases.{a_word, a_list};
+ghost use Rattle.mz_decompile_text.specs.Naming.{vocabulary_by};
+ghost use Rattle.mz_decompile_text.specs.ByNumber.{phrases_at};
 ghost use Rattle.mz_decompile.specs.Adding.{Adds};
 
 use mz_cmd::Mem;
-use mz_decompile_names::PairNames;
-use mz_decompile_phrases::Phrases;
+use mz_decompile_text::{PairNames, Phrases};
 use std::alloc::Global;
 
 /// Adds a token.

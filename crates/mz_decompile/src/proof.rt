@@ -3,8 +3,8 @@ ghost use Rattle.std.specs.Prelude.{◌≡◌, ◌<◌, IfOk, List, OnOk, Option
 ghost use Rattle.mz_logic_theory.specs.Declaration.{Declaration};
 ghost use Rattle.mz_logic_theory.specs.declared.binder.Binder.{Binder};
 ghost use Rattle.mz_mmu_theory.specs.Proof.{Proof};
-ghost use Rattle.mz_decompile_text_theory.specs.Naming.{vocabulary_by};
-ghost use Rattle.mz_decompile_phrases.specs.ByNumber.{Grows};
+ghost use Rattle.mz_decompile_text.specs.Naming.{vocabulary_by};
+ghost use Rattle.mz_decompile_text.specs.ByNumber.{Grows};
 ghost use Rattle.mz_decompile.specs.Telling.{IsProved, MakesProof, MakesSome};
 ghost use Rattle.mz_trace.specs.Runs.{ClaimsIn, IsTraced};
 ghost use Rattle.mz_layout_tables.specs.Heads.{body_bytes};
@@ -13,9 +13,7 @@ ghost use Rattle.mz_machine_theory.specs.Headings.{heading_of};
 ghost use Rattle.mz_machine_env.specs.Before.{tables_before};
 
 use mz_cmd::{Mem, Steps};
-use mz_decompile_names::PairNames;
-use mz_decompile_phrases::Phrases;
-use mz_decompile_proofs::retell;
+use mz_decompile_text::{PairNames, Phrases, retell};
 use mz_layout_tables::{Head, Mmb, Rows};
 use mz_trace::{Traced, trace_body};
 use std::alloc::{AllocError, Global};

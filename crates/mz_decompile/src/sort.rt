@@ -3,15 +3,14 @@ ghost use Rattle.std.specs.Prelude.{◌≡◌, ◌<◌, ◌∷◌, [], None, OnO
 ghost use Rattle.mz_logic_theory.specs.Declaration.{sort_decl};
 ghost use Rattle.mz_logic_theory.specs.declared.binder.SortMods.{SortMods as TheMods};
 ghost use Rattle.mz_layout_tables.specs.Tables.{tables_of};
-ghost use Rattle.mz_decompile_text_theory.specs.Phrases.{a_word};
-ghost use Rattle.mz_decompile_text_theory.specs.Phrasing.{declared_parts, modifiers};
-ghost use Rattle.mz_decompile_text_theory.specs.Naming.{vocabulary_by};
+ghost use Rattle.mz_decompile_text.specs.Phrases.{a_word};
+ghost use Rattle.mz_decompile_text.specs.Phrasing.{declared_parts, modifiers};
+ghost use Rattle.mz_decompile_text.specs.Naming.{vocabulary_by};
 ghost use Rattle.mz_decompile.specs.Adding.{Adds};
 
 use crate::parts::{put_word, put_word_if};
 use mz_cmd::Mem;
-use mz_decompile_names::PairNames;
-use mz_decompile_phrases::Phrases;
+use mz_decompile_text::{PairNames, Phrases};
 use mz_layout_tables::Mmb;
 use mz_logic_theory::{SortMods, Terms};
 

@@ -2,7 +2,7 @@
 ghost use Rattle.std.specs.Prelude.{IfOk, List};
 ghost use Rattle.mz_logic_theory.specs.Declaration.{Declaration};
 ghost use Rattle.mz_mmu_theory.specs.Statements.{Statement};
-ghost use Rattle.mz_decompile_text_theory.specs.Naming.{vocabulary_by};
+ghost use Rattle.mz_decompile_text.specs.Naming.{vocabulary_by};
 ghost use Rattle.mz_decompile.specs.Telling.{AreParts, IsSized, SomeStands, Stands};
 
 use crate::axiom::put_axiom;
@@ -13,8 +13,7 @@ use crate::term::put_term;
 use crate::theorem::put_theorem;
 use mz_binary_walk::is_local;
 use mz_cmd::{Mem, StatementCode};
-use mz_decompile_names::PairNames;
-use mz_decompile_phrases::Phrases;
+use mz_decompile_text::{PairNames, Phrases};
 use mz_layout_tables::{Head, Mmb, Rows};
 use std::alloc::Global;
 

@@ -1,8 +1,8 @@
 // The text, or what stands against it.
 ghost use Rattle.std.specs.Prelude.{◌≡◌, ◌+◌, ◌*◌, ℕ, IfOk, List, max};
 ghost use Rattle.mz_mmu_theory.specs.Statements.{Statement};
-ghost use Rattle.mz_decompile_text_theory.specs.Naming.{vocabulary_by};
-ghost use Rattle.mz_decompile_phrases.specs.Measures.{capped};
+ghost use Rattle.mz_decompile_text.specs.Naming.{vocabulary_by};
+ghost use Rattle.mz_decompile_text.specs.Measures.{capped};
 ghost use Rattle.mz_decompile.specs.Standing.{AreAll, SomeAreAll};
 ghost use Rattle.mz_decompile.specs.Passes.{IsAnswer};
 
@@ -10,7 +10,7 @@ use crate::decompiled::Decompiled;
 use crate::measure::{Measured, Sizes, measure};
 use crate::write::text;
 use mz_cmd::Mem;
-use mz_decompile_names::PairNames;
+use mz_decompile_text::PairNames;
 use mz_layout_tables::Mmb;
 use std::alloc::Global;
 

@@ -7,8 +7,8 @@ ghost use Rattle.mz_layout_tables.specs.Tables.{thm_count};
 ghost use Rattle.mz_unify_theory.specs.Spells.{SpellsThm};
 ghost use Rattle.mz_machine_theory.specs.FileRows.{thm_of_file};
 ghost use Rattle.mz_mmu_theory.specs.Proof.{Proof};
-ghost use Rattle.mz_decompile_text_theory.specs.Naming.{vocabulary_by};
-ghost use Rattle.mz_decompile_rows.specs.Rows.{AreArities};
+ghost use Rattle.mz_decompile_text.specs.Naming.{vocabulary_by};
+ghost use Rattle.mz_decompile_text.specs.Rows.{AreArities};
 ghost use Rattle.mz_decompile.specs.Telling.{IsTheorem, MakesProof, MakesSome, SpellsSomeThm};
 
 use crate::axiom::put_heading;
@@ -17,9 +17,7 @@ use crate::hypotheses::put_hypotheses;
 use crate::proof::prove;
 use crate::weight::weight_said;
 use mz_cmd::Mem;
-use mz_decompile_names::PairNames;
-use mz_decompile_phrases::Phrases;
-use mz_decompile_rows::assertion;
+use mz_decompile_text::{PairNames, Phrases, assertion};
 use mz_layout_tables::{Head, Mmb, Rows};
 use std::alloc::Global;
 

@@ -1,10 +1,9 @@
 //! The weight of what an axiom or theorem says.
 ghost use Rattle.std.specs.Prelude.{◌≡◌, ◌<◌, ◌+◌, All, length};
-ghost use Rattle.mz_decompile_phrases.specs.ByNumber.{phrase_at, phrases_at};
-ghost use Rattle.mz_decompile_phrases.specs.Measures.{capped, word_count, words_of_all};
+ghost use Rattle.mz_decompile_text.specs.ByNumber.{phrase_at, phrases_at};
+ghost use Rattle.mz_decompile_text.specs.Measures.{capped, word_count, words_of_all};
 
-use mz_decompile_phrases::Phrases;
-use mz_decompile_rows::Said;
+use mz_decompile_text::{Phrases, Said};
 
 /// The weight of so many parameters, hypotheses and a conclusion, and one more.
 pub(crate) fn weight_said(params: u32, said: &Said, phrases: &Phrases) -> u128

@@ -2,17 +2,16 @@
 ghost use Rattle.std.specs.Prelude.{◌≡◌, ◌++◌, IfOk, List, OnOk, codes};
 ghost use Rattle.mz_logic_theory.specs.Declaration.{Declaration};
 ghost use Rattle.mz_mmu_theory.specs.Statements.{Statement};
-ghost use Rattle.mz_decompile_text_theory.specs.Naming.{vocabulary_by};
-ghost use Rattle.mz_decompile_text_theory.specs.Phrases.{written};
-ghost use Rattle.mz_decompile_text_theory.specs.Phrasing.{statement as the_statement, text_of};
+ghost use Rattle.mz_decompile_text.specs.Naming.{vocabulary_by};
+ghost use Rattle.mz_decompile_text.specs.Phrases.{written};
+ghost use Rattle.mz_decompile_text.specs.Phrasing.{statement as the_statement, text_of};
 ghost use Rattle.mz_decompile.specs.Telling.{SomeStands, Stands};
 ghost use Rattle.mz_decompile.specs.Standing.{AreAll, SomeAreAll};
 
 use crate::statement::statement;
 use mz_binary_walk::Passed;
 use mz_cmd::Mem;
-use mz_decompile_names::PairNames;
-use mz_decompile_phrases::Phrases;
+use mz_decompile_text::{PairNames, Phrases};
 use mz_layout_tables::{Head, Mmb, Rows};
 use std::alloc::Global;
 

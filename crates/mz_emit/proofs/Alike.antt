@@ -15,8 +15,8 @@ use Rattle.mz_mmu_theory.specs.Weight.{Passes, IsWithinLimits, byte_bound}
 use Rattle.mz_type.proofs.Offered.{modes_agree}
 use Rattle.mz_mmu_theory.proofs.Offered.{stated_is_legal}
 use Rattle.mz_emit_theory.proofs.Offered.{finished-is-draft, files-spell}
-use Rattle.mz_emit_accepted_theory.specs.Gapped.{proofs_of, IsGappedIn}
-use Rattle.mz_emit_accepted_theory.specs.Compiling.{IsBinaryOf, ModesCompileAlike}
+use Rattle.mz_emit_theory.specs.Gapped.{proofs_of, IsGappedIn}
+use Rattle.mz_emit_theory.specs.Compiling.{IsBinaryOf, ModesCompileAlike}
 use Rattle.mz_emit.proofs.Finished.{binary_of}
 
 -- ---- the statements are the same

@@ -5,7 +5,7 @@ use Rattle.mz_sexpr.specs.declared.rule.TextRefusal.{TextRefusal}
 use Rattle.mz_mmu_theory.specs.TextOf.{TextOf, TextFault}
 use Rattle.mz_mmu_theory.specs.Weight.{Passed, Passes, IsWithinLimits}
 use Rattle.mz_mmu_theory.specs.TypeLaws.{EachIsLimited, IsTypedOrFaulty}
-use Rattle.mz_emit_accepted_theory.specs.Compiling.{IsCompilable, PassesLimit, IsDecided}
+use Rattle.mz_emit_theory.specs.Compiling.{IsCompilable, PassesLimit, IsDecided}
 
 module _ (typed_or_faulty : (gaps : Bool) (text : List ℕ) → IsTypedOrFaulty gaps text) (each_is_limited : EachIsLimited) (gaps : Bool) (text : List ℕ) where
   limited : (ss : List Statement) → TextOf gaps text ss → IsWithinLimits ss ⊎ ((p : Passed) × Passes ss p) → IsCompilable gaps text ⊎ (((r : TextRefusal) × TextFault gaps text r) ⊎ ((p : Passed) × PassesLimit gaps text p))

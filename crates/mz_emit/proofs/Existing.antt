@@ -23,11 +23,11 @@ use Rattle.mz_type.specs.StatedView.{AreRead}
 use Rattle.mz_type.specs.TypedText.{statement_at, declared}
 use Rattle.mz_emit_theory.proofs.Offered.{words-say-params}
 use Rattle.mz_emit_bodies.proofs.Offered.{axioms_are_written, axioms_short, axioms_take, definitions_are_written, definitions_short, definitions_take, theorem_bodies_use, theorems_short, theorems_take}
-use Rattle.mz_emit_accepted_theory.specs.ClaimsLaws.{StatedProofsAreSound}
-use Rattle.mz_emit_accepted_theory.specs.CompiledFile.{with_sort, with_term, with_thm, with_form, with_declaration, term_row, thm_row, definition_code, assertion_code, definition_stream_of, definition_body_of, assertion_stream_of, assertion_body_of, compiled_parts, compiled_file}
-use Rattle.mz_emit_accepted_theory.specs.Compiling.{IsBinaryOf}
-use Rattle.mz_emit_accepted_theory.specs.CompiledLaws.{HasFile, FileUsesWhatProofsUse}
-use Rattle.mz_emit_accepted_theory.specs.Gapped.{SayTheirUses}
+use Rattle.mz_emit_theory.specs.ClaimsLaws.{StatedProofsAreSound}
+use Rattle.mz_emit_theory.specs.CompiledFile.{with_sort, with_term, with_thm, with_form, with_declaration, term_row, thm_row, definition_code, assertion_code, definition_stream_of, definition_body_of, assertion_stream_of, assertion_body_of, compiled_parts, compiled_file}
+use Rattle.mz_emit_theory.specs.Compiling.{IsBinaryOf}
+use Rattle.mz_emit_theory.specs.CompiledLaws.{HasFile, FileUsesWhatProofsUse}
+use Rattle.mz_emit_theory.specs.Gapped.{SayTheirUses}
 use Rattle.mz_emit.specs.Emitting.{IsLegalWith, IsStated, MayFollow, IsProvedBy, body_weight}
 use Rattle.mz_emit.proofs.Finished.{few_sorts, short, is_binary}
 use Rattle.mz_emit.proofs.Looping.{legal_with, all_follow, one_more}

@@ -15,11 +15,10 @@ use Rattle.mz_mmu_theory.specs.Weight.{sort_count, byte_bound, IsWithinLimits}
 use Rattle.mz_mmu_theory.proofs.Offered.{stated_is_legal}
 use Rattle.mz_emit_theory.specs.SpelledLists.{list_spelled}
 use Rattle.mz_emit_theory.specs.FileWriting.{IsWrittenAs}
-use Rattle.mz_emit_theory.proofs.Offered.{written-gapped, files-good, files-spell, written-same}
-use Rattle.mz_emit_accepted_theory.proofs.Offered.{files-accepted, accepted-by-identity}
-use Rattle.mz_emit_accepted_theory.specs.Compiling.{IsBinaryOf}
-use Rattle.mz_emit_accepted_theory.specs.CompiledFile.{compiled_parts, compiled_file}
-use Rattle.mz_emit_accepted_theory.specs.Gapped.{proofs_of, IsGappedIn}
+use Rattle.mz_emit_theory.proofs.Offered.{written-gapped, files-good, files-spell, written-same, files-accepted, accepted-by-identity}
+use Rattle.mz_emit_theory.specs.Compiling.{IsBinaryOf}
+use Rattle.mz_emit_theory.specs.CompiledFile.{compiled_parts, compiled_file}
+use Rattle.mz_emit_theory.specs.Gapped.{proofs_of, IsGappedIn}
 use Rattle.mz_emit.proofs.Following.{short_enough}
 use Rattle.mz_emit.proofs.Gapped.{gapped_same}
 use Rattle.mz_emit.proofs.Lengths.{short_file}

@@ -1,8 +1,8 @@
 -- Each statement of a well-typed text within the limits may follow those before it.
 use Rattle.std.proofs.Common.{ℕ, zero, suc, ◌≡◌, Bool, true, ◌≤◌, ◌<◌, ◌+◌, List, [], ◌∷◌, ◌++◌, length, take, All, sym, subst, ap, arith, append_assoc, append-nil}
 use Rattle.std.proofs.lemmas.List.Elements.{All-get_or}
-use Rattle.mz_base_theory.specs.Checks.{AllHold}
-use Rattle.mz_base_theory.proofs.Offered.{all_hold-first, all_hold-rest}
+use Rattle.mz_base.specs.Checks.{AllHold}
+use Rattle.mz_base.proofs.Offered.{all_hold-first, all_hold-rest}
 use Rattle.mz_logic_theory.specs.Declaration.{Declaration, sorts}
 use Rattle.mz_logic_theory.specs.Legality.{LegalEnvAfter}
 use Rattle.mz_logic_theory.specs.WordsWritten.{CanBeWords}

@@ -8,7 +8,7 @@ use Rattle.mz_mmu_theory.specs.Proof.{Proof}
 use Rattle.mz_mmu_theory.specs.Statements.{Statement}
 use Rattle.mz_mmu_theory.specs.Meaning.{marked}
 use Rattle.mz_emit_theory.specs.Gaps.{body_written, bodies_written}
-use Rattle.mz_emit_accepted_theory.specs.Gapped.{proof_of, proofs_of, IsTheoremOf, IsGappedIn, leaves_gap as gap_stated, rests_on as rest_stated, UsesAsStated, StatementUses, SayTheirUses}
+use Rattle.mz_emit_theory.specs.Gapped.{proof_of, proofs_of, IsTheoremOf, IsGappedIn, leaves_gap as gap_stated, rests_on as rest_stated, UsesAsStated, StatementUses, SayTheirUses}
 
 -- ---- one statement more
 

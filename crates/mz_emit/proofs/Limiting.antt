@@ -3,13 +3,13 @@ use Rattle.std.specs.Prelude.{Some, None, option_map, slice_get}
 use Rattle.std.proofs.Common.{ℕ, zero, suc, ◌≡◌, ◌+◌, ◌≤◌, ◌<◌, List, [], ◌∷◌, length, drop, sym, ap, subst, inl, inr, arith, add-one}
 use Rattle.std.proofs.Math.Seq.{drop-cons}
 use Rattle.std.proofs.Math.ListN.{drop_of_length-le}
-use Rattle.mz_base_theory.specs.Checks.{AllHold, FailsFirst}
-use Rattle.mz_base_theory.proofs.Offered.{Decides, decides-whole, fails-before, fails-after, all_hold-both}
+use Rattle.mz_base.specs.Checks.{AllHold, FailsFirst}
+use Rattle.mz_base.proofs.Offered.{Decides, decides-whole, fails-before, fails-after, all_hold-both}
 use Rattle.mz_logic_theory.specs.Declaration.{sorts}
 use Rattle.mz_mmu_theory.specs.Statements.{Statement}
 use Rattle.mz_type.specs.TypedText.{statement_at}
 use Rattle.mz_mmu_theory.specs.Weight.{Limit, sort_limit, parameter_limit, bound_limit, byte_limit, Passed, sort_count, parameter_count, bound_count, byte_bound, each_within, limit_checks}
-use Rattle.mz_emit_accepted_theory.specs.Limits.{over}
+use Rattle.mz_emit_theory.specs.Limits.{over}
 
 -- from the i-th on the first is that one
 from_there : (ss : List Statement) (i : ℕ) → i < length ss → drop i ss ≡ statement_at ss i ∷ drop (i + 1) ss

@@ -3,12 +3,12 @@ use Rattle.std.proofs.Common.{Bool, true, false, List, ℕ, ap, sym, ◌∙◌}
 use Rattle.mz_mmu_theory.specs.Statements.{Statement}
 use Rattle.mz_mmu_theory.specs.TextOf.{TextOf}
 use Rattle.mz_mmu_theory.specs.TypeLaws.{IsTypedOrFaulty}
-use Rattle.mz_emit_accepted_theory.specs.CompiledFile.{compiled_file}
-use Rattle.mz_emit_accepted_theory.specs.CompiledLaws.{HasOneFile, Answers}
-use Rattle.mz_emit_accepted_theory.specs.Compiling.{CompilesTo, IsCompilation, IsDecided}
-use Rattle.mz_emit_accepted_theory.specs.Limits.{limit, over}
-use Rattle.mz_emit_accepted_theory.specs.declared.compiled.Compiled.{Compiled}
-use Rattle.mz_emit_accepted_theory.specs.declared.compiled.Compiled.TheVariants as answers
+use Rattle.mz_emit_theory.specs.CompiledFile.{compiled_file}
+use Rattle.mz_emit_theory.specs.CompiledLaws.{HasOneFile, Answers}
+use Rattle.mz_emit_theory.specs.Compiling.{CompilesTo, IsCompilation, IsDecided}
+use Rattle.mz_emit_theory.specs.Limits.{limit, over}
+use Rattle.mz_emit_theory.specs.declared.compiled.Compiled.{Compiled}
+use Rattle.mz_emit_theory.specs.declared.compiled.Compiled.TheVariants as answers
 use Rattle.mz_emit.proofs.Alike.{finished_in}
 
 in_draft : (gaps : Bool) (text : List ℕ) (ss : List Statement) → TextOf gaps text ss → TextOf true text ss

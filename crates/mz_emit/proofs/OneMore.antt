@@ -20,8 +20,8 @@ use Rattle.mz_emit_theory.specs.SpelledLists.{form_spelled, decl_spelled, statem
 use Rattle.mz_emit_theory.specs.FileGrowing.{HasOneMore}
 use Rattle.mz_emit_theory.specs.FileWriting.{SayParams, SaySignature, IsWrittenDeclaration, IsWrittenStatement, IsWrittenAssertion, HaveNoMore, IsWrittenAs}
 use Rattle.mz_emit_theory.proofs.Offered.{writing-grows, rows-counted, appended-next}
-use Rattle.mz_emit_accepted_theory.specs.CompiledFile.{with_sort, with_term, with_thm, with_form, with_declaration, term_row, thm_row, definition_code, assertion_code, definition_stream_of, definition_body_of, assertion_stream_of, assertion_body_of}
-use Rattle.mz_emit_accepted_theory.specs.Gapped.{StatementUses, SayTheirUses}
+use Rattle.mz_emit_theory.specs.CompiledFile.{with_sort, with_term, with_thm, with_form, with_declaration, term_row, thm_row, definition_code, assertion_code, definition_stream_of, definition_body_of, assertion_stream_of, assertion_body_of}
+use Rattle.mz_emit_theory.specs.Gapped.{StatementUses, SayTheirUses}
 use Rattle.mz_emit.proofs.Gapped.{uses_more}
 use Rattle.mz_emit.proofs.Lengths.{cost_of, sort_more, term_more, thm_more, short_more}
 use Rattle.mz_emit.proofs.Speaking.{SaysDefinition, SaysAssertion}

@@ -1,6 +1,8 @@
 -- The rows of one statement more.
-use Rattle.std.proofs.Common.{suc, ◌≡◌, ◌≤◌, ◌<◌, ◌+◌, ◌^◌, Bool, List, [], ◌∷◌, ◌++◌, ◌∙◌, length, map, refl, sym, subst, ap, append_assoc, append-nil, arith}
-use Rattle.std.specs.Prelude.{Option, Some, None}
+use Rattle.std.proofs.Common.{suc, ◌≡◌, ◌≤◌, ◌<◌, ◌+◌, ◌^◌, Bool, List, [], ◌∷◌, ◌++◌, ◌∙◌, length, map, take, refl, sym, subst, ap, append_assoc, append-nil, arith}
+use Rattle.std.specs.Prelude.{ℕ, Option, Some, None, slice_get}
+use Rattle.std.proofs.lemmas.List.{take_more}
+use Rattle.std.proofs.lemmas.Option.{get_or_from_slice_get, slice_get_within}
 use Rattle.mz_logic_theory.specs.Tree.{Tree, none, more}
 use Rattle.mz_logic_theory.specs.Declaration.{Form, plain_form, abstract_form, defined, body_of, dummies_of, Assertion, Declaration, sort_decl, term_decl, assertion_decl, sorts, signatures}
 use Rattle.mz_logic_theory.specs.declared.binder.Binder.{Binder}
@@ -13,9 +15,9 @@ use Rattle.mz_logic_theory.specs.Words.{signatures_of}
 use Rattle.mz_emit_bodies.specs.Rows.{words_of_row}
 use Rattle.mz_emit_bodies.specs.declared.table.TermEntry.{TermEntry}
 use Rattle.mz_emit_bodies.specs.declared.table.TermTable.{TermTable}
-use Rattle.mz_emit_accepted_theory.specs.ClaimsLaws.{StatedProofsAreSound}
+use Rattle.mz_emit_theory.specs.ClaimsLaws.{StatedProofsAreSound}
 use Rattle.mz_emit.specs.Emitting.{IsConcrete, MayFollow, CountsFit, IsProvedBy, HasEmitted, IsNext, WritesNext}
-use Rattle.mz_emit_accepted_theory.specs.CompiledFile.{with_declaration, parts_after}
+use Rattle.mz_emit_theory.specs.CompiledFile.{with_declaration, parts_after}
 use Rattle.mz_emit.specs.declared.emitter.Emitter.{Emitter}
 use Rattle.mz_emit.proofs.Saying.{env_short, assertion_room, proof_can, axiom_is}
 
@@ -44,6 +46,10 @@ emitted_next earlier s e new e' before writes writer table env = record {
       ∙ sym (signatures-append (declared earlier) (s.decl ∷ [])) ∙ ap signatures (sym (declared_more earlier s));
   env = env ∙ ap (λ ds. ds ++ s.decl ∷ []) before.env ∙ sym (declared_more earlier s);
 }
+
+-- one declaration further
+pub next_declared : (env : List Declaration) (i : ℕ) (d : Declaration) → slice_get env i ≡ Some d → take (i + 1) env ≡ take i env ++ d ∷ []
+next_declared env i d at = take_more env i d (slice_get_within env i d at) ∙ ap (λ x. take i env ++ x ∷ []) (get_or_from_slice_get env i d d at)
 
 -- a term that has no body is plain, and one that has a body is its definition
 pub plain_is : (f : Form) → IsConcrete f → body_of f ≡ none → f ≡ plain_form

@@ -16,7 +16,7 @@ use Rattle.mz_logic_theory.specs.Variables.{IsBoundAt}
 use Rattle.mz_logic_theory.specs.WordsWritten.{CanBeWords}
 use Rattle.mz_logic_theory.specs.declared.binder.Binder.{Binder}
 use Rattle.mz_logic_theory.specs.declared.binder.SortMods.{SortMods}
-use Rattle.mz_logic_theory.proofs.Offered.{each_from_all, assertions_are_sorted, terms_are_sorted}
+use Rattle.mz_logic_theory.proofs.Offered.{each_from_all, assertions_are_sorted, terms_are_sorted, terms-few}
 use Rattle.mz_machine_theory.specs.Premises.{bound_count as bound_in}
 use Rattle.mz_mmu_theory.specs.Gaps.{LeavesOnly, SomeLeavesOnly}
 use Rattle.mz_mmu_theory.specs.Statements.{Statement}
@@ -30,9 +30,8 @@ use Rattle.mz_emit_theory.specs.AlphaEquivalence.{IsSameForm}
 use Rattle.mz_emit_theory.specs.SpelledLists.{form_spelled}
 use Rattle.mz_emit_theory.proofs.Offered.{bodies-same, words-say-signatures}
 use Rattle.mz_binary_theory.specs.Spelling.{HasKind, is_local_code}
-use Rattle.mz_spec.proofs.Offered.{terms-few}
 use Rattle.mz_emit.specs.Emitting.{MayFollow, HasWords, AreReady, CanBeDefined, CountsFit, CanBeAsserted}
-use Rattle.mz_emit_accepted_theory.specs.CompiledFile.{definition_code, assertion_code}
+use Rattle.mz_emit_theory.specs.CompiledFile.{definition_code, assertion_code}
 use Rattle.mz_emit.proofs.Weights.{stated_same}
 
 -- ---- counts

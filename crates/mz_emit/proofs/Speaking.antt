@@ -38,9 +38,9 @@ use Rattle.mz_emit_theory.specs.Uses.{uses, IsBodyUsing}
 use Rattle.mz_emit_bodies.specs.Stages.{HasDummiesBehind}
 use Rattle.mz_emit.proofs.Saying.{few_nodes}
 use Rattle.mz_emit.proofs.Using.{used_as_stated}
-use Rattle.mz_emit_accepted_theory.specs.Gapped.{SaysItsUses}
+use Rattle.mz_emit_theory.specs.Gapped.{SaysItsUses}
 use Rattle.mz_emit.specs.Emitting.{AreReady, CanBeDefined, CanBeAsserted, IsProvedBy, IsSoundIfStated, body_weight}
-use Rattle.mz_emit_accepted_theory.specs.CompiledFile.{definition_stream_of, definition_body_of, assertion_stream_of, assertion_body_of}
+use Rattle.mz_emit_theory.specs.CompiledFile.{definition_stream_of, definition_body_of, assertion_stream_of, assertion_body_of}
 
 -- ---- counts of bound variables
 

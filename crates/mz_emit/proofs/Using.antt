@@ -11,7 +11,7 @@ use Rattle.mz_mmu_theory.specs.Proof.{Proof}
 use Rattle.mz_emit_theory.specs.Uses.{Use, a_gap, assertion, uses, command_uses, commands_use, IsBodyUsing}
 use Rattle.mz_emit_theory.specs.Gaps.{LeaveGap, Cite, SaysItsGaps}
 use Rattle.mz_emit_theory.proofs.Offered.{bodies-say-gaps, in-none}
-use Rattle.mz_emit_accepted_theory.specs.Gapped.{UsesAsStated}
+use Rattle.mz_emit_theory.specs.Gapped.{UsesAsStated}
 
 -- ---- commands that use something
 

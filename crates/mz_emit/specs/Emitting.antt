@@ -25,7 +25,7 @@ use Rattle.mz_emit_bodies.specs.Rows.{words_of_row}
 use Rattle.mz_emit_theory.specs.Claims.{IsSound, proved}
 use Rattle.mz_emit_theory.specs.Weights.{proof_weight}
 use Rattle.mz_emit.specs.declared.emitter.Emitter.{Emitter}
-use Rattle.mz_emit_accepted_theory.specs.CompiledFile.{with_declaration, compiled_parts}
+use Rattle.mz_emit_theory.specs.CompiledFile.{with_declaration, compiled_parts}
 
 -- ---- what is asked of a statement
 

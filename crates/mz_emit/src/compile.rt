@@ -7,15 +7,16 @@ ghost use Rattle.mz_type.specs.StatedView.{AreRead, statements_of};
 ghost use Rattle.mz_mmu_theory.specs.TextOf.{TextOf};
 ghost use Rattle.mz_mmu_theory.specs.Weight.{IsWithinLimits};
 ghost use Rattle.mz_emit.specs.Emitting.{IsLegalWith, HasEmitted};
-ghost use Rattle.mz_emit_accepted_theory.specs.CompiledLaws.{Answers, FileUsesWhatProofsUse, HasFile, HasOneFile};
-ghost use Rattle.mz_emit_accepted_theory.specs.Compiling.{CompilesTo, IsBinaryOf, IsCompilable, IsCompilation, IsDecided, ModesCompileAlike};
+ghost use Rattle.mz_emit_theory.specs.CompiledLaws.{Answers, FileUsesWhatProofsUse, HasFile, HasOneFile};
+ghost use Rattle.mz_emit_theory.specs.Compiling.{CompilesTo, IsBinaryOf, IsCompilable, IsCompilation, IsDecided, ModesCompileAlike};
 
 use crate::emitter::Emitter;
 use crate::limit::limit_of;
 use mz_base::{Hashing, Mode};
 use mz_cmd::Mem;
-use mz_emit_accepted_theory::{Compiled, Passed, stated_proofs_are_sound};
-use mz_logic_theory::{Env, words_are_read_back};
+use mz_emit_theory::{Compiled, Passed, stated_proofs_are_sound};
+use mz_logic_laws::words_are_read_back;
+use mz_logic_theory::Env;
 use mz_mmu::{TextRead, read_text};
 use mz_store::Seed;
 use mz_type::{
@@ -26,7 +27,12 @@ use std::alloc::Global;
 
 /// Emits the statements that declare what the environment has, each in its place, and say these beside it. What one
 /// says is let go once it is written.
-fn emit_all(alloc: Global, seed: Seed, env: &Env, mut besides: Vec<Beside>) -> Result<Emitter, Mem>
+fn emit_all<'e>(
+    alloc: Global,
+    seed: Seed,
+    env: &'e Env,
+    mut besides: Vec<Beside>,
+) -> Result<Emitter<'e>, Mem>
     requires many { length env.now ≡ length besides.items }
     requires few { length env.now < 2 ^ 32 }
     requires legal { (mode : Bool) × AreRead mode (statements_of env.now besides.items) × LegalAsStated mode (statements_of env.now besides.items) }
@@ -36,13 +42,13 @@ fn emit_all(alloc: Global, seed: Seed, env: &Env, mut besides: Vec<Beside>) -> R
     statements_can_be_words();
     // from the last one on, so that they can be taken from the end
     besides.reverse();
-    let mut emitter = Emitter::new(alloc, seed);
+    let mut emitter = Emitter::new(alloc, seed, env);
     let mut place: usize = 0;
     while let Some(beside) = take_last(&mut besides) {
         let Some(decl) = env.get(place) else {
             unreachable!();
         };
-        emitter.statement(decl, &beside)?;
+        emitter.statement(env, place, decl, &beside)?;
         place += 1;
     }
     Ok(emitter)

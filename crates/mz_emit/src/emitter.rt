@@ -1,5 +1,5 @@
 // The statements of a text, one after another, as rows, streams and bodies of a binary.
-ghost use Rattle.std.specs.Prelude.{Bool, List, ◌≡◌, ◌<◌, ◌≤◌, ◌+◌, ◌*◌, ◌^◌, ◌++◌, ◌∷◌, [], OnOk, IfOk, None, Some, Option, length, map, IsTrue};
+ghost use Rattle.std.specs.Prelude.{Bool, List, ◌≡◌, ◌<◌, ◌≤◌, ◌+◌, ◌*◌, ◌^◌, ◌++◌, ◌∷◌, [], OnOk, IfOk, None, Some, Option, length, map, slice_get, take, IsTrue};
 ghost use Rattle.mz_cmd.specs.Codes.{begins_statement};
 ghost use Rattle.mz_logic_theory.specs.DeclView.{declaration, term_of, assertion_of, assertion_view, signature, form, is_axiom as is_axiom_form};
 ghost use Rattle.mz_logic_theory.specs.Declaration.{sort_decl, plain_form, defined, dummies_of, sorts, signatures};
@@ -20,29 +20,29 @@ ghost use Rattle.mz_machine_theory.specs.Premises.{bound_count as bound_in};
 ghost use Rattle.mz_emit_bodies.specs.Rows.{words_of_row};
 ghost use Rattle.mz_emit_bodies.specs.Stages.{HasDummiesBehind};
 ghost use Rattle.mz_emit.specs.Emitting.{CanBeNext, WritesNext, EmitsNext, CanBeDefined, CanBeAsserted, CountsFit, HasWords, table_of, IsProvedBy, IsSoundIfStated, body_weight, HasEmitted};
-ghost use Rattle.mz_emit_accepted_theory.specs.CompiledFile;
-ghost use Rattle.mz_emit_accepted_theory.specs.CompiledFile.{term_row, thm_row, definition_stream_of, definition_body_of, assertion_stream_of, assertion_body_of, with_sort, with_term, with_thm};
+ghost use Rattle.mz_emit_theory.specs.CompiledFile;
+ghost use Rattle.mz_emit_theory.specs.CompiledFile.{term_row, thm_row, definition_stream_of, definition_body_of, assertion_stream_of, assertion_body_of, with_sort, with_term, with_thm};
 
 use crate::statement::{assertion_stream, definition_stream};
 use mz_cmd::{Mem, StatementCode};
-use mz_emit_accepted_theory::stated_proofs_are_sound;
 use mz_emit_bodies::{
-    Before, BinderWords, Shared, TermTable, axiom_body, definition_body, theorem_body,
+    Before, BinderWords, EnvPrefix, Shared, TermTable, axiom_body, definition_body, theorem_body,
 };
+use mz_emit_theory::stated_proofs_are_sound;
 use mz_layout::LayoutWriter;
-use mz_logic_copy::copy_of_decl;
 use mz_logic_theory::{Binder, Decl, Env, Expr, SortMods, TermDecl, ThmDecl, ThmForm};
 use mz_mmu_theory::Proof;
 use mz_store::{Id, Seed};
 use mz_type::Beside;
 use std::alloc::Global;
 
-/// The statements so far: their declarations, the words of these, and what is written of them.
+/// The statements so far: their declarations, which are the first of the text's, the words of these, and what is written of
+/// them.
 #[derive(Drop)]
-pub(crate) struct Emitter {
+pub(crate) struct Emitter<'e> {
     pub(crate) alloc: Global,
     pub(crate) seed: Seed,
-    pub(crate) env: Env,
+    pub(crate) env: EnvPrefix<'e>,
     pub(crate) table: TermTable,
     pub(crate) writer: LayoutWriter,
 }
@@ -83,15 +83,15 @@ fn assertion_code(form: ThmForm, is_local: bool) -> u8
     }
 }
 
-impl Emitter {
-    /// No statements. Terms of one are looked up by numbers that the seed makes.
-    pub(crate) fn new(alloc: Global, seed: Seed) -> Emitter
+impl<'e> Emitter<'e> {
+    /// No statements of the text that declares these. Terms of one are looked up by numbers that the seed makes.
+    pub(crate) fn new(alloc: Global, seed: Seed, env: &'e Env) -> Emitter<'e>
         ensures { HasEmitted [] result }
     {
         Emitter {
             alloc,
             seed,
-            env: Env::new(alloc),
+            env: EnvPrefix::of(env, 0),
             table: TermTable::new(alloc),
             writer: LayoutWriter::new(alloc),
         }
@@ -254,20 +254,29 @@ impl Emitter {
         }
     }
 
-    /// Writes the statement, and adds what it declares to what stands before the next.
-    pub(crate) fn statement(&mut self, decl: &Decl, beside: &Beside) -> Result<(), Mem>
-        requires { CanBeNext (with_decl (declaration decl.now) beside.now) self.old }
-        ensures { OnOk result (EmitsNext (with_decl (declaration decl.now) beside.now) self.old self.new) }
+    /// Writes the statement that declares what stands at the place, which then stands before the next.
+    pub(crate) fn statement(
+        &mut self,
+        env: &'e Env,
+        place: usize,
+        decl: &Decl,
+        beside: &Beside,
+    ) -> Result<(), Mem>
+        requires next { CanBeNext (with_decl (declaration decl.now) beside.now) self.old }
+        requires there { slice_get env.now place ≡ Some (declaration decl.now) }
+        requires before { self.old.env ≡ take place env.now }
+        requires room { place < 2 ^ 32 }
+        ensures emits { OnOk result (EmitsNext (with_decl (declaration decl.now) beside.now) self.old self.new) }
+        ensures before { OnOk result (self.new.env ≡ take (place + 1) env.now) }
     {
         self.write(decl, beside)?;
-        let decl = copy_of_decl(self.alloc, decl)?;
-        self.env.push_decl(decl)?;
+        self.env = EnvPrefix::of(env, place + 1);
         Ok(())
     }
 
     /// What is written, without what it was made from.
     fn into_writer(self) -> LayoutWriter
-        ensures { result ≡ self.writer }
+        ensures { result ≡ self.entry.writer }
     {
         self.writer
     }
@@ -275,7 +284,7 @@ impl Emitter {
     /// The binary.
     pub(crate) fn finish(self) -> Result<Vec<u8>, Mem>
         requires { Fit self.writer }
-        ensures { IfOk result (λ bytes. bytes.items ≡ file_of self.writer) }
+        ensures { IfOk result (λ bytes. bytes.items ≡ file_of self.entry.writer) }
     {
         let writer = self.into_writer();
         let bytes = writer.finish()?;

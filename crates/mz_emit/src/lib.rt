@@ -1,6 +1,6 @@
 //! The compiler: a well-typed proof text within the limits becomes a binary that is accepted
 //! against each specification with which the text's public statements agree. What it answers is said in
-//! `mz_emit_accepted_theory`.
+//! `mz_emit_theory`.
 //!
 //! Bodies are those of `mz_emit_bodies`; a unify stream spells a statement's conclusion and hypotheses, or a definition's
 //! body, and builds each expression once (`src/stream.rt`).

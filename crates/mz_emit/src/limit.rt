@@ -1,14 +1,14 @@
 // The limits of a compiled file.
 ghost use Rattle.std.specs.Prelude.{◌≡◌, ◌+◌, ◌*◌, ◌<◌, ◌^◌, ◌≤◌, ◌∷◌, [], length, count_by, option_map};
-ghost use Rattle.mz_base_theory.specs.Checks.{Answers};
+ghost use Rattle.mz_base.specs.Checks.{Answers};
 ghost use Rattle.mz_logic_theory.specs.DeclView.{declaration};
 ghost use Rattle.mz_logic_theory.specs.Declaration.{sorts};
 ghost use Rattle.mz_type.specs.TypedText.{statement_at};
 ghost use Rattle.mz_mmu_theory.specs.Weight;
 ghost use Rattle.mz_mmu_theory.specs.Weight.{limit_checks, each_within};
-ghost use Rattle.mz_emit_accepted_theory.specs.Limits.{passed, over};
+ghost use Rattle.mz_emit_theory.specs.Limits.{passed, over};
 
-use mz_emit_accepted_theory::{L, Passed};
+use mz_emit_theory::{L, Passed};
 use mz_logic_theory::{Binder, Decl};
 use mz_type::{Typed, weight};
 

@@ -1,9 +1,9 @@
 // The line that prints what compiling answered.
 ghost use Rattle.std.specs.Prelude.{◌≡◌, IfOk};
-ghost use Rattle.mz_emit_accepted_theory.specs.Lines.{line_of, bytes_line as bytes_lem, refusal_line as refusal_lem, limit_line as limit_lem};
+ghost use Rattle.mz_emit_theory.specs.Lines.{line_of, bytes_line as bytes_lem, refusal_line as refusal_lem, limit_line as limit_lem};
 
 use mz_cmd::Mem;
-use mz_emit_accepted_theory::{Compiled, L};
+use mz_emit_theory::{Compiled, L};
 use mz_sexpr::TextRefusal;
 use std::alloc::Global;
 

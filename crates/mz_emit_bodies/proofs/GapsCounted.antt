@@ -6,7 +6,7 @@ use Rattle.std.proofs.Common.{zero, suc, refl, sym, ap, ◌∙◌, subst, arith,
 use Rattle.std.proofs.lemmas.Bool.{cases_Bool, eqb-true, eq-eqb, false≢true, or_cases, or_left, or_right, or_parts, and_parts, and_from}
 use Rattle.std.proofs.lemmas.List.{length-append}
 use Rattle.std.proofs.lemmas.Option.{none-some, same_Some}
-use Rattle.mz_base_theory.proofs.Offered.{length-push, slice_get-append, slice_get-front, slice_get-last}
+use Rattle.mz_base.proofs.Offered.{length-push, slice_get-append, slice_get-front, slice_get-last}
 use Rattle.mz_cmd.specs.declared.code.ProofCode.{ProofCode}
 use Rattle.mz_cmd.specs.declared.code.ProofCode.TheVariants as code
 use Rattle.mz_logic_theory.specs.Tree.{Tree, app, instance, followed_by, variables, size, trees_size}

@@ -1,3 +1,4 @@
+mod Prefixed
 mod Ways
 mod Commands
 mod Scoping

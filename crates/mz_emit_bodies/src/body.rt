@@ -19,9 +19,9 @@ ghost use Rattle.mz_emit_theory.specs.BodyWriting.{write_expr, write_hyp, write_
 use crate::instances::{Instances, conclusion_id};
 use crate::let_scopes::{Cells, Chain};
 use crate::work_list::Task;
-use crate::{Heap, Shared, TermTable};
+use crate::{EnvPrefix, Heap, Shared, TermTable};
 use mz_cmd::{END, Mem, ProofCode, put_cmd};
-use mz_logic_theory::{Env, Expr, Exprs};
+use mz_logic_theory::{Expr, Exprs};
 use mz_mmu_theory::{Conv, Proof, Vars};
 use mz_store::Id;
 use std::alloc::Global;
@@ -30,7 +30,7 @@ use std::alloc::Global;
 #[derive(Clone, Copy)]
 pub struct Before<'t> {
     /// Its declarations.
-    pub env: &'t Env,
+    pub env: &'t EnvPrefix<'t>,
     /// Its terms.
     pub table: &'t TermTable,
 }

@@ -8,6 +8,7 @@
 #![tactic(auto)]
 
 mod body;
+mod env_prefix;
 mod heap;
 mod instances;
 mod laws;
@@ -19,6 +20,7 @@ mod words;
 mod work_list;
 
 pub use body::Before;
+pub use env_prefix::EnvPrefix;
 pub use heap::Heap;
 pub use laws::{
     bodies_are_short, bodies_are_written, bodies_use_what_proofs_use, operands_take_four_bytes,

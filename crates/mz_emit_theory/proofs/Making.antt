@@ -4,7 +4,7 @@ use Rattle.std.specs.Prelude.{slice_get, drop}
 use Rattle.std.specs.Option.{option_map}
 use Rattle.std.proofs.lemmas.List.{map-append}
 use Rattle.std.proofs.lemmas.Option.{slice_get-map}
-use Rattle.mz_base_theory.proofs.Offered.{slice_get-map_back}
+use Rattle.mz_base.proofs.Offered.{slice_get-map_back}
 use Rattle.mz_cmd.specs.declared.rule.K.{K}
 use Rattle.mz_cmd.specs.declared.code.ProofCode.{ProofCode}
 use Rattle.mz_cmd.specs.declared.code.ProofCode.TheVariants as code

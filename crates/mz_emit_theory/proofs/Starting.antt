@@ -3,7 +3,7 @@ use Rattle.std.proofs.Common.{◌≡◌, ℕ, zero, suc, ◌+◌, ◌<◌, ◌�
 use Rattle.std.specs.Prelude.{slice_get, Contains}
 use Rattle.std.proofs.lemmas.Bool.{eqb-true}
 use Rattle.std.proofs.lemmas.Option.{get_or_from_slice_get}
-use Rattle.mz_base_theory.proofs.Offered.{one-further as shift}
+use Rattle.mz_base.proofs.Offered.{one-further as shift}
 use Rattle.mz_logic_theory.specs.Tree.{Tree, var}
 use Rattle.mz_logic_theory.specs.Signature.{Signature}
 use Rattle.mz_logic_theory.specs.Legality.{binder_at}

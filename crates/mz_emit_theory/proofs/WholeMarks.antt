@@ -4,7 +4,7 @@ use Rattle.std.proofs.Common.{◌≡◌, ℕ, zero, suc, ◌+◌, ◌<◌, ◌�
 use Rattle.std.specs.Prelude.{slice_get}
 use Rattle.std.proofs.lemmas.Bool.{ltb-true}
 use Rattle.std.proofs.lemmas.Option.{slice_get_within}
-use Rattle.mz_base_theory.proofs.Offered.{slice_get-last, slice_get-append_add}
+use Rattle.mz_base.proofs.Offered.{slice_get-last, slice_get-append_add}
 use Rattle.mz_logic_theory.specs.Tree.{Tree, Trees, var, app, none, more, followed_by, variables}
 use Rattle.mz_logic_theory.specs.Signature.{Signature}
 use Rattle.mz_logic_theory.specs.Variables.{Occurs}

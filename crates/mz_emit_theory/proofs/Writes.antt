@@ -5,7 +5,7 @@ use Rattle.std.specs.Option.{option_map}
 use Rattle.std.proofs.lemmas.List.{map-append, length-map}
 use Rattle.std.proofs.lemmas.List.Elements.{Contains-append_left, Contains-push, Contains-push_cases}
 use Rattle.std.proofs.lemmas.Option.{slice_get-map}
-use Rattle.mz_base_theory.proofs.Offered.{slice_get-last, slice_get-append}
+use Rattle.mz_base.proofs.Offered.{slice_get-last, slice_get-append}
 use Rattle.mz_logic_theory.specs.Tree.{Tree, Trees, var, app, none, more, listed}
 use Rattle.mz_logic_theory.specs.Signature.{Signature}
 use Rattle.mz_logic_theory.specs.Sorts.{HasSort, Fits}

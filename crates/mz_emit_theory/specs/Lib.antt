@@ -29,3 +29,12 @@ pub mod Uses
 pub mod BodyWriting
 pub mod Weights
 pub mod InReach
+pub mod LawsByIdentity
+pub mod AcceptedLaws
+pub mod ClaimsLaws
+pub mod Limits
+pub mod Lines
+pub mod Gapped
+pub mod Compiling
+pub mod CompiledFile
+pub mod CompiledLaws

@@ -1,24 +1,45 @@
-//! What a compiler may write of a text: bodies, unify streams and whole files, with the laws that such
-//! a file is good and runs by identity. A body is given by what its commands make (`specs/Steps.antt`),
-//! a file statement by statement (`specs/FileWriting.antt`).
+//! What a compiler may write of a text: bodies, unify streams and whole files, and why what it writes is accepted.
+//!
+//! A body is given by what its commands make (`specs/Steps.antt`), a file statement by statement (`specs/FileWriting.antt`). What a
+//! text states as a proof is what the compiler writes a body for: a stated proof is sound, and proves the conclusion.
+//!
+//! A legal text that is written within the format's bounds is accepted against each specification with which its public statements
+//! agree, and a finished one by verifiers that compare by identity too. `specs/Compiling.antt` says what compiling a text answers,
+//! `specs/CompiledFile.antt` which file it is, and `specs/Limits.antt` which limits there are.
 #![tactic(auto)]
 
+mod accepted_laws;
 mod body_laws;
+mod claims_laws;
+mod compiled;
 mod file_laws;
+mod laws_by_identity;
+mod passed;
 mod portable_laws;
+mod rule;
 mod stream_laws;
 
+pub use accepted_laws::{same_lists_agree, written_files_are_accepted};
 pub use body_laws::{
     legal_statements_have_steps, right_bodies_run, right_ends_end, right_steps_run,
     statements_grow, steps_join,
 };
+pub use claims_laws::{
+    stated_proofs_are_sound, stated_proofs_use_what_they_mean, weights_are_the_texts,
+};
+pub use compiled::Compiled;
 pub use file_laws::{
     bodies_are_written, bodies_say_their_gaps, example_is_written, finished_is_draft,
     words_say_what_is_written, writing_grows, written_files_are_good,
 };
+pub use laws_by_identity::{
+    written_files_are_accepted_by_identity, written_files_are_good_by_identity,
+};
+pub use passed::Passed;
 pub use portable_laws::{
     shared_rows_grow, shared_runs_are_portable_runs, shared_statements_run_by_identity,
 };
+pub use rule::L;
 pub use stream_laws::{
     spelled_lists_are_same, streams_are_short, streams_build, streams_share, streams_spell,
     written_rows_spell,

@@ -2,8 +2,8 @@
 use Rattle.std.proofs.Common.{◌⊎◌, ◌+◌, ◌*◌, ℕ, List, length, take, codes}
 use Rattle.std.specs.List.{range_with_len}
 use Rattle.std.proofs.lemmas.Bool.{cases_eq}
-use Rattle.mz_base_theory.specs.Checks.{AreDecided, each_in_order, ◌>>◌}
-use Rattle.mz_base_theory.proofs.Offered.{are_decided-both, are_decided-rows, at_most-decided, implied-decided, bytes-decided}
+use Rattle.mz_base.specs.Checks.{AreDecided, each_in_order, ◌>>◌}
+use Rattle.mz_base.proofs.Offered.{are_decided-both, are_decided-rows, at_most-decided, implied-decided, bytes-decided}
 use Rattle.mz_layout_tables.specs.Numbers.{byte_at}
 use Rattle.mz_layout_tables.specs.Tables.{sort_count, term_count, thm_count, terms_at, thms_at, list_at, term_record, thm_record, words_at, param_count}
 use Rattle.mz_layout_tables.specs.Layout.{HoldsRecords, HoldsWords, header_checks, table_checks, row_checks, term_check, thm_check, layout_checks}

@@ -3,7 +3,7 @@ use Rattle.std.proofs.Common.{◌≡◌, ◌<◌, ◌≤◌, ◌+◌, ◌-◌, �
 use Rattle.std.specs.Prelude.{◌==◌, find}
 use Rattle.std.proofs.lemmas.Bool.{ltb-false, cases_eq, eqb-true}
 use Rattle.byteorder.specs.Endian.{little_number}
-use Rattle.mz_base_theory.specs.Checks.{AllHold}
+use Rattle.mz_base.specs.Checks.{AllHold}
 use Rattle.mz_cmd.specs.declared.code.StatementCode.{StatementCode}
 use Rattle.mz_cmd.specs.declared.command.Cmd.{Cmd}
 use Rattle.mz_cmd.specs.declared.command.CmdFault.{CmdFault}

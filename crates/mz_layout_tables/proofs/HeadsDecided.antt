@@ -1,8 +1,8 @@
 -- What is asked of a place of the list can be found out.
 use Rattle.std.proofs.Common.{◌≡◌, ◌⊎◌, ℕ, Bool, true, false, List, [], ◌∷◌, Option, Some, None, Result, Ok, Err, refl, inl, inr}
 use Rattle.std.proofs.lemmas.Bool.{cases_eq}
-use Rattle.mz_base_theory.proofs.Offered.{below-decided, bytes-decided}
-use Rattle.mz_base_theory.specs.Checks.{AreDecided}
+use Rattle.mz_base.proofs.Offered.{below-decided, bytes-decided}
+use Rattle.mz_base.specs.Checks.{AreDecided}
 use Rattle.mz_cmd.specs.declared.code.StatementCode.{StatementCode}
 use Rattle.mz_cmd.specs.declared.code.StatementCode.TheVariants as codes
 use Rattle.mz_cmd.specs.declared.statement.StmtAt.{StmtAt}

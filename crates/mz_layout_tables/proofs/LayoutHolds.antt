@@ -1,8 +1,8 @@
 -- Header and tables of a file in the normal layout are in order.
 use Rattle.std.proofs.Common.{◌≡◌, ◌<◌, ◌+◌, ℕ, zero, suc, List, length, subst, arith}
 use Rattle.std.specs.List.{range_with_len}
-use Rattle.mz_base_theory.proofs.Offered.{slice_get-some, all_hold-both}
-use Rattle.mz_base_theory.specs.Checks.{Checks, AllHold, each_in_order, ◌>>◌}
+use Rattle.mz_base.proofs.Offered.{slice_get-some, all_hold-both}
+use Rattle.mz_base.specs.Checks.{Checks, AllHold, each_in_order, ◌>>◌}
 use Rattle.mz_layout_tables.specs.Tables.{term_count, thm_count, term_record, thm_record}
 use Rattle.mz_layout_tables.specs.Layout.{Layout, HoldsWords, header_checks, table_checks, row_checks, term_check, thm_check}
 use Rattle.mz_layout_tables.specs.Normal.{Row, Parts, rows, header_of, rows_place, file_length, file_of}

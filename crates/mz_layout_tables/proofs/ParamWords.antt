@@ -3,8 +3,8 @@ use Rattle.std.proofs.Common.{◌≡◌, ◌<◌, ◌≤◌, ◌+◌, ◌*◌, �
 use Rattle.std.specs.Prelude.{MatchBool}
 use Rattle.std.proofs.lemmas.Option.{slice_get_within, get_or_from_slice_get}
 use Rattle.std.proofs.lemmas.List.Filters.{length-filter_more}
-use Rattle.mz_base_theory.specs.Checks.{FailsFirst}
-use Rattle.mz_base_theory.proofs.Offered.{Decides, rows_from, row-passed, row-fails}
+use Rattle.mz_base.specs.Checks.{FailsFirst}
+use Rattle.mz_base.proofs.Offered.{Decides, rows_from, row-passed, row-fails}
 use Rattle.mz_cmd.specs.declared.rule.K.TheVariants.{Binder}
 use Rattle.mz_logic_theory.specs.Modifiers.{MayBeBoundSort}
 use Rattle.mz_logic_theory.specs.Words.{word_bound, word_sort, word_deps}

@@ -2,8 +2,8 @@
 use Rattle.std.proofs.Common.{◌<◌, ◌≤◌, ◌+◌, ◌*◌, ℕ, List, length, inl, inr, arith}
 use Rattle.std.specs.List.{range_with_len}
 use Rattle.std.proofs.lemmas.Bool.{cases_lt}
-use Rattle.mz_base_theory.specs.Checks.{each_in_order, ◌>>◌}
-use Rattle.mz_base_theory.proofs.Offered.{all_hold-first, all_hold-rest, all_hold-rows}
+use Rattle.mz_base.specs.Checks.{each_in_order, ◌>>◌}
+use Rattle.mz_base.proofs.Offered.{all_hold-first, all_hold-rest, all_hold-rows}
 use Rattle.mz_layout_tables.specs.Tables.{term_count, thm_count, term_record, thm_record, terms_at, thms_at}
 use Rattle.mz_layout_tables.specs.Layout.{Layout, HoldsParts, HoldsWords, header_checks, table_checks, row_checks, term_check, thm_check}
 

@@ -1,7 +1,7 @@
 -- What is read of a row that stands in a file.
 use Rattle.std.proofs.Common.{◌≡◌, ◌≤◌, ◌<◌, ◌+◌, ◌*◌, ◌^◌, ℕ, List, [], ◌∷◌, ◌++◌, length, slice_get, Some, map, ap, ◌∙◌, arith}
 use Rattle.std.specs.List.{range_with_len, All}
-use Rattle.mz_base_theory.proofs.Offered.{slice_get-append}
+use Rattle.mz_base.proofs.Offered.{slice_get-append}
 use Rattle.byteorder.specs.Endian.{little_bytes}
 use Rattle.mz_logic_theory.specs.declared.word.Word.{Word}
 use Rattle.mz_layout_tables.specs.Numbers.{byte_at, number_at}

@@ -1,7 +1,7 @@
 -- The checks of a row hold exactly where its words are right.
 use Rattle.std.proofs.Common.{◌+◌, ◌*◌, ℕ, List, length}
-use Rattle.mz_base_theory.specs.Checks.{Checks, AllHold, demand}
-use Rattle.mz_base_theory.proofs.Offered.{all_hold-both, all_hold-first, all_hold-rest, all_hold-rows}
+use Rattle.mz_base.specs.Checks.{Checks, AllHold, demand}
+use Rattle.mz_base.proofs.Offered.{all_hold-both, all_hold-first, all_hold-rest, all_hold-rows}
 use Rattle.mz_cmd.specs.declared.rule.K.{K}
 use Rattle.mz_cmd.specs.declared.rule.K.TheVariants as rules
 use Rattle.mz_logic_theory.specs.declared.binder.SortMods.{SortMods}

@@ -2,7 +2,7 @@
 -- begins a statement, and a row for it; or the list's end, with no row left. And what an empty body is (the .mmb format,
 -- its list of statements).
 use Rattle.std.specs.Prelude.{◌≡◌, ◌≤◌, ◌<◌, ◌⊎◌, ⊤, ℕ, ◌+◌, ◌-◌, ◌^◌, true, List, [], ◌∷◌, length, take, drop, Option, Some, None, Result, Ok, Err}
-use Rattle.mz_base_theory.specs.Checks.{Checks, nothing, demand, ◌>>◌, AllHold}
+use Rattle.mz_base.specs.Checks.{Checks, nothing, demand, ◌>>◌, AllHold}
 use Rattle.mz_cmd.specs.declared.code.StatementCode.{StatementCode}
 use Rattle.mz_cmd.specs.declared.code.StatementCode.TheVariants as codes
 use Rattle.mz_cmd.specs.declared.rule.K.{K}

@@ -1,7 +1,7 @@
 -- What is asked of a binary's header and tables, in order (the .mmb format, version 1).
 use Rattle.std.specs.Prelude.{◌≡◌, ◌≤◌, ◌<◌, ℕ, ◌+◌, ◌*◌, ◌^◌, List, length, take, codes}
 use Rattle.std.specs.List.{range_with_len}
-use Rattle.mz_base_theory.specs.Checks.{Checks, demand, ◌>>◌, each_in_order, AllHold}
+use Rattle.mz_base.specs.Checks.{Checks, demand, ◌>>◌, each_in_order, AllHold}
 use Rattle.mz_cmd.specs.declared.rule.K.{K}
 use Rattle.mz_cmd.specs.declared.rule.K.TheVariants.{Header, Table}
 use Rattle.mz_layout_tables.specs.Numbers.{byte_at}

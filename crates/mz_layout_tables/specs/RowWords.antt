@@ -2,7 +2,7 @@
 -- terms and of theorems).
 use Rattle.std.specs.Prelude.{◌≡◌, ◌<◌, ◌≤◌, ◌+◌, ◌*◌, ◌^◌, ℕ, false, List, length, take, slice_get, Some, MatchBool}
 use Rattle.std.specs.List.{filter, range_with_len}
-use Rattle.mz_base_theory.specs.Checks.{Checks, demand, ◌>>◌, each_in_order}
+use Rattle.mz_base.specs.Checks.{Checks, demand, ◌>>◌, each_in_order}
 use Rattle.mz_cmd.specs.declared.rule.K.{K}
 use Rattle.mz_cmd.specs.declared.rule.K.TheVariants as rules
 use Rattle.mz_logic_theory.specs.Modifiers.{MayBeResultSort, MayBeBoundSort}

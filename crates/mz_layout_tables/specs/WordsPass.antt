@@ -1,6 +1,6 @@
 -- The words that are written for a row pass what is asked of them.
 use Rattle.std.specs.Prelude.{◌≡◌, ℕ, List}
-use Rattle.mz_base_theory.specs.Checks.{AllHold}
+use Rattle.mz_base.specs.Checks.{AllHold}
 use Rattle.mz_logic_theory.specs.Modifiers.{MayBeResultSort}
 use Rattle.mz_logic_theory.specs.WordsWritten.{words_of, result_word, CanBeWords}
 use Rattle.mz_logic_theory.specs.declared.binder.Binder.{Binder}

@@ -1,7 +1,7 @@
 // The tests of header and tables, in order.
 ghost use Rattle.std.specs.Prelude.{◌≡◌, ◌≤◌, ◌<◌, ◌+◌, ◌*◌, ◌^◌, ◌↔◌, length, IsTrue};
 ghost use Rattle.std.specs.List.{range_with_len};
-ghost use Rattle.mz_base_theory.specs.Checks.{Judges, each_in_order};
+ghost use Rattle.mz_base.specs.Checks.{Judges, each_in_order};
 ghost use Rattle.mz_layout_tables.specs.Tables.{term_count, thm_count, terms_at, thms_at};
 ghost use Rattle.mz_layout_tables.specs.Layout.{HoldsRecords, HoldsWords, header_checks, layout_checks, row_checks, table_checks, term_check, thm_check};
 

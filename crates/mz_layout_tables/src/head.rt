@@ -1,6 +1,6 @@
 // What is asked of a place of the list of statements, before a row's words and the streams are looked at.
 ghost use Rattle.std.specs.Prelude.{◌≡◌, ◌<◌, ◌+◌, ◌^◌, IfOk, OnOk};
-ghost use Rattle.mz_base_theory.specs.Checks.{Judges};
+ghost use Rattle.mz_base.specs.Checks.{Judges};
 ghost use Rattle.mz_layout_tables.specs.Heads.{StandsAt, end_checks, head_checks, next_row, row_checks, row_count, rule_of};
 
 use crate::checks::Fault;

@@ -1,6 +1,6 @@
 // Laws of the layout.
 ghost use Rattle.std.specs.Prelude.{◌≡◌, ◌⊎◌, ℕ, List};
-ghost use Rattle.mz_base_theory.specs.Checks.{FailsFirst};
+ghost use Rattle.mz_base.specs.Checks.{FailsFirst};
 ghost use Rattle.mz_cmd.specs.declared.rule.K.{K};
 ghost use Rattle.mz_layout_tables.specs.Layout.{Layout, layout_checks};
 ghost use Rattle.mz_layout_tables.specs.Normal.{Parts, file_of};

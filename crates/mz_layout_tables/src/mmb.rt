@@ -1,6 +1,6 @@
 // A binary whose header and tables are in order.
 ghost use Rattle.std.specs.Prelude.{◌≡◌, ◌≤◌, ◌<◌, ◌+◌, ◌*◌, ◌^◌, ◌↔◌, IsTrue, length, drop, MatchResult, Some, slice_get};
-ghost use Rattle.mz_base_theory.specs.Checks.{FailsFirst};
+ghost use Rattle.mz_base.specs.Checks.{FailsFirst};
 ghost use Rattle.mz_layout_tables.specs.Tables.{param_count, words_at, term_count, thm_count, list_at, term_record, thm_record, term_row, thm_row};
 ghost use Rattle.mz_layout_tables.specs.Layout.{IsBinary, HoldsRow, Layout, layout_checks};
 ghost use Rattle.mz_layout_tables.specs.Heads.{IsEmptyBody, body_bytes};

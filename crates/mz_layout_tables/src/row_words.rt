@@ -1,6 +1,6 @@
 // The words of a row in order.
 ghost use Rattle.std.specs.Prelude.{◌≡◌, ◌≤◌, ◌<◌, IfOk};
-ghost use Rattle.mz_base_theory.specs.Checks.{Judges};
+ghost use Rattle.mz_base.specs.Checks.{Judges};
 ghost use Rattle.mz_layout_tables.specs.Rows.{IsRow, params_of, words_at_of};
 ghost use Rattle.mz_layout_tables.specs.Tables.{sort_count, term_count, term_row, thm_count, thm_row};
 ghost use Rattle.mz_layout_tables.specs.RowWords.{bound_count, first_sorts, param_checks, word_checks};

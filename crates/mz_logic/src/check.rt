@@ -1,16 +1,18 @@
 ghost use Rattle.std.specs.Prelude.{◌≡◌, ◌↔◌, ◌<◌, ◌≤◌, length, All, IsTrue};
-ghost use Rattle.mz_base_theory.specs.Checks.{Judges};
+ghost use Rattle.mz_base.specs.Checks.{Judges};
 ghost use Rattle.mz_logic_theory.specs.Declaration.{signatures, sorts, context_of, body_of};
 ghost use Rattle.mz_logic_theory.specs.Modifiers.{MayBeResultSort, MayBeBoundSort, MayBeDummySort};
 ghost use Rattle.mz_logic_theory.specs.Variables.{IsBoundAt};
 ghost use Rattle.mz_logic_theory.specs.Legality.{IsParam, AreParams, IsDummy, AreBindersThere, AllInRange, NamesThere, BindersRight, SortsRight, BoundRight, ClaimsProvable, decl_checks};
 ghost use Rattle.mz_logic_theory.specs.DeclView.{declaration, form, term_of, term_view, assertion_of};
 
+use crate::sorts::{
+    all_are_claims, all_have_bound_operands, all_have_operand_sorts, has_bound_operands,
+    has_operand_sorts, hyps_are_in_range, in_range, is_claim, sort_of,
+};
 use crate::vars::body_deps_are_right;
 use mz_logic_theory::{
-    Binder, Binders, Context, Decl, DeclFault, Deps, Env, TermDecl, ThmDecl, all_are_claims,
-    all_have_bound_operands, all_have_operand_sorts, has_bound_operands, has_operand_sorts,
-    hyps_are_in_range, in_range, is_bound_at, is_claim, sort_of,
+    Binder, Binders, Context, Decl, DeclFault, Deps, Env, TermDecl, ThmDecl, is_bound_at,
 };
 
 /// Checks a declaration over an environment: every one has an answer.
@@ -95,7 +97,7 @@ fn body_is_in_range(env: &Env, term: &TermDecl) -> bool
 {
     match term.form.body() {
         None => true,
-        Some(e) => in_range(env, term.context().len(), e),
+        Some(e) => in_range(env, term.context().len(), &e.lent()),
     }
 }
 
@@ -106,7 +108,7 @@ fn thm_names_are_there(env: &Env, thm: &ThmDecl) -> bool
     let end = thm.params.len();
     binders_are_there(env, end, thm.params.as_slice())
         && hyps_are_in_range(env, end, &thm.hyps)
-        && in_range(env, end, &thm.conclusion)
+        && in_range(env, end, &thm.conclusion.lent())
 }
 
 /// Whether each binder's sort is there, and its dependencies are places below `end`.
@@ -266,7 +268,7 @@ fn body_sorts_are_right(env: &Env, term: &TermDecl) -> bool
         None => true,
         Some(e) => {
             let ctx = term.context();
-            has_operand_sorts(env, &ctx, e) && sort_of(env, &ctx, e) == term.result.sort
+            has_operand_sorts(env, &ctx, &e.lent()) && sort_of(env, &ctx, e) == term.result.sort
         }
     }
 }
@@ -277,7 +279,7 @@ fn body_has_bound_operands(env: &Env, term: &TermDecl) -> bool
 {
     match term.form.body() {
         None => true,
-        Some(e) => has_bound_operands(env, &term.context(), e),
+        Some(e) => has_bound_operands(env, &term.context(), &e.lent()),
     }
 }
 
@@ -286,7 +288,8 @@ fn claim_sorts_are_right(env: &Env, thm: &ThmDecl) -> bool
     ensures { IsTrue result ↔ SortsRight env.now (assertion_of thm.now) }
 {
     let ctx = Context::of(&thm.params);
-    all_have_operand_sorts(env, &ctx, &thm.hyps) && has_operand_sorts(env, &ctx, &thm.conclusion)
+    all_have_operand_sorts(env, &ctx, &thm.hyps)
+        && has_operand_sorts(env, &ctx, &thm.conclusion.lent())
 }
 
 fn claims_have_bound_operands(env: &Env, thm: &ThmDecl) -> bool
@@ -294,7 +297,8 @@ fn claims_have_bound_operands(env: &Env, thm: &ThmDecl) -> bool
     ensures { IsTrue result ↔ BoundRight env.now (assertion_of thm.now) }
 {
     let ctx = Context::of(&thm.params);
-    all_have_bound_operands(env, &ctx, &thm.hyps) && has_bound_operands(env, &ctx, &thm.conclusion)
+    all_have_bound_operands(env, &ctx, &thm.hyps)
+        && has_bound_operands(env, &ctx, &thm.conclusion.lent())
 }
 
 fn claims_are_provable(env: &Env, thm: &ThmDecl) -> bool

@@ -4,7 +4,7 @@ use Rattle.std.specs.Option.{option_map_or}
 use Rattle.std.proofs.Math.Seq.{take-append_seam}
 use Rattle.std.proofs.lemmas.List.Elements.{Contains-append_left}
 use Rattle.std.proofs.lemmas.Option.{slice_get-get_or}
-use Rattle.mz_base_theory.proofs.Offered.{contains_none}
+use Rattle.mz_base.proofs.Offered.{contains_none}
 use Rattle.mz_logic_theory.specs.Alike.{deps_at}
 use Rattle.mz_logic_theory.specs.Tree.{Trees, var}
 use Rattle.mz_logic_theory.specs.Variables.{InV, IsOperandAt}

@@ -5,7 +5,7 @@ use Rattle.std.specs.Map.{lookup}
 use Rattle.std.proofs.lemmas.List.Elements.{Contains-append_left, Contains-append_right, Contains-append_cases}
 use Rattle.std.proofs.lemmas.Option.{none-some, same_Some}
 use Rattle.indexmap.specs.IndexMap.{insert_entry}
-use Rattle.mz_base_theory.proofs.Offered.{contains_none, contains_tail, contains_head, contains_cases}
+use Rattle.mz_base.proofs.Offered.{contains_none, contains_tail, contains_head, contains_cases}
 use Rattle.mz_logic_theory.specs.declared.binder.Binder.{Binder}
 use Rattle.mz_logic_theory.proofs.Offered.{one_at}
 use Rattle.mz_logic_free.specs.Narrowed.{AreNarrowed}

@@ -9,7 +9,7 @@ use Rattle.std.proofs.lemmas.List.Elements.{All-contains, AllZip-get_or, filter_
 use Rattle.std.proofs.lemmas.List.Quantifiers.{position-Some}
 use Rattle.std.proofs.lemmas.List.Sums.{fails_before_first}
 use Rattle.std.proofs.lemmas.Option.{none-some, slice_get-get_or}
-use Rattle.mz_base_theory.proofs.Offered.{contains_none, contains_tail, contains_head, contains_cases}
+use Rattle.mz_base.proofs.Offered.{contains_none, contains_tail, contains_head, contains_cases}
 use Rattle.mz_logic_theory.specs.Tree.{Trees, var, operand}
 use Rattle.mz_logic_theory.specs.Variables.{IsBoundAt}
 use Rattle.mz_logic_theory.specs.declared.binder.Binder.{Binder}

@@ -1,6 +1,6 @@
 -- Whether expressions name one of many variables.
 use Rattle.std.proofs.Common.{◌≡◌, ◌∙◌, ◌<◌, ◌+◌, ◌⊎◌, ◌↔◌, ℕ, List, [], ◌∷◌, length, drop, get_or, slice_get, Some, None, Contains, Bool, true, false, IsTrue, ap, sym, subst, inl, inr, arith}
-use Rattle.mz_base_theory.proofs.Offered.{drop-item, contains_tail, contains_head, contains_cases}
+use Rattle.mz_base.proofs.Offered.{drop-item, contains_tail, contains_head, contains_cases}
 use Rattle.mz_logic_theory.specs.Tree.{Tree, Trees, var, none, more, under}
 use Rattle.mz_logic_theory.specs.Variables.{InV, InSomeV}
 use Rattle.mz_logic_theory.specs.View.{tree, trees}

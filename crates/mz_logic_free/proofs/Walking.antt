@@ -3,7 +3,7 @@ use Rattle.std.proofs.Common.{◌≡◌, ◌∙◌, ◌<◌, ◌+◌, ◌++◌, 
 use Rattle.std.specs.Prelude.{◌||◌, if◌then◌else◌}
 use Rattle.std.specs.List.{list_any}
 use Rattle.std.proofs.lemmas.List.Elements.{All-contains, All-contains_itself, Contains-append_left, Contains-append_right, Contains-append_cases}
-use Rattle.mz_base_theory.proofs.Offered.{contains_tail, contains_head, contains_cases, contains-decided}
+use Rattle.mz_base.proofs.Offered.{contains_tail, contains_head, contains_cases, contains-decided}
 use Rattle.mz_logic_theory.specs.Tree.{Tree, Trees, var, app, more, operand}
 use Rattle.mz_logic_theory.specs.Signature.{Signature}
 use Rattle.mz_logic_theory.specs.Variables.{InFV, InSomeFV, IsBoundAt, IsFreeOperand, IsOperandAt}

@@ -1,7 +1,7 @@
 -- Free variables are bound ones, where regular variables depend on bound ones alone.
 use Rattle.std.proofs.Common.{ℕ, ◌≡◌, ◌<◌, ◌++◌, true≢false, All, List, [], ◌∷◌, slice_get, Some, length, sym, ◌∙◌, subst, inl, inr}
 use Rattle.std.proofs.lemmas.List.Elements.{All-contains}
-use Rattle.mz_base_theory.proofs.Offered.{slice_get-append}
+use Rattle.mz_base.proofs.Offered.{slice_get-append}
 use Rattle.mz_logic_theory.specs.Tree.{Tree, Trees, var, app, none, more, operand}
 use Rattle.mz_logic_theory.specs.Signature.{Signature}
 use Rattle.mz_logic_theory.specs.Sorts.{HasSort, Fits, IsBoundVar}

@@ -1,7 +1,7 @@
 -- Substitutions one after another, and what an expression's sort says of the places that it reads.
 use Rattle.std.proofs.Common.{ℕ, zero, suc, ◌≡◌, ◌+◌, List, [], ◌∷◌, map, slice_get, Contains, length, Some, refl, sym, ap, ap₂, ◌∙◌, inl, inr, arith, not-suc-le-zero}
 use Rattle.std.proofs.lemmas.Option.{none-some}
-use Rattle.mz_base_theory.proofs.Offered.{contains_tail, contains_head, contains_cases}
+use Rattle.mz_base.proofs.Offered.{contains_tail, contains_head, contains_cases}
 use Rattle.mz_logic_theory.specs.Tree.{Tree, Trees, var, app, none, more, operand, instance, instances, followed_by}
 use Rattle.mz_logic_theory.specs.Signature.{Signature}
 use Rattle.mz_logic_theory.specs.Sorts.{HasSort, Fits}

@@ -10,7 +10,7 @@ use Rattle.std.proofs.lemmas.Bool.{cases_lt, eq-eqb, eqb-true, false≢true}
 use Rattle.std.proofs.lemmas.List.{get_or_default}
 use Rattle.std.proofs.lemmas.List.Elements.{All-push}
 use Rattle.std.proofs.lemmas.List.Sorted.{non_decreasing_from_is_sorted, searched}
-use Rattle.mz_base_theory.proofs.Offered.{length-push, slice_get-last, slice_get-within}
+use Rattle.mz_base.proofs.Offered.{length-push, slice_get-last, slice_get-within}
 use Rattle.mz_logic_theory.specs.Alike.{deps_at, DependsAsPrevious}
 use Rattle.mz_logic_theory.specs.declared.binder.Binder.{Binder}
 

@@ -1,5 +1,5 @@
 -- What holds over an environment and a context holds over longer ones.
-use Rattle.std.proofs.Common.{ℕ, zero, suc, ◌≡◌, List, [], ◌∷◌, ◌++◌, slice_get, length, Some, refl, sym, ap, ◌∙◌, subst, inl, inr, append-nil}
+use Rattle.std.proofs.Common.{ℕ, zero, suc, ◌≡◌, ◌≤◌, List, [], ◌∷◌, ◌++◌, slice_get, length, Some, refl, sym, ap, ◌∙◌, subst, inl, inr, arith, append-nil}
 use Rattle.std.proofs.lemmas.Option.{none-some}
 use Rattle.mz_logic_theory.specs.Tree.{Tree, Trees, var, app, none, more, operand, instance, instances, followed_by, variables}
 use Rattle.mz_logic_theory.specs.Signature.{Signature}
@@ -103,6 +103,19 @@ length-signatures [] = refl
 length-signatures (sort_decl _ ∷ env) = length-signatures env
 length-signatures (term_decl d ∷ env) = ap suc (length-signatures env)
 length-signatures (assertion_decl _ ∷ env) = length-signatures env
+
+-- there are no more sorts or terms than declarations
+pub sorts-few : (ds : List Declaration) → length (sorts ds) ≤ length ds
+sorts-few [] = omega arith
+sorts-few (sort_decl m ∷ ds) = omega (arith, sorts-few ds)
+sorts-few (term_decl d ∷ ds) = omega (arith, sorts-few ds)
+sorts-few (assertion_decl a ∷ ds) = omega (arith, sorts-few ds)
+
+pub terms-few : (ds : List Declaration) → length (signatures ds) ≤ length ds
+terms-few [] = omega arith
+terms-few (sort_decl m ∷ ds) = omega (arith, terms-few ds)
+terms-few (term_decl d ∷ ds) = omega (arith, terms-few ds)
+terms-few (assertion_decl a ∷ ds) = omega (arith, terms-few ds)
 
 -- a declaration of another kind
 pub same-sorts : (env : List Declaration) (d : Declaration) → sorts (d ∷ []) ≡ [] → sorts (env ++ d ∷ []) ≡ sorts env

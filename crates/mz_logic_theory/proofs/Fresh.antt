@@ -1,7 +1,7 @@
 -- Fresh variables at the end of a context, and operands followed by them.
 use Rattle.std.proofs.Common.{ℕ, zero, suc, ◌≡◌, ◌⊎◌, ◌<◌, ◌+◌, true≢false, List, [], ◌∷◌, ◌++◌, slice_get, Contains, length, Some, refl, sym, ap, ◌∙◌, subst, inl, inr, arith, not-suc-le-zero, length-append}
 use Rattle.std.proofs.lemmas.Option.{slice_get_within, none-some}
-use Rattle.mz_base_theory.proofs.Offered.{slice_get-append_add}
+use Rattle.mz_base.proofs.Offered.{slice_get-append_add}
 use Rattle.mz_logic_theory.specs.Tree.{Tree, Trees, var, app, none, more, operand, followed_by}
 use Rattle.mz_logic_theory.specs.Signature.{Signature}
 use Rattle.mz_logic_theory.specs.Sorts.{Fits}

@@ -1,7 +1,7 @@
 -- A legal environment has what derivations rest on: bodies of their result's sort, and provable claims.
 use Rattle.std.proofs.Common.{ℕ, zero, suc, ◌≡◌, List, [], ◌∷◌, ◌++◌, slice_get, length, Some, refl, sym, subst, inl, inr, append_assoc, append-nil, All}
 use Rattle.std.proofs.lemmas.Option.{none-some}
-use Rattle.mz_base_theory.proofs.Offered.{slice_get-append_cases}
+use Rattle.mz_base.proofs.Offered.{slice_get-append_cases}
 use Rattle.mz_logic_theory.specs.Tree.{Tree, Trees, none, more}
 use Rattle.mz_logic_theory.specs.Declaration.{Term, Assertion, Declaration, sort_decl, term_decl, assertion_decl, sorts, terms, signatures, assertions, dummies_of, body_of}
 use Rattle.mz_logic_theory.specs.Modifiers.{MayBeClaimSort}

@@ -25,11 +25,9 @@ pub mod AsExprs
 pub mod EightRules
 pub mod PlainLegality
 pub mod Longer
-pub mod WorkedExamples
 pub mod WordsAsParams
 pub mod WordBits
 pub mod WordsWritten
-pub mod NearMisses
 mod Constructors
 pub mod Ranges
 pub mod SortedSides

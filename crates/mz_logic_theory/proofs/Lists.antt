@@ -1,8 +1,12 @@
 -- What a loop has seen of a list, and the whole list.
-use Rattle.std.proofs.Common.{ℕ, ◌≡◌, ◌<◌, ◌≤◌, ◌+◌, ◌⊎◌, List, length, get_or, slice_get, Some, sym, ◌∙◌, subst, inl, inr, arith, eq-or-lt_of_le, All}
+use Rattle.std.proofs.Common.{ℕ, ◌≡◌, ◌<◌, ◌≤◌, ◌+◌, ◌⊎◌, List, [], length, get_or, slice_get, Some, sym, ◌∙◌, subst, inl, inr, arith, eq-or-lt_of_le, not-suc-le-zero, All}
 use Rattle.std.proofs.lemmas.List.{get_or_default}
 use Rattle.std.proofs.lemmas.Option.{slice_get_within, get_or_from_slice_get, slice_get-get_or}
-use Rattle.mz_base_theory.proofs.Offered.{AllSoFar}
+use Rattle.mz_base.proofs.Offered.{AllSoFar}
+
+-- all of no elements
+pub nothing_in : {X : Type 0} (P : X → Type 0) → All P []
+nothing_in P k d below = absurd (not-suc-le-zero below)
 
 -- at the end of the loop
 pub all_at_end : {X : Type 0} (P : X → Type 0) (xs ys : List X) (i : ℕ) → AllSoFar P xs i → length xs ≤ i → xs ≡ ys → All P ys

@@ -5,7 +5,7 @@ use Rattle.std.specs.Int.{bit_at}
 use Rattle.std.proofs.lemmas.Bool.{eqb-true, eq-eqb}
 use Rattle.std.proofs.lemmas.Nat.Bits.{bit_at-suc, bit_at_lowest}
 use Rattle.std.proofs.lemmas.Option.{none-some}
-use Rattle.mz_base_theory.proofs.Offered.{contains_none, contains_tail, contains_head, contains_cases, contains_at}
+use Rattle.mz_base.proofs.Offered.{contains_none, contains_tail, contains_head, contains_cases, contains_at}
 use Rattle.mz_logic_theory.specs.Words.{word_bound, word_deps, places_set, bound_places, binder_of, binders_from}
 use Rattle.mz_logic_theory.specs.Laws.{WordsSayDependencies}
 use Rattle.mz_logic_theory.specs.declared.binder.Binder.{Binder}

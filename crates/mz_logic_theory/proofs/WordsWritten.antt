@@ -9,7 +9,7 @@ use Rattle.std.proofs.lemmas.List.Elements.{All-contains, Contains-push, Contain
 use Rattle.std.proofs.lemmas.List.Sums.{length-filter}
 use Rattle.std.proofs.lemmas.List.Kept.{AllPairs-from_increasing}
 use Rattle.std.proofs.lemmas.Option.{slice_get_within}
-use Rattle.mz_base_theory.proofs.Offered.{contains_none, contains_tail, contains_head, contains_cases}
+use Rattle.mz_base.proofs.Offered.{contains_none, contains_tail, contains_head, contains_cases}
 use Rattle.mz_logic_theory.specs.Variables.{IsBoundAt, is_member}
 use Rattle.mz_logic_theory.specs.Words.{word_bound, word_sort, word_deps, places_set, bound_places, binder_of, binders_from}
 use Rattle.mz_logic_theory.specs.WordsWritten.{bits_of, word_of, words_from, words_of, bound_from, result_word, CanBeWords, ParamsAreReadBack, ResultsAreReadBack, WordsFit, ResultWordsFit}

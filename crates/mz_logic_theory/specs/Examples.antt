@@ -1,6 +1,6 @@
 -- Worked examples of the definitions: two small logics, and what holds and fails in them.
 use Rattle.std.specs.Prelude.{true, false, List, [], ◌∷◌}
-use Rattle.mz_base_theory.specs.Checks.{FailsFirst}
+use Rattle.mz_base.specs.Checks.{FailsFirst}
 use Rattle.mz_logic_theory.specs.Tree.{Tree, var, app, none, more}
 use Rattle.mz_logic_theory.specs.Signature.{Signature}
 use Rattle.mz_logic_theory.specs.Declaration.{plain_form, defined, Term, Assertion, Declaration, sort_decl, term_decl, assertion_decl, signatures}

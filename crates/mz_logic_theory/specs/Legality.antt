@@ -1,7 +1,7 @@
 -- Legal declarations: eight rules in order (mm0.md, sections on sorts, terms, definitions and
 -- theorems; Carneiro, the rules of well-formed declarations).
 use Rattle.std.specs.Prelude.{ℕ, ◌≡◌, ◌<◌, ⊤, true, false, List, [], ◌∷◌, ◌++◌, length, get_or, slice_get, Contains, All, Some}
-use Rattle.mz_base_theory.specs.Checks.{Checks, demand, ◌>>◌, AllHold}
+use Rattle.mz_base.specs.Checks.{Checks, demand, ◌>>◌, AllHold}
 use Rattle.mz_logic_theory.specs.Tree.{Tree, Trees, var, app, none, more, listed}
 use Rattle.mz_logic_theory.specs.Signature.{Signature}
 use Rattle.mz_logic_theory.specs.Declaration.{Declaration, sort_decl, term_decl, assertion_decl, dummies_of, body_of, context_of, sorts, signatures}

@@ -24,7 +24,7 @@ count-all (d ∷ ds) all = go d.bound (all 0 d (omega arith)).0 (count-all ds (�
     go true is e = ap suc e
     go false is e = absurd cc
 
-count-after : (ps ds : List Binder) → bound_count (ps ++ ds) ≡ bound_count ps + bound_count ds
+pub count-after : (ps ds : List Binder) → bound_count (ps ++ ds) ≡ bound_count ps + bound_count ds
 count-after [] ds = omega arith
 count-after (p ∷ ps) ds = go p.bound (count-after ps ds)
   where

@@ -1,7 +1,7 @@
 -- Operands beside the parameters of their row, one after another, in any machine.
 use Rattle.std.proofs.Common.{◌≡◌, ◌≤◌, ℕ, suc, Bool, true, false, List, [], ◌∷◌, length, take, drop, Some, Result, Ok, Err, refl, ap, ◌∙◌, eq-eqb, ne_eqb}
 use Rattle.std.specs.Prelude.{slice_get, ◌==◌, not, ◌||◌}
-use Rattle.mz_base_theory.proofs.Offered.{drop-past}
+use Rattle.mz_base.proofs.Offered.{drop-past}
 use Rattle.mz_cmd.specs.declared.rule.K.{K}
 use Rattle.mz_cmd.specs.declared.rule.K.TheVariants as k
 use Rattle.mz_logic_theory.specs.Tree.{Tree}

@@ -3,7 +3,7 @@ use Rattle.std.proofs.Common.{◌≡◌, ◌≤◌, ◌<◌, ◌+◌, ◌-◌, i
 use Rattle.std.specs.Prelude.{reverse, map, ◌==◌, nat_lt}
 use Rattle.std.proofs.lemmas.Bool.{ltb-false, ltb-true}
 use Rattle.std.proofs.lemmas.List.{reverse-append, take-append-drop}
-use Rattle.mz_base_theory.proofs.Offered.{slice_get-append, slice_get-last}
+use Rattle.mz_base.proofs.Offered.{slice_get-append, slice_get-last}
 use Rattle.mz_cmd.specs.declared.rule.K.{K}
 use Rattle.mz_cmd.specs.declared.rule.K.TheVariants as k
 use Rattle.mz_cmd.specs.declared.command.Cmd.{Cmd}

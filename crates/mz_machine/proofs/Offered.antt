@@ -3,7 +3,7 @@ pub use Rattle.mz_machine.proofs.BodyRunning.{OneSoFar, none-last, none-so-far, 
 pub use Rattle.mz_machine.proofs.CitationRows.{cites-few, cites-meeting, cites-none, cites-other, cites-so, cites-unfit, cites-without, thm-refused, thm-row, thm-save-refused, thm-save-row, thm-save-stopped, thm-steps, thm-stopped, thm-stopped-steps}
 pub use Rattle.mz_machine.proofs.ConversionRows.{cong-other, cong-row, cong-unowed, cong-variable, conv-row, conv-unclaimed, conv-unproved, gives-stack, is-unfolding, not-defined, not-taken, of-variable, refl-other, refl-row, refl-unowed, same, stopped-steps, symm-row, symm-unowed, unfold-refused, unfold-row, unfold-steps, unfold-stopped}
 pub use Rattle.mz_machine.proofs.Converting.{true-false}
-pub use Rattle.mz_machine.proofs.Dummies.{a-dummy, bound-more, context-longer, no-dummies}
+pub use Rattle.mz_machine.proofs.Dummies.{a-dummy, bound-more, context-longer, count-after, no-dummies}
 pub use Rattle.mz_machine.proofs.EndRows.{body-free, body-sort, claim-ends, claim-other, end-steps, is-ending, no-end-steps, no-last-item, not-ending, own-are, own-end, own-run, own-steps, stopped-end}
 pub use Rattle.mz_machine.proofs.FittingOperands.{fit-end, fit-step, not-variable, other-sort}
 pub use Rattle.mz_machine.proofs.GapRows.{counts-as, gives-as}

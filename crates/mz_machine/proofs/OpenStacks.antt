@@ -5,7 +5,7 @@ use Rattle.std.specs.Option.{option_map}
 use Rattle.std.proofs.lemmas.Option.{slice_get-map}
 use Rattle.std.proofs.lemmas.List.{take_at, drop_at, length-map, reverse-append, length-drop, take-append-drop}
 use Rattle.std.proofs.lemmas.Bool.{ltb-true, ltb-false}
-use Rattle.mz_base_theory.proofs.Offered.{drop-past}
+use Rattle.mz_base.proofs.Offered.{drop-past}
 use Rattle.mz_store.specs.declared.item.Id.{Id}
 use Rattle.mz_unify_theory.specs.Profile.{Item, obligation}
 use Rattle.mz_machine_env.proofs.Offered.{next-at}

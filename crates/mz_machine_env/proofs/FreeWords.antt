@@ -7,7 +7,7 @@ use Rattle.std.proofs.lemmas.Option.{slice_get_within, get_or_from_slice_get}
 use Rattle.std.proofs.lemmas.Bool.{eqb-true}
 use Rattle.std.proofs.Math.Nat.{min-le_right, min-eq_left}
 use Rattle.std.proofs.lemmas.List.Elements.{All-contains}
-use Rattle.mz_base_theory.proofs.Offered.{slice_get-append, slice_get-front, slice_get-append_cases}
+use Rattle.mz_base.proofs.Offered.{slice_get-append, slice_get-front, slice_get-append_cases}
 use Rattle.mz_logic_theory.specs.Tree.{Tree, Trees, var, app, none, more, operand}
 use Rattle.mz_logic_theory.specs.Signature.{Signature}
 use Rattle.mz_logic_theory.specs.Sorts.{HasSort, Fits}
@@ -18,7 +18,7 @@ use Rattle.mz_logic_theory.specs.declared.binder.Binder.{Binder}
 use Rattle.mz_logic_theory.specs.declared.binder.SortMods.{SortMods}
 use Rattle.mz_logic_theory.specs.declared.word.Word.{Word}
 use Rattle.mz_logic_theory.proofs.Offered.{one_at, is_at, among-true, place_to}
-use Rattle.mz_base_theory.specs.Checks.{AllHold}
+use Rattle.mz_base.specs.Checks.{AllHold}
 use Rattle.mz_layout_tables.specs.Tables.{term_row, TermRow}
 use Rattle.mz_store.specs.Bits.{Tells, bound_from, bound_vars}
 use Rattle.mz_store.proofs.Offered.{bound-once, set-from, bound-has, bound-at}

@@ -1,7 +1,7 @@
 -- The rows before a statement (the .mmb format, its list of statements).
 use Rattle.std.specs.Prelude.{◌≤◌, ℕ, List, map}
 use Rattle.std.specs.List.{range_with_len}
-use Rattle.mz_base_theory.specs.Checks.{AllHold}
+use Rattle.mz_base.specs.Checks.{AllHold}
 use Rattle.mz_logic_theory.specs.Signature.{Signature}
 use Rattle.mz_logic_theory.specs.Words.{TermWords}
 use Rattle.mz_logic_theory.specs.declared.binder.SortMods.{SortMods}

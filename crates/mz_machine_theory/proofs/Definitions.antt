@@ -4,7 +4,7 @@ use Rattle.std.specs.Prelude.{slice_get, Contains, All, ◌==◌}
 use Rattle.std.proofs.lemmas.Bool.{eqb-true}
 use Rattle.std.proofs.lemmas.Option.{slice_get_within}
 use Rattle.std.proofs.lemmas.List.Elements.{All-contains}
-use Rattle.mz_base_theory.proofs.Offered.{slice_get-append, slice_get-some as there, slice_get-append_add}
+use Rattle.mz_base.proofs.Offered.{slice_get-append, slice_get-some as there, slice_get-append_add}
 use Rattle.mz_cmd.specs.declared.rule.K.TheVariants as k
 use Rattle.mz_logic_theory.specs.Tree.{Tree, Trees, var, app, none, instance}
 use Rattle.mz_logic_theory.specs.Signature.{Signature}

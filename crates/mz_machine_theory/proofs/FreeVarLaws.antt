@@ -2,7 +2,7 @@
 use Rattle.std.proofs.Common.{◌≡◌, ◌<◌, ℕ, zero, suc, Bool, true, false, eqb, List, [], ◌∷◌, Option, Some, None, refl, sym, ap, subst, ◌∙◌, ◌⊎◌, inl, inr, arith, eq-eqb, not-suc-le-zero}
 use Rattle.std.specs.Prelude.{slice_get, Contains, ◌||◌, ◌&&◌, not}
 use Rattle.std.proofs.lemmas.Bool.{eqb-true, and_from, or_right, or_left, not_from_false, cases_Bool}
-use Rattle.mz_base_theory.proofs.Offered.{both-true, not-true, or-cases}
+use Rattle.mz_base.proofs.Offered.{both-true, not-true, or-cases}
 use Rattle.mz_logic_theory.specs.Tree.{Tree, Trees, var, app, none, more, operand}
 use Rattle.mz_logic_theory.specs.Signature.{Signature}
 use Rattle.mz_logic_theory.specs.Variables.{InFV, InSomeFV, IsBoundAt, IsOperandAt, is_member}

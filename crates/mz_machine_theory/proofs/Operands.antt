@@ -3,7 +3,7 @@ use Rattle.std.proofs.Common.{◌≡◌, ℕ, zero, suc, ◌+◌, ◌<◌, Bool,
 use Rattle.std.specs.Prelude.{slice_get, ◌==◌, ◌||◌, not}
 use Rattle.std.proofs.lemmas.Bool.{eqb-true}
 use Rattle.std.proofs.lemmas.Option.{slice_get_within}
-use Rattle.mz_base_theory.proofs.Offered.{both-true, not-true}
+use Rattle.mz_base.proofs.Offered.{both-true, not-true}
 use Rattle.mz_cmd.specs.declared.rule.K.TheVariants as k
 use Rattle.mz_logic_theory.specs.Tree.{Tree, var, operand}
 use Rattle.mz_logic_theory.specs.Signature.{Signature}

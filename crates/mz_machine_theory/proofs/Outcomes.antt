@@ -1,7 +1,7 @@
 -- A body has one outcome.
 use Rattle.std.proofs.Common.{◌≡◌, ℕ, List, Result, Ok, Err, refl, sym, ap, ◌⊎◌, inl, inr}
 use Rattle.std.specs.Prelude.{◌↔◌}
-use Rattle.mz_base_theory.specs.Checks.{AllHold, FailsFirst, AreDecided}
+use Rattle.mz_base.specs.Checks.{AllHold, FailsFirst, AreDecided}
 use Rattle.mz_cmd.specs.declared.rule.K.{K}
 use Rattle.mz_unify_theory.specs.Profile.{Profile}
 use Rattle.mz_machine_theory.specs.MachineState.{RowsBefore, Heading}

@@ -1,7 +1,7 @@
 -- Sorts and free variables go back from an expression to the one that it renames.
 use Rattle.std.proofs.Common.{◌≡◌, ℕ, zero, suc, ◌+◌, ◌<◌, List, [], ◌∷◌, ◌++◌, length, Some, refl, sym, ap, subst, ◌∙◌, inl, inr, arith}
 use Rattle.std.specs.Prelude.{slice_get}
-use Rattle.mz_base_theory.proofs.Offered.{slice_get-some as there}
+use Rattle.mz_base.proofs.Offered.{slice_get-some as there}
 use Rattle.mz_logic_theory.specs.Tree.{Tree, Trees, var, app, none, more, operand, instance, instances}
 use Rattle.mz_logic_theory.specs.Signature.{Signature}
 use Rattle.mz_logic_theory.specs.Sorts.{IsBoundVar, HasSort, Fits}

@@ -1,6 +1,6 @@
 -- A whole body: its commands one after another, up to its END (the .mmb format, the proof machine).
 use Rattle.std.specs.Prelude.{◌≡◌, ℕ, zero, suc, ◌+◌, Bool, true, false, ◌==◌, not, if◌then◌else◌, List, [], ◌∷◌, length, drop, map, Option, Some, None, Result, Ok, Err}
-use Rattle.mz_base_theory.specs.Checks.{Checks, nothing, demand}
+use Rattle.mz_base.specs.Checks.{Checks, nothing, demand}
 use Rattle.mz_cmd.specs.declared.rule.K.{K}
 use Rattle.mz_cmd.specs.declared.rule.K.TheVariants as k
 use Rattle.mz_cmd.specs.declared.command.Cmd.{Cmd}

@@ -1,6 +1,6 @@
 -- What is promised of the machine as a definition, whatever a body means.
 use Rattle.std.specs.Prelude.{◌≡◌, ℕ, Bool, ◌+◌, ◌*◌, ◌≤◌, ◌⊎◌, ◌↔◌, List, [], ◌∷◌, ◌++◌, length, Some, slice_get}
-use Rattle.mz_base_theory.specs.Checks.{AllHold, FailsFirst, AreDecided}
+use Rattle.mz_base.specs.Checks.{AllHold, FailsFirst, AreDecided}
 use Rattle.mz_cmd.specs.declared.rule.K.{K}
 use Rattle.mz_logic_theory.specs.Declaration.{Term, Assertion, Declaration, sort_decl, term_decl, assertion_decl, signatures}
 use Rattle.mz_logic_theory.specs.declared.binder.SortMods.{SortMods}

@@ -1,7 +1,7 @@
 -- What the row of a good statement says.
 use Rattle.std.proofs.Common.{◌≡◌, ◌≤◌, ◌<◌, ◌+◌, ◌∙◌, ◌⊎◌, ℕ, zero, suc, Bool, true, false, List, [], ◌∷◌, ◌++◌, length, drop, reverse, Option, Some, None, slice_get, refl, sym, ap, subst, inl, inr, arith, append_assoc}
 use Rattle.std.specs.Prelude.{if◌then◌else◌}
-use Rattle.mz_base_theory.proofs.Offered.{slice_get-within, slice_get-append_add}
+use Rattle.mz_base.proofs.Offered.{slice_get-within, slice_get-append_add}
 use Rattle.mz_cmd.specs.Codes.{statement_byte}
 use Rattle.mz_logic_theory.specs.Tree.{Tree, Trees, var, none, listed}
 use Rattle.mz_logic_theory.specs.Signature.{Signature}

@@ -1,6 +1,6 @@
 // A declaration and its partner.
 ghost use Rattle.std.specs.Prelude.{◌≡◌, ◌≤◌, ◌↔◌, ℕ, Bool, IsTrue, List, OnErr, drop, length, false, true};
-ghost use Rattle.mz_base_theory.specs.Checks.{Judges};
+ghost use Rattle.mz_base.specs.Checks.{Judges};
 ghost use Rattle.mz_logic_theory.specs.Declaration.{Assertion, Declaration, Term, is_defined, sort_decl};
 ghost use Rattle.mz_cmd.specs.Codes.{statement_byte};
 ghost use Rattle.mz_logic_theory.specs.DeclView.{assertion_of, assertion_view, declaration, form as form_lem, is_axiom, term_of};

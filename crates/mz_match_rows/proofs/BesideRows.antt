@@ -4,7 +4,7 @@ use Rattle.std.specs.Prelude.{IsTrue, ◌↔◌, MatchBool}
 use Rattle.std.proofs.lemmas.List.{reverse-reverse}
 use Rattle.std.proofs.lemmas.Bool.{true≢false, false≢true}
 use Rattle.mz_logic_theory.specs.Tree.{Tree, Trees, listed}
-use Rattle.mz_base_theory.specs.Checks.{AllHold, FailsFirst}
+use Rattle.mz_base.specs.Checks.{AllHold, FailsFirst}
 use Rattle.mz_logic_theory.specs.Declaration.{Assertion, Term, Form, plain_form, abstract_form, defined, is_defined}
 use Rattle.mz_logic_theory.specs.DeclView.{form}
 use Rattle.mz_logic_theory.specs.declared.binder.Binder.{Binder}

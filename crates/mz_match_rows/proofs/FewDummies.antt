@@ -2,8 +2,8 @@
 use Rattle.std.proofs.Common.{◌≡◌, ◌≤◌, ◌+◌, ◌∙◌, ℕ, zero, suc, Bool, true, false, not, cond, ltb, eqb, List, [], ◌∷◌, ◌++◌, length, drop, Option, Some, None, Result, Ok, Err, slice_get, refl, sym, ap, subst, inl, inr, arith}
 use Rattle.std.specs.Prelude.{if◌then◌else◌, ◌&&◌, ◌==◌}
 use Rattle.std.proofs.lemmas.Bool.{false≢true, ltb-true}
-use Rattle.mz_base_theory.specs.Checks.{AllHold}
-use Rattle.mz_base_theory.proofs.Offered.{all_hold-rest}
+use Rattle.mz_base.specs.Checks.{AllHold}
+use Rattle.mz_base.proofs.Offered.{all_hold-rest}
 use Rattle.mz_cmd.specs.declared.rule.K.TheVariants as k
 use Rattle.mz_cmd.specs.declared.command.Cmd.{Cmd}
 use Rattle.mz_cmd.specs.declared.command.CmdFault.{CmdFault}

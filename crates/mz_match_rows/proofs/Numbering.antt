@@ -2,7 +2,7 @@
 use Rattle.std.proofs.Common.{◌≡◌, ◌<◌, ◌++◌, ◌∷◌, [], ℕ, Bool, false, List, Option, Some, None, append_assoc, length, slice_get, refl, ap, sym, ◌∙◌, subst}
 use Rattle.std.specs.Prelude.{IsTrue, ◌↔◌, is_some}
 use Rattle.std.proofs.lemmas.Bool.{false≢true}
-use Rattle.mz_base_theory.proofs.Offered.{slice_get-append}
+use Rattle.mz_base.proofs.Offered.{slice_get-append}
 use Rattle.mz_logic_theory.specs.Tree.{Tree, Trees, var, app, none, more, listed}
 use Rattle.mz_logic_theory.specs.declared.binder.Binder.{Binder}
 use Rattle.mz_logic_theory.proofs.Offered.{same-first, same-rest}

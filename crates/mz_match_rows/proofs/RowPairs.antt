@@ -2,8 +2,8 @@
 use Rattle.std.proofs.Common.{◌≡◌, ◌<◌, ◌∙◌, ℕ, Bool, true, false, List, [], ◌∷◌, length, Ok, Err, refl, sym, ap, subst, inl, inr, arith, Result}
 use Rattle.std.specs.Prelude.{if◌then◌else◌, OnErr}
 use Rattle.std.proofs.lemmas.Bool.{true≢false, false≢true}
-use Rattle.mz_base_theory.specs.Checks.{Checks, AllHold, FailsFirst, Judges, demand, ◌>>◌}
-use Rattle.mz_base_theory.proofs.Offered.{judges-after, fails-before}
+use Rattle.mz_base.specs.Checks.{Checks, AllHold, FailsFirst, Judges, demand, ◌>>◌}
+use Rattle.mz_base.proofs.Offered.{judges-after, fails-before}
 use Rattle.mz_cmd.specs.Codes.{statement_byte}
 use Rattle.mz_cmd.specs.declared.code.StatementCode.TheVariants as codes
 use Rattle.mz_logic_theory.specs.Signature.{Signature}

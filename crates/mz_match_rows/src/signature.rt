@@ -1,6 +1,6 @@
 // The words of a row beside a declaration's parameters and result.
 ghost use Rattle.std.specs.Prelude.{◌≡◌, ◌<◌, ◌≤◌, ◌↔◌, ◌++◌, ◌∷◌, [], IsTrue, if◌then◌else◌, length, true};
-ghost use Rattle.mz_base_theory.specs.Checks.{Judges};
+ghost use Rattle.mz_base.specs.Checks.{Judges};
 ghost use Rattle.mz_logic_theory.specs.Words.{binder_of, binders_of, bound_places, places_set, result_of, signature_of, word_bound};
 ghost use Rattle.mz_layout_tables.specs.Rows.{IsRow, params_of};
 ghost use Rattle.mz_layout_tables.specs.Tables.{term_count, term_row};

@@ -1,8 +1,8 @@
 -- Two files have one verdict at most.
 use Rattle.std.proofs.Common.{◌≡◌, ◌⊎◌, ◌+◌, ◌∙◌, ℕ, false, List, [], ◌∷◌, ◌++◌, length, Ok, refl, sym, ap, subst, inl, inr}
 use Rattle.std.proofs.lemmas.List.{append-nil}
-use Rattle.mz_base_theory.specs.Checks.{AllHold, FailsFirst}
-use Rattle.mz_base_theory.proofs.Offered.{all_hold-excludes, fails_first-unique}
+use Rattle.mz_base.specs.Checks.{AllHold, FailsFirst}
+use Rattle.mz_base.proofs.Offered.{all_hold-excludes, fails_first-unique}
 use Rattle.mz_cmd.specs.declared.rule.K.{K}
 use Rattle.mz_cmd.specs.declared.rule.Refusal.{Refusal}
 use Rattle.mz_cmd.specs.declared.statement.StmtAt.TheVariants.{End, Head}

@@ -3,8 +3,8 @@ use Rattle.std.proofs.Common.{◌≡◌, ◌⊎◌, ◌+◌, ◌∙◌, ℕ, Boo
 use Rattle.std.specs.Prelude.{◌==◌, if◌then◌else◌}
 use Rattle.std.proofs.lemmas.Bool.{cases_eq}
 use Rattle.std.proofs.lemmas.List.{append-nil}
-use Rattle.mz_base_theory.specs.Checks.{AreDecided}
-use Rattle.mz_base_theory.proofs.Offered.{all_hold-or_fails, bytes-decided}
+use Rattle.mz_base.specs.Checks.{AreDecided}
+use Rattle.mz_base.proofs.Offered.{all_hold-or_fails, bytes-decided}
 use Rattle.mz_cmd.specs.declared.rule.Refusal.{Refusal}
 use Rattle.mz_logic_theory.specs.Declaration.{Declaration, sort_decl, term_decl, assertion_decl, Assertion, Form, plain_form, abstract_form, defined}
 use Rattle.mz_logic_theory.specs.declared.binder.Binder.{Binder}

@@ -3,7 +3,7 @@ use Rattle.std.proofs.Common.{◌≡◌, ◌∙◌, ◌<◌, ◌≤◌, ◌+◌,
 use Rattle.std.specs.Prelude.{◌↔◌, ◌==◌, ◌/◌, ◌%◌, if◌then◌else◌}
 use Rattle.std.proofs.lemmas.List.{drop_all, append-nil, get_or_default}
 use Rattle.std.proofs.lemmas.Bool.{eq-eqb, ne_eqb}
-use Rattle.mz_base_theory.proofs.Offered.{drop-item}
+use Rattle.mz_base.proofs.Offered.{drop-item}
 use Rattle.mz_logic_theory.specs.declared.binder.Binder.{Binder}
 use Rattle.mz_logic_theory.specs.declared.word.Word.{Word}
 use Rattle.mz_logic_theory.specs.Words.{word_bound, bound_places, places_set, binder_of, binders_from}

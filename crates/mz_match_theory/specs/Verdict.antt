@@ -1,6 +1,6 @@
 -- What is said of a specification and a binary together (this project's own, of mm0.md's and the .mmb format's parts).
 use Rattle.std.specs.Prelude.{◌≡◌, ◌⊎◌, ◌+◌, ⊤, ℕ, List, [], ◌∷◌, length, false, if◌then◌else◌}
-use Rattle.mz_base_theory.specs.Checks.{FailsFirst}
+use Rattle.mz_base.specs.Checks.{FailsFirst}
 use Rattle.mz_cmd.specs.declared.rule.Refusal.{Refusal}
 use Rattle.mz_logic_theory.specs.Declaration.{Declaration}
 use Rattle.mz_logic_theory.specs.LegalLists.{Statement, Legal}

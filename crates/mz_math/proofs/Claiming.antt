@@ -3,7 +3,7 @@ use Rattle.std.proofs.Common.{◌≡◌, ◌≢◌, ◌<◌, ◌≤◌, ◌↔�
 use Rattle.std.specs.Prelude.{IfSome, MatchOption}
 use Rattle.std.proofs.lemmas.Bool.{cases_eq}
 use Rattle.std.proofs.lemmas.Option.{none-some, same_Some, slice_get_within}
-use Rattle.mz_base_theory.proofs.Offered.{contains_at, place-of}
+use Rattle.mz_base.proofs.Offered.{contains_at, place-of}
 use Rattle.mz_logic_theory.specs.Declaration.{Declaration, sorts}
 use Rattle.mz_logic_theory.specs.Modifiers.{MayBeClaimSort}
 use Rattle.mz_math_theory.specs.declared.coercion.Coercion.{Coercion}

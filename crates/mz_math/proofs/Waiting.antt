@@ -1,7 +1,7 @@
 -- Expressions within one another, and what a step makes of one.
 use Rattle.std.proofs.Common.{◌≡◌, ◌≤◌, ◌<◌, ◌+◌, ◌-◌, ◌*◌, ◌++◌, ◌∙◌, ℕ, List, [], ◌∷◌, Bool, false, not, length, drop, length-append, sym, refl, subst, ap, arith}
 use Rattle.std.specs.Prelude.{Contains}
-use Rattle.mz_base_theory.proofs.Offered.{same-tail}
+use Rattle.mz_base.proofs.Offered.{same-tail}
 use Rattle.mz_logic_theory.specs.Tree.{Tree, Trees, app, none, more, followed_by}
 use Rattle.mz_logic_theory.specs.View.{tree}
 use Rattle.mz_math_theory.specs.declared.notation.Notation.{Notation}

@@ -2,7 +2,7 @@
 use Rattle.std.proofs.Common.{◌≡◌, ◌<◌, ◌≤◌, ◌+◌, ◌-◌, ◌++◌, ◌∙◌, ℕ, List, [], ◌∷◌, length, Some, slice_get, ap, sym, refl, subst, inl, inr, arith, Contains, length-append, map, append_assoc, reverse}
 use Rattle.std.proofs.lemmas.List.{length-reverse, reverse-append}
 use Rattle.std.proofs.lemmas.Option.{same_Some}
-use Rattle.mz_base_theory.proofs.Offered.{contains_head}
+use Rattle.mz_base.proofs.Offered.{contains_head}
 use Rattle.mz_math_theory.specs.declared.coercion.Coercion.{Coercion}
 use Rattle.mz_math_theory.specs.Coercions.{IsPath, OnePath, coercion_term}
 use Rattle.mz_math_theory.specs.CoercionAnswers.{HasPath}

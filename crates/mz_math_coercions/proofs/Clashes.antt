@@ -4,7 +4,7 @@ use Rattle.std.specs.Prelude.{IsTrue, MatchBool}
 use Rattle.std.proofs.lemmas.Bool.{true≢false}
 use Rattle.std.proofs.lemmas.List.{map-append}
 use Rattle.std.proofs.lemmas.List.Elements.{Contains-append_left, Contains-push_cases}
-use Rattle.mz_base_theory.proofs.Offered.{contains_at, slice_get-map_at, slice_get-map_back}
+use Rattle.mz_base.proofs.Offered.{contains_at, slice_get-map_at, slice_get-map_back}
 use Rattle.mz_math_theory.specs.declared.coercion.Coercion.{Coercion}
 use Rattle.mz_math_theory.specs.Coercions.{IsPath, OnePath}
 use Rattle.mz_math_theory.specs.CoercionAnswers.{HasPath}

@@ -5,7 +5,7 @@ use Rattle.std.specs.Option.{is_some}
 use Rattle.std.proofs.lemmas.Bool.{cases_order, true≢false}
 use Rattle.std.proofs.lemmas.Option.{same_Some, none-some, slice_get_within}
 use Rattle.std.proofs.lemmas.List.{get_or_past}
-use Rattle.mz_base_theory.proofs.Offered.{contains_at, place-of, slice_get-append, slice_get-last, same-head}
+use Rattle.mz_base.proofs.Offered.{contains_at, place-of, slice_get-append, slice_get-last, same-head}
 use Rattle.mz_math_theory.specs.declared.coercion.Coercion.{Coercion}
 use Rattle.mz_math_coercions.specs.declared.hops.FirstSteps.{FirstSteps}
 use Rattle.mz_math_theory.specs.Coercions.{IsPath, OnePath}

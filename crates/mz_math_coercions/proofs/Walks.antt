@@ -7,7 +7,7 @@ use Rattle.std.proofs.lemmas.Option.{slice_get_within, same_Some, none-some}
 use Rattle.std.proofs.lemmas.List.{get_or-set_same, get_or-set_other}
 use Rattle.std.proofs.lemmas.List.Elements.{Contains-append_left, Contains-push, Contains-push_cases}
 use Rattle.indexmap.specs.IndexMap.{insert_entry}
-use Rattle.mz_base_theory.proofs.Offered.{contains_at, contains_cases, contains_head, contains_tail, nil-cons, place-of, slice_get-append, slice_get-front, slice_get-last, slice_get-push_cases}
+use Rattle.mz_base.proofs.Offered.{contains_at, contains_cases, contains_head, contains_tail, nil-cons, place-of, slice_get-append, slice_get-front, slice_get-last, slice_get-push_cases}
 use Rattle.mz_math_theory.specs.declared.coercion.Coercion.{Coercion}
 use Rattle.mz_math_theory.specs.Coercions.{IsPath}
 use Rattle.mz_math_theory.specs.CoercionAnswers.{HasPath}

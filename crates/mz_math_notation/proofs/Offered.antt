@@ -1,2 +1,2 @@
 -- What crates above may use of these proofs; all else is this crate's own, and may change.
-pub use Rattle.mz_math_notation.proofs.Marking.{apart}
+pub use Rattle.mz_math_operators.proofs.Offered.{apart}

@@ -1,5 +1,1 @@
-pub mod Names
-pub mod Headed
-pub mod Once
-pub mod Levels
-pub mod Given
+pub use Rattle.mz_math_operators.specs.Names

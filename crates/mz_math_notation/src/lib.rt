@@ -4,16 +4,9 @@
 //! What a table is, what the statements add to it and the first rule that they break is said in `mz_math_theory`.
 #![tactic(auto)]
 
-mod ambiguity;
-mod delimiter;
-mod form;
-mod names;
-mod notations;
-mod parameters;
-mod scope;
 mod table;
 
 pub use mz_math_coercions::Coercions;
+pub use mz_math_operators::Scope;
 pub use mz_math_theory::Coercion;
-pub use scope::Scope;
 pub use table::Notations;

@@ -8,18 +8,16 @@ ghost use Rattle.mz_math_theory.specs.declared.notation.Notation.{Notation};
 ghost use Rattle.mz_math_theory.specs.Coercions.{OnePath};
 ghost use Rattle.mz_math_theory.specs.Forms.{AddsDelimiters, AddsNotation, IsAnswer, IsGeneral, IsInfix, IsPrefix, coercion_checks, delimiter_checks, notation_checks};
 ghost use Rattle.mz_math_theory.specs.Kept.{IsTable};
-ghost use Rattle.mz_math_notation.specs.Names.{IsFoundAs};
+ghost use Rattle.mz_math_operators.specs.Names.{IsFoundAs};
 ghost use Rattle.mz_math_theory.specs.Notation.{TermName, empty_table, with_coercion, with_infix, with_leading, with_name, with_notation};
 
-use crate::ambiguity::{is_clear_with_infix, is_clear_with_leading};
-use crate::delimiter::declared;
-use crate::form::{Statement, general_of, infix_of, is_coercion, prefix_of};
-use crate::names::TermNames;
-use crate::notations::NotationList;
-use crate::scope::Scope;
 use mz_base::Hashing;
 use mz_logic_theory::{Env, ResultType};
 use mz_math_coercions::Coercions;
+use mz_math_operators::{
+    NotationList, Scope, Statement, TermNames, declared, general_of, infix_of, is_clear_with_infix,
+    is_clear_with_leading, is_coercion, prefix_of,
+};
 use mz_math_theory::{Coercion, Literal, Notation, NoteFault, Tail};
 use mz_math_tokens::Delimiters;
 use std::alloc::Global;

@@ -2,7 +2,7 @@
 use Rattle.std.proofs.Common.{◌≡◌, ◌<◌, ◌⊎◌, ◌++◌, ◌∙◌, ℕ, List, [], ◌∷◌, length, Some, slice_get, ap, sym, subst, inl, inr, arith, Contains}
 use Rattle.std.proofs.lemmas.Option.{slice_get_within}
 use Rattle.std.proofs.lemmas.List.Elements.{Contains-push, Contains-push_cases, Contains-append_left}
-use Rattle.mz_base_theory.proofs.Offered.{slice_get-last, slice_get-append, place-of, slice_get-push_cases, contains_at}
+use Rattle.mz_base.proofs.Offered.{slice_get-last, slice_get-append, place-of, slice_get-push_cases, contains_at}
 use Rattle.mz_math_theory.specs.Notation.{max_level, fixed, Notation}
 use Rattle.mz_math_theory.specs.Clear.{HasConstant, LedBy, JoinedBy, IsOne, IsClear}
 use Rattle.mz_math_theory.specs.NotationAnswers.{KeepsLevels, KeepsOwnLevels, GroupsWith, NoOtherLed, NoOtherJoined}

@@ -1,7 +1,7 @@
 -- A list of tokens has a tree or none.
 use Rattle.std.proofs.Common.{◌≡◌, ◌≢◌, ◌≤◌, ◌⊎◌, ◌++◌, ◌∙◌, ℕ, zero, suc, List, [], ◌∷◌, length, Bool, true, false, not, Some, slice_get, drop, ap, ap₂, sym, refl, subst, inl, inr, arith, Contains, length-append}
 use Rattle.std.specs.Prelude.{codes}
-use Rattle.mz_base_theory.proofs.Offered.{same-head, same-tail, nil-cons, either-decided, three-decided, some-decided, Decided, at_most-decided, both-decided, bytes-decided}
+use Rattle.mz_base.proofs.Offered.{same-head, same-tail, nil-cons, either-decided, three-decided, some-decided, Decided, at_most-decided, both-decided, bytes-decided}
 use Rattle.mz_logic_theory.specs.Tree.{Tree, Trees, var, app, none, more, followed_by}
 use Rattle.mz_logic_theory.specs.Signature.{Signature}
 use Rattle.mz_math_theory.specs.Notation.{max_level, above, TermName}

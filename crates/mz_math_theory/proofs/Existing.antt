@@ -2,8 +2,8 @@
 use Rattle.std.proofs.Common.{Some, slice_get, ◌≡◌, ◌≢◌, ◌≤◌, ◌<◌, ◌+◌, ◌-◌, ◌⊎◌, ◌∙◌, ℕ, zero, suc, List, [], ◌∷◌, length, Bool, true, false, IsTrue, ap, sym, refl, subst, inl, inr, arith, Contains, eq-or-lt_of_le}
 use Rattle.std.specs.Prelude.{codes, slice_index}
 use Rattle.std.proofs.lemmas.Option.{slice_get_within, get_or_from_slice_get}
-use Rattle.mz_base_theory.proofs.Offered.{either-decided, Decided, contains-decided, all_hold-or_fails, at_most-decided, bytes-decided, both-decided, are_decided-both, are_decided-rows, all_hold-rest}
-use Rattle.mz_base_theory.specs.Checks.{AreDecided, AllHold, FailsFirst}
+use Rattle.mz_base.proofs.Offered.{either-decided, Decided, contains-decided, all_hold-or_fails, at_most-decided, bytes-decided, both-decided, are_decided-both, are_decided-rows, all_hold-rest}
+use Rattle.mz_base.specs.Checks.{AreDecided, AllHold, FailsFirst}
 use Rattle.mz_lex.specs.Kinds.{is_space}
 use Rattle.mz_logic_theory.specs.Tree.{Tree}
 use Rattle.mz_logic_theory.specs.Declaration.{signatures}

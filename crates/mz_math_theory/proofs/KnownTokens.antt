@@ -1,8 +1,8 @@
 -- Tokens that make a tree are known.
 use Rattle.std.proofs.Common.{◌++◌, ℕ, zero, suc, List, [], ◌∷◌, inl, inr, refl, sym, subst, Contains}
 use Rattle.std.specs.Prelude.{⊤}
-use Rattle.mz_base_theory.proofs.Offered.{contains_at, contains_head, contains_tail}
-use Rattle.mz_base_theory.specs.Checks.{AllHold}
+use Rattle.mz_base.proofs.Offered.{contains_at, contains_head, contains_tail}
+use Rattle.mz_base.specs.Checks.{AllHold}
 use Rattle.mz_logic_theory.specs.Tree.{Tree}
 use Rattle.mz_math_theory.specs.declared.notation.Element.{Element}
 use Rattle.mz_math_theory.specs.declared.notation.Element.TheVariants.{Fixed as fixed, Slot as slot}

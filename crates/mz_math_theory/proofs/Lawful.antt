@@ -1,7 +1,7 @@
 -- The laws.
 use Rattle.std.proofs.Common.{◌≡◌, ◌∙◌, ℕ, List, Bool, true, false, ap, sym, refl, subst, inl, inr}
-use Rattle.mz_base_theory.specs.Checks.{FailsFirst}
-use Rattle.mz_base_theory.proofs.Offered.{fails_first-unique, all_hold-excludes}
+use Rattle.mz_base.specs.Checks.{FailsFirst}
+use Rattle.mz_base.proofs.Offered.{fails_first-unique, all_hold-excludes}
 use Rattle.mz_logic_theory.specs.Tree.{Tree}
 use Rattle.mz_logic_theory.specs.Signature.{Signature}
 use Rattle.mz_logic_theory.specs.Declaration.{signatures}

@@ -3,7 +3,7 @@ use Rattle.std.proofs.Common.{◌≡◌, ◌<◌, ◌≤◌, ◌+◌, ◌-◌, �
 use Rattle.std.proofs.Math.Seq.{drop-append-add}
 use Rattle.std.proofs.lemmas.List.{length-append}
 use Rattle.std.proofs.lemmas.Option.{none-some}
-use Rattle.mz_base_theory.proofs.Offered.{contains_at, place-of, slice_get-append}
+use Rattle.mz_base.proofs.Offered.{contains_at, place-of, slice_get-append}
 use Rattle.mz_math_theory.specs.Listed.{AreListed, slots}
 use Rattle.mz_math_theory.specs.Notation.{Element, Notation, fixed, slot}
 use Rattle.mz_math_theory.specs.NotationAnswers.{KeepsLevels, KeepsOwnLevels}

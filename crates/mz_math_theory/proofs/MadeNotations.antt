@@ -3,8 +3,8 @@ use Rattle.std.proofs.Common.{◌≡◌, ◌≢◌, ◌<◌, ◌⊎◌, ◌∙�
 use Rattle.std.specs.Prelude.{⊤, ◌==◌, codes, slice_range}
 use Rattle.std.specs.List.{count_by}
 use Rattle.std.proofs.lemmas.Option.{slice_get_within, same_Some, none-some}
-use Rattle.mz_base_theory.proofs.Offered.{same-head as heads, same-tail as tails, nil-cons, not-decided, three-decided, some-decided, Decided, all_hold-or_fails, at_most-decided, both-decided, bytes-decided}
-use Rattle.mz_base_theory.specs.Checks.{AllHold, FailsFirst}
+use Rattle.mz_base.proofs.Offered.{same-head as heads, same-tail as tails, nil-cons, not-decided, three-decided, some-decided, Decided, all_hold-or_fails, at_most-decided, both-decided, bytes-decided}
+use Rattle.mz_base.specs.Checks.{AllHold, FailsFirst}
 use Rattle.mz_logic_theory.specs.Signature.{Signature}
 use Rattle.mz_logic_theory.specs.declared.binder.Binder.{Binder}
 use Rattle.mz_logic_theory.specs.declared.binder.ResultType.{ResultType}

@@ -6,7 +6,7 @@ use Rattle.std.specs.List.{AllByRecursion, IsDistinct, list_any}
 use Rattle.std.proofs.lemmas.Bool.{true≢false, eqb-true}
 use Rattle.std.proofs.lemmas.Map.Steps.{length-le_from_distinct_below}
 use Rattle.std.proofs.lemmas.Option.{slice_get_within, same_Some}
-use Rattle.mz_base_theory.proofs.Offered.{slice_get-last, slice_get-append, nil-cons, slice_get-push_cases}
+use Rattle.mz_base.proofs.Offered.{slice_get-last, slice_get-append, nil-cons, slice_get-push_cases}
 use Rattle.mz_math_theory.specs.declared.coercion.Coercion.{Coercion}
 use Rattle.mz_math_theory.specs.Coercions.{IsPath, OnePath, Reaches}
 use Rattle.mz_math_theory.specs.CoercionAnswers.{HasLength, MayStart, MayEnd, IsClashAt}

@@ -6,7 +6,7 @@ use Rattle.std.proofs.lemmas.List.{append-nil}
 use Rattle.mz_logic_theory.specs.Tree.{Tree, Trees, var, app, none, more, followed_by}
 use Rattle.std.proofs.lemmas.Option.{slice_get_within, get_or_from_slice_get}
 use Rattle.mz_logic_theory.proofs.Offered.{followed_by_none, followed_by_push}
-use Rattle.mz_base_theory.proofs.Offered.{same-head as cons_head, same-tail, nil-cons}
+use Rattle.mz_base.proofs.Offered.{same-head as cons_head, same-tail, nil-cons}
 use Rattle.mz_math_theory.specs.Lookups.{NoVariable, NoLeading, NoTermName, NoInfix}
 use Rattle.mz_math_theory.specs.FormulaAnswers.{MayLead, IsMaxBefore}
 use Rattle.mz_math_theory.specs.Notation.{max_level, above}

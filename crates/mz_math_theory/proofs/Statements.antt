@@ -1,8 +1,8 @@
 -- Each statement on delimiters and each on coercions is of its form or not, and leaves one path or not.
 use Rattle.std.proofs.Common.{◌≡◌, ◌⊎◌, ◌++◌, ◌∙◌, ℕ, List, [], ◌∷◌, Option, Some, None, false, ap, sym, refl, subst, inl, inr, map, slice_get, Contains}
 use Rattle.std.proofs.lemmas.Option.{slice_get_within, get_or_from_slice_get}
-use Rattle.mz_base_theory.proofs.Offered.{some-decided, Decided, all_hold-or_fails, both-decided}
-use Rattle.mz_base_theory.specs.Checks.{AllHold, FailsFirst}
+use Rattle.mz_base.proofs.Offered.{some-decided, Decided, all_hold-or_fails, both-decided}
+use Rattle.mz_base.specs.Checks.{AllHold, FailsFirst}
 use Rattle.mz_logic_theory.specs.Signature.{Signature}
 use Rattle.mz_logic_theory.specs.declared.binder.Binder.{Binder}
 use Rattle.mz_math_tokens.specs.MathTokens.{no_delimiters, MathTokens, token_texts, AreCharacters, AreDelimiters}

@@ -1,7 +1,7 @@
 -- Whether a table stays clear with one more notation is decided.
 use Rattle.std.proofs.Common.{◌≡◌, ◌<◌, ◌++◌, ℕ, List, [], ◌∷◌, Bool, true, false, sym, refl, subst, inl, inr, arith, Contains}
 use Rattle.std.specs.Prelude.{⊤, if◌then◌else◌}
-use Rattle.mz_base_theory.proofs.Offered.{not-decided, three-decided, Decided, at_most-decided, implied-decided, bytes-decided}
+use Rattle.mz_base.proofs.Offered.{not-decided, three-decided, Decided, at_most-decided, implied-decided, bytes-decided}
 use Rattle.mz_math_theory.specs.Notation.{max_level, Table, begins_with_slot, with_leading, with_infix, with_notation}
 use Rattle.mz_math_theory.specs.declared.notation.Element.{Element}
 use Rattle.mz_math_theory.specs.declared.notation.Element.TheVariants.{Fixed as fixed, Slot as slot}

@@ -3,7 +3,7 @@ use Rattle.std.proofs.Common.{◌≡◌, ◌≢◌, ◌⊎◌, ◌++◌, ◌∙�
 use Rattle.std.specs.Prelude.{codes, IsTrue, MatchBool, slice_range, ◌+◌, IsErrAnd, OnOk, OnErr, if◌then◌else◌}
 use Rattle.std.proofs.lemmas.Option.{same_Some, none-some}
 use Rattle.std.proofs.lemmas.List.Elements.{Contains-push_cases}
-use Rattle.mz_base_theory.proofs.Offered.{contains_none, same-head, slice_get-push_cases, contains_at}
+use Rattle.mz_base.proofs.Offered.{contains_none, same-head, slice_get-push_cases, contains_at}
 use Rattle.mz_base.specs.Identifiers.{is_name}
 use Rattle.mz_logic_theory.specs.Signature.{Signature}
 use Rattle.mz_math_tokens.specs.MathTokens.{token_text, no_delimiters, AreDelimiters, IsConstant}

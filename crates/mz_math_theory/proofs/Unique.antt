@@ -2,7 +2,7 @@
 use Rattle.std.proofs.Common.{◌≡◌, ◌≤◌, ◌<◌, ◌⊎◌, ◌++◌, ◌∙◌, ℕ, zero, suc, List, [], ◌∷◌, Some, ap, ap₂, sym, refl, subst, inl, inr, arith, append_assoc, Contains, slice_get, length}
 use Rattle.std.specs.Prelude.{codes, ⊤}
 use Rattle.std.proofs.lemmas.Option.{slice_get_within, get_or_from_slice_get, same_Some}
-use Rattle.mz_base_theory.proofs.Offered.{same-head as cons_head, same-tail, place-of}
+use Rattle.mz_base.proofs.Offered.{same-head as cons_head, same-tail, place-of}
 use Rattle.mz_math_theory.specs.Notation.{max_level}
 use Rattle.mz_math_theory.specs.declared.notation.Element.{Element}
 use Rattle.mz_math_theory.specs.declared.notation.Element.TheVariants.{Fixed as fixed, Slot as slot}

@@ -4,7 +4,7 @@
 use Rattle.std.specs.Prelude.{◌≡◌, ◌≢◌, ◌<◌, ◌≤◌, ◌==◌, ⊤, ℕ, List, [], ◌∷◌, ◌++◌, Bool, true, false, Option, Some, None, length, slice_get, slice_range}
 use Rattle.std.specs.List.{count_by}
 use Rattle.std.proofs.Common.{Result, Ok, Err}
-use Rattle.mz_base_theory.specs.Checks.{Checks, demand, ◌>>◌, AllHold, FailsFirst}
+use Rattle.mz_base.specs.Checks.{Checks, demand, ◌>>◌, AllHold, FailsFirst}
 use Rattle.mz_logic_theory.specs.Signature.{Signature}
 use Rattle.mz_logic_theory.specs.declared.binder.Binder.{Binder}
 use Rattle.mz_logic_theory.specs.declared.binder.ResultType.{ResultType}

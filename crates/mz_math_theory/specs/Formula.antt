@@ -1,7 +1,7 @@
 -- What a math string stands for, and the first rule that it breaks (mm0.md, sections on math strings, notations and
 -- coercions; the order of rules and the limits are this project's own).
 use Rattle.std.specs.Prelude.{◌≤◌, ⊤, ℕ, List, length}
-use Rattle.mz_base_theory.specs.Checks.{Checks, demand, ◌>>◌, each_in_order, AllHold, FailsFirst}
+use Rattle.mz_base.specs.Checks.{Checks, demand, ◌>>◌, each_in_order, AllHold, FailsFirst}
 use Rattle.mz_lex.specs.declared.rule.S.{S}
 use Rattle.mz_lex.specs.declared.rule.S.TheVariants as rules
 use Rattle.mz_logic_theory.specs.Tree.{Tree}

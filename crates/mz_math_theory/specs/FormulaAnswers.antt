@@ -1,6 +1,6 @@
 -- What the calls within the crate answer.
 use Rattle.std.specs.Prelude.{◌≡◌, ◌≤◌, ◌<◌, ◌⊎◌, true, false, ⊤, ℕ, List, Bool, Some, None, Option, length, [], ◌∷◌}
-use Rattle.mz_base_theory.specs.Checks.{AllHold, FailsFirst}
+use Rattle.mz_base.specs.Checks.{AllHold, FailsFirst}
 use Rattle.mz_lex.specs.declared.rule.S.TheVariants as rules
 use Rattle.mz_logic_theory.specs.Tree.{Tree, Trees, none, more, followed_by}
 use Rattle.mz_logic_theory.specs.View.{tree}

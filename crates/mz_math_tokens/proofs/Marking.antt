@@ -5,7 +5,7 @@ use Rattle.std.proofs.Math.ListN.{replicate}
 use Rattle.std.proofs.lemmas.Bool.{false≢true, cases_order}
 use Rattle.std.proofs.lemmas.List.{get_or-set_same, get_or-set_other}
 use Rattle.std.proofs.lemmas.List.Elements.{Contains-append_left, Contains-append_right, Contains-append_cases}
-use Rattle.mz_base_theory.proofs.Offered.{contains_none}
+use Rattle.mz_base.proofs.Offered.{contains_none}
 use Rattle.mz_math_tokens.specs.Sets.{Tells}
 
 pub unmarked : (n c : ℕ) → get_or (replicate n false) c false ≡ false

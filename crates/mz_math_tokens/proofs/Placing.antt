@@ -8,7 +8,7 @@ use Rattle.std.proofs.lemmas.Bool.{cases_Bool, cond-true, cond-false, true≢fal
 use Rattle.std.proofs.lemmas.Option.{get_or_from_slice_get, slice_get_within, same_Some}
 use Rattle.std.proofs.lemmas.Slice.Eq.{bytes_eq-Decides}
 use Rattle.indexmap.specs.IndexMap.{insert_entry}
-use Rattle.mz_base_theory.proofs.Offered.{slice_get-append, slice_get-push_cases, contains_at, other-bytes, length-push, below-or-last, drop-item}
+use Rattle.mz_base.proofs.Offered.{slice_get-append, slice_get-push_cases, contains_at, other-bytes, length-push, below-or-last, drop-item}
 use Rattle.mz_math_tokens.specs.Names.{AreFoundBeyond}
 use Rattle.mz_math_tokens.specs.Places.{place_of, LeadsTo}
 

@@ -2,7 +2,7 @@
 use Rattle.std.proofs.Common.{◌≡◌, ◌<◌, ◌≤◌, ◌+◌, ◌-◌, ◌⊎◌, ◌++◌, ◌∙◌, ℕ, zero, suc, List, [], ◌∷◌, length, Bool, true, false, get_or, ap, ap₂, sym, refl, subst, inl, inr, arith, Contains, append_assoc, drop, take, map, All}
 use Rattle.std.specs.Prelude.{slice_index, slice_range, IsTrue, codes}
 use Rattle.std.proofs.lemmas.List.{append-nil}
-use Rattle.mz_base_theory.proofs.Offered.{nil-cons, below-or-last}
+use Rattle.mz_base.proofs.Offered.{nil-cons, below-or-last}
 use Rattle.mz_math_tokens.specs.MathTokens.{IsConstant, Delimiters, no_delimiters, MathToken, IsSpaces, IsMathToken, MathTokensFrom, MathTokens, token_text, token_texts, AreCharacters}
 use Rattle.mz_lex.specs.Kinds.{is_space}
 use Rattle.mz_math_tokens.specs.Answers.{IsNext, EndsAt, IsWhole}

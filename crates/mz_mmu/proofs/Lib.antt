@@ -1,2 +1,5 @@
 pub mod TextSteps
 pub mod Roots
+pub mod HypLists
+pub mod StatementDispatch
+mod UnderscoreRuns

@@ -1,7 +1,7 @@
 -- Statements, one after another.
 use Rattle.std.proofs.Common.{ℕ, suc, ◌≡◌, ◌≤◌, ◌<◌, ◌+◌, ◌-◌, ◌∙◌, Bool, List, [], ◌∷◌, ◌++◌, length, sym, ap, refl, subst, arith, append_assoc, append-nil}
-use Rattle.mz_base_theory.proofs.Offered.{length-push, Decides, decides-after, fails-before, retold-fails, retold-holds}
-use Rattle.mz_base_theory.specs.Checks.{Checks, retold, FailsFirst}
+use Rattle.mz_base.proofs.Offered.{length-push, Decides, decides-after, fails-before, retold-fails, retold-holds}
+use Rattle.mz_base.specs.Checks.{Checks, retold, FailsFirst}
 use Rattle.mz_sexpr.specs.Node.{Node, Nodes, no_nodes, node, atom, list}
 use Rattle.mz_sexpr.specs.Number.{node_count, node_at}
 use Rattle.mz_sexpr.specs.declared.rule.TextRefusal.{TextRefusal}

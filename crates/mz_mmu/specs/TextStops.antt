@@ -1,6 +1,6 @@
 -- Why reading or checking a text stops.
 use Rattle.std.specs.Prelude.{ℕ, ◌≡◌, ⊤}
-use Rattle.mz_base_theory.specs.Checks.{Checks, FailsFirst}
+use Rattle.mz_base.specs.Checks.{Checks, FailsFirst}
 use Rattle.mz_sexpr.specs.declared.rule.TextRefusal.{TextRefusal}
 use Rattle.mz_mmu_theory.specs.StatementOrder.{in_statement}
 use Rattle.mz_mmu_theory.specs.declared.fault.Stop.{Stop}

@@ -11,10 +11,10 @@ ghost use Rattle.mz_mmu.specs.TextRead.{IsReading};
 ghost use Rattle.mz_mmu.specs.TextStops.{IsStopped, TextStops, IsRefusal};
 ghost use Rattle.mz_mmu_theory.specs.Cursor.{nodes_size};
 
+use crate::statement;
 use mz_base::{Hashing, Mode};
 use mz_logic_theory::{Binders, Decl};
 use mz_mmu_forms::{NameTable, Reader};
-use mz_mmu_statements::statement;
 use mz_mmu_theory::{Declared, Fault, Proof, Stop};
 use mz_sexpr::{SexprRead, Sexprs, TextRefusal, read_sexprs};
 use std::alloc::{AllocError, Global};

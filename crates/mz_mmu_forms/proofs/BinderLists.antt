@@ -1,7 +1,7 @@
 -- Variables and binders, one after another.
 use Rattle.std.proofs.Common.{◌≡◌, ◌∙◌, ℕ, List, [], ◌∷◌, ◌++◌, sym, ap, refl, subst, append_assoc}
-use Rattle.mz_base_theory.specs.Checks.{Checks, AllHold}
-use Rattle.mz_base_theory.proofs.Offered.{Decides, decides-after}
+use Rattle.mz_base.specs.Checks.{Checks, AllHold}
+use Rattle.mz_base.proofs.Offered.{Decides, decides-after}
 use Rattle.mz_sexpr.specs.Node.{Node, Nodes, node, parts}
 use Rattle.mz_logic_theory.specs.declared.binder.Binder.{Binder}
 use Rattle.mz_mmu_theory.specs.declared.fault.Fault.{Fault}

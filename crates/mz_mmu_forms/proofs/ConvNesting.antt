@@ -1,7 +1,7 @@
 -- Conversions within one another, and what a step makes of one.
 use Rattle.std.proofs.Common.{◌≡◌, ◌<◌, ◌+◌, ◌*◌, ◌++◌, ◌∙◌, ℕ, List, [], ◌∷◌, Option, true, Result, IfOk, ap, sym, refl, subst, arith, true≢false}
 use Rattle.std.specs.Prelude.{IfErr}
-use Rattle.mz_base_theory.specs.Checks.{Checks, nothing, ◌>>◌, AllHold}
+use Rattle.mz_base.specs.Checks.{Checks, nothing, ◌>>◌, AllHold}
 use Rattle.mz_sexpr.specs.Node.{Node, Nodes, atom, list, no_nodes, node, is_atom, place}
 use Rattle.mz_sexpr.specs.Number.{node_at, nodes_after}
 use Rattle.mz_logic_theory.specs.Tree.{Tree, Trees}

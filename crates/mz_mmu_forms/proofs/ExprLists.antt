@@ -1,6 +1,6 @@
 -- Expressions, one after another.
 use Rattle.std.proofs.Common.{◌≡◌, ◌∙◌, sym, ap, refl, subst}
-use Rattle.mz_base_theory.proofs.Offered.{Decides, decides-after}
+use Rattle.mz_base.proofs.Offered.{Decides, decides-after}
 use Rattle.mz_sexpr.specs.Node.{Node, Nodes, node}
 use Rattle.mz_logic_theory.specs.Tree.{Tree, Trees, more, none, followed_by}
 use Rattle.mz_logic_theory.proofs.Offered.{followed_by_push}

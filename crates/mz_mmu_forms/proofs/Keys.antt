@@ -4,8 +4,7 @@ use Rattle.std.specs.Prelude.{bytes_eq}
 use Rattle.std.specs.List.{list_any}
 use Rattle.std.proofs.lemmas.Bool.Decides.{nat_tests}
 use Rattle.std.specs.Cmp.Lexicographic.{same_text}
-use Rattle.mz_base_theory.proofs.Offered.{length-push}
-use Rattle.mz_base.proofs.Offered.{Tells}
+use Rattle.mz_base.proofs.Offered.{length-push, Tells}
 use Rattle.mz_base.specs.Identifiers.{is_name}
 use Rattle.mz_sexpr.proofs.Offered.{and_false}
 use Rattle.mz_mmu_theory.specs.Name.{IsName}

@@ -1,6 +1,6 @@
 -- Expressions within one another, and what a step makes of one.
 use Rattle.std.proofs.Common.{◌≡◌, ◌<◌, ◌+◌, ◌*◌, ◌++◌, ◌∙◌, ℕ, List, [], ◌∷◌, Option, Some, None, sym, refl, subst, ap, arith}
-use Rattle.mz_base_theory.specs.Checks.{◌>>◌}
+use Rattle.mz_base.specs.Checks.{◌>>◌}
 use Rattle.mz_sexpr.specs.Node.{Node, Nodes}
 use Rattle.mz_sexpr.specs.Number.{node_at, nodes_after, StandsFor}
 use Rattle.mz_logic_theory.specs.Tree.{Tree, Trees, app, none, more, followed_by}

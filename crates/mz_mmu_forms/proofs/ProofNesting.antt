@@ -1,15 +1,14 @@
 -- Proofs within one another, and what a step makes of one.
 use Rattle.std.proofs.Common.{◌≡◌, ◌<◌, ◌+◌, ◌*◌, ◌^◌, ◌++◌, ◌∙◌, ℕ, List, [], ◌∷◌, length, Option, Result, IfOk, ap, sym, refl, subst, arith}
 use Rattle.std.specs.Prelude.{IfErr}
-use Rattle.mz_base_theory.proofs.Offered.{length-push}
-use Rattle.mz_base_theory.specs.Checks.{Checks, ◌>>◌}
+use Rattle.mz_base.proofs.Offered.{length-push, new-parts}
+use Rattle.mz_base.specs.Checks.{Checks, ◌>>◌}
 use Rattle.mz_sexpr.specs.Node.{Node, Nodes, list, no_nodes, node, place, word}
 use Rattle.mz_sexpr.specs.Number.{node_at, node_count, nodes_after}
 use Rattle.mz_logic_theory.specs.Tree.{Tree, Trees}
 use Rattle.mz_logic_theory.specs.Conversions.{Conversion}
 use Rattle.mz_logic_theory.specs.View.{tree}
 use Rattle.mz_base.specs.Names.{IsNew}
-use Rattle.mz_base.proofs.Offered.{new-parts}
 use Rattle.mz_mmu_theory.specs.Name.{Scope, HasNumber, IsNewName}
 use Rattle.mz_mmu_theory.specs.Cursor.{nodes_from, nodes_size, node_size, IsThere}
 use Rattle.mz_mmu_theory.specs.Expressions.{IsExpr, IsExprList}

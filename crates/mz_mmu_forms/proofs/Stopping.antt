@@ -2,8 +2,8 @@
 use Rattle.std.proofs.Common.{◌≡◌, Result, Ok, Err, sym, subst}
 use Rattle.std.specs.Prelude.{IfErr}
 use Rattle.std.specs.Result.{IsErrAnd}
-use Rattle.mz_base_theory.specs.Checks.{Checks, ◌>>◌, AllHold}
-use Rattle.mz_base_theory.proofs.Offered.{fails-before, fails-after, Decides}
+use Rattle.mz_base.specs.Checks.{Checks, ◌>>◌, AllHold}
+use Rattle.mz_base.proofs.Offered.{fails-before, fails-after, Decides}
 use Rattle.mz_mmu_theory.specs.declared.fault.Fault.{Fault}
 use Rattle.mz_mmu_theory.specs.declared.fault.Stop.{Stop}
 use Rattle.mz_mmu_theory.specs.declared.fault.Stop.TheVariants.{Refused, Mem}

@@ -1,6 +1,6 @@
 -- The steps in which a conversion is read: how far it has been read, and what waits for one within it.
 use Rattle.std.specs.Prelude.{ℕ, ◌≡◌, ◌<◌, ◌+◌, ◌*◌, List, [], ◌∷◌, Option, Some, None}
-use Rattle.mz_base_theory.specs.Checks.{Checks, AllHold}
+use Rattle.mz_base.specs.Checks.{Checks, AllHold}
 use Rattle.mz_sexpr.specs.Node.{Node, Nodes}
 use Rattle.mz_sexpr.specs.Number.{node_count, node_at, nodes_after, StandsFor}
 use Rattle.mz_logic_theory.specs.Conversions.{Conversion, Conversions, sym_conv, cong_conv, unfold_conv, more_convs}

@@ -1,6 +1,6 @@
 -- The steps in which a proof is read: how far it has been read, and what waits for one within it.
 use Rattle.std.specs.Prelude.{ℕ, ◌≡◌, ◌<◌, ◌+◌, ◌*◌, ◌^◌, ◌++◌, ⊤, List, [], ◌∷◌, Option, Some, None, length}
-use Rattle.mz_base_theory.specs.Checks.{Checks, AllHold}
+use Rattle.mz_base.specs.Checks.{Checks, AllHold}
 use Rattle.mz_sexpr.specs.Node.{Node, Nodes}
 use Rattle.mz_sexpr.specs.Number.{node_count, node_at, nodes_after, StandsFor}
 use Rattle.mz_logic_theory.specs.Tree.{Trees}

@@ -5,7 +5,7 @@ use Rattle.std.specs.List.Sorted.{IsStrictlyIncreasing}
 use Rattle.std.proofs.lemmas.Bool.{cases_order}
 use Rattle.std.proofs.lemmas.List.Kept.{AllPairs-from_increasing, AllPairs-cons}
 use Rattle.std.proofs.lemmas.List.Elements.{All-weaker, All-contains_itself, Contains-append_right, Contains-append_cases}
-use Rattle.mz_base_theory.proofs.Offered.{contains_none, contains_head}
+use Rattle.mz_base.proofs.Offered.{contains_none, contains_head}
 use Rattle.mz_mmu_theory.specs.Expressions.{IsAscending}
 
 abbrev Rise : List ℕ → Type 0

@@ -1,10 +1,10 @@
 -- The rules of a conversion hold exactly where it goes from its left side to its right one.
 use Rattle.std.proofs.Common.{ℕ, suc, ◌≡◌, ◌<◌, true≢false, IsTrue, List, [], ◌∷◌, slice_get, length, Some, refl, sym, ap, ◌∙◌, subst, arith}
 use Rattle.std.proofs.lemmas.Option.{slice_get-get_or, get_or_from_slice_get}
-use Rattle.mz_base_theory.specs.Checks.{AllHold}
+use Rattle.mz_base.specs.Checks.{AllHold}
 use Rattle.mz_sexpr.specs.Node.{Node, Nodes, parts}
 use Rattle.mz_sexpr.specs.Number.{first, rest}
-use Rattle.mz_base_theory.proofs.Offered.{all_hold-first, all_hold-rest, all_hold-both}
+use Rattle.mz_base.proofs.Offered.{all_hold-first, all_hold-rest, all_hold-both}
 use Rattle.mz_logic_theory.specs.Tree.{Tree, Trees, app, none, more, listed, instance, followed_by, variables}
 use Rattle.mz_logic_theory.specs.Signature.{Signature}
 use Rattle.mz_logic_theory.specs.Declaration.{Form, plain_form, abstract_form, defined, Term, Declaration, dummies_of, terms, signatures, is_defined, body_tree}

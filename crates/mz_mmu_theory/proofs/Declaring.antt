@@ -1,7 +1,7 @@
 -- What a statement's reading says of what is asked of it, and of the names that it adds.
 use Rattle.std.proofs.Common.{ℕ, ◌≡◌, Bool, true, false, List, [], ◌∷◌, ◌++◌, sym, ap, ◌∙◌, subst, ◌-◌, Some, None, refl}
-use Rattle.mz_base_theory.specs.Checks.{◌>>◌, AllHold}
-use Rattle.mz_base_theory.proofs.Offered.{all_hold-both}
+use Rattle.mz_base.specs.Checks.{◌>>◌, AllHold}
+use Rattle.mz_base.proofs.Offered.{all_hold-both, new-both, new-parts}
 use Rattle.mz_sexpr.specs.Node.{Node, Nodes, atom, list, no_nodes, node, parts}
 use Rattle.mz_logic_theory.specs.declared.binder.Binder.{Binder}
 use Rattle.mz_base.specs.Names.{IsNew}
@@ -17,7 +17,6 @@ use Rattle.mz_mmu_theory.proofs.Hold.{dummies_hold, expr_holds, expr_list_holds,
 use Rattle.mz_mmu_theory.proofs.HoldStatements.{hyps_hold, modifiers_hold}
 use Rattle.std.specs.Prelude.{bytes_eq, if◌then◌else◌}
 use Rattle.mz_logic_theory.specs.Declaration.{Declaration, sort_decl, term_decl, assertion_decl}
-use Rattle.mz_base.proofs.Offered.{new-both, new-parts}
 
 pub declared_holds : (names : Names) (k : Kind) (at : ℕ) (ns : Nodes) (s : Statement) → IsDeclared names k ns s → AllHold (declared_asked k at names ns)
 declared_holds names sort_kind at no_nodes s h = absurd h

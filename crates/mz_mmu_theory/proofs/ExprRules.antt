@@ -1,11 +1,11 @@
 -- The rules of an expression hold exactly where it has a sort, and those of a claim where this is provable.
 use Rattle.std.proofs.Common.{ℕ, ◌≡◌, List, [], ◌∷◌, length, refl, sym, subst, arith, suc, ap}
 use Rattle.std.proofs.lemmas.Option.{slice_get-get_or}
-use Rattle.mz_base_theory.specs.Checks.{AllHold, demand, ◌>>◌}
+use Rattle.mz_base.specs.Checks.{AllHold, demand, ◌>>◌}
 use Rattle.mz_sexpr.specs.Node.{Node, Nodes, place, parts}
 use Rattle.mz_sexpr.specs.Number.{first, rest}
 use Rattle.mz_sexpr.specs.declared.rule.U.{U}
-use Rattle.mz_base_theory.proofs.Offered.{all_hold-first, all_hold-rest, all_hold-both}
+use Rattle.mz_base.proofs.Offered.{all_hold-first, all_hold-rest, all_hold-both}
 use Rattle.mz_logic_theory.specs.Tree.{Tree, Trees, var, app, none, more, listed, instances}
 use Rattle.mz_logic_theory.specs.Signature.{Signature}
 use Rattle.mz_logic_theory.specs.Declaration.{Declaration, sorts, signatures}

@@ -1,8 +1,8 @@
 -- Where all that is asked of a node holds, it is an expression, a list of variables, a binder, a
 -- conversion, a proof.
 use Rattle.std.proofs.Common.{ℕ, ◌≡◌, ◌⊎◌, inl, inr, true, false, List, [], ◌∷◌, ◌++◌, Option, Some, None, refl, sym, ◌∙◌, subst, append_assoc, append-nil}
-use Rattle.mz_base_theory.specs.Checks.{Checks, ◌>>◌, AllHold}
-use Rattle.mz_base_theory.proofs.Offered.{all_hold-first, all_hold-rest}
+use Rattle.mz_base.specs.Checks.{Checks, ◌>>◌, AllHold}
+use Rattle.mz_base.proofs.Offered.{all_hold-first, all_hold-rest}
 use Rattle.mz_sexpr.specs.Node.{Node, Nodes, atom, list, no_nodes, node, word, parts}
 use Rattle.mz_logic_theory.specs.Tree.{Tree, Trees, var, app, none, more}
 use Rattle.mz_logic_theory.specs.Conversions.{Conversion, Conversions, refl_conv, sym_conv, cong_conv, unfold_conv, gap_conv, no_convs, more_convs}

@@ -1,8 +1,8 @@
 -- Where all that is asked of a text's nodes holds, they are a list of statements.
 use Rattle.std.proofs.Common.{ℕ, suc, ◌≡◌, Bool, true, false, List, [], ◌∷◌, ◌++◌, Some, None, refl, ap, subst, append_assoc, append-nil}
 use Rattle.std.specs.Prelude.{unwrap_or}
-use Rattle.mz_base_theory.specs.Checks.{◌>>◌, retold, AllHold}
-use Rattle.mz_base_theory.proofs.Offered.{all_hold-first, all_hold-rest, retold-held}
+use Rattle.mz_base.specs.Checks.{◌>>◌, retold, AllHold}
+use Rattle.mz_base.proofs.Offered.{all_hold-first, all_hold-rest, retold-held}
 use Rattle.mz_sexpr.specs.Node.{Node, Nodes, atom, list, no_nodes, node, word, parts}
 use Rattle.mz_logic_theory.specs.Tree.{Tree, Trees, none, more}
 use Rattle.mz_logic_theory.specs.Declaration.{sort_decl, term_decl, assertion_decl, plain_form, defined}

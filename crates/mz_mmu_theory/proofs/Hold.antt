@@ -1,8 +1,8 @@
 -- What is asked of a node holds where the node is an expression, a list of variables, a binder, a
 -- conversion, a proof.
 use Rattle.std.proofs.Common.{ℕ, ◌≡◌, ◌≤◌, length, arith, ◌⊎◌, inl, inr, List, [], ◌∷◌, ◌++◌, refl, sym, ap, ◌∙◌, subst, append_assoc, append-nil}
-use Rattle.mz_base_theory.specs.Checks.{Checks, ◌>>◌, AllHold}
-use Rattle.mz_base_theory.proofs.Offered.{all_hold-both}
+use Rattle.mz_base.specs.Checks.{Checks, ◌>>◌, AllHold}
+use Rattle.mz_base.proofs.Offered.{all_hold-both, new-both, new-parts}
 use Rattle.mz_sexpr.specs.Node.{Node, Nodes, atom, list, no_nodes, node, word, place, parts}
 use Rattle.mz_logic_theory.specs.Tree.{Tree, Trees}
 use Rattle.mz_logic_theory.specs.Conversions.{Conversion, Conversions}
@@ -14,7 +14,6 @@ use Rattle.mz_mmu_theory.specs.declared.fault.Stop.{Stop}
 use Rattle.mz_mmu_theory.specs.declared.fault.Stop.TheVariants.{Refused, Mem}
 use Rattle.mz_mmu_theory.specs.Stops.{Stops}
 use Rattle.mz_base.specs.Names.{IsNew}
-use Rattle.mz_base.proofs.Offered.{new-both, new-parts}
 use Rattle.mz_mmu_theory.specs.Name.{Names, Scope, hidden, IsName, HasNumber, IsNewName, IsParamName}
 use Rattle.mz_mmu_theory.specs.Expressions.{IsExpr, AreExprs, IsExprList, AreVariables, IsVariableList, AreDeps, IsParam, IsDummy, AreBinders, AreParams, AreDummies, IsResult}
 use Rattle.mz_mmu_theory.specs.Proof.{Proof, Proofs}

@@ -1,8 +1,8 @@
 -- What is asked of a node holds where the node is a statement.
 use Rattle.std.proofs.Common.{ℕ, ◌≡◌, inl, inr, List, [], ◌∷◌, ◌++◌, Some, None, refl, sym, ap, ◌∙◌, subst, append_assoc, append-nil}
 use Rattle.std.specs.Prelude.{unwrap_or}
-use Rattle.mz_base_theory.specs.Checks.{Checks, nothing, ask, demand, ◌>>◌, AllHold, FailsFirst}
-use Rattle.mz_base_theory.proofs.Offered.{all_hold-both, Decides, decides-after, fails-before}
+use Rattle.mz_base.specs.Checks.{Checks, nothing, ask, demand, ◌>>◌, AllHold, FailsFirst}
+use Rattle.mz_base.proofs.Offered.{all_hold-both, Decides, decides-after, fails-before}
 use Rattle.mz_sexpr.specs.Node.{Node, Nodes, atom, list, no_nodes, node, word, parts, place}
 use Rattle.mz_logic_theory.specs.Tree.{Tree, Trees}
 use Rattle.mz_sexpr.specs.declared.rule.U.{U}

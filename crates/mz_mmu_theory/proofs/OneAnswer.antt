@@ -1,7 +1,7 @@
 -- A text has one answer.
 use Rattle.std.proofs.Common.{ℕ, suc, ◌≡◌, ◌⊎◌, inl, inr, Bool, List, sym, subst}
-use Rattle.mz_base_theory.specs.Checks.{AllHold, FailsFirst, retold}
-use Rattle.mz_base_theory.proofs.Offered.{all_hold-both, fails_first-unique, all_hold-excludes, all_hold-or_fails, retold-holds}
+use Rattle.mz_base.specs.Checks.{AllHold, FailsFirst, retold}
+use Rattle.mz_base.proofs.Offered.{all_hold-both, fails_first-unique, all_hold-excludes, all_hold-or_fails, retold-holds}
 use Rattle.mz_sexpr.specs.declared.rule.TextRefusal.{TextRefusal}
 use Rattle.mz_sexpr.specs.Grammar.{Reads as Spells}
 use Rattle.mz_sexpr.specs.Node.{Nodes, no_nodes, node}

@@ -1,7 +1,7 @@
 -- The rules of parameters hold exactly where they are right.
 use Rattle.std.proofs.Common.{ℕ, zero, suc, ◌≡◌, ◌+◌, List, [], ◌∷◌, slice_get, Some, refl, sym, ◌∙◌, subst, arith, add-zero, add-suc, suc-add}
 use Rattle.std.proofs.lemmas.Option.{none-some}
-use Rattle.mz_base_theory.specs.Checks.{AllHold}
+use Rattle.mz_base.specs.Checks.{AllHold}
 use Rattle.mz_sexpr.specs.Node.{Nodes}
 use Rattle.mz_sexpr.specs.Number.{rest}
 use Rattle.mz_logic_theory.specs.Declaration.{Declaration, sorts}

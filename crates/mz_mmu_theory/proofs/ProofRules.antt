@@ -1,10 +1,10 @@
 -- The rules of a proof hold exactly where it derives what it proves, and each of its lets derives something.
 use Rattle.std.proofs.Common.{ℕ, zero, suc, ◌≡◌, ◌<◌, List, slice_get, length, Some, refl, sym, ap, ◌∙◌, subst, arith, not-suc-le-zero, le_of_suc-le-suc}
 use Rattle.std.proofs.lemmas.Option.{slice_get-get_or, get_or_from_slice_get}
-use Rattle.mz_base_theory.specs.Checks.{AllHold}
+use Rattle.mz_base.specs.Checks.{AllHold}
 use Rattle.mz_sexpr.specs.Node.{Node, Nodes, parts}
 use Rattle.mz_sexpr.specs.Number.{first, rest}
-use Rattle.mz_base_theory.proofs.Offered.{all_hold-first, all_hold-rest, all_hold-both}
+use Rattle.mz_base.proofs.Offered.{all_hold-first, all_hold-rest, all_hold-both}
 use Rattle.mz_logic_theory.specs.Tree.{Tree, Trees, none, more, listed, operand, instance, instances}
 use Rattle.mz_logic_theory.specs.Declaration.{Declaration, assertions, signatures}
 use Rattle.mz_logic_theory.specs.Conversions.{Between}

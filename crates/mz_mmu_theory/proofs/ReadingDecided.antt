@@ -1,8 +1,8 @@
 -- Each fact that is asked of a text's forms and names holds or fails.
 use Rattle.std.proofs.Common.{ℕ, suc, ◌≡◌, inl, inr, Bool, true, false, true≢false, List, [], ◌∷◌, ◌++◌, Option, Some, None, refl, sym}
 use Rattle.std.specs.Prelude.{⊤, IsTrue, unwrap_or}
-use Rattle.mz_base_theory.proofs.Offered.{either-decided, some-decided, Decided, are_decided-both, bytes-decided, retold-decided}
-use Rattle.mz_base_theory.specs.Checks.{Checks, ◌>>◌, retold, AreDecided}
+use Rattle.mz_base.proofs.Offered.{either-decided, some-decided, Decided, are_decided-both, bytes-decided, retold-decided}
+use Rattle.mz_base.specs.Checks.{Checks, ◌>>◌, retold, AreDecided}
 use Rattle.mz_sexpr.specs.Node.{Node, Nodes, atom, list, no_nodes, node, word, parts}
 use Rattle.mz_mmu_theory.specs.declared.fault.Fault.{Fault}
 use Rattle.mz_base.specs.Names.{number_of}

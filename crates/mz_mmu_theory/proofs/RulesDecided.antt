@@ -4,8 +4,8 @@ use Rattle.std.proofs.Common.{ℕ, suc, ◌≡◌, ◌<◌, inl, inr, Bool, true
 use Rattle.std.proofs.lemmas.Bool.{cases_eq}
 use Rattle.std.proofs.lemmas.Option.{slice_get_within}
 use Rattle.std.proofs.lemmas.List.Elements.{All-contains}
-use Rattle.mz_base_theory.proofs.Offered.{true-decided, are_decided-both, implied-decided, both-decided, retold-decided}
-use Rattle.mz_base_theory.specs.Checks.{retold, AreDecided}
+use Rattle.mz_base.proofs.Offered.{true-decided, are_decided-both, implied-decided, both-decided, retold-decided}
+use Rattle.mz_base.specs.Checks.{retold, AreDecided}
 use Rattle.mz_sexpr.specs.Node.{Node, Nodes, parts}
 use Rattle.mz_sexpr.specs.Number.{first, rest}
 use Rattle.mz_logic_theory.specs.Tree.{Tree, Trees, var, app, none, more, listed, instance, instances, followed_by, variables}

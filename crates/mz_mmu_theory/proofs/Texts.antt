@@ -1,8 +1,8 @@
 -- All type rules of a text hold exactly where its statements are legal by the stated proofs.
 use Rattle.std.proofs.Common.{ℕ, suc, ◌≡◌, inl, inr, Bool, true, List, [], ◌∷◌, ◌++◌, All, Option}
 use Rattle.std.proofs.lemmas.List.Elements.{All-head, All-tail}
-use Rattle.mz_base_theory.specs.Checks.{retold, AllHold}
-use Rattle.mz_base_theory.proofs.Offered.{fails_first-unique, all_hold-excludes, all_hold-or_fails, all_hold-first, all_hold-rest, all_hold-both, retold-held, retold-holds}
+use Rattle.mz_base.specs.Checks.{retold, AllHold}
+use Rattle.mz_base.proofs.Offered.{fails_first-unique, all_hold-excludes, all_hold-or_fails, all_hold-first, all_hold-rest, all_hold-both, retold-held, retold-holds}
 use Rattle.mz_sexpr.specs.Node.{Nodes}
 use Rattle.mz_sexpr.specs.Number.{first, rest}
 use Rattle.mz_logic_theory.specs.Declaration.{Declaration, sort_decl, term_decl, assertion_decl}

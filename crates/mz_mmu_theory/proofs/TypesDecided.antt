@@ -3,7 +3,7 @@ use Rattle.std.proofs.Common.{ℕ, zero, suc, ◌≡◌, ◌<◌, ◌⊎◌, inl
 use Rattle.std.specs.Prelude.{IsBitSet}
 use Rattle.std.proofs.lemmas.Bool.{cases_eq}
 use Rattle.std.proofs.lemmas.Option.{none-some}
-use Rattle.mz_base_theory.proofs.Offered.{contains_tail, contains_cases, either-decided, not-decided, three-decided, Decided, true-decided, false-decided, contains-decided, below-decided, implied-decided, both-decided}
+use Rattle.mz_base.proofs.Offered.{contains_tail, contains_cases, either-decided, not-decided, three-decided, Decided, true-decided, false-decided, contains-decided, below-decided, implied-decided, both-decided}
 use Rattle.mz_logic_theory.specs.Tree.{Tree, Trees, var, app, none, more, operand}
 use Rattle.mz_logic_theory.specs.Signature.{Signature}
 use Rattle.mz_logic_theory.specs.Modifiers.{IsPure, IsStrict, IsProvable, IsFree, MayBeResultSort, MayBeBoundSort, MayBeDummySort, MayBeClaimSort}

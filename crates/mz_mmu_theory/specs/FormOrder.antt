@@ -2,7 +2,7 @@
 -- to right, a node's form before its parts. At the first that doesn't hold the text is refused (this project's
 -- own order).
 use Rattle.std.specs.Prelude.{ℕ, ◌≡◌, ◌⊎◌, true, false, List, [], ◌∷◌, ◌++◌}
-use Rattle.mz_base_theory.specs.Checks.{Checks, nothing, demand, ◌>>◌}
+use Rattle.mz_base.specs.Checks.{Checks, nothing, demand, ◌>>◌}
 use Rattle.mz_sexpr.specs.declared.rule.U.{U}
 use Rattle.mz_sexpr.specs.Node.{Node, Nodes, atom, list, no_nodes, node, place, word, parts, is_atom}
 use Rattle.mz_mmu_theory.specs.declared.fault.Fault.{Fault}

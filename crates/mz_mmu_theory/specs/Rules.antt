@@ -2,7 +2,7 @@
 -- of each part of a statement, at its node, from left to right, parts before their node. At the first that doesn't
 -- hold the statement is refused.
 use Rattle.std.specs.Prelude.{ℕ, suc, ◌≡◌, ⊤, Bool, true, false, IsTrue, List, [], ◌∷◌, ◌++◌, length, Contains, All, Option, Some, None}
-use Rattle.mz_base_theory.specs.Checks.{Checks, nothing, demand, ◌>>◌}
+use Rattle.mz_base.specs.Checks.{Checks, nothing, demand, ◌>>◌}
 use Rattle.mz_sexpr.specs.declared.rule.U.{U}
 use Rattle.mz_sexpr.specs.Node.{Node, Nodes, place, parts}
 use Rattle.mz_sexpr.specs.Number.{first, rest}

@@ -1,7 +1,7 @@
 -- What is asked of the statements of a text, in order: from left to right, a node's form before its parts.
 -- At the first that doesn't hold the text is refused (this project's own order).
 use Rattle.std.specs.Prelude.{ℕ, suc, ◌≡◌, ◌⊎◌, Bool, true, false, List, [], ◌∷◌, ◌++◌, Some, unwrap_or}
-use Rattle.mz_base_theory.specs.Checks.{Checks, nothing, demand, ◌>>◌, retold, FailsFirst}
+use Rattle.mz_base.specs.Checks.{Checks, nothing, demand, ◌>>◌, retold, FailsFirst}
 use Rattle.mz_sexpr.specs.declared.rule.U.{U}
 use Rattle.mz_sexpr.specs.declared.rule.TextRefusal.{TextRefusal}
 use Rattle.mz_sexpr.specs.Node.{Node, Nodes, atom, list, no_nodes, node, place, word, parts}

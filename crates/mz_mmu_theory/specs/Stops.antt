@@ -1,6 +1,6 @@
 -- Why reading a part of a text stops.
 use Rattle.std.specs.Prelude.{⊤}
-use Rattle.mz_base_theory.specs.Checks.{Checks, FailsFirst}
+use Rattle.mz_base.specs.Checks.{Checks, FailsFirst}
 use Rattle.mz_mmu_theory.specs.declared.fault.Fault.{Fault}
 use Rattle.mz_mmu_theory.specs.declared.fault.Stop.{Stop}
 use Rattle.mz_mmu_theory.specs.declared.fault.Stop.TheVariants.{Refused, Mem}

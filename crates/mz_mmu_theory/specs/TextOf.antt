@@ -1,6 +1,6 @@
 -- Well-typed texts, and the first fault of the others (this project's own answers).
 use Rattle.std.specs.Prelude.{ℕ, Bool, List, ◌⊎◌}
-use Rattle.mz_base_theory.specs.Checks.{FailsFirst}
+use Rattle.mz_base.specs.Checks.{FailsFirst}
 use Rattle.mz_sexpr.specs.declared.rule.TextRefusal.{TextRefusal}
 use Rattle.mz_sexpr.specs.Node.{Nodes}
 use Rattle.mz_mmu_theory.specs.Statements.{Statement, Reads}

@@ -1,6 +1,6 @@
 -- The type rules of a text: those of its statements, one after another (this project's own order).
 use Rattle.std.specs.Prelude.{ℕ, suc, List, [], ◌∷◌, ◌++◌}
-use Rattle.mz_base_theory.specs.Checks.{Checks, nothing, ◌>>◌, retold}
+use Rattle.mz_base.specs.Checks.{Checks, nothing, ◌>>◌, retold}
 use Rattle.mz_sexpr.specs.declared.rule.TextRefusal.{TextRefusal}
 use Rattle.mz_sexpr.specs.Node.{Nodes}
 use Rattle.mz_sexpr.specs.Number.{first, rest}

@@ -1,7 +1,7 @@
 -- The weight of a text, and the limits of a compiled file (this project's own; 55 bound variables, 128 sorts and the
 -- sizes of the tables are the .mmb format's).
 use Rattle.std.specs.Prelude.{ℕ, ◌+◌, ◌*◌, ◌≤◌, List, [], ◌∷◌, ◌++◌, length, count_by, Option, Some, None}
-use Rattle.mz_base_theory.specs.Checks.{Checks, nothing, demand, ◌>>◌, AllHold, FailsFirst}
+use Rattle.mz_base.specs.Checks.{Checks, nothing, demand, ◌>>◌, AllHold, FailsFirst}
 use Rattle.mz_logic_theory.specs.Tree.{instance, followed_by, variables, size, trees_size}
 use Rattle.mz_logic_theory.specs.Declaration.{Declaration, sort_decl, term_decl, assertion_decl, dummies_of, body_of, sorts, body_tree}
 use Rattle.mz_logic_theory.specs.Conversions.{Conversion, Conversions, refl_conv, sym_conv, cong_conv, unfold_conv, gap_conv, no_convs, more_convs}

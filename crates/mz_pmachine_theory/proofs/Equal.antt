@@ -2,7 +2,7 @@
 use Rattle.std.proofs.Common.{◌≡◌, true, eqb, refl, sym, ap, ◌∙◌, eq-eqb}
 use Rattle.std.specs.Prelude.{◌&&◌}
 use Rattle.std.proofs.lemmas.Bool.{eqb-true}
-use Rattle.mz_base_theory.proofs.Offered.{both-true}
+use Rattle.mz_base.proofs.Offered.{both-true}
 use Rattle.mz_pmachine_theory.specs.NodeIdentity.{Numbered, Operands, a_variable, an_application, no_more, one_more, equal, all_equal}
 use Rattle.mz_pmachine_theory.specs.Laws.{EqualIsSame}
 

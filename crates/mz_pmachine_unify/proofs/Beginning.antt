@@ -1,6 +1,6 @@
 -- Expressions after the variables of a list of words.
 use Rattle.std.proofs.Common.{ℕ, zero, suc, ◌≡◌, ◌<◌, ◌≤◌, ◌+◌, Bool, List, [], ◌∷◌, ◌++◌, length, map, drop, get_or, refl, ap, sym, ◌∙◌, arith, append-nil, append_assoc}
-use Rattle.mz_base_theory.proofs.Offered.{drop-past, length-push}
+use Rattle.mz_base.proofs.Offered.{drop-past, length-push}
 use Rattle.mz_logic_theory.specs.Words.{word_sort, word_deps, word_bound, binders_from}
 use Rattle.mz_logic_theory.specs.declared.word.Word.{Word}
 use Rattle.mz_store.specs.Bits.{bound_vars}

@@ -1,6 +1,6 @@
 -- The words of expressions stay right when a variable is entered.
 use Rattle.std.proofs.Common.{ℕ, ◌∷◌, [], ◌++◌, Bool, List, length, refl, sym, subst, inl, inr}
-use Rattle.mz_base_theory.proofs.Offered.{slice_get-last}
+use Rattle.mz_base.proofs.Offered.{slice_get-last}
 use Rattle.mz_logic_theory.specs.Tree.{var}
 use Rattle.mz_logic_theory.specs.Signature.{Signature}
 use Rattle.mz_logic_theory.specs.Variables.{InV}

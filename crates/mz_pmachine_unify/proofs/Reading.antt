@@ -2,7 +2,7 @@
 use Rattle.std.proofs.Common.{ℕ, ◌≡◌, ◌<◌, ◌+◌, ◌-◌, ◌∙◌, ◌↔◌, Bool, false, IsTrue, List, Some, length, take, drop, get_or, slice_get, sym, ap, subst, arith}
 use Rattle.std.proofs.lemmas.List.{length-map}
 use Rattle.std.proofs.lemmas.Option.{slice_get-get_or}
-use Rattle.mz_base_theory.proofs.Offered.{slice_get-map_at}
+use Rattle.mz_base.proofs.Offered.{slice_get-map_at}
 use Rattle.mz_logic_theory.specs.Sorts.{IsBoundVar}
 use Rattle.mz_logic_theory.specs.Tree.{var}
 use Rattle.mz_logic_theory.specs.declared.binder.Binder.{Binder}

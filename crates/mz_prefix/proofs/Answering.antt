@@ -1,11 +1,11 @@
 -- Which answer comes.
 use Rattle.std.proofs.Common.{false, ◌≡◌, ◌≤◌, ◌<◌, ◌∙◌, ℕ, List, length, ap, subst, inl, arith}
-use Rattle.mz_base_theory.specs.Checks.{AllHold, FailsFirst}
-use Rattle.mz_base_theory.proofs.Offered.{fails-before, fails-after, all_hold-both}
+use Rattle.mz_base.specs.Checks.{AllHold, FailsFirst}
+use Rattle.mz_base.proofs.Offered.{fails-before, fails-after, all_hold-both}
 use Rattle.mz_mmu_theory.specs.Statements.{Statement}
 use Rattle.mz_mmu_theory.specs.TextOf.{TextOf}
-use Rattle.mz_prefix_theory.specs.AgreeLaws.{SpecificationsOfTextsDeclare}
-use Rattle.mz_prefix_theory.specs.Wording.{longest, local_in, long_in, too_long, local_checks, long_checks, local_terms, vocabulary_of, prefix_text, IsWordedAs, IsUnwritten}
+use Rattle.mz_prefix.specs.AgreeLaws.{SpecificationsOfTextsDeclare}
+use Rattle.mz_prefix.specs.Wording.{longest, local_in, long_in, too_long, local_checks, long_checks, local_terms, vocabulary_of, prefix_text, IsWordedAs, IsUnwritten}
 use Rattle.mz_prefix.specs.declared.names.Names.{Names}
 use Rattle.mz_prefix.specs.declared.spec_text.SpecText.{SpecText}
 use Rattle.mz_prefix.specs.declared.spec_text.SpecText.TheVariants as answers

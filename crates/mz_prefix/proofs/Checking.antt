@@ -1,11 +1,11 @@
 -- What is asked of statements, one after another.
 use Rattle.std.proofs.Common.{◌≡◌, ◌≤◌, ◌<◌, ◌+◌, ◌∙◌, ℕ, suc, List, [], ◌∷◌, length, drop, sym, ap, subst, refl, inl, inr, arith}
 use Rattle.std.proofs.lemmas.List.{drop_all}
-use Rattle.mz_base_theory.specs.Checks.{Checks, ask, AllHold, FailsFirst}
-use Rattle.mz_base_theory.proofs.Offered.{Decides, decides-whole}
+use Rattle.mz_base.specs.Checks.{Checks, ask, AllHold, FailsFirst}
+use Rattle.mz_base.proofs.Offered.{Decides, decides-whole}
 use Rattle.mz_mmu_theory.specs.Statements.{Statement}
 use Rattle.mz_type.specs.TypedText.{statement_at}
-use Rattle.mz_prefix_theory.specs.Wording.{Unwritten}
+use Rattle.mz_prefix.specs.Wording.{Unwritten}
 use Rattle.mz_prefix.proofs.Gathering.{from-there}
 
 next-number : (n : ℕ) → suc n ≡ n + 1

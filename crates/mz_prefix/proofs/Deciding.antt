@@ -1,19 +1,19 @@
 -- Each text has a specification, or one first fault, or one thing that stands first against a specification.
 use Rattle.std.proofs.Common.{◌≡◌, ◌≤◌, ℕ, suc, ◌⊎◌, inl, inr, Bool, true, false, List, [], ◌∷◌, length, refl, sym, ap, subst, ◌∙◌}
-use Rattle.mz_base_theory.specs.Checks.{AllHold, FailsFirst, AreDecided}
-use Rattle.mz_base_theory.proofs.Offered.{fails_first-unique, all_hold-excludes, all_hold-or_fails, are_decided-both, at_most-decided, implied-decided, both-decided}
+use Rattle.mz_base.specs.Checks.{AllHold, FailsFirst, AreDecided}
+use Rattle.mz_base.proofs.Offered.{fails_first-unique, all_hold-excludes, all_hold-or_fails, are_decided-both, at_most-decided, implied-decided, both-decided}
 use Rattle.mz_logic_theory.specs.Tree.{Tree, Trees, none, more}
 use Rattle.mz_logic_theory.specs.Declaration.{Declaration, sort_decl, term_decl, assertion_decl}
 use Rattle.mz_math_theory.specs.Meaning.{height}
 use Rattle.mz_math_theory.specs.Formula.{most}
-use Rattle.mz_prefix_theory.specs.Prefix.{IsShort}
-use Rattle.mz_prefix_theory.specs.PublicPart.{mentions_local, any_mentions_local, IsSayable}
-use Rattle.mz_prefix_theory.specs.Declared.{Vocabulary, formula_of, AreShort}
+use Rattle.mz_prefix.specs.Prefix.{IsShort}
+use Rattle.mz_prefix.specs.PublicPart.{mentions_local, any_mentions_local, IsSayable}
+use Rattle.mz_prefix.specs.NamedDeclarations.{Vocabulary, formula_of, AreShort}
 use Rattle.mz_mmu_theory.specs.Statements.{Statement}
 use Rattle.mz_sexpr.specs.declared.rule.TextRefusal.{TextRefusal}
 use Rattle.mz_mmu_theory.specs.TextOf.{TextOf, TextFault}
 use Rattle.mz_mmu_theory.specs.TypeLaws.{IsTypedOrFaulty}
-use Rattle.mz_prefix_theory.specs.Wording.{Unwritten, IsBrief, local_checks, long_checks, wording_checks, local_terms, vocabulary_of, prefix_text, IsUnwritten}
+use Rattle.mz_prefix.specs.Wording.{Unwritten, IsBrief, local_checks, long_checks, wording_checks, local_terms, vocabulary_of, prefix_text, IsUnwritten}
 use Rattle.mz_prefix.specs.SpecTexts.{HasWording, IsDecided}
 
 -- ---- what is asked is decided

@@ -4,11 +4,11 @@ use Rattle.std.proofs.Common.{◌≡◌, ◌≤◌, ◌<◌, ◌+◌, ◌++◌, 
 use Rattle.std.proofs.Math.Seq.{drop-cons}
 use Rattle.std.proofs.lemmas.List.{drop_all}
 use Rattle.mz_logic_theory.specs.Declaration.{Declaration}
-use Rattle.mz_prefix_theory.specs.PublicPart.{visibility_of}
+use Rattle.mz_prefix.specs.PublicPart.{visibility_of}
 use Rattle.mz_mmu_theory.specs.Statements.{Statement}
 use Rattle.mz_type.specs.TypedText.{statement_at}
 use Rattle.mz_mmu_theory.specs.DeclaredNames.{sort_name, term_name, sort_names, term_names, underscores, longest_run, text_names}
-use Rattle.mz_prefix_theory.specs.Wording.{local_terms, variable_prefix}
+use Rattle.mz_prefix.specs.Wording.{local_terms, variable_prefix}
 use Rattle.mz_prefix.specs.declared.names.Names.{Names}
 use Rattle.mz_prefix.specs.Names.{texts, AreNamesOf}
 

@@ -9,12 +9,12 @@ use Rattle.mz_logic_theory.specs.declared.binder.SortMods.{SortMods}
 use Rattle.mz_spec_theory.specs.Statement.{keyword_of}
 use Rattle.mz_spec_theory.specs.declared.kind.Kind.{Kind}
 use Rattle.mz_spec_theory.specs.declared.kind.Kind.TheVariants.{Term, Assert, Definition}
-use Rattle.mz_prefix_theory.specs.Tokens.{Word, written}
-use Rattle.mz_prefix_theory.specs.Lines.{PlainBinder, PlainType, spaced_name, spaced_mark, math_word, type_words, head_words, colon_words, end_words, hyps_words, sort_words, line_text}
-use Rattle.mz_prefix_theory.proofs.Offered.{written-append}
-use Rattle.mz_prefix_theory.specs.PublicPart.{renamed, all_renamed}
-use Rattle.mz_prefix_theory.specs.Declared.{Vocabulary, plain_type, plain_binders, formula_of, formulas_of, kind_of, line_of_decl, term_line_of, modifiers_of}
-use Rattle.mz_prefix_theory.specs.Wording.{is_hidden}
+use Rattle.mz_prefix.specs.Tokens.{Word, written}
+use Rattle.mz_prefix.specs.Lines.{PlainBinder, PlainType, spaced_name, spaced_mark, math_word, type_words, head_words, colon_words, end_words, hyps_words, sort_words, line_text}
+use Rattle.mz_prefix.proofs.PlainLines.{written-append}
+use Rattle.mz_prefix.specs.PublicPart.{renamed, all_renamed}
+use Rattle.mz_prefix.specs.NamedDeclarations.{Vocabulary, plain_type, plain_binders, formula_of, formulas_of, kind_of, line_of_decl, term_line_of, modifiers_of}
+use Rattle.mz_prefix.specs.Wording.{is_hidden}
 use Rattle.mz_prefix.specs.declared.names.Names.{Names}
 use Rattle.mz_prefix.specs.Names.{spoken}
 use Rattle.mz_prefix.specs.Writing.{modifier_text, head_text, bare_text, told}

@@ -5,9 +5,9 @@ use Rattle.std.proofs.lemmas.Bool.{leb-true, le-leb, and_from, and_parts, false_
 use Rattle.mz_logic_theory.specs.Tree.{Tree, Trees, var, app, none, more}
 use Rattle.mz_math_theory.specs.Meaning.{height}
 use Rattle.mz_math_theory.specs.Formula.{most}
-use Rattle.mz_prefix_theory.specs.Prefix.{tokens_of, operand_tokens, enclosed, IsShort}
-use Rattle.mz_prefix_theory.specs.Declared.{Vocabulary, formula_of}
-use Rattle.mz_prefix_theory.specs.Wording.{is_short}
+use Rattle.mz_prefix.specs.Prefix.{tokens_of, operand_tokens, enclosed, IsShort}
+use Rattle.mz_prefix.specs.NamedDeclarations.{Vocabulary, formula_of}
+use Rattle.mz_prefix.specs.Wording.{is_short}
 use Rattle.mz_prefix.specs.Measures.{parentheses, token_count, operand_count}
 
 one-more : (n : ℕ) → n + 1 ≡ suc n

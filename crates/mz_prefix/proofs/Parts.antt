@@ -2,16 +2,16 @@
 use Rattle.std.proofs.Common.{◌≡◌, ◌≤◌, ◌<◌, ◌+◌, ◌++◌, ◌∙◌, ℕ, suc, true, false, List, [], ◌∷◌, length, get_or, drop, map, refl, sym, ap, append_assoc, append-nil, add-one, arith}
 use Rattle.std.specs.Prelude.{codes}
 use Rattle.std.proofs.lemmas.List.{drop_more, drop_all}
-use Rattle.mz_base_theory.proofs.Offered.{one-further}
+use Rattle.mz_base.proofs.Offered.{one-further}
 use Rattle.mz_logic_theory.specs.Tree.{Tree, Trees, var, app, none, more}
 use Rattle.mz_logic_theory.specs.declared.binder.Binder.{Binder}
 use Rattle.mz_spec_theory.specs.Statement.{opening_of, closing_of}
-use Rattle.mz_prefix_theory.specs.Tokens.{written}
-use Rattle.mz_prefix_theory.specs.Lines.{Tokens, spaced, mark, spaced_mark, dep_words, type_words, binder_words, binders_words, hyp_words, hyps_words, math_word}
-use Rattle.mz_prefix_theory.specs.Prefix.{enclosed, operand_tokens}
-use Rattle.mz_prefix_theory.proofs.Offered.{written-append}
+use Rattle.mz_prefix.specs.Tokens.{written}
+use Rattle.mz_prefix.specs.Lines.{Tokens, spaced, mark, spaced_mark, dep_words, type_words, binder_words, binders_words, hyp_words, hyps_words, math_word}
+use Rattle.mz_prefix.specs.Prefix.{enclosed, operand_tokens}
+use Rattle.mz_prefix.proofs.PlainLines.{written-append}
 use Rattle.mz_prefix.specs.Measures.{has_operands}
-use Rattle.mz_prefix_theory.specs.Declared.{Vocabulary, formula_of, formulas_of, plain_type, plain_param, plain_dummy, plain_binders, plain_dummies}
+use Rattle.mz_prefix.specs.NamedDeclarations.{Vocabulary, formula_of, formulas_of, plain_type, plain_param, plain_dummy, plain_binders, plain_dummies}
 
 -- a part is written, behind which the rest stands
 pub part-written : (whole out new here part rest : List ℕ) → here ≡ part ++ rest → out ++ here ≡ whole → new ≡ out ++ part → new ++ rest ≡ whole

@@ -4,9 +4,9 @@ use Rattle.mz_logic_theory.specs.Tree.{Tree, Trees, none, more, followed_by, cop
 use Rattle.mz_logic_theory.specs.Groups.{Repeats}
 use Rattle.mz_logic_theory.specs.Legality.{EachTree}
 use Rattle.mz_logic_theory.proofs.Offered.{each_repeated}
-use Rattle.mz_prefix_theory.specs.PublicPart.{mentions_local, any_mentions_local}
-use Rattle.mz_prefix_theory.specs.Prefix.{IsShort}
-use Rattle.mz_prefix_theory.specs.Declared.{Vocabulary, AreShort, formula_of}
+use Rattle.mz_prefix.specs.PublicPart.{mentions_local, any_mentions_local}
+use Rattle.mz_prefix.specs.Prefix.{IsShort}
+use Rattle.mz_prefix.specs.NamedDeclarations.{Vocabulary, AreShort, formula_of}
 
 or_twice : (a b : Bool) → (a || (a || b)) ≡ (a || b)
 or_twice true b = refl

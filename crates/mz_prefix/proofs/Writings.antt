@@ -2,12 +2,12 @@
 use Rattle.std.specs.Prelude.{if◌then◌else◌}
 use Rattle.std.proofs.Common.{◌≡◌, ◌≤◌, ◌<◌, ◌+◌, ◌++◌, ◌∙◌, ℕ, Bool, true, false, List, [], ◌∷◌, length, drop, refl, ap}
 use Rattle.mz_mmu_theory.specs.Statements.{Statement}
-use Rattle.mz_prefix_theory.specs.Lines.{line_text, lines_text}
-use Rattle.mz_prefix_theory.specs.PublicPart.{public_decl}
-use Rattle.mz_prefix_theory.specs.Declared.{Vocabulary, Named, line_of_decl, line_of, lines_of}
+use Rattle.mz_prefix.specs.Lines.{line_text, lines_text}
+use Rattle.mz_prefix.specs.PublicPart.{public_decl}
+use Rattle.mz_prefix.specs.NamedDeclarations.{Vocabulary, Named, line_of_decl, line_of, lines_of}
 use Rattle.mz_type.specs.TypedText.{statement_at}
 use Rattle.mz_mmu_theory.specs.DeclaredNames.{sort_names, term_names}
-use Rattle.mz_prefix_theory.specs.Wording.{is_hidden, publics_named, vocabulary_from, vocabulary_of, local_terms, prefix_text}
+use Rattle.mz_prefix.specs.Wording.{is_hidden, publics_named, vocabulary_from, vocabulary_of, local_terms, prefix_text}
 use Rattle.mz_prefix.specs.declared.names.Names.{Names}
 use Rattle.mz_prefix.specs.Names.{texts, spoken, AreNamesOf}
 use Rattle.mz_prefix.specs.Writing.{statement_text}

@@ -3,3 +3,14 @@ pub mod Names
 pub mod Writing
 pub mod SpecTexts
 pub mod Printed
+pub mod AgreeLaws
+pub mod Tokens
+pub mod Lines
+pub mod Plain
+pub mod Prefix
+pub mod PrintLaws
+pub mod PublicPart
+pub mod PublicLaws
+pub mod NamedDeclarations
+pub mod ReadLaws
+pub mod Wording

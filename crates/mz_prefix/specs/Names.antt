@@ -2,9 +2,9 @@
 use Rattle.std.specs.Prelude.{◌≡◌, ℕ, List, map}
 use Rattle.std.specs.Borrow.{Bor}
 use Rattle.mz_mmu_theory.specs.Statements.{Statement}
-use Rattle.mz_prefix_theory.specs.Declared.{Vocabulary}
+use Rattle.mz_prefix.specs.NamedDeclarations.{Vocabulary}
 use Rattle.mz_mmu_theory.specs.DeclaredNames.{sort_names, term_names}
-use Rattle.mz_prefix_theory.specs.Wording.{local_terms, variable_prefix, vocabulary_from}
+use Rattle.mz_prefix.specs.Wording.{local_terms, variable_prefix, vocabulary_from}
 use Rattle.mz_prefix.specs.declared.names.Names.{Names}
 
 abbrev pub texts : List (Bor (List ℕ)) → List (List ℕ)

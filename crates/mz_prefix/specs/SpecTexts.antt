@@ -1,11 +1,11 @@
 -- What making a specification of a text answers (this project's own answers).
 use Rattle.std.specs.Prelude.{◌≡◌, ◌⊎◌, ⊤, ℕ, false, List}
-use Rattle.mz_base_theory.specs.Checks.{AllHold}
+use Rattle.mz_base.specs.Checks.{AllHold}
 use Rattle.mz_mmu_theory.specs.Statements.{Statement}
 use Rattle.mz_sexpr.specs.declared.rule.TextRefusal.{TextRefusal}
 use Rattle.mz_mmu_theory.specs.TextOf.{TextOf, TextFault}
-use Rattle.mz_prefix_theory.specs.AgreeLaws.{DeclaresText}
-use Rattle.mz_prefix_theory.specs.Wording.{Unwritten, local_in, long_in, too_long, wording_checks, IsWordedAs, IsUnwritten}
+use Rattle.mz_prefix.specs.AgreeLaws.{DeclaresText}
+use Rattle.mz_prefix.specs.Wording.{Unwritten, local_in, long_in, too_long, wording_checks, IsWordedAs, IsUnwritten}
 use Rattle.mz_prefix.specs.declared.spec_text.SpecText.{SpecText}
 use Rattle.mz_prefix.specs.declared.spec_text.SpecText.TheVariants as answers
 

@@ -3,11 +3,11 @@ use Rattle.std.specs.Prelude.{◌++◌, ℕ, List, [], Bool, true, false, if◌t
 use Rattle.mz_logic_theory.specs.Signature.{Signature}
 use Rattle.mz_logic_theory.specs.Declaration.{Declaration}
 use Rattle.mz_mmu_theory.specs.Statements.{Statement}
-use Rattle.mz_prefix_theory.specs.Tokens.{written}
-use Rattle.mz_prefix_theory.specs.Lines.{PlainBinder, binders_words, type_words, line_text}
-use Rattle.mz_prefix_theory.specs.PublicPart.{public_decl}
-use Rattle.mz_prefix_theory.specs.Declared.{Vocabulary, plain_type, plain_binders, line_of_decl}
-use Rattle.mz_prefix_theory.specs.Wording.{is_hidden}
+use Rattle.mz_prefix.specs.Tokens.{written}
+use Rattle.mz_prefix.specs.Lines.{PlainBinder, binders_words, type_words, line_text}
+use Rattle.mz_prefix.specs.PublicPart.{public_decl}
+use Rattle.mz_prefix.specs.NamedDeclarations.{Vocabulary, plain_type, plain_binders, line_of_decl}
+use Rattle.mz_prefix.specs.Wording.{is_hidden}
 use Rattle.mz_prefix.specs.declared.names.Names.{Names}
 use Rattle.mz_prefix.specs.Names.{spoken}
 

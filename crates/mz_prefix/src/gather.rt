@@ -1,15 +1,15 @@
 // The names of a text, gathered statement by statement.
 ghost use Rattle.std.specs.Prelude.{◌≡◌, ◌++◌, IfOk, OnOk};
 ghost use Rattle.mz_logic_theory.specs.DeclView.{declaration};
-ghost use Rattle.mz_prefix_theory.specs.PublicPart.{visibility_of};
-ghost use Rattle.mz_prefix_theory.specs.Wording;
+ghost use Rattle.mz_prefix.specs.PublicPart.{visibility_of};
+ghost use Rattle.mz_prefix.specs.Wording;
 ghost use Rattle.mz_mmu_theory.specs.DeclaredNames;
 ghost use Rattle.mz_mmu_theory.specs.DeclaredNames.{sort_name, term_name, text_names};
 ghost use Rattle.mz_prefix.specs.Names.{AreNamesOf, texts};
 
 use crate::names::Names;
 use mz_logic_theory::Decl;
-use mz_mmu_statements::{leading_underscores, one_underscore_more};
+use mz_mmu::{leading_underscores, one_underscore_more};
 use mz_type::Typed;
 use std::alloc::{AllocError, Global};
 

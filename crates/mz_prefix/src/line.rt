@@ -5,8 +5,8 @@ ghost use Rattle.mz_spec_theory.specs.declared.kind.Kind.TheVariants.{Assert};
 ghost use Rattle.mz_logic_theory.specs.DeclView.{assertion_of, declaration, is_axiom, signature, term_of};
 ghost use Rattle.mz_logic_theory.specs.Declaration.{defined, sort_decl};
 ghost use Rattle.mz_logic_theory.specs.View.{tree};
-ghost use Rattle.mz_prefix_theory.specs.Lines.{line_text};
-ghost use Rattle.mz_prefix_theory.specs.Declared.{Vocabulary, kind_of, line_of_decl, plain_binders, term_line_of};
+ghost use Rattle.mz_prefix.specs.Lines.{line_text};
+ghost use Rattle.mz_prefix.specs.NamedDeclarations.{Vocabulary, kind_of, line_of_decl, plain_binders, term_line_of};
 ghost use Rattle.mz_prefix.specs.Names.{spoken};
 ghost use Rattle.mz_prefix.specs.Writing.{bare_text, head_text, modifier_text, told};
 

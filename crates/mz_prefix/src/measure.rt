@@ -1,8 +1,8 @@
 // Whether the prefix form of an expression is within the limits of a math string.
 ghost use Rattle.std.specs.Prelude.{◌≡◌, ◌<◌, ◌≤◌, ◌+◌, ◌↔◌, IsTrue, MatchOption};
 ghost use Rattle.mz_math_theory.specs.Meaning.{height, trees_height};
-ghost use Rattle.mz_prefix_theory.specs.Declared.{Vocabulary};
-ghost use Rattle.mz_prefix_theory.specs.Wording;
+ghost use Rattle.mz_prefix.specs.NamedDeclarations.{Vocabulary};
+ghost use Rattle.mz_prefix.specs.Wording;
 ghost use Rattle.mz_prefix.specs.Measures.{operand_count, parentheses, token_count};
 
 use crate::tokens::has_operands;

@@ -1,6 +1,6 @@
 // The names of a text, by their numbers.
 ghost use Rattle.std.specs.Prelude.{◌≡◌, ◌++◌, [], get_or, OnOk};
-ghost use Rattle.mz_prefix_theory.specs.PublicPart.{is_local_term};
+ghost use Rattle.mz_prefix.specs.PublicPart.{is_local_term};
 ghost use Rattle.mz_prefix.specs.Names.{spoken, texts};
 
 use std::alloc::{AllocError, Global};

@@ -1,10 +1,10 @@
 // What stands first against a specification.
 ghost use Rattle.std.specs.Prelude.{◌≡◌, ◌<◌, ◌↔◌, IsTrue, false, length, option_map};
-ghost use Rattle.mz_base_theory.specs.Checks.{Answers};
-ghost use Rattle.mz_prefix_theory.specs.PublicPart.{IsSayable};
-ghost use Rattle.mz_prefix_theory.specs.Declared.{Vocabulary};
+ghost use Rattle.mz_base.specs.Checks.{Answers};
+ghost use Rattle.mz_prefix.specs.PublicPart.{IsSayable};
+ghost use Rattle.mz_prefix.specs.NamedDeclarations.{Vocabulary};
 ghost use Rattle.mz_type.specs.TypedText.{statement_at};
-ghost use Rattle.mz_prefix_theory.specs.Wording.{IsBrief, local_checks, local_in, long_checks, long_in};
+ghost use Rattle.mz_prefix.specs.Wording.{IsBrief, local_checks, local_in, long_checks, long_in};
 
 use crate::names::Names;
 use crate::omitted::is_brief;

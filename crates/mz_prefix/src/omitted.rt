@@ -2,10 +2,10 @@
 ghost use Rattle.std.specs.Prelude.{◌≡◌, ◌↔◌, IsTrue};
 ghost use Rattle.mz_logic_theory.specs.DeclView.{declaration};
 ghost use Rattle.mz_logic_theory.specs.View.{tree};
-ghost use Rattle.mz_prefix_theory.specs.PublicPart.{any_mentions_local, IsSayable, mentions_local};
-ghost use Rattle.mz_prefix_theory.specs.Declared.{AreShort, Vocabulary};
-ghost use Rattle.mz_prefix_theory.specs.Wording;
-ghost use Rattle.mz_prefix_theory.specs.Wording.{IsBrief};
+ghost use Rattle.mz_prefix.specs.PublicPart.{any_mentions_local, IsSayable, mentions_local};
+ghost use Rattle.mz_prefix.specs.NamedDeclarations.{AreShort, Vocabulary};
+ghost use Rattle.mz_prefix.specs.Wording;
+ghost use Rattle.mz_prefix.specs.Wording.{IsBrief};
 ghost use Rattle.mz_prefix.specs.Names.{spoken};
 
 use crate::measure::is_short;

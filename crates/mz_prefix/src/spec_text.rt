@@ -1,18 +1,18 @@
 // From a text to a specification.
 ghost use Rattle.std.specs.Prelude.{◌≡◌, false, ◌<◌, ◌^◌, ◌++◌, IfOk, OnOk, ℕ, List, length};
-ghost use Rattle.mz_base_theory.specs.Checks.{AllHold};
+ghost use Rattle.mz_base.specs.Checks.{AllHold};
 ghost use Rattle.mz_mmu_theory.specs.TextOf.{TextOf};
 ghost use Rattle.mz_type.specs.TypedText.{statement_at};
-ghost use Rattle.mz_prefix_theory.specs.Wording.{local_checks, long_checks, longest, prefix_text, vocabulary_of};
+ghost use Rattle.mz_prefix.specs.Wording.{local_checks, long_checks, longest, prefix_text, vocabulary_of};
 ghost use Rattle.mz_prefix.specs.Names.{AreNamesOf};
 ghost use Rattle.mz_prefix.specs.SpecTexts.{DeclaresItsText, IsDecided, IsWording};
 ghost use Rattle.mz_prefix.specs.Writing.{statement_text};
 
 use crate::names::Names;
 use crate::obstacle::first_long;
+use crate::specifications_of_texts_declare;
 use mz_base::{Hashing, Mode};
 use mz_mmu::{TextRead, read_text};
-use mz_prefix_theory::specifications_of_texts_declare;
 use mz_sexpr::TextRefusal;
 use mz_type::{Typed, TypedRead, check_text, typed_or_faulty};
 use std::alloc::{AllocError, Global};

@@ -3,9 +3,9 @@
 // What calls itself here goes no deeper than an expression is nested, which is at most as deep as a
 // text may be.
 ghost use Rattle.std.specs.Prelude.{◌≡◌, ◌++◌, OnOk, codes};
-ghost use Rattle.mz_prefix_theory.specs.Lines.{spaced};
-ghost use Rattle.mz_prefix_theory.specs.Prefix.{enclosed, operand_tokens};
-ghost use Rattle.mz_prefix_theory.specs.Declared.{formula_of};
+ghost use Rattle.mz_prefix.specs.Lines.{spaced};
+ghost use Rattle.mz_prefix.specs.Prefix.{enclosed, operand_tokens};
+ghost use Rattle.mz_prefix.specs.NamedDeclarations.{formula_of};
 ghost use Rattle.mz_prefix.specs.Measures;
 ghost use Rattle.mz_prefix.specs.Names.{spoken};
 

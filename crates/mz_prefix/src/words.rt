@@ -1,10 +1,10 @@
 // The parts of lines.
 ghost use Rattle.std.specs.Prelude.{◌≡◌, ◌<◌, ◌+◌, ◌^◌, ◌++◌, ◌∷◌, [], length, map, OnOk};
 ghost use Rattle.mz_logic_theory.specs.View.{tree};
-ghost use Rattle.mz_prefix_theory.specs.Lines.{binder_words, binders_words, dep_words, hyps_words, math_word, type_words};
-ghost use Rattle.mz_prefix_theory.specs.Tokens.{written};
+ghost use Rattle.mz_prefix.specs.Lines.{binder_words, binders_words, dep_words, hyps_words, math_word, type_words};
+ghost use Rattle.mz_prefix.specs.Tokens.{written};
 ghost use Rattle.mz_spec_theory.specs.Statement.{closing_of, opening_of};
-ghost use Rattle.mz_prefix_theory.specs.Declared.{formula_of, formulas_of, plain_binders, plain_dummies, plain_dummy, plain_param, plain_type};
+ghost use Rattle.mz_prefix.specs.NamedDeclarations.{formula_of, formulas_of, plain_binders, plain_dummies, plain_dummy, plain_param, plain_type};
 ghost use Rattle.mz_prefix.specs.Names.{spoken};
 
 use crate::names::Names;

@@ -1,8 +1,8 @@
 -- How long the samples are, up to 10,000 definitions: no number has more than five digits.
 use Rattle.std.proofs.Common.{ℕ, zero, suc, ◌≡◌, ◌≤◌, ◌<◌, ◌+◌, ◌*◌, ◌^◌, ◌++◌, ◌∷◌, [], List, Bool, true, false, cond, length, codes, decimal, refl, ap, ◌∙◌, arith, length-append, ◌==◌}
 use Rattle.std.proofs.lemmas.Fmt.{length-decimal-le}
-use Rattle.mz_sample_theory.specs.Samples.{specification_head, body_formula, declared_definition, declared_theorem, declared_generalization, sample_specification, text_head, body_expression, body_proof, stated_definition, proved_theorem, proved_generalization, sample_text}
-use Rattle.mz_sample_theory.proofs.Offered.{joined}
+use Rattle.mz_sample.specs.Samples.{specification_head, body_formula, declared_definition, declared_theorem, declared_generalization, sample_specification, text_head, body_expression, body_proof, stated_definition, proved_theorem, proved_generalization, sample_text}
+use Rattle.mz_sample.proofs.Pieces.{joined}
 use Rattle.mz_sample.proofs.Lines.{further-proof}
 
 -- ---- pieces of a line

@@ -1,7 +1,7 @@
 -- Lines, put together and appended.
 use Rattle.std.proofs.Common.{ℕ, ◌≡◌, ◌++◌, List, Bool, cond, codes, decimal, ap, sym}
 use Rattle.std.proofs.lemmas.Bool.{ne_eqb}
-use Rattle.mz_sample_theory.specs.Samples.{body_proof}
+use Rattle.mz_sample.specs.Samples.{body_proof}
 
 -- the proof of what each further definition stands for
 abbrev pub further-proof : ℕ → List ℕ

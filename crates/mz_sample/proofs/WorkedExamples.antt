@@ -1,7 +1,7 @@
 -- The definitions, computed on small examples: how many bytes they have.
 use Rattle.std.proofs.Common.{◌≡◌, length, refl}
 use Rattle.std.specs.Fmt.{digits}
-use Rattle.mz_sample_theory.specs.Samples.{sample_specification, sample_text}
+use Rattle.mz_sample.specs.Samples.{sample_specification, sample_text}
 
 specification_of_one : length (sample_specification 1) ≡ 367
 unfolding digits

@@ -1,6 +1,6 @@
 // The line that prints how long a sample is.
 ghost use Rattle.std.specs.Prelude.{◌≡◌, IfOk};
-ghost use Rattle.mz_sample_theory.specs.Samples.{sample_line};
+ghost use Rattle.mz_sample.specs.Samples.{sample_line};
 
 use mz_cmd::Mem;
 use std::alloc::Global;

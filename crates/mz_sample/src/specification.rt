@@ -1,6 +1,6 @@
 // A sample's specification.
 ghost use Rattle.std.specs.Prelude.{◌≡◌, ◌+◌, ◌++◌, ◌≤◌, ◌<◌, ◌^◌, IfOk, OnOk, length, string_bytes};
-ghost use Rattle.mz_sample_theory.specs.Samples.{body_formula, declared_definition, declared_generalization, declared_theorem, sample_specification, specification_head};
+ghost use Rattle.mz_sample.specs.Samples.{body_formula, declared_definition, declared_generalization, declared_theorem, sample_specification, specification_head};
 
 use mz_cmd::Mem;
 use std::alloc::Global;

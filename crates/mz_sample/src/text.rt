@@ -1,6 +1,6 @@
 // A sample's proof text.
 ghost use Rattle.std.specs.Prelude.{◌≡◌, ◌+◌, ◌++◌, ◌≤◌, ◌<◌, ◌^◌, IfOk, OnOk, length, string_bytes};
-ghost use Rattle.mz_sample_theory.specs.Samples.{body_expression, body_proof, proved_generalization, proved_theorem, sample_text, stated_definition, text_head};
+ghost use Rattle.mz_sample.specs.Samples.{body_expression, body_proof, proved_generalization, proved_theorem, sample_text, stated_definition, text_head};
 
 use mz_cmd::Mem;
 use std::alloc::Global;

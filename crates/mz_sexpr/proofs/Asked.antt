@@ -2,8 +2,8 @@
 use Rattle.std.proofs.Common.{ℕ, zero, suc, ◌≡◌, ◌<◌, ◌+◌, ◌-◌, List, [], ◌∷◌, ◌++◌, sym, subst, arith}
 use Rattle.std.specs.Prelude.{All}
 use Rattle.std.proofs.lemmas.List.Elements.{All-cons, All-head, All-tail}
-use Rattle.mz_base_theory.specs.Checks.{AllHold}
-use Rattle.mz_base_theory.proofs.Offered.{all_hold-both, all_hold-first, all_hold-rest}
+use Rattle.mz_base.specs.Checks.{AllHold}
+use Rattle.mz_base.proofs.Offered.{all_hold-both, all_hold-first, all_hold-rest}
 use Rattle.mz_sexpr.specs.declared.scan.Class.{Class}
 use Rattle.mz_sexpr.specs.declared.scan.Class.TheVariants.{Space, Note, Opening, Closing, Letter}
 use Rattle.mz_sexpr.specs.declared.scan.Seen.{Seen}

@@ -8,8 +8,8 @@ use Rattle.mz_sexpr.specs.declared.scan.Class.TheVariants.{Space, Note, Opening,
 use Rattle.mz_sexpr.specs.declared.scan.Seen.{Seen}
 use Rattle.mz_sexpr.specs.declared.sexprs.Row.{Row}
 use Rattle.mz_sexpr.specs.declared.rule.TextRefusal.{TextRefusal}
-use Rattle.mz_base_theory.specs.Checks.{Checks, AllHold, FailsFirst, ◌>>◌}
-use Rattle.mz_base_theory.proofs.Offered.{fails-before}
+use Rattle.mz_base.specs.Checks.{Checks, AllHold, FailsFirst, ◌>>◌}
+use Rattle.mz_base.proofs.Offered.{fails-before}
 use Rattle.mz_sexpr.specs.Token.{Token}
 use Rattle.mz_sexpr.specs.Scan.{class_after, plain_class, checks_at, byte_checks, seen_with, tokens, token_of}
 use Rattle.mz_sexpr.specs.Rows.{Entry, entry, option_entry, entries, word_from}

@@ -1,6 +1,6 @@
 -- Checks in order.
-use Rattle.mz_base_theory.specs.Checks.{Checks, AllHold, FailsFirst, ◌>>◌}
-use Rattle.mz_base_theory.proofs.Offered.{all_hold-both, fails-after}
+use Rattle.mz_base.specs.Checks.{Checks, AllHold, FailsFirst, ◌>>◌}
+use Rattle.mz_base.proofs.Offered.{all_hold-both, fails-after}
 
 -- what is left decides the whole
 abbrev pub Decides : {R : Type 0} → Checks R → Checks R → Type 0

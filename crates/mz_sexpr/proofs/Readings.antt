@@ -2,8 +2,8 @@
 use Rattle.std.proofs.Common.{ℕ, suc, ◌≡◌, ◌≤◌, ◌+◌, ◌-◌, List, [], ◌∷◌, length, length-append, sym, ap, ◌∙◌, subst, arith, inl, inr}
 use Rattle.std.specs.Prelude.{◌⊎◌}
 use Rattle.std.proofs.lemmas.Bool.{cases_eq}
-use Rattle.mz_base_theory.proofs.Offered.{below-decided, fails_first-unique, all_hold-excludes, all_hold-or_fails, at_most-decided}
-use Rattle.mz_base_theory.specs.Checks.{Checks, nothing, ask, AllHold, FailsFirst, AreDecided, ◌>>◌}
+use Rattle.mz_base.proofs.Offered.{below-decided, fails_first-unique, all_hold-excludes, all_hold-or_fails, at_most-decided}
+use Rattle.mz_base.specs.Checks.{Checks, nothing, ask, AllHold, FailsFirst, AreDecided, ◌>>◌}
 use Rattle.mz_sexpr.specs.declared.scan.Class.{Class}
 use Rattle.mz_sexpr.specs.declared.scan.Class.TheVariants.{Space, Note, Opening, Closing, Letter}
 use Rattle.mz_sexpr.specs.declared.scan.Seen.{Seen}

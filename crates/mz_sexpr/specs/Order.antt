@@ -1,6 +1,6 @@
 -- What is asked of a text, from its first byte to its last (this project's own rules and their order).
 use Rattle.std.specs.Prelude.{ℕ, suc, ◌+◌, ◌-◌, ◌<◌, ◌≡◌, ◌==◌, if◌then◌else◌, List, [], ◌∷◌, length}
-use Rattle.mz_base_theory.specs.Checks.{Checks, nothing, demand, ◌>>◌, FailsFirst}
+use Rattle.mz_base.specs.Checks.{Checks, nothing, demand, ◌>>◌, FailsFirst}
 use Rattle.mz_sexpr.specs.declared.rule.U.{U}
 use Rattle.mz_sexpr.specs.declared.rule.TextRefusal.{TextRefusal}
 use Rattle.mz_sexpr.specs.Node.{depth_limit}

@@ -1,6 +1,6 @@
 -- What reading the rows of a text answers.
 use Rattle.std.specs.Prelude.{ℕ, ◌≡◌, ⊤, List, map}
-use Rattle.mz_base_theory.specs.Checks.{AllHold, FailsFirst}
+use Rattle.mz_base.specs.Checks.{AllHold, FailsFirst}
 use Rattle.mz_sexpr.specs.declared.sexprs.RowsRead.{RowsRead}
 use Rattle.mz_sexpr.specs.declared.sexprs.RowsRead.TheVariants as read
 use Rattle.mz_sexpr.specs.declared.scan.Class.TheVariants.{Space}

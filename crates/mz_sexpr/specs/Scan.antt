@@ -1,6 +1,6 @@
 -- The code's way over the bytes of a text: what each byte is, what is asked of it, and where atoms begin.
 use Rattle.std.specs.Prelude.{ℕ, suc, ◌+◌, ◌-◌, ◌<◌, ◌≡◌, Bool, false, ◌==◌, ◌||◌, if◌then◌else◌, List, [], ◌∷◌, ◌++◌, take_while}
-use Rattle.mz_base_theory.specs.Checks.{Checks, nothing, demand, ◌>>◌}
+use Rattle.mz_base.specs.Checks.{Checks, nothing, demand, ◌>>◌}
 use Rattle.mz_sexpr.specs.declared.rule.U.{U}
 use Rattle.mz_sexpr.specs.declared.rule.TextRefusal.{TextRefusal}
 use Rattle.mz_sexpr.specs.declared.scan.Class.{Class}

@@ -1,7 +1,7 @@
 ghost use Rattle.std.specs.Prelude.{◌≡◌, ◌↔◌, ◌<◌, ◌^◌, ◌-◌, ◌+◌, IsTrue, length, drop, get_or};
 ghost use Rattle.mz_sexpr.specs.Grammar.{IsAllowed};
 ghost use Rattle.mz_sexpr.specs.Scan.{class_after, none_seen, seen_with, at_byte, checks_at};
-ghost use Rattle.mz_base_theory.specs.Checks.{Answers};
+ghost use Rattle.mz_base.specs.Checks.{Answers};
 
 use crate::rule::{TextRefusal, U};
 

@@ -1,7 +1,7 @@
 -- Each file is listed with exactly one text.
 use Rattle.std.proofs.Common.{◌≡◌, ◌≤◌, ◌+◌, ◌++◌, ℕ, zero, suc, List, [], ◌∷◌, length, codes, refl, sym, ap, ◌∙◌, subst, arith, inl, inr, append_assoc}
-use Rattle.mz_base_theory.specs.Checks.{AllHold}
-use Rattle.mz_base_theory.proofs.Offered.{all_hold-excludes, all_hold-or_fails, fails_first-unique}
+use Rattle.mz_base.specs.Checks.{AllHold}
+use Rattle.mz_base.proofs.Offered.{all_hold-excludes, all_hold-or_fails, fails_first-unique}
 use Rattle.mz_cmd.specs.declared.rule.K.{K}
 use Rattle.mz_cmd.specs.declared.rule.Refusal.{Refusal}
 use Rattle.mz_cmd.specs.Codes.{statement_byte}

@@ -1,8 +1,8 @@
 -- What was found of a statement's streams and body is reported of the one statement there.
 use Rattle.std.proofs.Common.{◌≡◌, ◌++◌, ◌∙◌, ℕ, Bool, true, false, List, length, take, codes, Result, Ok, Err, refl, sym, ap, subst, inl, inr, arith, append_assoc, append-nil}
 use Rattle.std.specs.Prelude.{IsErrAnd}
-use Rattle.mz_base_theory.specs.Checks.{AllHold, FailsFirst}
-use Rattle.mz_base_theory.proofs.Offered.{fails-after, all_hold-both}
+use Rattle.mz_base.specs.Checks.{AllHold, FailsFirst}
+use Rattle.mz_base.proofs.Offered.{fails-after, all_hold-both}
 use Rattle.mz_cmd.specs.declared.rule.K.TheVariants as rules
 use Rattle.mz_cmd.specs.declared.rule.Refusal.{Refusal}
 use Rattle.mz_layout_tables.specs.declared.head.Head.{Head}

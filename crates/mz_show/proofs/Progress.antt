@@ -1,6 +1,6 @@
 -- What has been written of a listing so far.
 use Rattle.std.proofs.Common.{◌≡◌, ◌≤◌, ◌<◌, ◌+◌, ◌++◌, ◌∙◌, ℕ, List, [], ◌∷◌, length, codes, refl, sym, ap, subst, inl, inr, arith, append_assoc, append-nil, length-append}
-use Rattle.mz_base_theory.specs.Checks.{AllHold}
+use Rattle.mz_base.specs.Checks.{AllHold}
 use Rattle.mz_cmd.specs.Codes.{statement_byte}
 use Rattle.mz_io.specs.Calls.{Call, Grows, IsWritten, IsCut}
 use Rattle.mz_io.proofs.Offered.{grows-both, written-both, cut-after}

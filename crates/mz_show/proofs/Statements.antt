@@ -1,7 +1,7 @@
 -- A place of the list has one statement, of which all that is asked is decided.
 use Rattle.std.proofs.Common.{◌≡◌, ◌⊎◌, ◌∙◌, ℕ, Bool, true, false, List, length, take, Option, Some, None, Result, Ok, Err, refl, sym, subst, arith, inl, inr}
-use Rattle.mz_base_theory.specs.Checks.{AllHold, FailsFirst, AreDecided}
-use Rattle.mz_base_theory.proofs.Offered.{all_hold-both, all_hold-excludes, all_hold-first, all_hold-or_fails, fails-before, fails_first-unique, are_decided-both, retold-decided, retold-held, retold-holds}
+use Rattle.mz_base.specs.Checks.{AllHold, FailsFirst, AreDecided}
+use Rattle.mz_base.proofs.Offered.{all_hold-both, all_hold-excludes, all_hold-first, all_hold-or_fails, fails-before, fails_first-unique, are_decided-both, retold-decided, retold-held, retold-holds}
 use Rattle.mz_cmd.specs.declared.code.StatementCode.{StatementCode}
 use Rattle.mz_cmd.specs.declared.code.StatementCode.TheVariants as codes_of
 use Rattle.mz_cmd.specs.declared.rule.Refusal.{Refusal}

@@ -1,6 +1,6 @@
 -- The listing of a binary (this project's own form of the .mmb format's parts).
 use Rattle.std.specs.Prelude.{◌≡◌, ◌⊎◌, ℕ, ◌++◌, List, [], ◌∷◌, codes}
-use Rattle.mz_base_theory.specs.Checks.{AllHold, FailsFirst}
+use Rattle.mz_base.specs.Checks.{AllHold, FailsFirst}
 use Rattle.mz_cmd.specs.declared.rule.Refusal.{Refusal}
 use Rattle.mz_layout_tables.specs.Layout.{Layout, layout_checks}
 use Rattle.mz_layout_tables.specs.Heads.{StandsAt}

@@ -1,7 +1,7 @@
 -- The statements of a binary: where they stand, what a listing asks of them, and their lines (the .mmb format, its list
 -- of statements).
 use Rattle.std.specs.Prelude.{ℕ, ◌+◌, ◌++◌, Bool, true, false, List, [], length, take, codes, if◌then◌else◌}
-use Rattle.mz_base_theory.specs.Checks.{Checks, demand, ◌>>◌, retold}
+use Rattle.mz_base.specs.Checks.{Checks, demand, ◌>>◌, retold}
 use Rattle.mz_cmd.specs.declared.code.StatementCode.{StatementCode}
 use Rattle.mz_cmd.specs.declared.code.StatementCode.TheVariants as codes_of
 use Rattle.mz_cmd.specs.declared.rule.K.{K}

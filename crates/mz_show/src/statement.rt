@@ -1,6 +1,6 @@
 // A statement of the list: what is asked of it, and its lines.
 ghost use Rattle.std.specs.Prelude.{◌≡◌, ◌≤◌, length};
-ghost use Rattle.mz_base_theory.specs.Checks.{AllHold, Judges};
+ghost use Rattle.mz_base.specs.Checks.{AllHold, Judges};
 ghost use Rattle.mz_layout_tables.specs.Heads.{IsNextHead, empty_checks};
 ghost use Rattle.mz_show.specs.Statements.{place_checks, told_there};
 ghost use Rattle.mz_show.specs.Answers.{IsNext, IsWithin, TellsStatement, TellsStreams};

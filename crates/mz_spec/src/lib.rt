@@ -5,11 +5,7 @@
 //! its first rule are said in `mz_spec_theory`.
 #![tactic(auto)]
 
-mod declare;
-mod formulas;
 mod laws;
-mod literals;
-mod notations;
 mod reader;
 mod statements;
 

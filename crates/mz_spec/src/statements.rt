@@ -1,13 +1,13 @@
 // One statement more.
 ghost use Rattle.std.specs.Prelude.{◌+◌, ◌<◌, ◌^◌, length, OnOk};
 ghost use Rattle.mz_spec_theory.specs.StatementCode.{statement as statement_lem};
-ghost use Rattle.mz_spec.specs.Answers.{JudgesStatement};
+ghost use Rattle.mz_spec_rules.specs.Answers.{JudgesStatement};
 ghost use Rattle.mz_spec_theory.specs.Declaring.{After};
 ghost use Rattle.mz_spec_rules.specs.Entries.{state as state_lem};
 ghost use Rattle.mz_spec_theory.specs.Kept.{IsKept, IsSpelled};
 
-use crate::declare::{add_assertion, add_definition, add_sort, add_term};
-use crate::notations::{add_coercion, add_delimiter, add_notation, add_operator};
+use mz_spec_declarations::{add_assertion, add_definition, add_sort, add_term};
+use mz_spec_notations::{add_coercion, add_delimiter, add_notation, add_operator};
 use mz_spec_rules::State;
 use mz_spec_theory::{Halt, SyntaxStatement};
 use std::alloc::Global;

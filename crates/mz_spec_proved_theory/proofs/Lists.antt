@@ -2,7 +2,7 @@
 use Rattle.std.proofs.Common.{◌≡◌, ◌<◌, ◌≤◌, ◌+◌, ◌∙◌, ℕ, zero, suc, Bool, true, false, List, [], ◌∷◌, ◌++◌, length, drop, Some, refl, sym, ap, subst, arith, append_assoc}
 use Rattle.std.specs.Prelude.{if◌then◌else◌, slice_get, option_map}
 use Rattle.std.proofs.lemmas.List.{append-nil}
-use Rattle.mz_base_theory.specs.Checks.{AllHold}
+use Rattle.mz_base.specs.Checks.{AllHold}
 use Rattle.mz_logic_theory.specs.Declaration.{Declaration, sort_decl, term_decl, assertion_decl, sorts, terms, assertions}
 use Rattle.mz_logic_theory.specs.LegalLists.{Statement, declarations}
 use Rattle.mz_spec_theory.specs.State.{Entry, env_of}

@@ -3,7 +3,7 @@
 -- definitions and theorems alone).
 use Rattle.std.specs.Prelude.{◌≡◌, ⊤, ℕ, true, false, List, ◌∷◌, ◌++◌, take, slice_get, Some}
 use Rattle.std.specs.List.{All}
-use Rattle.mz_base_theory.specs.Checks.{AllHold}
+use Rattle.mz_base.specs.Checks.{AllHold}
 use Rattle.mz_logic_theory.specs.Declaration.{Declaration, Assertion, sort_decl, term_decl, assertion_decl, Form, plain_form, abstract_form, defined}
 use Rattle.mz_logic_theory.specs.LegalLists.{Statement, declarations, Legal}
 use Rattle.mz_logic_theory.specs.Closed.{IsClosed}

@@ -2,7 +2,7 @@
 -- proves a specification declares what it does, in its order, and may have more of its own; the order of rules is this
 -- project's own).
 use Rattle.std.specs.Prelude.{◌≡◌, ◌+◌, ◌++◌, ⊤, ℕ, List, [], ◌∷◌, length, Bool, true, false, ◌==◌, if◌then◌else◌}
-use Rattle.mz_base_theory.specs.Checks.{Checks, nothing, demand, ◌>>◌, AllHold}
+use Rattle.mz_base.specs.Checks.{Checks, nothing, demand, ◌>>◌, AllHold}
 use Rattle.mz_logic_theory.specs.Declaration.{Declaration, sort_decl, term_decl, assertion_decl, Assertion, Form, plain_form, abstract_form, defined, terms}
 use Rattle.mz_logic_theory.specs.LegalLists.{Statement}
 use Rattle.mz_logic_theory.specs.Signature.{Signature}

@@ -11,7 +11,7 @@ use Rattle.mz_spec_theory.specs.View.{Variable}
 use Rattle.mz_spec_theory.specs.Rules.{IsBinder, AreBinders}
 use Rattle.mz_spec_theory.specs.State.{State}
 use Rattle.std.proofs.lemmas.List.{map-append}
-use Rattle.mz_base_theory.proofs.Offered.{drop-item}
+use Rattle.mz_base.proofs.Offered.{drop-item}
 
 take-next : {X : Type 0} → (xs : List X) (i : ℕ) (x : X) → i < length xs → x ≡ get_or xs i x → take (suc i) xs ≡ take i xs ++ x ∷ []
 take-next [] i x below is = absurd (omega (arith, below))

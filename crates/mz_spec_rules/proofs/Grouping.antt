@@ -1,7 +1,7 @@
 -- Binders of a group's variables, which depend on the same.
 use Rattle.std.proofs.Common.{◌≡◌, ◌∙◌, ◌-◌, ◌++◌, ◌∷◌, [], ℕ, List, Option, Some, length, ap, subst, arith}
 use Rattle.std.specs.Option.{option_map_or}
-use Rattle.mz_base_theory.proofs.Offered.{length-push, slice_get-last}
+use Rattle.mz_base.proofs.Offered.{length-push, slice_get-last}
 use Rattle.mz_logic_theory.specs.Alike.{deps_at}
 use Rattle.mz_logic_theory.specs.declared.binder.Binder.{Binder}
 use Rattle.mz_logic_theory.proofs.Offered.{one_at}

@@ -3,7 +3,7 @@ use Rattle.std.specs.Prelude.{⊤, ℕ, List, [], IsTrue}
 use Rattle.std.specs.List.{list_all}
 use Rattle.mz_base.specs.Identifiers.{is_digit}
 use Rattle.mz_lex.specs.Lexemes.{Lexeme}
-use Rattle.mz_base_theory.specs.Checks.{Checks, each_in_order, ◌>>◌}
+use Rattle.mz_base.specs.Checks.{Checks, each_in_order, ◌>>◌}
 use Rattle.mz_spec_theory.specs.Statement.{TypeText, Level, number_level, max_level}
 use Rattle.mz_spec_theory.specs.declared.refusal.Fault.{Fault}
 use Rattle.mz_spec_theory.specs.View.{Variable, names_of}

@@ -2,7 +2,7 @@
 ghost use Rattle.std.specs.Prelude.{◌≡◌, ◌≤◌, ◌<◌, IfOk, IsTrue, MatchOption, option_map};
 ghost use Rattle.std.specs.List.{list_all};
 ghost use Rattle.std.specs.Str.Parse.{digits_value};
-ghost use Rattle.mz_base_theory.specs.Checks.{Judges, each_in_order};
+ghost use Rattle.mz_base.specs.Checks.{Judges, each_in_order};
 ghost use Rattle.mz_spec_theory.specs.StatementCode.{level as level_lem, tail as tail_lem};
 ghost use Rattle.mz_base.specs.Identifiers.{is_digit};
 ghost use Rattle.mz_spec_theory.specs.Forms.{highest_level, level_of as level_of_lem, tail_of as tail_of_lem};

@@ -7,11 +7,13 @@
 #![tactic(auto)]
 
 mod levels;
+mod math_string;
 mod parts;
 mod rules;
 mod scope;
 mod state;
 
 pub use levels::{level_of, tail_of};
+pub use math_string::inner;
 pub use rules::{check_known, check_new, index_of};
 pub use state::State;

@@ -1,6 +1,6 @@
 // The rules of a statement on its names and binders.
 ghost use Rattle.std.specs.Prelude.{◌≡◌, ◌↔◌, ◌⊎◌, ◌≤◌, ◌++◌, ⊤, ℕ, [], IfOk, IsTrue, List, MatchOption, OnOk, Some, length, map, option_map, take};
-ghost use Rattle.mz_base_theory.specs.Checks.{Judges, each_in_order};
+ghost use Rattle.mz_base.specs.Checks.{Judges, each_in_order};
 ghost use Rattle.mz_lex.specs.declared.rule.S.TheVariants.{NameTwice};
 ghost use Rattle.mz_logic_theory.specs.Modifiers.{IsPure, IsStrict, IsFree};
 ghost use Rattle.mz_spec_theory.specs.StatementCode.{lexeme, type_text};

@@ -2,8 +2,8 @@
 use Rattle.std.proofs.Common.{◌≡◌, ◌⊎◌, ◌∙◌, ◌++◌, ◌+◌, ◌-◌, ◌≤◌, ℕ, zero, suc, List, [], ◌∷◌, length, take, drop, true, false, Option, ap, refl, subst, inl, inr, append_assoc, arith, length-append}
 use Rattle.std.specs.Prelude.{slice_range, option_map}
 use Rattle.mz_lex.specs.Lexemes.{Lexeme}
-use Rattle.mz_base_theory.specs.Checks.{Checks, retold, AllHold, FailsFirst}
-use Rattle.mz_base_theory.proofs.Offered.{retold-fails, retold-holds}
+use Rattle.mz_base.specs.Checks.{Checks, retold, AllHold, FailsFirst}
+use Rattle.mz_base.proofs.Offered.{retold-fails, retold-holds}
 use Rattle.mz_logic_theory.specs.Declaration.{signatures}
 use Rattle.mz_math_theory.specs.declared.literal.Literal.{Literal}
 use Rattle.mz_math_theory.specs.declared.literal.Literal.TheVariants.{Constant as constant, Name as name}

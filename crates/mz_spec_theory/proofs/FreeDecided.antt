@@ -1,6 +1,6 @@
 -- Whether a result depends on each free variable of a body is decided.
 use Rattle.std.proofs.Common.{◌≡◌, ◌⊎◌, ◌++◌, ℕ, zero, suc, List, [], ◌∷◌, true, false, Option, Some, None, slice_get, Contains, ap, sym, subst, inl, inr, arith}
-use Rattle.mz_base_theory.proofs.Offered.{contains-decided, either-decided, not-decided, three-decided, Decided, true-decided, false-decided, both-decided, implied-decided}
+use Rattle.mz_base.proofs.Offered.{contains-decided, either-decided, not-decided, three-decided, Decided, true-decided, false-decided, both-decided, implied-decided}
 use Rattle.mz_logic_theory.specs.Tree.{Tree, Trees, var, app, none, more, operand}
 use Rattle.mz_logic_theory.specs.Signature.{Signature}
 use Rattle.mz_logic_theory.specs.Variables.{InV, InFV, InSomeFV, IsBoundAt, IsOperandAt}

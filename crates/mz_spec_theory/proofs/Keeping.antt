@@ -3,7 +3,7 @@ use Rattle.std.proofs.Common.{◌≡◌, ◌≢◌, ◌∙◌, ◌++◌, ◌+◌
 use Rattle.std.specs.Prelude.{IsTrue, if◌then◌else◌}
 use Rattle.std.proofs.lemmas.List.Elements.{Contains-push_cases}
 use Rattle.std.proofs.lemmas.List.{length_push}
-use Rattle.mz_base_theory.proofs.Offered.{slice_get-append}
+use Rattle.mz_base.proofs.Offered.{slice_get-append, new-first}
 use Rattle.mz_base.specs.Identifiers.{is_name}
 use Rattle.mz_lex.specs.Lexemes.{Lexeme}
 use Rattle.mz_logic_theory.specs.Declaration.{Declaration, sorts, signatures}
@@ -27,7 +27,6 @@ use Rattle.mz_math_theory.proofs.Offered.{notations-keep, empty-is, name-is, coe
 use Rattle.mz_spec_theory.specs.declared.kind.Fixity.TheVariants as fixities
 use Rattle.mz_spec_theory.specs.Statement.{TypeText, Head, LiteralText, constant_literal, name_literal, TailText, Statement, sort_statement, term_statement, assert_statement, definition_statement, operator_statement, coercion_statement, delimiter_statement, notation_statement}
 use Rattle.mz_base.specs.Names.{IsNew}
-use Rattle.mz_base.proofs.Offered.{new-first}
 use Rattle.mz_spec_theory.specs.View.{view}
 use Rattle.mz_spec_theory.specs.State.{State, nothing, with_sort, with_term, with_assertion, with_table, scope_of, span_at, term_number}
 use Rattle.mz_spec_theory.specs.Forms.{IsLiteral, AreLiterals, ArePartsOf, MakesNotation, coercion_of, level_of}

@@ -4,9 +4,9 @@ use Rattle.std.proofs.lemmas.List.{append-nil}
 use Rattle.std.proofs.lemmas.List.Elements.{All-nil}
 use Rattle.std.proofs.lemmas.Option.{slice_get_within}
 use Rattle.std.specs.Prelude.{◌||◌, unwrap_or, option_and_then}
-use Rattle.mz_base_theory.proofs.Offered.{slice_get-some, slice_get-map_at, all_hold-rest}
+use Rattle.mz_base.proofs.Offered.{slice_get-some, slice_get-map_at, all_hold-rest, number-within}
 use Rattle.mz_lex.specs.Lexemes.{Lexeme}
-use Rattle.mz_base_theory.specs.Checks.{AllHold, each_in_order}
+use Rattle.mz_base.specs.Checks.{AllHold, each_in_order}
 use Rattle.mz_logic_theory.specs.Tree.{Tree, Trees, none, more, followed_by}
 use Rattle.mz_logic_theory.specs.Declaration.{Declaration, term_decl, Form, plain_form, abstract_form, defined, dummies_of as form_dummies, body_of, sorts, signatures}
 use Rattle.mz_logic_theory.specs.Legality.{IsLegalDecl, IsParam, AreParams, IsDummy, EachTree}
@@ -24,7 +24,6 @@ use Rattle.mz_math_theory.proofs.Offered.{one-meaning}
 use Rattle.mz_spec_theory.specs.Statement.{TypeText, Source, type_source, formula_source, NameText, Group, Head, Statement, sort_statement, term_statement, assert_statement, definition_statement, operator_statement, coercion_statement, delimiter_statement, notation_statement}
 use Rattle.mz_spec_theory.specs.declared.kind.AssertKind.{AssertKind}
 use Rattle.mz_base.specs.Names.{IsKnown}
-use Rattle.mz_base.proofs.Offered.{number-within}
 use Rattle.mz_spec_theory.specs.View.{Variable, Stated, claim, body, view, variable_of, source_variables, group_variables, variables_of, unnamed, source_types, types_of, group_types, stated_of, names_of, params_of, dummies_of, is_among}
 use Rattle.mz_spec_theory.specs.Rules.{are_others, type_checks, mods_of, HasSortThat, IsBinder, HaveBinders, DependsOnNothing, IsResult, IsDummySort, IsNotPure, statement_checks}
 use Rattle.mz_spec_theory.specs.Dependencies.{Every, IsCalled, IsBoundAmong, dep_places}

@@ -3,8 +3,8 @@ use Rattle.std.proofs.Common.{◌≡◌, ◌∙◌, ◌<◌, ◌≤◌, ◌+◌,
 use Rattle.std.specs.Prelude.{◌↔◌, ◌||◌, IsTrue, refl}
 use Rattle.std.specs.List.{list_any}
 use Rattle.std.proofs.lemmas.List.{append-nil}
-use Rattle.mz_base_theory.proofs.Offered.{drop-item, drop-past, Decides, decides-after, fails-before, fails-after, judges-after, all_hold-first, all_hold-rest, all_hold-both}
-use Rattle.mz_base_theory.specs.Checks.{Checks, nothing, ask, each_in_order, ◌>>◌, AllHold, FailsFirst, Judges}
+use Rattle.mz_base.proofs.Offered.{drop-item, drop-past, Decides, decides-after, fails-before, fails-after, judges-after, all_hold-first, all_hold-rest, all_hold-both}
+use Rattle.mz_base.specs.Checks.{Checks, nothing, ask, each_in_order, ◌>>◌, AllHold, FailsFirst, Judges}
 use Rattle.mz_spec_theory.specs.declared.refusal.Fault.{Fault}
 use Rattle.mz_spec_theory.specs.declared.refusal.Halt.{Halt}
 use Rattle.mz_spec_theory.specs.declared.refusal.Halt.TheVariants as halts

@@ -3,13 +3,12 @@ use Rattle.std.proofs.Common.{◌≡◌, ◌≢◌, ◌∙◌, ◌++◌, ◌<◌
 use Rattle.std.proofs.lemmas.List.{append-nil, length-map}
 use Rattle.std.specs.Prelude.{◌-◌, IsTrue, if◌then◌else◌}
 use Rattle.std.proofs.lemmas.List.Elements.{Contains-append_left}
-use Rattle.mz_base_theory.proofs.Offered.{slice_get-append, place-of, contains_at, all_hold-first, all_hold-rest}
+use Rattle.mz_base.proofs.Offered.{slice_get-append, place-of, contains_at, all_hold-first, all_hold-rest, new-last, new-parts}
 use Rattle.mz_base.specs.Identifiers.{is_name}
 use Rattle.mz_lex.specs.Lexemes.{Lexeme}
-use Rattle.mz_base_theory.specs.Checks.{AllHold}
+use Rattle.mz_base.specs.Checks.{AllHold}
 use Rattle.mz_math_theory.specs.Kept.{AreVariables}
 use Rattle.mz_base.specs.Names.{IsNew}
-use Rattle.mz_base.proofs.Offered.{new-last, new-parts}
 use Rattle.mz_spec_theory.specs.View.{Variable, name_texts, params_of, dummies_of}
 use Rattle.mz_spec_theory.specs.Rules.{are_others, is_other, IsBinder, AreBinders}
 use Rattle.mz_spec_theory.specs.Dependencies.{Every, IsCalled}

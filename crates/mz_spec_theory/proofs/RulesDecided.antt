@@ -1,9 +1,9 @@
 -- Each rule on names, precedences and binders holds or fails.
 use Rattle.std.proofs.Common.{◌≡◌, ◌⊎◌, ◌++◌, ℕ, zero, suc, List, [], ◌∷◌, Option, Some, None, refl, inl, inr, arith}
 use Rattle.std.specs.Prelude.{IsBitSet, bit_and, ◌^◌, ◌≢◌}
-use Rattle.mz_base_theory.proofs.Offered.{either-decided, not-decided, three-decided, Decided, true-decided, are_decided-both, are_decided-rows, both-decided, implied-decided, bytes-decided, at_most-decided}
+use Rattle.mz_base.proofs.Offered.{either-decided, not-decided, three-decided, Decided, true-decided, are_decided-both, are_decided-rows, both-decided, implied-decided, bytes-decided, at_most-decided}
 use Rattle.mz_lex.specs.Lexemes.{Lexeme}
-use Rattle.mz_base_theory.specs.Checks.{AreDecided, each_in_order}
+use Rattle.mz_base.specs.Checks.{AreDecided, each_in_order}
 use Rattle.mz_logic_theory.specs.Modifiers.{IsPure, IsStrict, IsFree}
 use Rattle.mz_logic_theory.specs.declared.binder.SortMods.{SortMods}
 use Rattle.mz_spec_theory.specs.Statement.{TypeText, Level, number_level, max_level}

@@ -1,13 +1,13 @@
 -- Each text has a reading or a first fault.
 use Rattle.std.proofs.Common.{◌≡◌, ◌⊎◌, ◌++◌, ◌+◌, ◌≤◌, ℕ, zero, suc, List, [], ◌∷◌, length, map, Option, Some, None, sym, refl, subst, inl, inr, Contains, arith, length-append}
-use Rattle.mz_base_theory.proofs.Offered.{Decided, all_hold-or_fails, all_hold-excludes, all_hold-both, all_hold-first, all_hold-rest, fails-before, fails-after, are_decided-rows, retold-fails}
+use Rattle.mz_base.proofs.Offered.{Decided, all_hold-or_fails, all_hold-excludes, all_hold-both, all_hold-first, all_hold-rest, fails-before, fails-after, are_decided-rows, retold-fails}
 use Rattle.mz_lex.specs.declared.token.LexFault.{LexFault}
 use Rattle.mz_lex.specs.Lexemes.{Lexeme, LexesFrom}
 use Rattle.mz_lex.proofs.Offered.{some-lexing}
 use Rattle.mz_logic_theory.specs.Tree.{Tree, Trees, none, followed_by}
 use Rattle.mz_logic_theory.specs.Declaration.{sort_decl, term_decl, assertion_decl, plain_form, abstract_form, defined, signatures}
 use Rattle.mz_logic_theory.specs.Variables.{InFV}
-use Rattle.mz_base_theory.specs.Checks.{Checks, each_in_order, ◌>>◌, AllHold, FailsFirst, AreDecided}
+use Rattle.mz_base.specs.Checks.{Checks, each_in_order, ◌>>◌, AllHold, FailsFirst, AreDecided}
 use Rattle.mz_math_tokens.specs.declared.tokens.MathToken.{MathToken}
 use Rattle.mz_math_tokens.specs.MathTokens.{MathTokens}
 use Rattle.mz_math_theory.specs.Notation.{with_notation, with_coercion, with_delimiters}

@@ -1,7 +1,7 @@
 -- An expression for which a formula stands has its sort.
 use Rattle.std.proofs.Common.{◌≡◌, ◌∙◌, ℕ, List, [], ◌∷◌, true, false, Some, slice_get, Contains, ap, sym, subst, inl, inr}
 use Rattle.std.proofs.lemmas.Option.{get_or_from_slice_get}
-use Rattle.mz_base_theory.proofs.Offered.{contains_at}
+use Rattle.mz_base.proofs.Offered.{contains_at}
 use Rattle.mz_logic_theory.specs.Tree.{Tree, Trees, var, app, none, more}
 use Rattle.mz_logic_theory.specs.Signature.{Signature}
 use Rattle.mz_logic_theory.specs.Declaration.{signatures, sorts}

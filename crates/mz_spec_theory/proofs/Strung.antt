@@ -1,7 +1,7 @@
 -- The formulas of an axiom or a theorem: those before the conclusion, then the conclusion.
 use Rattle.std.proofs.Common.{◌≡◌, ◌++◌, ℕ, List, [], ◌∷◌, map, refl, sym, subst}
-use Rattle.mz_base_theory.specs.Checks.{Checks, nothing, ◌>>◌, AllHold, FailsFirst, each_in_order}
-use Rattle.mz_base_theory.proofs.Offered.{all_hold-both}
+use Rattle.mz_base.specs.Checks.{Checks, nothing, ◌>>◌, AllHold, FailsFirst, each_in_order}
+use Rattle.mz_base.proofs.Offered.{all_hold-both}
 use Rattle.mz_math_tokens.specs.declared.tokens.MathToken.{MathToken}
 use Rattle.mz_math_tokens.specs.MathTokens.{MathTokens}
 use Rattle.mz_spec_theory.specs.Reading.{OnFault}

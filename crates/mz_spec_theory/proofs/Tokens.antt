@@ -2,7 +2,7 @@
 use Rattle.std.proofs.Common.{◌≡◌, ◌<◌, ◌≤◌, ◌+◌, ◌-◌, ◌⊎◌, ℕ, zero, suc, List, [], ◌∷◌, length, Bool, true, false, ap₂, sym, refl, subst, inl, inr, arith, Contains}
 use Rattle.std.specs.Prelude.{slice_index, IsTrue}
 use Rattle.std.proofs.lemmas.Bool.{cases_lt}
-use Rattle.mz_base_theory.proofs.Offered.{contains-decided}
+use Rattle.mz_base.proofs.Offered.{contains-decided}
 use Rattle.mz_lex.specs.Kinds.{is_space}
 use Rattle.mz_math_tokens.specs.declared.tokens.Delimiters.{Delimiters}
 use Rattle.mz_math_tokens.specs.declared.tokens.MathToken.{MathToken}

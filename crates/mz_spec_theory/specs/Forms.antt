@@ -5,7 +5,7 @@ use Rattle.std.specs.Str.Parse.{digits_value}
 use Rattle.mz_lex.specs.Lexemes.{Lexeme}
 use Rattle.mz_lex.specs.declared.rule.S.{S}
 use Rattle.mz_lex.specs.declared.rule.S.TheVariants as rules
-use Rattle.mz_base_theory.specs.Checks.{Checks, nothing, retold}
+use Rattle.mz_base.specs.Checks.{Checks, nothing, retold}
 use Rattle.mz_logic_theory.specs.Declaration.{signatures}
 use Rattle.mz_math_theory.specs.declared.notation.Notation.{Notation}
 use Rattle.mz_math_theory.specs.declared.coercion.Coercion.{Coercion}

@@ -5,7 +5,7 @@ use Rattle.mz_lex.specs.Kinds.{inside_of}
 use Rattle.mz_lex.specs.Lexemes.{Lexeme}
 use Rattle.mz_lex.specs.declared.rule.S.{S}
 use Rattle.mz_lex.specs.declared.rule.S.TheVariants as rules
-use Rattle.mz_base_theory.specs.Checks.{Checks, nothing, demand, retold, ◌>>◌}
+use Rattle.mz_base.specs.Checks.{Checks, nothing, demand, retold, ◌>>◌}
 use Rattle.mz_logic_theory.specs.Tree.{Tree, Trees, none, followed_by}
 pub use Rattle.mz_logic_theory.specs.Tree.{copies}
 use Rattle.mz_logic_theory.specs.Declaration.{signatures}

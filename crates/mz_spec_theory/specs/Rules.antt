@@ -3,7 +3,7 @@
 use Rattle.std.specs.Prelude.{◌≡◌, ◌⊎◌, ◌≤◌, ⊤, ℕ, List, [], ◌∷◌, ◌++◌, true, Option, Some, None, option_and_then, slice_get}
 use Rattle.mz_lex.specs.Lexemes.{Lexeme}
 use Rattle.mz_lex.specs.declared.rule.S.TheVariants as rules
-use Rattle.mz_base_theory.specs.Checks.{Checks, nothing, demand, each_in_order, ◌>>◌}
+use Rattle.mz_base.specs.Checks.{Checks, nothing, demand, each_in_order, ◌>>◌}
 use Rattle.mz_logic_theory.specs.Declaration.{sorts as sorts_in}
 use Rattle.mz_logic_theory.specs.Modifiers.{IsPure, IsStrict, IsFree}
 use Rattle.mz_logic_theory.specs.declared.binder.SortMods.{SortMods}

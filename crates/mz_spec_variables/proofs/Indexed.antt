@@ -12,7 +12,7 @@ use Rattle.std.proofs.lemmas.Map.Keys.{IsStrictlyIncreasing-dedup}
 use Rattle.std.proofs.lemmas.Option.{slice_get_within, slice_get-get_or}
 use Rattle.std.proofs.lemmas.Slice.Eq.{bytes_eq-Decides}
 use Rattle.std.proofs.lemmas.Bool.{or_right}
-use Rattle.mz_base_theory.proofs.Offered.{slice_get-map_at, contains_tail, contains_head, contains_cases}
+use Rattle.mz_base.proofs.Offered.{slice_get-map_at, contains_tail, contains_head, contains_cases}
 use Rattle.mz_lex.specs.Lexemes.{Lexeme}
 use Rattle.mz_logic_theory.proofs.Offered.{one_at}
 use Rattle.mz_math_tokens.specs.Places.{place_of}

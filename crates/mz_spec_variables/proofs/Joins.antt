@@ -1,7 +1,7 @@
 -- What a loop has made of a list, and what is left to be made.
 use Rattle.std.proofs.Common.{◌≡◌, ◌∙◌, ◌<◌, ◌≤◌, ◌+◌, ◌++◌, ℕ, List, [], ◌∷◌, length, drop, get_or, ap, sym, append_assoc}
 use Rattle.std.proofs.lemmas.List.{append-nil}
-use Rattle.mz_base_theory.proofs.Offered.{drop-item, drop-past}
+use Rattle.mz_base.proofs.Offered.{drop-item, drop-past}
 
 module _ {X Y : Type 0} (F : List X → List Y) (g : X → List Y) (xs : List X) (i : ℕ) where
   -- F joins what is made of each

@@ -2,7 +2,7 @@
 use Rattle.std.proofs.Common.{ℕ, zero, suc, ◌≡◌, ◌<◌, ◌≤◌, ◌+◌, ◌↔◌, Bool, true, false, IsTrue, List, [], ◌∷◌, ◌++◌, length, get_or, slice_get, Option, Some, None, IfSome, IfNone, refl, ap, sym, ◌∙◌, subst, arith, append-nil, if◌then◌else◌}
 use Rattle.std.proofs.lemmas.List.{length-append}
 use Rattle.std.proofs.lemmas.Option.{slice_get_within, slice_get-get_or, none-some}
-use Rattle.mz_base_theory.proofs.Offered.{slice_get-last}
+use Rattle.mz_base.proofs.Offered.{slice_get-last}
 use mir.Val.{bool_byte}
 use Rattle.mz_logic_theory.specs.Signature.{Signature}
 use Rattle.mz_logic_theory.specs.Sorts.{IsBoundVar}
@@ -11,20 +11,22 @@ use Rattle.mz_logic_theory.specs.Tree.{var, app}
 use Rattle.mz_logic_theory.proofs.Offered.{one_at, DepsInside, same-term, same-operands, same-first, same-rest, no-application, no-trees}
 use Rattle.mz_store.specs.Bits.{bound_vars}
 use Rattle.mz_store.specs.Sharing.{Shared, Sharing, tree_of, trees_of, IsIn, AreIn, Holds, IsOver}
-use Rattle.mz_store.specs.Nodes.{Made, MadeOf, variable, application, form_of, made_of, all_made, entered, binder_after, sharing_of, no_expressions, IsVariableWord}
-use Rattle.mz_store.specs.Hashes.{hash_of}
+use Rattle.mz_store.specs.Nodes.{Made, MadeOf, variable, application, form_of, made_of, all_made, AllLie, entered, binder_after, sharing_of, no_expressions, IsVariableWord}
 use Rattle.mz_store.specs.Chains.{IsOf, IsNode}
-use Rattle.mz_store.specs.Kept.{Forms, Shows, IsKept, IsChained, named}
+use Rattle.mz_store.specs.Kept.{Forms, Shows, IsKept, AreKept, named, shared_by}
+use Rattle.mz_store.specs.Tables.{bucket_of, newest_of, IsPut, IsTable}
 use Rattle.mz_store.specs.declared.item.DepsMode.{DepsMode}
 use Rattle.mz_store.specs.declared.item.Id.{Id}
+use Rattle.mz_store.specs.declared.expressions.Expressions.{Expressions}
 use Rattle.mz_store.specs.declared.node.Node.{Node}
 use Rattle.mz_store.specs.declared.node.Application.{Application as Term}
 use Rattle.mz_store.specs.declared.node.Form.{Form}
 use Rattle.mz_store.specs.declared.node.Form.TheVariants.{Variable, Application}
+use Rattle.mz_store.specs.declared.table.Table.{Table}
 use Rattle.mz_store.proofs.Places.{bound-push}
-use Rattle.mz_store.proofs.Made.{AllLie, made-kept, all-kept, all-pushed, made-at, node-of}
-use Rattle.mz_store.proofs.Chained.{all-lie, chained-variable, chained-term, chained-more, chained-by, Puts, term-says}
-use Rattle.mz_store.proofs.Growing.{entered-all-push, entered-begins, entry-new, kept-grown, are-in-kept, trees-kept}
+use Rattle.mz_store.proofs.Made.{operands-new, made-kept, all-kept, all-pushed, made-at, node-of}
+use Rattle.mz_store.proofs.Tabled.{table-lies, table-term, table-variable, table-more}
+use Rattle.mz_store.proofs.Growing.{entered-all-push, entered-begins, entry-new, kept-alike, kept-grown, are-in-kept, trees-kept}
 use Rattle.mz_store.proofs.Entering.{inside-grown, over-entered}
 
 -- ---- the node of an expression
@@ -153,8 +155,8 @@ missing-holds s v count os nodes kept view h is there None lacks =
 -- ---- the calls that add
 
 -- what the store keeps
-abbrev pub Keeps : ℕ → DepsMode → ℕ → List Id → List Node → (ℕ → Option Id) → Type 0
-Keeps factor mode count os nodes newest = IsKept (sharing_of mode (all_made os nodes)) count os nodes × IsChained factor os nodes newest
+abbrev pub Keeps : Table → DepsMode → ℕ → List Id → List Node → Type 0
+Keeps table mode count os nodes = IsKept (sharing_of mode (all_made os nodes)) count os nodes × IsTable table os nodes
 
 view-pushed : (mode : DepsMode) (os os' : List Id) (nodes nodes' : List Node) (m : Made) (v : Sharing) → sharing_of mode (all_made os nodes) ≡ v
     → all_made os' nodes' ≡ all_made os nodes ++ m ∷ [] → sharing_of mode (all_made os' nodes') ≡ entered v m
@@ -166,104 +168,105 @@ byte-is true = refl
 byte-is false = refl
 
 -- a variable: no operands are added
-variable-pushed : (factor : ℕ) (os : List Id) (nodes : List Node) (newest : ℕ → Option Id) (sort deps : ℕ) (bound : Bool) → IsChained factor os nodes newest
+variable-pushed : (os : List Id) (nodes : List Node) (sort deps : ℕ) (bound : Bool) → AllLie os nodes
     → all_made os (nodes ++ record { sort = sort; deps = deps; form = Variable bound } ∷ []) ≡ all_made os nodes ++ record { sort = sort; deps = deps; form = variable bound } ∷ []
-variable-pushed factor os nodes newest sort deps bound chained =
+variable-pushed os nodes sort deps bound lie =
     sym (ap (λ (is : List Id). all_made is (nodes ++ record { sort = sort; deps = deps; form = Variable bound } ∷ [])) (append-nil os))
-    ∙ all-pushed os [] nodes (record { sort = sort; deps = deps; form = Variable bound }) (record { sort = sort; deps = deps; form = variable bound }) (all-lie factor os nodes newest chained) refl
+    ∙ all-pushed os [] nodes (record { sort = sort; deps = deps; form = Variable bound }) (record { sort = sort; deps = deps; form = variable bound }) lie refl
 
-pub enter-view : (factor : ℕ) (mode : DepsMode) (count : ℕ) (os : List Id) (nodes nodes' : List Node) (newest : ℕ → Option Id) (sort deps : ℕ) (bound : Bool) (v : Sharing) → Keeps factor mode count os nodes newest
+pub enter-view : (mode : DepsMode) (os : List Id) (nodes nodes' : List Node) (sort deps : ℕ) (bound : Bool) (v : Sharing) → AllLie os nodes
     → sharing_of mode (all_made os nodes) ≡ v → nodes' ≡ nodes ++ record { sort = sort; deps = deps; form = Variable bound } ∷ []
     → sharing_of mode (all_made os nodes') ≡ entered v (record { sort = sort; deps = deps; form = variable bound })
-enter-view factor mode count os nodes nodes' newest sort deps bound v (_, chained) view is =
+enter-view mode os nodes nodes' sort deps bound v lie view is =
     view-pushed mode os os nodes nodes' (record { sort = sort; deps = deps; form = variable bound }) v view
-    (ap (all_made os) is ∙ variable-pushed factor os nodes newest sort deps bound chained)
+    (ap (all_made os) is ∙ variable-pushed os nodes sort deps bound lie)
 
-pub enter-kept : (factor : ℕ) (mode : DepsMode) (count : ℕ) (os : List Id) (nodes nodes' : List Node) (newest : ℕ → Option Id) (sort deps : ℕ) (bound : Bool) (v : Sharing) (k : ℕ) → Keeps factor mode count os nodes newest
+pub enter-kept : (table : Table) (mode : DepsMode) (count : ℕ) (os : List Id) (nodes nodes' : List Node) (sort deps : ℕ) (bound : Bool) (v : Sharing) (k : ℕ) → Keeps table mode count os nodes
     → sharing_of mode (all_made os nodes) ≡ v → IsVariableWord (length (bound_vars v.context)) deps bound → k ≡ bool_byte bound
-    → nodes' ≡ nodes ++ record { sort = sort; deps = deps; form = Variable bound } ∷ [] → Keeps factor mode (count + k) os nodes' newest
-enter-kept factor mode count os nodes nodes' newest sort deps bound v k (kept, chained) view word k-is is =
-    subst (λ (ns : List Node). Keeps factor mode (count + k) os ns newest) (sym is) (
+    → nodes' ≡ nodes ++ record { sort = sort; deps = deps; form = Variable bound } ∷ [] → Keeps table mode (count + k) os nodes'
+enter-kept table mode count os nodes nodes' sort deps bound v k (kept, known) view word k-is is =
+    subst (λ (ns : List Node). Keeps table mode (count + k) os ns) (sym is) (
       subst (λ (s : Sharing). IsKept s (count + k) os (nodes ++ record { sort = sort; deps = deps; form = Variable bound } ∷ []))
-          (sym (enter-view factor mode count os nodes (nodes ++ record { sort = sort; deps = deps; form = Variable bound } ∷ []) newest sort deps bound (sharing_of mode (all_made os nodes)) (kept, chained) refl refl))
+          (sym (enter-view mode os nodes (nodes ++ record { sort = sort; deps = deps; form = Variable bound } ∷ []) sort deps bound (sharing_of mode (all_made os nodes)) (table-lies table os nodes known) refl refl))
           (variable-kept (sharing_of mode (all_made os nodes)) count os nodes sort deps bound kept
           (subst (λ (s : Sharing). IsVariableWord (length (bound_vars s.context)) deps bound) (sym view) word) (count + k) (ap (λ j. count + j) (k-is ∙ byte-is bound))),
-      chained-variable factor os nodes newest sort deps bound chained,
+      table-variable table os nodes sort deps bound known,
     )
 
-pub enter-over : (factor : ℕ) (mode : DepsMode) (count : ℕ) (os : List Id) (nodes nodes' : List Node) (newest : ℕ → Option Id) (sort deps : ℕ) (bound : Bool) (v : Sharing) → Keeps factor mode count os nodes newest
+pub enter-over : (table : Table) (mode : DepsMode) (count : ℕ) (os : List Id) (nodes nodes' : List Node) (sort deps : ℕ) (bound : Bool) (v : Sharing) → Keeps table mode count os nodes
     → sharing_of mode (all_made os nodes) ≡ v → IsVariableWord (length (bound_vars v.context)) deps bound
     → nodes' ≡ nodes ++ record { sort = sort; deps = deps; form = Variable bound } ∷ []
     → (sigs : List Signature) → IsOver sigs v → IsOver sigs (sharing_of mode (all_made os nodes'))
-enter-over factor mode count os nodes nodes' newest sort deps bound v keeps view word is sigs over =
-    subst (IsOver sigs) (sym (enter-view factor mode count os nodes nodes' newest sort deps bound v keeps view is))
-    (over-entered v sort deps bound (subst (λ (s : Sharing). DepsInside s.context) view keeps.0.inside) word sigs over)
+enter-over table mode count os nodes nodes' sort deps bound v (kept, known) view word is sigs over =
+    subst (IsOver sigs) (sym (enter-view mode os nodes nodes' sort deps bound v (table-lies table os nodes known) view is))
+    (over-entered v sort deps bound (subst (λ (s : Sharing). DepsInside s.context) view kept.inside) word sigs over)
 
 -- a term: its operands are added
-pub term-view : (factor : ℕ) (mode : DepsMode) (count : ℕ) (os os' news : List Id) (nodes nodes' : List Node) (newest : ℕ → Option Id) (sort deps : ℕ) (a : Term) (v : Sharing) → Keeps factor mode count os nodes newest
+term-says : (os more : List Id) (sort deps : ℕ) (a : Term) → a.from ≡ length os → a.to ≡ length os + length more
+    → made_of (os ++ more) (record { sort = sort; deps = deps; form = Application a }) ≡ record { sort = sort; deps = deps; form = application a.head more }
+term-says os more sort deps a from-is to-is =
+    ap (λ (is : List Id). record { sort = sort; deps = deps; form = application a.head is }) (operands-new os more a.from a.to from-is to-is)
+
+pub term-view : (mode : DepsMode) (os os' news : List Id) (nodes nodes' : List Node) (sort deps : ℕ) (a : Term) (v : Sharing) → AllLie os nodes
     → sharing_of mode (all_made os nodes) ≡ v → os' ≡ os ++ news → a.from ≡ length os → a.to ≡ length os + length news
     → nodes' ≡ nodes ++ record { sort = sort; deps = deps; form = Application a } ∷ []
     → sharing_of mode (all_made os' nodes') ≡ entered v (record { sort = sort; deps = deps; form = application a.head news })
-term-view factor mode count os os' news nodes nodes' newest sort deps a v (_, chained) view os-is from-is to-is is =
+term-view mode os os' news nodes nodes' sort deps a v lie view os-is from-is to-is is =
     view-pushed mode os os' nodes nodes' (record { sort = sort; deps = deps; form = application a.head news }) v view
     (ap (λ (is : List Id). all_made is nodes') os-is ∙ ap (all_made (os ++ news)) is
     ∙ all-pushed os news nodes (record { sort = sort; deps = deps; form = Application a }) (record { sort = sort; deps = deps; form = application a.head news })
-    (all-lie factor os nodes newest chained) (term-says os news sort deps a from-is to-is))
+    lie (term-says os news sort deps a from-is to-is))
 
-pub add-kept : (factor : ℕ) (mode : DepsMode) (count : ℕ) (os os' news : List Id) (nodes nodes' : List Node) (newest newest' : ℕ → Option Id) (sort deps : ℕ) (a : Term) (v : Sharing) (hash : ℕ) (id : Id)
-    → Keeps factor mode count os nodes newest → sharing_of mode (all_made os nodes) ≡ v → os' ≡ os ++ news → a.from ≡ length os → a.to ≡ length os + length news
+pub add-kept : (table table' : Table) (mode : DepsMode) (count : ℕ) (os os' news : List Id) (nodes nodes' : List Node) (sort deps : ℕ) (a : Term) (v : Sharing) (bucket : ℕ) (id : Id)
+    → Keeps table mode count os nodes → sharing_of mode (all_made os nodes) ≡ v → os' ≡ os ++ news → a.from ≡ length os → a.to ≡ length os + length news
     → nodes' ≡ nodes ++ record { sort = sort; deps = deps; form = Application a } ∷ []
     → AreIn v news → ((i : ℕ) → Holds v i (app a.head (trees_of v news)) → ⊥)
-    → hash ≡ hash_of factor a.head news → a.earlier ≡ named (length nodes) (newest hash) → id.0 ≡ length nodes → Puts newest newest' hash id
-    → Keeps factor mode count os' nodes' newest'
-add-kept factor mode count os os' news nodes nodes' newest newest' sort deps a v hash id (kept, chained) view os-is from-is to-is is there fresh hash-is earlier-is place puts =
-    subst (λ (ns : List Node). Keeps factor mode count os' ns newest') (sym is) (subst (λ (is : List Id). Keeps factor mode count is (nodes ++ n ∷ []) newest') (sym os-is) (
+    → bucket ≡ bucket_of table.factor (length table.buckets.items) a.head news → a.earlier ≡ named (length nodes) (newest_of table bucket) → id.0 ≡ length nodes
+    → bucket < length table.buckets.items → IsPut table bucket id table' → Keeps table' mode count os' nodes'
+add-kept table table' mode count os os' news nodes nodes' sort deps a v bucket id (kept, known) view os-is from-is to-is is there fresh bucket-is earlier-is place within put =
+    subst (λ (ns : List Node). Keeps table' mode count os' ns) (sym is) (subst (λ (is : List Id). Keeps table' mode count is (nodes ++ n ∷ [])) (sym os-is) (
       subst (λ (s : Sharing). IsKept s count (os ++ news) (nodes ++ n ∷ []))
-          (sym (term-view factor mode count os (os ++ news) news nodes (nodes ++ n ∷ []) newest sort deps a (sharing_of mode (all_made os nodes)) (kept, chained) refl refl from-is to-is refl))
-          (term-kept (sharing_of mode (all_made os nodes)) count os news nodes n sort deps a.head kept (all-lie factor os nodes newest chained) (term-says os news sort deps a from-is to-is)
+          (sym (term-view mode os (os ++ news) news nodes (nodes ++ n ∷ []) sort deps a (sharing_of mode (all_made os nodes)) lie refl refl from-is to-is refl))
+          (term-kept (sharing_of mode (all_made os nodes)) count os news nodes n sort deps a.head kept lie (term-says os news sort deps a from-is to-is)
           (subst (λ w. AreIn w news) (sym view) there) (λ i holds. fresh i (subst (λ w. Holds w i (app a.head (trees_of w news))) view holds))),
-      chained-term factor os news nodes newest newest' sort deps a hash id chained from-is to-is hash-is earlier-is place puts,
+      table-term table table' os news nodes sort deps a bucket id known (omega arith, omega (arith, length-append os news))
+          (bucket-is ∙ ap (bucket_of table.factor (length table.buckets.items) a.head) (sym (operands-new os news a.from a.to from-is to-is))) earlier-is place within put,
     ))
   where
     n : Node
     n = record { sort = sort; deps = deps; form = Application a }
 
--- operands are added, and no node
-pub more-view : (factor : ℕ) (mode : DepsMode) (count : ℕ) (os os' news : List Id) (nodes nodes' : List Node) (newest : ℕ → Option Id) (v : Sharing) → Keeps factor mode count os nodes newest
-    → sharing_of mode (all_made os nodes) ≡ v → os' ≡ os ++ news → nodes' ≡ nodes → sharing_of mode (all_made os' nodes') ≡ v
-more-view factor mode count os os' news nodes nodes' newest v (_, chained) view is same =
-    ap (λ (ns : List Node). sharing_of mode (all_made os' ns)) same ∙ ap (λ (js : List Id). sharing_of mode (all_made js nodes)) is ∙ ap (sharing_of mode) (all-kept os news nodes (all-lie factor os nodes newest chained)) ∙ view
+    lie : AllLie os nodes
+    lie = table-lies table os nodes known
 
-pub more-kept : (factor : ℕ) (mode : DepsMode) (count : ℕ) (os os' news : List Id) (nodes nodes' : List Node) (newest newest' : ℕ → Option Id) → Keeps factor mode count os nodes newest
-    → os' ≡ os ++ news → nodes' ≡ nodes → ((q : ℕ) → newest' q ≡ newest q) → Keeps factor mode count os' nodes' newest'
-more-kept factor mode count os os' news nodes nodes' newest newest' (kept, chained) is alike same =
-    subst (λ (ns : List Node). Keeps factor mode count os' ns newest') (sym alike) (subst (λ (js : List Id). Keeps factor mode count js nodes newest') (sym is) (
-      subst (λ (s : Sharing). IsKept s count (os ++ news) nodes) (sym (more-view factor mode count os (os ++ news) news nodes nodes newest (sharing_of mode (all_made os nodes)) (kept, chained) refl refl refl))
-          (record {
-            many = kept.many;
-            count = kept.count;
-            small = kept.small;
-            inside = kept.inside;
-            shown = λ i n at. subst (Shows (sharing_of mode (all_made os nodes)) i) (sym (made-kept os news n (all-lie factor os nodes newest chained i n at))) (kept.shown i n at);
-            once = kept.once;
-          }),
-      chained-by factor (os ++ news) nodes newest newest' (chained-more factor os news nodes newest chained) same,
+-- operands are added, and no node
+pub more-view : (mode : DepsMode) (os os' news : List Id) (nodes nodes' : List Node) (v : Sharing) → AllLie os nodes
+    → sharing_of mode (all_made os nodes) ≡ v → os' ≡ os ++ news → nodes' ≡ nodes → sharing_of mode (all_made os' nodes') ≡ v
+more-view mode os os' news nodes nodes' v lie view is same =
+    ap (λ (ns : List Node). sharing_of mode (all_made os' ns)) same ∙ ap (λ (js : List Id). sharing_of mode (all_made js nodes)) is ∙ ap (sharing_of mode) (all-kept os news nodes lie) ∙ view
+
+pub more-kept : (table : Table) (mode : DepsMode) (count : ℕ) (os os' news : List Id) (nodes nodes' : List Node) → Keeps table mode count os nodes
+    → os' ≡ os ++ news → nodes' ≡ nodes → Keeps table mode count os' nodes'
+more-kept table mode count os os' news nodes nodes' (kept, known) is alike =
+    subst (λ (ns : List Node). Keeps table mode count os' ns) (sym alike) (subst (λ (js : List Id). Keeps table mode count js nodes) (sym is) (
+      subst (λ (s : Sharing). IsKept s count (os ++ news) nodes) (sym (ap (sharing_of mode) same)) (kept-alike (sharing_of mode (all_made os nodes)) count os (os ++ news) nodes nodes same kept),
+      table-more table os news nodes known,
     ))
+  where
+    same : all_made (os ++ news) nodes ≡ all_made os nodes
+    same = all-kept os news nodes (table-lies table os nodes known)
 
 -- ---- what a node shows
 
 pub kept-shows : (s : Sharing) (count : ℕ) (os : List Id) (nodes : List Node) → IsKept s count os nodes → (i : ℕ) (n : Node) → IsIn s i → n ≡ get_or nodes i n → Shows s i (made_of os n)
 kept-shows s count os nodes kept i n inside is = kept.shown i n (slice_get-get_or nodes i n (omega (arith, kept.many)) ∙ ap Some (sym is))
 
-pub shows-at : (factor : ℕ) (mode : DepsMode) (count : ℕ) (os : List Id) (nodes : List Node) (newest : ℕ → Option Id) (v : Sharing) → Keeps factor mode count os nodes newest
-    → sharing_of mode (all_made os nodes) ≡ v → (i : ℕ) (n : Node) → IsIn v i → n ≡ get_or nodes i n → Shows v i (made_of os n)
-shows-at factor mode count os nodes newest v (kept, _) view i n inside is =
-    subst (λ w. Shows w i (made_of os n)) view (kept-shows (sharing_of mode (all_made os nodes)) count os nodes kept i n (subst (λ w. IsIn w i) (sym view) inside) is)
+pub shows-at : (e : Expressions) (v : Sharing) → AreKept e → shared_by e ≡ v → (i : ℕ) (n : Node) → IsIn v i → n ≡ get_or e.nodes.items i n → Shows v i (made_of e.operands.items n)
+shows-at e v kept view i n inside is =
+    subst (λ w. Shows w i (made_of e.operands.items n)) view (kept-shows (shared_by e) e.bound_count e.operands.items e.nodes.items kept i n (subst (λ w. IsIn w i) (sym view) inside) is)
 
-pub form-at : (factor : ℕ) (mode : DepsMode) (count : ℕ) (os : List Id) (nodes : List Node) (newest : ℕ → Option Id) (v : Sharing) → Keeps factor mode count os nodes newest
-    → sharing_of mode (all_made os nodes) ≡ v → (i : ℕ) (n : Node) → IsIn v i → n ≡ get_or nodes i n → (f : Form) → n.form ≡ f → Forms v i (form_of os f)
-form-at factor mode count os nodes newest v keeps view i n inside is f form-is =
-    subst (λ (g : Form). Forms v i (form_of os g)) form-is (shows-at factor mode count os nodes newest v keeps view i n inside is).form
+pub form-at : (e : Expressions) (v : Sharing) → AreKept e → shared_by e ≡ v → (i : ℕ) (n : Node) → IsIn v i → n ≡ get_or e.nodes.items i n → (f : Form) → n.form ≡ f → Forms v i (form_of e.operands.items f)
+form-at e v kept view i n inside is f form-is = subst (λ (g : Form). Forms v i (form_of e.operands.items g)) form-is (shows-at e v kept view i n inside is).form
 
 pub bound-variable : (v : Sharing) (i : ℕ) (bound : Bool) → Forms v i (variable bound) → IsTrue bound ↔ IsBoundVar v.context (tree_of v i)
 bound-variable v i bound (x, b, is, at, bound-is) = (λ t. (x, b, is, at, bound-is ∙ t), back)

@@ -4,7 +4,7 @@ use Rattle.std.specs.Int.{bit_at}
 use Rattle.std.proofs.lemmas.Nat.Bits.{bit_at-zero}
 use Rattle.std.proofs.lemmas.Option.{slice_get-get_or, slice_get_within, none-some}
 use Rattle.std.proofs.lemmas.List.Elements.{Contains-append_cases}
-use Rattle.mz_base_theory.proofs.Offered.{contains_none, contains_cases}
+use Rattle.mz_base.proofs.Offered.{contains_none, contains_cases}
 use Rattle.mz_logic_theory.specs.Tree.{Trees, var, operand}
 use Rattle.mz_logic_theory.specs.Signature.{Signature}
 use Rattle.mz_logic_theory.specs.Sorts.{Fits}

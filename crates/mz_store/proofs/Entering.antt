@@ -5,7 +5,7 @@ use Rattle.std.proofs.lemmas.Bool.Decides.{eqb_tells}
 use Rattle.std.proofs.lemmas.Nat.Bits.{bit_at-pow_same, bit_at-pow_other, bit_at_above}
 use Rattle.std.proofs.lemmas.Option.{slice_get-get_or, none-some}
 use Rattle.std.proofs.lemmas.Bool.{cases_lt}
-use Rattle.mz_base_theory.proofs.Offered.{slice_get-last, contains_none, slice_get-append_add}
+use Rattle.mz_base.proofs.Offered.{slice_get-last, contains_none, slice_get-append_add}
 use Rattle.mz_logic_theory.specs.Tree.{var}
 use Rattle.mz_logic_theory.specs.Signature.{Signature}
 use Rattle.mz_logic_theory.specs.Variables.{InV}

@@ -3,7 +3,6 @@ use Rattle.std.proofs.Common.{ℕ, ◌≡◌, ◌<◌, ◌≤◌, Bool, true, fa
 use Rattle.std.proofs.lemmas.Option.{slice_get_within, slice_get-get_or}
 use Rattle.mz_logic_theory.proofs.Offered.{one_at}
 use Rattle.mz_store.specs.Nodes.{Made, MadeOf, variable, application, operands_at, form_of, made_of, all_made}
-use Rattle.mz_store.specs.Hashes.{hash_of}
 use Rattle.mz_store.specs.Chains.{IsOf, IsNode, IsLast, HasHash, earlier_of, Links, IsLinked, IsChain}
 use Rattle.mz_store.specs.declared.item.Id.{Id}
 use Rattle.mz_store.specs.declared.node.Node.{Node}
@@ -21,18 +20,18 @@ earlier-some i a other = ap (λ b. if b then None else Some a.earlier) other
 
 -- what is looked for stands before the k-th of the linked nodes, and the chain goes on with the last one before it
 abbrev pub IsSought : List Id → List Node → ℕ → List Id → Option Id → Type 0
-IsSought os nodes h is next = (factor : ℕ) × IsLinked factor os nodes × (k : ℕ) × (k ≤ length nodes) × IsLast factor (all_made os nodes) k (hash_of factor h is) next
+IsSought os nodes h is next = (hashed : ℕ → List Id → ℕ) × IsLinked hashed os nodes × (k : ℕ) × (k ≤ length nodes) × IsLast hashed (all_made os nodes) k (hashed h is) next
     × ((j : ℕ) → IsNode (all_made os nodes) h is j → j < k)
 
-of-hash : (factor : ℕ) (f : MadeOf) (h : ℕ) (is : List Id) → IsOf f h is → HasHash factor f (hash_of factor h is)
-of-hash factor (variable bound) h is nope = nope
-of-hash factor (application g os) h is (head-is, operands-are) = ap (λ t. hash_of factor t os) head-is ∙ ap (hash_of factor h) operands-are
+of-hash : (hashed : ℕ → List Id → ℕ) (f : MadeOf) (h : ℕ) (is : List Id) → IsOf f h is → HasHash hashed f (hashed h is)
+of-hash hashed (variable bound) h is nope = nope
+of-hash hashed (application g os) h is (head-is, operands-are) = ap (λ t. hashed t os) head-is ∙ ap (hashed h) operands-are
 
 pub sought-first : (os : List Id) (nodes : List Node) (h : ℕ) (is : List Id) (next : Option Id) → IsChain os nodes h is next → IsSought os nodes h is next
-sought-first os nodes h is next (factor, linked, last) = (factor, linked, length nodes, omega arith, last, λ j node. (let within : j < length (all_made os nodes) = slice_get_within (all_made os nodes) j node.0 node.1 in omega (arith, many-made os nodes)))
+sought-first os nodes h is next (hashed, linked, last) = (hashed, linked, length nodes, omega arith, last, λ j node. (let within : j < length (all_made os nodes) = slice_get_within (all_made os nodes) j node.0 node.1 in omega (arith, many-made os nodes)))
 
 pub sought-none : (os : List Id) (nodes : List Node) (h : ℕ) (is : List Id) → IsSought os nodes h is None → (j : ℕ) → IsNode (all_made os nodes) h is j → ⊥
-sought-none os nodes h is (factor, _, k, _, none, before) j (m, at, of) = none j m (before j (m, at, of)) at (of-hash factor m.form h is of)
+sought-none os nodes h is (hashed, _, k, _, none, before) j (m, at, of) = none j m (before j (m, at, of)) at (of-hash hashed m.form h is of)
 
 -- the next one of the chain is a node
 pub next-within : (os : List Id) (nodes : List Node) (h : ℕ) (is : List Id) (e : Id) → IsSought os nodes h is (Some e) → e.0 < length nodes
@@ -40,22 +39,16 @@ next-within os nodes h is e (_, _, k, small, (less, _, _), _) = omega arith
 
 -- and a term with the hash
 pub next-hash : (os : List Id) (nodes : List Node) (h : ℕ) (is : List Id) (e : Id) (sought : IsSought os nodes h is (Some e)) (n : Node) → slice_get nodes e.0 ≡ Some n
-    → HasHash sought.0 (made_of os n).form (hash_of sought.0 h is)
-next-hash os nodes h is e (factor, _, k, _, (_, (m, at, has), _), _) n here =
-    subst (λ (x : Made). HasHash factor x.form (hash_of factor h is)) (one_at at (made-at os nodes e.0 n here)) has
-
-pub next-term : (os : List Id) (nodes : List Node) (h : ℕ) (is : List Id) (e : Id) (d : Node) → IsSought os nodes h is (Some e)
-    → (bound : Bool) → (get_or nodes e.0 d).form ≡ Variable bound → ⊥
-next-term os nodes h is e d sought bound form-is =
-    subst (λ (f : Form). HasHash sought.0 (form_of os f) (hash_of sought.0 h is)) form-is
-    (next-hash os nodes h is e sought (get_or nodes e.0 d) (slice_get-get_or nodes e.0 d (next-within os nodes h is e sought)))
+    → HasHash sought.0 (made_of os n).form (sought.0 h is)
+next-hash os nodes h is e (hashed, _, k, _, (_, (m, at, has), _), _) n here =
+    subst (λ (x : Made). HasHash hashed x.form (hashed h is)) (one_at at (made-at os nodes e.0 n here)) has
 
 -- its operands lie within the list
-pub next-order : (factor : ℕ) (os : List Id) (nodes : List Node) (e : Id) (d : Node) (a : Term) → IsLinked factor os nodes → e.0 < length nodes → (get_or nodes e.0 d).form ≡ Application a
+pub next-order : (hashed : ℕ → List Id → ℕ) (os : List Id) (nodes : List Node) (e : Id) (d : Node) (a : Term) → IsLinked hashed os nodes → e.0 < length nodes → (get_or nodes e.0 d).form ≡ Application a
     → (a.from ≤ a.to) × (a.to ≤ length os)
-next-order factor os nodes e d a linked inside form-is = (
-  (subst (Links factor os (all_made os nodes) e.0) form-is (linked e.0 (get_or nodes e.0 d) (slice_get-get_or nodes e.0 d inside))).0,
-  (subst (Links factor os (all_made os nodes) e.0) form-is (linked e.0 (get_or nodes e.0 d) (slice_get-get_or nodes e.0 d inside))).1,
+next-order hashed os nodes e d a linked inside form-is = (
+  (subst (Links hashed os (all_made os nodes) e.0) form-is (linked e.0 (get_or nodes e.0 d) (slice_get-get_or nodes e.0 d inside))).0,
+  (subst (Links hashed os (all_made os nodes) e.0) form-is (linked e.0 (get_or nodes e.0 d) (slice_get-get_or nodes e.0 d inside))).1,
 )
 
 -- it is what is looked for
@@ -81,10 +74,10 @@ next-other os nodes h is e d a sought form-is other = (sought.0, sought.1, e.0, 
     says : slice_get (all_made os nodes) e.0 ≡ Some (record { sort = n.sort; deps = n.deps; form = application a.head (operands_at os a.from a.to) })
     says = subst (λ (f : Form). slice_get (all_made os nodes) e.0 ≡ Some (made_of os (record { sort = n.sort; deps = n.deps; form = f }))) form-is (made-at os nodes e.0 n here)
 
-    hash-is : hash_of sought.0 a.head (operands_at os a.from a.to) ≡ hash_of sought.0 h is
-    hash-is = subst (λ (f : Form). HasHash sought.0 (made_of os (record { sort = n.sort; deps = n.deps; form = f })).form (hash_of sought.0 h is)) form-is (next-hash os nodes h is e sought n here)
+    hash-is : sought.0 a.head (operands_at os a.from a.to) ≡ sought.0 h is
+    hash-is = subst (λ (f : Form). HasHash sought.0 (made_of os (record { sort = n.sort; deps = n.deps; form = f })).form (sought.0 h is)) form-is (next-hash os nodes h is e sought n here)
 
-    last : IsLast sought.0 (all_made os nodes) e.0 (hash_of sought.0 h is) (earlier_of e.0 a)
+    last : IsLast sought.0 (all_made os nodes) e.0 (sought.0 h is) (earlier_of e.0 a)
     last = subst (λ p. IsLast sought.0 (all_made os nodes) e.0 p (earlier_of e.0 a)) hash-is
         (subst (Links sought.0 os (all_made os nodes) e.0) form-is (sought.1 e.0 n here)).2
 
@@ -105,12 +98,12 @@ next-other os nodes h is e d a sought form-is other = (sought.0, sought.1, e.0, 
         less-than x y most apart = omega (arith, apart)
 
 -- and it stands before it
-pub earlier-less : (factor : ℕ) (os : List Id) (nodes : List Node) (e : Id) (d : Node) (a : Term) → IsLinked factor os nodes → e.0 < length nodes → (get_or nodes e.0 d).form ≡ Application a
+pub earlier-less : (hashed : ℕ → List Id → ℕ) (os : List Id) (nodes : List Node) (e : Id) (d : Node) (a : Term) → IsLinked hashed os nodes → e.0 < length nodes → (get_or nodes e.0 d).form ≡ Application a
     → earlier_of e.0 a ≡ Some a.earlier → a.earlier.0 < e.0
-earlier-less factor os nodes e d a linked inside form-is earlier-is =
-    below (earlier_of e.0 a) earlier-is (subst (Links factor os (all_made os nodes) e.0) form-is (linked e.0 (get_or nodes e.0 d) (slice_get-get_or nodes e.0 d inside))).2
+earlier-less hashed os nodes e d a linked inside form-is earlier-is =
+    below (earlier_of e.0 a) earlier-is (subst (Links hashed os (all_made os nodes) e.0) form-is (linked e.0 (get_or nodes e.0 d) (slice_get-get_or nodes e.0 d inside))).2
   where
-    below : (o : Option Id) → o ≡ Some a.earlier → IsLast factor (all_made os nodes) e.0 (hash_of factor a.head (operands_at os a.from a.to)) o → a.earlier.0 < e.0
+    below : (o : Option Id) → o ≡ Some a.earlier → IsLast hashed (all_made os nodes) e.0 (hashed a.head (operands_at os a.from a.to)) o → a.earlier.0 < e.0
     below None is _ = absurd cc
     below (Some x) is (less, _, _) = (let same : x ≡ a.earlier = cc in subst (λ (y : Id). y.0 < e.0) same less)
 

@@ -3,7 +3,7 @@ use Rattle.std.proofs.Common.{ℕ, suc, ◌≡◌, ◌≤◌, ◌+◌, ◌⊎◌
 use Rattle.std.proofs.lemmas.List.{get_or_append_left, length-append}
 use Rattle.std.proofs.lemmas.Option.{slice_get_within, none-some}
 use Rattle.std.proofs.Math.Seq.{get_or-append_seam}
-use Rattle.mz_base_theory.proofs.Offered.{length-push}
+use Rattle.mz_base.proofs.Offered.{length-push}
 use Rattle.mz_logic_theory.specs.Tree.{app, none, more}
 use Rattle.mz_logic_theory.specs.declared.binder.Binder.{Binder}
 use Rattle.mz_logic_theory.proofs.Offered.{extends_append, split_at, DepsInside}
@@ -15,6 +15,7 @@ use Rattle.mz_store.specs.declared.item.Id.{Id}
 use Rattle.mz_store.specs.declared.node.Node.{Node}
 use Rattle.mz_store.specs.declared.expressions.Expressions.{Expressions}
 use Rattle.mz_store.proofs.Chained.{only-last}
+use Rattle.mz_store.proofs.Made.{many-made, made-at, node-of}
 
 pub entered-all-push : (s : Sharing) (ns : List Made) (n : Made) → entered_all s (ns ++ n ∷ []) ≡ entered (entered_all s ns) n
 entered-all-push s [] n = refl
@@ -126,6 +127,18 @@ kept-grown s count count' os os' nodes n m kept alike says counted small form fr
         go (inl p) (inr q) = absurd (fresh i p (sym (tree-old i p) ∙ same ∙ tree-new j q))
         go (inr p) (inl q) = absurd (fresh j q (sym (tree-old j q) ∙ sym same ∙ tree-new i p))
         go (inr p) (inr q) = p ∙ sym q
+
+-- a store whose nodes say the same keeps the same
+pub kept-alike : (s : Sharing) (count : ℕ) (os os' : List Id) (nodes nodes' : List Node) → all_made os' nodes' ≡ all_made os nodes → IsKept s count os nodes → IsKept s count os' nodes'
+kept-alike s count os os' nodes nodes' same kept = record {
+  many = kept.many ∙ sym (many-made os nodes) ∙ ap length (sym same) ∙ many-made os' nodes';
+  count = kept.count;
+  small = kept.small;
+  inside = kept.inside;
+  shown = λ i n at. (let (k, here, is) = node-of os nodes i (made_of os' n) (sym (ap (λ (ms : List Made). slice_get ms i) same) ∙ made-at os' nodes' i n at) in
+      subst (Shows s i) is (kept.shown i k here));
+  once = kept.once;
+}
 
 -- ---- a store of nothing
 

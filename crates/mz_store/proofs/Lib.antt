@@ -1,6 +1,7 @@
 pub mod Places
 mod Made
 mod Chained
+mod Tabled
 mod Finding
 mod SameIds
 mod Longer

@@ -1,10 +1,9 @@
 -- What nodes say stays where operands and nodes are added at the ends of their lists.
 use Rattle.std.proofs.Common.{ℕ, zero, suc, ◌≡◌, ◌≤◌, ◌+◌, ◌-◌, List, [], ◌∷◌, ◌++◌, length, map, take, drop, slice_get, Some, refl, ap, ◌∙◌, arith}
-use Rattle.std.specs.Prelude.{⊤}
 use Rattle.std.proofs.lemmas.List.{take-append-le, drop-append-le, length-drop, take_all}
 use Rattle.std.proofs.lemmas.Option.{none-some}
 use Rattle.mz_logic_theory.proofs.Offered.{one_at}
-use Rattle.mz_store.specs.Nodes.{Made, MadeOf, application, operands_at, form_of, made_of, all_made}
+use Rattle.mz_store.specs.Nodes.{Made, MadeOf, application, operands_at, form_of, made_of, all_made, Lies, AllLie}
 use Rattle.mz_store.specs.declared.item.Id.{Id}
 use Rattle.mz_store.specs.declared.node.Node.{Node}
 use Rattle.mz_store.specs.declared.node.Form.{Form}
@@ -28,14 +27,6 @@ operands-new os more from to from-is to-is =
     ap (λ i. take (to - i) (drop i (os ++ more))) from-is ∙ ap (take (to - length os)) (drop-first os more) ∙ take_all (to - length os) more (omega arith)
 
 -- ---- nodes
-
--- its operands lie within the list
-abbrev pub Lies : List Id → Form → Type 0
-Lies os (Variable bound) = ⊤
-Lies os (Application a) = (a.from ≤ a.to) × (a.to ≤ length os)
-
-abbrev pub AllLie : List Id → List Node → Type 0
-AllLie os nodes = (i : ℕ) (n : Node) → slice_get nodes i ≡ Some n → Lies os n.form
 
 form-kept : (os more : List Id) (f : Form) → Lies os f → form_of (os ++ more) f ≡ form_of os f
 form-kept os more (Variable bound) _ = refl

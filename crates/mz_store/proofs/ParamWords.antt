@@ -1,7 +1,7 @@
 -- The words of parameters, one after another, and the context that they make.
 use Rattle.std.proofs.Common.{ℕ, suc, ◌≡◌, ◌<◌, ◌≤◌, ◌+◌, ◌^◌, Bool, true, false, MatchBool, List, [], ◌∷◌, ◌++◌, length, drop, get_or, refl, ap, sym, ◌∙◌, subst, arith, append-nil, append_assoc, add-one, drop-cons, if◌then◌else◌}
 use Rattle.std.proofs.lemmas.List.{length-append}
-use Rattle.mz_base_theory.proofs.Offered.{length-push}
+use Rattle.mz_base.proofs.Offered.{length-push}
 use Rattle.mz_logic_theory.specs.Words.{word_sort, word_deps, word_bound, binders_from, BitsRightAfter}
 use Rattle.mz_logic_theory.specs.declared.word.Word.{Word}
 use Rattle.mz_logic_theory.specs.declared.binder.Binder.{Binder}

@@ -1,32 +1,32 @@
 -- A term is looked for and put in at once.
-use Rattle.std.proofs.Common.{ℕ, ◌≡◌, ◌+◌, List, [], ◌∷◌, length, Option, Some, None, Result, Ok, Err, IfOk, OnErr, inl, inr, refl, ap, sym, ◌∙◌, subst, arith, append-nil}
+use Rattle.std.proofs.Common.{ℕ, ◌≡◌, ◌<◌, ◌+◌, List, [], ◌∷◌, length, Option, Some, None, Result, Ok, Err, IfOk, OnErr, inl, inr, refl, ap, sym, ◌∙◌, subst, arith, append-nil}
 use Rattle.mz_logic_theory.specs.Tree.{app}
 use Rattle.mz_logic_theory.specs.Words.{TermWords, term_at, word_sort, signatures_of}
 use Rattle.mz_store.specs.Bits.{Tells, bound_vars}
 use Rattle.mz_store.specs.Sharing.{Sharing, Shared, AreIn, Holds, KeepsIds, trees_of, IsOver, DependsOn, CanTake}
 use Rattle.mz_store.specs.Nodes.{Made, all_made, application, entered}
-use Rattle.mz_store.specs.Hashes.{hash_of}
-use Rattle.mz_store.specs.Chains.{IsChain, IsLast, IsNode}
+use Rattle.mz_store.specs.Chains.{IsChain, IsNode}
 use Rattle.mz_store.specs.Kept.{shared_by, named, IsAdded, HasMore}
+use Rattle.mz_store.specs.Tables.{bucket_of, newest_of, IsPut}
 use Rattle.mz_store.specs.Placed.{IsPlaced}
 use Rattle.mz_store.specs.declared.item.Id.{Id}
 use Rattle.mz_store.specs.declared.node.Node.{Node}
 use Rattle.mz_store.specs.declared.node.Application.{Application as Term}
 use Rattle.mz_store.specs.declared.expressions.Expressions.{Expressions}
-use Rattle.mz_store.proofs.Chained.{Puts}
+use Rattle.mz_store.specs.declared.table.Table.{Table}
 use Rattle.mz_store.proofs.Growing.{entry-new, last-in}
-use Rattle.mz_store.proofs.Finding.{sought-first, sought-none}
 use Rattle.mz_store.proofs.Adding.{Keeps, term-view, add-kept, more-view, more-kept, found-holds, missing-holds}
 use Rattle.mz_store.proofs.OverTerms.{over-term}
+use Rattle.mz_store.proofs.Tabled.{table-lies}
 
 -- what a store of these expressions and this table keeps
-abbrev pub Has : ℕ → Expressions → (ℕ → Option Id) → Type 0
-Has factor e newest = Keeps factor e.mode e.bound_count e.operands.items e.nodes.items newest
+abbrev pub Has : Table → Expressions → Type 0
+Has table e = Keeps table e.mode e.bound_count e.operands.items e.nodes.items
 
-same-modes : (factor : ℕ) (e e' : Expressions) (newest : ℕ → Option Id) → e'.mode ≡ e.mode → e'.bound_count ≡ e.bound_count → Keeps factor e.mode e.bound_count e'.operands.items e'.nodes.items newest → Has factor e' newest
-same-modes factor e e' newest mode-is count-is keeps =
-    subst (λ m. Keeps factor m e'.bound_count e'.operands.items e'.nodes.items newest) (sym mode-is)
-    (subst (λ k. Keeps factor e.mode k e'.operands.items e'.nodes.items newest) (sym count-is) keeps)
+same-modes : (table : Table) (e e' : Expressions) → e'.mode ≡ e.mode → e'.bound_count ≡ e.bound_count → Keeps table e.mode e.bound_count e'.operands.items e'.nodes.items → Has table e'
+same-modes table e e' mode-is count-is keeps =
+    subst (λ m. Keeps table m e'.bound_count e'.operands.items e'.nodes.items) (sym mode-is)
+    (subst (λ k. Keeps table e.mode k e'.operands.items e'.nodes.items) (sym count-is) keeps)
 
 -- ---- a term is added
 
@@ -34,23 +34,24 @@ same-modes factor e e' newest mode-is count-is keeps =
 abbrev term-of : Expressions → ℕ → List Id → Option Id → Term
 term-of e t is earlier = record { head = t; from = length e.operands.items; to = length e.operands.items + length is; earlier = named (length e.nodes.items) earlier }
 
-pub placed-kept : (factor : ℕ) (terms : List TermWords) (e e' : Expressions) (newest newest' : ℕ → Option Id) (v : Sharing) (t : ℕ) (is : List Id) (earlier : Option Id) (hash : ℕ) (id : Id)
-    → Has factor e newest → shared_by e ≡ v → IsAdded terms e t is earlier e' → AreIn v is → ((i : ℕ) → Holds v i (app t (trees_of v is)) → ⊥)
-    → hash ≡ hash_of factor t is → earlier ≡ newest hash → id.0 ≡ length e.nodes.items → Puts newest newest' hash id → Has factor e' newest'
-placed-kept factor terms e e' newest newest' v t is earlier hash id keeps view (deps, tells, os-are, nodes-are, mode-is, count-is) there fresh hash-is earlier-is place puts =
-    same-modes factor e e' newest' mode-is count-is
-    (add-kept factor e.mode e.bound_count e.operands.items e'.operands.items is e.nodes.items e'.nodes.items newest newest' (word_sort (term_at terms t).result) deps (term-of e t is earlier) v hash id
-    keeps view os-are refl refl nodes-are there fresh hash-is (ap (named (length e.nodes.items)) earlier-is) place puts)
+pub placed-kept : (table table' : Table) (terms : List TermWords) (e e' : Expressions) (v : Sharing) (t : ℕ) (is : List Id) (earlier : Option Id) (bucket : ℕ) (id : Id)
+    → Has table e → shared_by e ≡ v → IsAdded terms e t is earlier e' → AreIn v is → ((i : ℕ) → Holds v i (app t (trees_of v is)) → ⊥)
+    → bucket ≡ bucket_of table.factor (length table.buckets.items) t is → earlier ≡ newest_of table bucket → id.0 ≡ length e.nodes.items
+    → bucket < length table.buckets.items → IsPut table bucket id table' → Has table' e'
+placed-kept table table' terms e e' v t is earlier bucket id keeps view (deps, tells, os-are, nodes-are, mode-is, count-is) there fresh bucket-is earlier-is place within put =
+    same-modes table' e e' mode-is count-is
+    (add-kept table table' e.mode e.bound_count e.operands.items e'.operands.items is e.nodes.items e'.nodes.items (word_sort (term_at terms t).result) deps (term-of e t is earlier) v bucket id
+    keeps view os-are refl refl nodes-are there fresh bucket-is (ap (named (length e.nodes.items)) earlier-is) place within put)
 
-pub placed-new : (factor : ℕ) (terms : List TermWords) (e e' : Expressions) (newest : ℕ → Option Id) (v : Sharing) (t : ℕ) (is : List Id) (earlier : Option Id) (id : Id)
-    → Has factor e newest → shared_by e ≡ v → IsAdded terms e t is earlier e' → IsOver (signatures_of terms) v → CanTake terms v.context t (trees_of v is)
+pub placed-new : (table : Table) (terms : List TermWords) (e e' : Expressions) (v : Sharing) (t : ℕ) (is : List Id) (earlier : Option Id) (id : Id)
+    → Has table e → shared_by e ≡ v → IsAdded terms e t is earlier e' → IsOver (signatures_of terms) v → CanTake terms v.context t (trees_of v is)
     → id.0 ≡ length e.nodes.items → IsPlaced terms v t is id (shared_by e')
-placed-new factor terms e e' newest v t is earlier id keeps view (deps, tells, os-are, nodes-are, mode-is, count-is) over fit place =
+placed-new table terms e e' v t is earlier id (kept, known) view (deps, tells, os-are, nodes-are, mode-is, count-is) over fit place =
     inr (
       word_sort (term_at terms t).result,
       deps,
       now-is,
-      place ∙ sym keeps.0.many ∙ ap (λ s. length s.entries) view,
+      place ∙ sym kept.many ∙ ap (λ s. length s.entries) view,
       subst (IsOver (signatures_of terms)) (sym now-is)
           (over-term terms v t is (word_sort (term_at terms t).result) deps over fit refl
           (subst (λ s. Tells (bound_vars s.context) deps (DependsOn s.mode (signatures_of terms) s.context (app t (trees_of s is)))) view tells)),
@@ -58,48 +59,36 @@ placed-new factor terms e e' newest v t is earlier id keeps view (deps, tells, o
   where
     now-is : shared_by e' ≡ entered v (record { sort = word_sort (term_at terms t).result; deps = deps; form = application t is })
     now-is = ap (λ m. shared_by (record e' { mode = m })) mode-is
-        ∙ term-view factor e.mode e.bound_count e.operands.items e'.operands.items is e.nodes.items e'.nodes.items newest (word_sort (term_at terms t).result) deps (term-of e t is earlier) v
-        keeps view os-are refl refl nodes-are
+        ∙ term-view e.mode e.operands.items e'.operands.items is e.nodes.items e'.nodes.items (word_sort (term_at terms t).result) deps (term-of e t is earlier) v
+        (table-lies table e.operands.items e.nodes.items known) view os-are refl refl nodes-are
 
 -- ---- no memory
 
-pub left-kept : (factor : ℕ) (e e' : Expressions) (newest newest' : ℕ → Option Id) → Has factor e newest → HasMore e e' → ((q : ℕ) → newest' q ≡ newest q) → Has factor e' newest'
-left-kept factor e e' newest newest' keeps (more, os-are, nodes-are, mode-is, count-is) same =
-    same-modes factor e e' newest' mode-is count-is
-    (more-kept factor e.mode e.bound_count e.operands.items e'.operands.items more e.nodes.items e'.nodes.items newest newest' keeps os-are nodes-are same)
+pub left-kept : (table : Table) (e e' : Expressions) → Has table e → HasMore e e' → Has table e'
+left-kept table e e' keeps (more, os-are, nodes-are, mode-is, count-is) =
+    same-modes table e e' mode-is count-is (more-kept table e.mode e.bound_count e.operands.items e'.operands.items more e.nodes.items e'.nodes.items keeps os-are nodes-are)
 
-pub left-same : (factor : ℕ) (e e' : Expressions) (newest : ℕ → Option Id) (v : Sharing) → Has factor e newest → shared_by e ≡ v → HasMore e e' → shared_by e' ≡ v
-left-same factor e e' newest v keeps view (more, os-are, nodes-are, mode-is, count-is) =
+pub left-same : (table : Table) (e e' : Expressions) (v : Sharing) → Has table e → shared_by e ≡ v → HasMore e e' → shared_by e' ≡ v
+left-same table e e' v (_, known) view (more, os-are, nodes-are, mode-is, count-is) =
     ap (λ m. shared_by (record e' { mode = m })) mode-is
-    ∙ more-view factor e.mode e.bound_count e.operands.items e'.operands.items more e.nodes.items e'.nodes.items newest v keeps view os-are nodes-are
+    ∙ more-view e.mode e.operands.items e'.operands.items more e.nodes.items e'.nodes.items v (table-lies table e.operands.items e.nodes.items known) view os-are nodes-are
 
--- ---- the table knows no term with the hash
+-- ---- what the table names, and what was found along the chain, or wasn't
 
-pub none-holds : (factor : ℕ) (e : Expressions) (newest : ℕ → Option Id) (v : Sharing) (t : ℕ) (is : List Id) → Has factor e newest → shared_by e ≡ v → AreIn v is → newest (hash_of factor t is) ≡ None
-    → (i : ℕ) → Holds v i (app t (trees_of v is)) → ⊥
-none-holds factor e newest v t is (kept, chained) view there lacks =
-    missing-holds (shared_by e) v e.bound_count e.operands.items e.nodes.items kept view t is there None
-    (sought-none e.operands.items e.nodes.items t is (sought-first e.operands.items e.nodes.items t is None
-    (factor, chained.linked, subst (IsLast factor (all_made e.operands.items e.nodes.items) (length e.nodes.items) (hash_of factor t is)) lacks (chained.last (hash_of factor t is)))))
+pub chain-here : (table : Table) (e : Expressions) (t : ℕ) (is os : List Id) (nodes : List Node) (first : Option Id) (bucket : ℕ)
+    → Has table e → os ≡ e.operands.items → nodes ≡ e.nodes.items → bucket ≡ bucket_of table.factor (length table.buckets.items) t is → first ≡ newest_of table bucket → IsChain os nodes t is first
+chain-here table e t is os nodes first bucket (_, (_, chained)) os-are nodes-are bucket-is first-is =
+    rw (os-are, nodes-are, first-is, bucket-is) (bucket_of table.factor (length table.buckets.items), chained.linked, chained.last (bucket_of table.factor (length table.buckets.items) t is))
 
--- ---- the last term with the hash, that the table knows
-
-pub chain-here : (factor : ℕ) (e : Expressions) (newest : ℕ → Option Id) (t : ℕ) (is os : List Id) (nodes : List Node) (first : Option Id) (hash : ℕ)
-    → Has factor e newest → os ≡ e.operands.items → nodes ≡ e.nodes.items → hash ≡ hash_of factor t is → first ≡ newest hash → IsChain os nodes t is first
-chain-here factor e newest t is os nodes first hash (_, chained) os-are nodes-are hash-is first-is =
-    rw (os-are, nodes-are, first-is, hash-is) (factor, chained.linked, chained.last (hash_of factor t is))
-
--- ---- what was found along the chain, or wasn't
-
-pub found-placed : (factor : ℕ) (terms : List TermWords) (e : Expressions) (newest : ℕ → Option Id) (v s' : Sharing) (t : ℕ) (is : List Id) (os : List Id) (nodes : List Node) (id : Id)
-    → Has factor e newest → shared_by e ≡ v → s' ≡ v → os ≡ e.operands.items → nodes ≡ e.nodes.items → IsNode (all_made os nodes) t is id.0 → IsPlaced terms v t is id s'
-found-placed factor terms e newest v s' t is os nodes id (kept, _) view same os-are nodes-are node =
+pub found-placed : (table : Table) (terms : List TermWords) (e : Expressions) (v s' : Sharing) (t : ℕ) (is : List Id) (os : List Id) (nodes : List Node) (id : Id)
+    → Has table e → shared_by e ≡ v → s' ≡ v → os ≡ e.operands.items → nodes ≡ e.nodes.items → IsNode (all_made os nodes) t is id.0 → IsPlaced terms v t is id s'
+found-placed table terms e v s' t is os nodes id (kept, _) view same os-are nodes-are node =
     inl (same, found-holds (shared_by e) v e.bound_count e.operands.items e.nodes.items kept view t is (Some id) (rw (sym os-are, sym nodes-are) node))
 
-pub missing-fresh : (factor : ℕ) (e : Expressions) (newest : ℕ → Option Id) (v : Sharing) (t : ℕ) (is : List Id) (os : List Id) (nodes : List Node)
-    → Has factor e newest → shared_by e ≡ v → AreIn v is → os ≡ e.operands.items → nodes ≡ e.nodes.items → ((i : ℕ) → IsNode (all_made os nodes) t is i → ⊥)
+pub missing-fresh : (table : Table) (e : Expressions) (v : Sharing) (t : ℕ) (is : List Id) (os : List Id) (nodes : List Node)
+    → Has table e → shared_by e ≡ v → AreIn v is → os ≡ e.operands.items → nodes ≡ e.nodes.items → ((i : ℕ) → IsNode (all_made os nodes) t is i → ⊥)
     → (i : ℕ) → Holds v i (app t (trees_of v is)) → ⊥
-missing-fresh factor e newest v t is os nodes (kept, _) view there os-are nodes-are lacks =
+missing-fresh table e v t is os nodes (kept, _) view there os-are nodes-are lacks =
     missing-holds (shared_by e) v e.bound_count e.operands.items e.nodes.items kept view t is there None
     (λ i node. lacks i (rw (os-are, nodes-are) node))
 

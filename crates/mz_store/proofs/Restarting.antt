@@ -1,10 +1,10 @@
 -- The first expressions of a store where these are variables, without what came after them.
-use Rattle.std.proofs.Common.{ℕ, suc, ◌≡◌, ◌<◌, ◌≤◌, ◌+◌, ◌⊎◌, Bool, true, false, List, [], ◌∷◌, ◌++◌, length, take, drop, slice_get, Option, Some, None, refl, ap, sym, ◌∙◌, subst, inl, inr, arith, append-nil, append_assoc, if◌then◌else◌}
+use Rattle.std.proofs.Common.{ℕ, suc, ◌≡◌, ◌<◌, ◌≤◌, ◌+◌, ◌⊎◌, Bool, true, false, List, [], ◌∷◌, ◌++◌, length, take, drop, slice_get, Some, refl, ap, sym, ◌∙◌, subst, inl, inr, arith, append-nil, append_assoc, if◌then◌else◌}
 use Rattle.std.specs.Int.{bit_at}
 use Rattle.std.proofs.Math.Seq.{take-append_seam}
 use Rattle.std.proofs.lemmas.List.{length-append, length-take-le, map-append, take-append-drop}
 use Rattle.std.proofs.lemmas.Option.{slice_get_within, none-some}
-use Rattle.mz_base_theory.proofs.Offered.{length-push}
+use Rattle.mz_base.proofs.Offered.{length-push}
 use Rattle.mz_logic_theory.specs.Tree.{Tree, var, app}
 use Rattle.mz_logic_theory.specs.Signature.{Signature}
 use Rattle.mz_logic_theory.specs.Sorts.{HasSort}
@@ -13,8 +13,7 @@ use Rattle.mz_logic_theory.proofs.Offered.{extends_append, split_at, DepsInside}
 use Rattle.mz_store.specs.Bits.{Tells, HasAt, bound_from, bound_vars}
 use Rattle.mz_store.specs.Sharing.{Shared, Sharing, entry_of, tree_of, trees_of, IsIn, IsOver, IsRight, DependsOn}
 use Rattle.mz_store.specs.Nodes.{Made, MadeOf, variable, application, operands_at, form_of, made_of, all_made, binder_after, context_with, entered, entered_all, no_expressions, sharing_of}
-use Rattle.mz_store.specs.Chains.{HasHash, IsLast, Links}
-use Rattle.mz_store.specs.Kept.{Forms, Shows, IsKept, IsChained}
+use Rattle.mz_store.specs.Kept.{Forms, Shows, IsKept}
 use Rattle.mz_store.specs.declared.item.DepsMode.{DepsMode}
 use Rattle.mz_store.specs.declared.item.DepsMode.TheVariants as of
 use Rattle.mz_store.specs.declared.item.Id.{Id}
@@ -22,10 +21,11 @@ use Rattle.mz_store.specs.declared.node.Node.{Node}
 use Rattle.mz_store.specs.declared.node.Form.{Form}
 use Rattle.mz_store.specs.declared.node.Form.TheVariants.{Variable, Application}
 use Rattle.mz_store.proofs.Beginning.{all-begins}
+use Rattle.mz_store.proofs.Chained.{AreVariables, made-variable}
 use Rattle.mz_store.proofs.Entering.{inside-grown}
 use Rattle.mz_store.proofs.Growing.{Begins, entry-kept, in-kept, mode-of}
 use Rattle.mz_store.proofs.Longer.{told-extends, told-back, told-below}
-use Rattle.mz_store.proofs.Made.{many-made, node-of}
+use Rattle.mz_store.proofs.Made.{many-made}
 use Rattle.mz_store.proofs.Places.{bound-within}
 
 -- ---- bound variables
@@ -72,12 +72,6 @@ inside-all s (m ∷ ms) inside = inside-all (entered s m) ms (by_form m.form)
 
 -- ---- nodes that are variables
 
-abbrev pub AreVariables : List Node → Type 0
-AreVariables ns = (i : ℕ) (n : Node) → slice_get ns i ≡ Some n → (b : Bool) × (n.form ≡ Variable b)
-
-made-variable : (os : List Id) (n : Node) (b : Bool) → n.form ≡ Variable b → made_of os n ≡ record { sort = n.sort; deps = n.deps; form = variable b }
-made-variable os n b is = ap (λ (f : Form). record { sort = n.sort; deps = n.deps; form = form_of os f }) is
-
 same-made : (os os' : List Id) (ns : List Node) → AreVariables ns → all_made os ns ≡ all_made os' ns
 same-made os os' [] vars = refl
 same-made os os' (n ∷ ns) vars = (let (b, is) = vars 0 n refl in
@@ -90,17 +84,6 @@ many-places s os (n ∷ ns) vars = (let (b, is) = vars 0 n refl in
     let one : length (entered s (made_of os n)).context ≡ suc (length s.context) = ap (λ (f : Form). length (context_with s (made_of os n) (form_of os f))) is ∙ length-push s.context (binder_after s.context n.sort n.deps b) in
     let rest : length (entered_all (entered s (made_of os n)) (all_made os ns)).context ≡ length (entered s (made_of os n)).context + length ns = many-places (entered s (made_of os n)) os ns (λ i m at. vars (suc i) m at) in
     omega (arith, one, rest))
-
--- they need no table
-pub chained-variables : (factor : ℕ) (os : List Id) (ns : List Node) (newest : ℕ → Option Id) → AreVariables ns → ((hash : ℕ) → newest hash ≡ None) → IsChained factor os ns newest
-chained-variables factor os ns newest vars none = record {
-  linked = λ i n at. (let (b, is) = vars i n at in subst (Links factor os (all_made os ns) i) (sym is) tt);
-  last = λ hash. subst (IsLast factor (all_made os ns) (length ns) hash) (sym (none hash)) (λ j m less at has. no-hash hash j m at has);
-}
-  where
-    no-hash : (hash j : ℕ) (m : Made) → slice_get (all_made os ns) j ≡ Some m → HasHash factor m.form hash → ⊥
-    no-hash hash j m at has = (let (n, here, is) = node-of os ns j m at in let (b, form) = vars j n here in
-        subst (λ (f : MadeOf). HasHash factor f hash) (ap (λ (x : Made). x.form) (sym is ∙ made-variable os n b form)) has)
 
 -- ---- the store of the first ones
 

@@ -1,6 +1,6 @@
 -- Operands that are tested one by one fit a term's parameters.
 use Rattle.std.proofs.Common.{ℕ, suc, ◌≡◌, ◌<◌, ◌≤◌, true, List, [], ◌∷◌, length, take, drop, get_or, slice_get, Some, Result, Ok, Err, OnOk, OnErr, ap, sym, subst, arith}
-use Rattle.mz_base_theory.proofs.Offered.{drop-past}
+use Rattle.mz_base.proofs.Offered.{drop-past}
 use Rattle.mz_logic_theory.specs.Signature.{Signature}
 use Rattle.mz_logic_theory.specs.Sorts.{HasSort, Fits, IsBoundVar}
 use Rattle.mz_logic_theory.specs.Words.{word_bound, word_sort, bound_places, binder_of, binders_of}

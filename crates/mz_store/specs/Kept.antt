@@ -36,9 +36,9 @@ pub record IsKept (s : Sharing) (bound_count : ℕ) (operands : List Id) (nodes 
   pub once : (i j : ℕ) → IsIn s i → IsIn s j → tree_of s i ≡ tree_of s j → i ≡ j
 
 -- the terms of each hash are a chain, which begins with the last one
-pub record IsChained (factor : ℕ) (operands : List Id) (nodes : List Node) (newest : ℕ → Option Id) : Type 0 where
-  pub linked : IsLinked factor operands nodes
-  pub last : (hash : ℕ) → IsLast factor (all_made operands nodes) (length nodes) hash (newest hash)
+pub record IsChained (hashed : ℕ → List Id → ℕ) (operands : List Id) (nodes : List Node) (newest : ℕ → Option Id) : Type 0 where
+  pub linked : IsLinked hashed operands nodes
+  pub last : (hash : ℕ) → IsLast hashed (all_made operands nodes) (length nodes) hash (newest hash)
 
 -- ---- the expressions without the table
 

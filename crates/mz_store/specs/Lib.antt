@@ -5,5 +5,6 @@ pub mod Hashes
 pub mod Chains
 pub mod Codes
 pub mod Kept
+pub mod Tables
 pub mod Laws
 pub mod Placed

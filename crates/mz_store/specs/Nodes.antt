@@ -1,5 +1,5 @@
 -- The trees that a list of nodes stands for: they are never written out.
-use Rattle.std.specs.Prelude.{ℕ, ◌≡◌, ◌<◌, ◌≤◌, ◌-◌, ◌^◌, Bool, MatchBool, List, [], ◌∷◌, ◌++◌, length, map, take, drop, if◌then◌else◌}
+use Rattle.std.specs.Prelude.{ℕ, ◌≡◌, ◌<◌, ◌≤◌, ◌-◌, ◌^◌, ⊤, Bool, MatchBool, List, [], ◌∷◌, ◌++◌, length, map, take, drop, slice_get, Some, if◌then◌else◌}
 use Rattle.mz_logic_theory.specs.Tree.{Tree, var, app}
 use Rattle.mz_logic_theory.specs.Words.{places_set, word_sort, word_deps, word_bound}
 use Rattle.mz_logic_theory.specs.declared.word.Word.{Word}
@@ -35,6 +35,14 @@ made_of operands n = record { sort = n.sort; deps = n.deps; form = form_of opera
 
 abbrev pub all_made : List Id → List Node → List Made
 all_made operands nodes = map (made_of operands) nodes
+
+-- its operands lie within the list
+abbrev pub Lies : List Id → Form → Type 0
+Lies operands (Variable bound) = ⊤
+Lies operands (Application a) = (a.from ≤ a.to) × (a.to ≤ length operands)
+
+abbrev pub AllLie : List Id → List Node → Type 0
+AllLie operands nodes = (i : ℕ) (n : Node) → slice_get nodes i ≡ Some n → Lies operands n.form
 
 -- the word of a variable after so many bound ones: of a bound one its own bit, of a regular one bits of
 -- the bound ones before it

@@ -1,4 +1,4 @@
-//! From a head and operands to the expression that has them: those of one hash are a chain, the last
+//! From a head and operands to the expression that has them: those of one bucket are a chain, the last
 //! one first.
 ghost use Rattle.std.specs.Prelude.{ℕ, ◌≡◌, ◌↔◌, ◌≤◌, IfSome, IfNone, IsTrue, List, Some, length};
 ghost use Rattle.mz_store.specs.Nodes.{all_made, operands_at};
@@ -46,19 +46,22 @@ fn spread(factor: u64, hash: u64, id: u32) -> u64
 }
 
 /// The id of the term `head` over these operands, if there is one. `newest` is the last expression
-/// with their hash.
+/// of their bucket, if there is one.
 #[inline(always)]
 pub(crate) fn find(
     nodes: &[Node],
     operands: &[Id],
-    newest: Id,
+    newest: Option<Id>,
     head: u32,
     args: &[Id],
 ) -> Option<Id>
-    requires { IsChain operands.now nodes.now head args.now (Some newest) }
+    requires { IsChain operands.now nodes.now head args.now newest }
     ensures some { IfSome result (λ id. IsNode (all_made operands.now nodes.now) head args.now id.0) }
     ensures none { IfNone result ((i : ℕ) → IsNode (all_made operands.now nodes.now) head args.now i → ⊥) }
 {
+    let Some(newest) = newest else {
+        return None;
+    };
     let mut next = newest;
     'chain: loop {
         let Form::Application(made) = nodes[next.0 as usize].form else {
@@ -77,7 +80,7 @@ pub(crate) fn find(
 }
 
 #[inline(always)]
-fn part(ids: &[Id], from: usize, to: usize) -> &[Id]
+pub(crate) fn part(ids: &[Id], from: usize, to: usize) -> &[Id]
     requires order { from ≤ to }
     requires within { to ≤ length ids.now }
     ensures { result.now ≡ operands_at ids.now from to }

@@ -1,5 +1,4 @@
-//! The expressions of a store, without the table by which they are found: the table may be lent while
-//! they grow.
+//! The expressions of a store, without the table by which they are found.
 ghost use Rattle.std.specs.Prelude.{ℕ, ◌≡◌, ◌++◌, IfOk, OnOk, OnErr, List, length};
 ghost use Rattle.mz_store.specs.declared.item.Id.{Id};
 ghost use Rattle.mz_logic_theory.specs.Signature.{Signature};
@@ -36,8 +35,7 @@ impl Expressions {
         self.nodes[id.0 as usize].deps
     }
 
-    /// Adds the term `t` over these expressions, which isn't there. `earlier` is the last one with its
-    /// hash.
+    /// Adds the term `t` over these expressions, which isn't there. `earlier` is the last one of its bucket.
     ///
     /// # Errors
     ///

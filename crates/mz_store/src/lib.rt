@@ -10,6 +10,7 @@ mod laws;
 mod node;
 mod seed;
 mod store;
+mod table;
 
 pub use item::{DepsMode, Id, Item};
 pub use laws::{old_ids_keep_their_trees, words_meet};

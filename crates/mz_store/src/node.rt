@@ -24,6 +24,6 @@ pub struct Application {
     pub head: u32,
     pub from: u32,
     pub to: u32,
-    /// The last one before it with the same hash; itself where there is none.
+    /// The last one before it in the same bucket; itself where there is none.
     pub earlier: Id,
 }

@@ -9,15 +9,14 @@ ghost use Rattle.mz_store.specs.Sharing.{IsIn, AreIn, Holds, tree_of, trees_of, 
 ghost use Rattle.mz_store.specs.Nodes.{IsVariableWord, variable, variable_node, entered, entered_all};
 ghost use Rattle.mz_store.specs.Placed.{IsPlaced};
 
-use crate::buckets::{find, hash_of};
+use crate::buckets::find;
 use crate::expressions::Expressions;
 use crate::item::{DepsMode, Id};
 use crate::node::{Form, Node};
 use crate::seed::Seed;
+use crate::table::Table;
 use mz_logic_theory::{Terms, Word};
 use std::alloc::{AllocError, Global};
-use std::collections::HashMap;
-use std::collections::hash_map::Entry;
 use std::marker::Model;
 
 /// Expressions over the variables of one context, each kept once: two ids are equal exactly where
@@ -28,11 +27,8 @@ use std::marker::Model;
 #[derive(Drop)]
 pub struct Store {
     alloc: Global,
-    // what hashes are made with: odd, so that it takes no bit of them away
-    factor: u64,
     expressions: Expressions,
-    // from a hash to the last term that has it
-    newest: HashMap<u64, Id>,
+    table: Table,
 }
 
 impl Model for Store {
@@ -43,13 +39,12 @@ impl Model for Store {
 
     ghost coded = { sharing_code };
 
-    ghost use Rattle.std.specs.Prelude.{nat_eq};
-    ghost use Rattle.std.specs.HashMap.{get};
-    ghost use Rattle.mz_store.specs.Kept.{shared_by, AreKept, IsChained};
+    ghost use Rattle.mz_store.specs.Kept.{shared_by, AreKept};
+    ghost use Rattle.mz_store.specs.Tables.{IsTable};
 
     ghost view = { λ s. shared_by s.expressions };
 
-    ghost invariant = { λ s. AreKept s.expressions × IsChained s.factor s.expressions.operands.items s.expressions.nodes.items (get nat_eq s.newest) };
+    ghost invariant = { λ s. AreKept s.expressions × IsTable s.table s.expressions.operands.items s.expressions.nodes.items };
 }
 
 impl Store {
@@ -66,14 +61,13 @@ impl Store {
     {
         Store {
             alloc,
-            factor: seed.0 | 1,
             expressions: Expressions {
                 mode: DepsMode::All,
                 bound_count: 0,
                 nodes: Vec::new(alloc),
                 operands: Vec::new(alloc),
             },
-            newest: HashMap::new(alloc),
+            table: Table::new(alloc, seed.0 | 1),
         }
     }
 
@@ -117,7 +111,7 @@ impl Store {
         self.expressions.bound_count = bound;
         self.expressions.nodes.truncate(params as usize);
         self.expressions.operands.clear();
-        self.newest.clear();
+        self.table.forget();
     }
 
     fn clear(&mut self, mode: DepsMode)
@@ -128,7 +122,7 @@ impl Store {
         self.expressions.bound_count = 0;
         self.expressions.nodes.clear();
         self.expressions.operands.clear();
-        self.newest.clear();
+        self.table.forget();
     }
 
     /// Enters the variables that the words say.
@@ -213,31 +207,22 @@ impl Store {
         ensures ok { IfOk result (λ id. IsPlaced (T.all_terms terms.now) self.old t args.now id self.new) }
         ensures err { OnErr result (self.new ≡ self.old) }
     {
-        match self.newest.entry(hash_of(self.factor, t, args))? {
-            Entry::Occupied(mut place) => {
-                let newest = *place.get();
-                let there = find(
-                    &self.expressions.nodes,
-                    &self.expressions.operands,
-                    newest,
-                    t,
-                    args,
-                );
-                if let Some(id) = there {
-                    return Ok(id);
-                }
-                let id = self
-                    .expressions
-                    .add(self.alloc, terms, t, args, Some(newest))?;
-                place.insert(id);
-                Ok(id)
-            }
-            Entry::Vacant(place) => {
-                let id = self.expressions.add(self.alloc, terms, t, args, None)?;
-                place.insert(id);
-                Ok(id)
-            }
+        self.table.make_room(self.alloc, &mut self.expressions)?;
+        let bucket = self.table.bucket_of(t, args);
+        let newest = self.table.newest(bucket);
+        let there = find(
+            &self.expressions.nodes,
+            &self.expressions.operands,
+            newest,
+            t,
+            args,
+        );
+        if let Some(id) = there {
+            return Ok(id);
         }
+        let id = self.expressions.add(self.alloc, terms, t, args, newest)?;
+        self.table.put(bucket, id);
+        Ok(id)
     }
 
     /// How many expressions there are: their ids are the numbers below.
@@ -251,7 +236,7 @@ impl Store {
     pub fn once(&self)
         ensures { (i j : ℕ) → IsIn self.now i → IsIn self.now j → tree_of self.now i ≡ tree_of self.now j → i ≡ j }
     {
-        let _ = &self.newest;
+        let _ = &self.table;
     }
 
     /// Whether two expressions are the same.
@@ -263,7 +248,7 @@ impl Store {
         ensures ids { IsTrue result ↔ (a ≡ b) }
     {
         // Different ids have different trees: the store's invariant.
-        let _ = &self.newest;
+        let _ = &self.table;
         a == b
     }
 

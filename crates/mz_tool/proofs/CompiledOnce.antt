@@ -3,12 +3,12 @@ use Rattle.std.proofs.Common.{Bool, false, ◌≡◌, ◌⊎◌, ◌∙◌, ℕ,
 use Rattle.std.proofs.lemmas.Option.{same_Some}
 use Rattle.mz_io.specs.Calls.{Hold}
 use Rattle.mz_mmu_theory.specs.Weight.{Limit, sort_limit, parameter_limit, bound_limit, byte_limit, Passed}
-use Rattle.mz_emit_accepted_theory.specs.declared.rule.L.{L}
-use Rattle.mz_emit_accepted_theory.specs.declared.rule.L.TheVariants as rules
-use Rattle.mz_emit_accepted_theory.specs.Lines.{bytes_line, refusal_line, limit_line}
-use Rattle.mz_emit_accepted_theory.specs.Limits.{limit, over}
-use Rattle.mz_emit_accepted_theory.specs.Compiling.{IsCompilable, CompilesTo, IsDecided}
-use Rattle.mz_emit_accepted_theory.specs.CompiledLaws.{HasFile, HasOneFile}
+use Rattle.mz_emit_theory.specs.declared.rule.L.{L}
+use Rattle.mz_emit_theory.specs.declared.rule.L.TheVariants as rules
+use Rattle.mz_emit_theory.specs.Lines.{bytes_line, refusal_line, limit_line}
+use Rattle.mz_emit_theory.specs.Limits.{limit, over}
+use Rattle.mz_emit_theory.specs.Compiling.{IsCompilable, CompilesTo, IsDecided}
+use Rattle.mz_emit_theory.specs.CompiledLaws.{HasFile, HasOneFile}
 use Rattle.mz_tool_engine.specs.Said.{Said, Files}
 use Rattle.mz_tool_engine.specs.Run.{IsAnswer}
 use Rattle.mz_tool.specs.Compile.{IsCompiledTo, IsFaultLine, IsLimitLine, compile_says, IsAnsweredOnce}

@@ -1,14 +1,14 @@
 -- What comes of a proof text: it is compiled, or has a first fault, or passes a limit first.
 use Rattle.std.proofs.Common.{false, Bool, ◌≡◌, ◌≤◌, ℕ, List, length, Option, Some, subst, inl, inr, refl, arith}
-use Rattle.mz_base_theory.proofs.Offered.{all_hold-rest}
+use Rattle.mz_base.proofs.Offered.{all_hold-rest}
 use Rattle.mz_mmu_theory.specs.Statements.{Statement}
 use Rattle.mz_mmu_theory.specs.TextOf.{TextOf}
 use Rattle.mz_mmu_theory.specs.Weight.{byte_bound, each_within, bound_limit, bound_count, parameter_limit, parameter_count}
-use Rattle.mz_emit_accepted_theory.specs.declared.compiled.Compiled.{Compiled}
-use Rattle.mz_emit_accepted_theory.specs.declared.compiled.Compiled.TheVariants as answers
-use Rattle.mz_emit_accepted_theory.specs.Lines.{line_of as line_of_compiled}
-use Rattle.mz_emit_accepted_theory.specs.Limits.{limit, over}
-use Rattle.mz_emit_accepted_theory.specs.Compiling.{IsCompilation, CompilesTo, IsCompilable, IsDecided}
+use Rattle.mz_emit_theory.specs.declared.compiled.Compiled.{Compiled}
+use Rattle.mz_emit_theory.specs.declared.compiled.Compiled.TheVariants as answers
+use Rattle.mz_emit_theory.specs.Lines.{line_of as line_of_compiled}
+use Rattle.mz_emit_theory.specs.Limits.{limit, over}
+use Rattle.mz_emit_theory.specs.Compiling.{IsCompilation, CompilesTo, IsCompilable, IsDecided}
 use Rattle.mz_tool_engine.specs.Answering.{IsShort}
 use Rattle.mz_tool_engine.specs.Run.{longest}
 use Rattle.mz_tool_engine.specs.Outcomes.{OnYes}

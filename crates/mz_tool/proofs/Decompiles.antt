@@ -1,11 +1,11 @@
 -- What comes of a pair: it has a text, or a first refusal, or something stands first against its text.
 use Rattle.std.proofs.Common.{◌≡◌, ◌≤◌, ℕ, List, Option, length, ap, subst, inl, inr, refl, arith}
-use Rattle.mz_base_theory.proofs.Offered.{all_hold-rest}
+use Rattle.mz_base.proofs.Offered.{all_hold-rest}
 use Rattle.mz_match_theory.specs.Verdict.{Accepts, IsSound}
-use Rattle.mz_decompile_text_theory.specs.Phrasing.{text_of}
-use Rattle.mz_decompile_text_theory.specs.Names.{vocabulary_of}
-use Rattle.mz_decompile_theory.specs.Restated.{deep, too_long, depth_checks, greater_length}
-use Rattle.mz_decompile_theory.specs.Texts.{IsPlainText}
+use Rattle.mz_decompile_text.specs.Phrasing.{text_of}
+use Rattle.mz_decompile_text.specs.Names.{vocabulary_of}
+use Rattle.mz_decompile.specs.Restated.{deep, too_long, depth_checks, greater_length}
+use Rattle.mz_decompile.specs.Texts.{IsPlainText}
 use Rattle.mz_decompile.specs.declared.decompiled.Decompiled.{Decompiled}
 use Rattle.mz_decompile.specs.declared.decompiled.Decompiled.TheVariants as answers
 use Rattle.mz_decompile.specs.Decompiling.{IsDecompilation, IsTextFor, IsDecided}

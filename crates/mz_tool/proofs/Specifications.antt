@@ -1,13 +1,13 @@
 -- What comes of a text: it has a specification, or a first fault, or something stands first against a specification.
 use Rattle.std.proofs.Common.{false, ◌≡◌, ◌≤◌, ℕ, List, Option, length, ap, subst, inl, inr, refl, arith}
-use Rattle.mz_base_theory.proofs.Offered.{all_hold-rest}
-use Rattle.mz_prefix_theory.specs.Wording.{longest, local_in, long_in, too_long, local_checks, long_checks, local_terms, vocabulary_of, prefix_text, IsWordedAs}
+use Rattle.mz_base.proofs.Offered.{all_hold-rest}
+use Rattle.mz_prefix.specs.Wording.{longest, local_in, long_in, too_long, local_checks, long_checks, local_terms, vocabulary_of, prefix_text, IsWordedAs}
 use Rattle.mz_prefix.specs.declared.spec_text.SpecText.{SpecText}
 use Rattle.mz_prefix.specs.declared.spec_text.SpecText.TheVariants as answers
 use Rattle.mz_prefix.specs.SpecTexts.{IsWording, IsDecided}
 use Rattle.mz_match_theory.specs.Verdict.{Accepts}
-use Rattle.mz_emit_accepted_theory.specs.Compiling.{CompilesTo}
-use Rattle.mz_prefix_theory.specs.AgreeLaws.{DeclaresText}
+use Rattle.mz_emit_theory.specs.Compiling.{CompilesTo}
+use Rattle.mz_prefix.specs.AgreeLaws.{DeclaresText}
 use Rattle.mz_tool.specs.Specify.{IsSpecifiedTo, IsNotSpecified, AreItsSpecifications}
 use Rattle.mz_tool.specs.Specified.{spec_line}
 

@@ -2,10 +2,10 @@
 use Rattle.std.specs.Prelude.{◌≡◌, ◌⊎◌, ℕ, Bool, true, false, List, [], ◌∷◌, length, Option, Some, codes}
 use Rattle.mz_sexpr.specs.declared.rule.TextRefusal.{TextRefusal}
 use Rattle.mz_mmu_theory.specs.TextOf.{TextFault}
-use Rattle.mz_emit_accepted_theory.specs.declared.rule.L.{L}
-use Rattle.mz_emit_accepted_theory.specs.Lines.{bytes_line, refusal_line, limit_line}
-use Rattle.mz_emit_accepted_theory.specs.Limits.{limit, over}
-use Rattle.mz_emit_accepted_theory.specs.Compiling.{IsCompilable, CompilesTo, PassesLimit}
+use Rattle.mz_emit_theory.specs.declared.rule.L.{L}
+use Rattle.mz_emit_theory.specs.Lines.{bytes_line, refusal_line, limit_line}
+use Rattle.mz_emit_theory.specs.Limits.{limit, over}
+use Rattle.mz_emit_theory.specs.Compiling.{IsCompilable, CompilesTo, PassesLimit}
 use Rattle.mz_tool_engine.specs.Said.{Said, Files, OfOne}
 use Rattle.mz_tool_engine.specs.Run.{IsAnswerOver}
 

@@ -1,10 +1,10 @@
 -- The command `decompile SPEC BIN OUT`: all that is said of it (this project's own).
 use Rattle.std.specs.Prelude.{◌≡◌, ◌⊎◌, ℕ, List, [], ◌∷◌, length, Option, Some, codes}
 use Rattle.mz_match_theory.specs.Verdict.{IsSound}
-use Rattle.mz_emit_accepted_theory.specs.declared.rule.L.TheVariants.{Bytes}
-use Rattle.mz_emit_accepted_theory.specs.Lines.{limit_line}
-use Rattle.mz_decompile_theory.specs.Restated.{Unstated, deep, too_long}
-use Rattle.mz_decompile_theory.specs.Texts.{IsPlainText, IsUnstated}
+use Rattle.mz_emit_theory.specs.declared.rule.L.TheVariants.{Bytes}
+use Rattle.mz_emit_theory.specs.Lines.{limit_line}
+use Rattle.mz_decompile.specs.Restated.{Unstated, deep, too_long}
+use Rattle.mz_decompile.specs.Texts.{IsPlainText, IsUnstated}
 use Rattle.mz_decompile.specs.Decompiling.{IsTextFor}
 use Rattle.mz_decompile.specs.Printed.{decompiled_line, deep_line}
 use Rattle.mz_tool_engine.specs.Said.{Said, OfTwo}

@@ -1,7 +1,7 @@
 -- The line of what making a text of a binary answers (this project's own).
 use Rattle.std.specs.Prelude.{⊤, ℕ, List, [], length}
 use Rattle.mz_match_theory.specs.Verdict.{line_of}
-use Rattle.mz_decompile_theory.specs.Restated.{deep, too_long}
+use Rattle.mz_decompile.specs.Restated.{deep, too_long}
 use Rattle.mz_decompile.specs.declared.decompiled.Decompiled.{Decompiled}
 use Rattle.mz_decompile.specs.declared.decompiled.Decompiled.TheVariants as answers
 use Rattle.mz_decompile.specs.Printed.{decompiled_line}

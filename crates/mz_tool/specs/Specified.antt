@@ -1,7 +1,7 @@
 -- The line of what making a specification answers (this project's own).
 use Rattle.std.specs.Prelude.{ℕ, List, [], length}
-use Rattle.mz_emit_accepted_theory.specs.Lines.{refusal_line}
-use Rattle.mz_prefix_theory.specs.Wording.{local_in, long_in, too_long}
+use Rattle.mz_emit_theory.specs.Lines.{refusal_line}
+use Rattle.mz_prefix.specs.Wording.{local_in, long_in, too_long}
 use Rattle.mz_prefix.specs.Printed.{specified_line}
 use Rattle.mz_prefix.specs.declared.spec_text.SpecText.{SpecText}
 use Rattle.mz_prefix.specs.declared.spec_text.SpecText.TheVariants as answers

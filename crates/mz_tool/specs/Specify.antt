@@ -3,11 +3,11 @@ use Rattle.std.specs.Prelude.{◌≡◌, ◌⊎◌, ℕ, false, List, [], ◌∷
 use Rattle.mz_match_theory.specs.Verdict.{Accepts}
 use Rattle.mz_sexpr.specs.declared.rule.TextRefusal.{TextRefusal}
 use Rattle.mz_mmu_theory.specs.TextOf.{TextFault}
-use Rattle.mz_emit_accepted_theory.specs.declared.rule.L.TheVariants.{Bytes}
-use Rattle.mz_emit_accepted_theory.specs.Lines.{refusal_line, limit_line}
-use Rattle.mz_emit_accepted_theory.specs.Compiling.{CompilesTo}
-use Rattle.mz_prefix_theory.specs.Wording.{Unwritten, local_in, long_in, too_long, longest, IsWordedAs, IsUnwritten}
-use Rattle.mz_prefix_theory.specs.AgreeLaws.{DeclaresText}
+use Rattle.mz_emit_theory.specs.declared.rule.L.TheVariants.{Bytes}
+use Rattle.mz_emit_theory.specs.Lines.{refusal_line, limit_line}
+use Rattle.mz_emit_theory.specs.Compiling.{CompilesTo}
+use Rattle.mz_prefix.specs.Wording.{Unwritten, local_in, long_in, too_long, longest, IsWordedAs, IsUnwritten}
+use Rattle.mz_prefix.specs.AgreeLaws.{DeclaresText}
 use Rattle.mz_prefix.specs.Printed.{specified_line, local_line, long_line}
 use Rattle.mz_tool_engine.specs.Said.{Said, OfOne}
 

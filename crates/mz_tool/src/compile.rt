@@ -10,7 +10,7 @@ use mz_emit::{
     compilable_texts_have_files, compilation_is_decided, compile_bytes, compiled_line,
     texts_have_one_file,
 };
-use mz_emit_accepted_theory::Compiled;
+use mz_emit_theory::Compiled;
 use mz_io::{Failed, Sink};
 use mz_store::Seed;
 use mz_tool_engine::{Command, Contents, Inputs, Outcome, Output, Put};

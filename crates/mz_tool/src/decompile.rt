@@ -12,7 +12,7 @@ use mz_decompile::{
     Decompiled, decompilation_is_decided, decompile_bytes, decompiled_line, deep_line,
 };
 use mz_emit::compiled_line;
-use mz_emit_accepted_theory::{Compiled, L};
+use mz_emit_theory::{Compiled, L};
 use mz_io::{Failed, Sink};
 use mz_match::verdict_line;
 use mz_match_theory::accepted_pairs_are_sound;

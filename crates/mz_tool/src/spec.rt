@@ -8,7 +8,7 @@ ghost use Rattle.mz_tool.specs.Specified;
 use mz_base::Hashing;
 use mz_cmd::Mem;
 use mz_emit::compiled_line;
-use mz_emit_accepted_theory::{Compiled, L};
+use mz_emit_theory::{Compiled, L};
 use mz_io::{Failed, Sink};
 use mz_prefix::{
     SpecText, local_line, long_line, spec_of, specification_is_decided, specified_line,

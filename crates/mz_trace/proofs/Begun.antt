@@ -1,7 +1,7 @@
 -- Before the first command, and behind the last one.
 use Rattle.std.proofs.Common.{◌≡◌, ◌≤◌, ◌<◌, ◌^◌, ℕ, zero, suc, ◌+◌, List, [], ◌∷◌, ◌++◌, Ok, length, map, refl, sym, ap, ◌∙◌, subst, arith}
 use Rattle.std.proofs.lemmas.List.{append-nil, length-map, map-append}
-use Rattle.mz_base_theory.proofs.Offered.{one-further}
+use Rattle.mz_base.proofs.Offered.{one-further}
 use Rattle.mz_logic_theory.specs.Tree.{Tree, var}
 use Rattle.mz_logic_theory.specs.declared.binder.Binder.{Binder}
 use Rattle.mz_unify_theory.specs.Profile.{strict, expr, proof, obligation, conversion, Item as MachineItem}
@@ -16,8 +16,8 @@ use Rattle.mz_machine_theory.specs.Headings.{heading_of}
 use Rattle.mz_machine_env.specs.Before.{tables_before}
 use Rattle.mz_layout_tables.specs.declared.rows_so_far.Rows.{Rows}
 use Rattle.mz_machine_env.proofs.Offered.{binders_many}
-use Rattle.mz_trace_theory.specs.OneHoleContexts.{Part, expression, proved}
-use Rattle.mz_trace_theory.specs.Traces.{Trace, trace_start, trace_from, trace_body}
+use Rattle.mz_trace.specs.OneHoleContexts.{Part, expression, proved}
+use Rattle.mz_trace.specs.Traces.{Trace, trace_start, trace_from, trace_body}
 use Rattle.mz_trace.specs.Nodes.{Value, values, proof_at, HaveParts, AreProofs, IsProof}
 use Rattle.mz_trace.specs.Entries.{item_at, part_at, items_at, parts_at, IsStack}
 use Rattle.mz_trace.specs.Commands.{Stage, begun, values_in, context_of, state_of, trace_of, IsHeld, IsMade, IsRead, size_of}

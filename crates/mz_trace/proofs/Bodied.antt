@@ -15,8 +15,8 @@ use Rattle.mz_unify_theory.specs.UnifyMachine.{UnifyState, unify}
 use Rattle.mz_unify_theory.proofs.Offered.{some_is, operands-sorted, unfolding-is}
 use Rattle.mz_machine_theory.specs.MachineState.{RowsBefore, Declares, signatures_in}
 use Rattle.mz_machine_theory.proofs.Offered.{pair-at, signatures-are, signature-at}
-use Rattle.mz_trace_theory.specs.Traces.{variables_in}
-use Rattle.mz_trace_theory.proofs.Offered.{variables-are}
+use Rattle.mz_trace.specs.Traces.{variables_in}
+use Rattle.mz_trace.proofs.Deriving.{variables-are}
 use Rattle.mz_trace.specs.Nodes.{body_under}
 use Rattle.mz_trace.specs.Commands.{in_body}
 

@@ -21,7 +21,7 @@ use Rattle.mz_machine_theory.specs.Bodies.{BodyCommand, ends, proves, if_allowed
 use Rattle.mz_trace.specs.Commands.{Stage, IsRead, IsMade, state_of, trace_of, Goes, Leads, size_of}
 use Rattle.mz_trace.specs.Sharing.{nodes_by, nodes_for, nodes_from}
 use Rattle.mz_trace.specs.Runs.{RunsFrom, LeadsToEnd}
-use Rattle.mz_trace_theory.specs.Traces.{Trace, traced, trace_from}
+use Rattle.mz_trace.specs.Traces.{Trace, traced, trace_from}
 use Rattle.mz_trace.proofs.Known.{known-kept}
 
 abbrev read-is : Cmd → Result Cmd CmdFault

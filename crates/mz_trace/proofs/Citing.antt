@@ -23,8 +23,8 @@ use Rattle.mz_machine_theory.specs.ProofMachine.{proof_step, citation, matched_b
 use Rattle.mz_machine_theory.specs.FileRows.{thm_of_file}
 use Rattle.mz_machine_env.specs.Before.{Before}
 use Rattle.mz_machine_env.proofs.Offered.{thm-before, binders_many}
-use Rattle.mz_trace_theory.specs.OneHoleContexts.{Part, proved, proofs_above}
-use Rattle.mz_trace_theory.specs.Traces.{Trace, stacked, named, traced, cited as cited-beside}
+use Rattle.mz_trace.specs.OneHoleContexts.{Part, proved, proofs_above}
+use Rattle.mz_trace.specs.Traces.{Trace, stacked, named, traced, cited as cited-beside}
 use Rattle.mz_trace.specs.Nodes.{Value, a_proof, expression_at, expressions_at, proof_at, proofs_at, value_of, HasParts, IsExpression, AreExpressions, IsProof, AreProofs, Uses, IsClaim, conclusion_under}
 use Rattle.mz_trace.specs.Entries.{item_at, items_at, parts_at, IsStack, exprs_onto, proofs_onto, HasProofs}
 use Rattle.mz_trace.specs.Commands.{Stage, with_node, with_stack, with_name, on_stack, values_in, context_of, state_of, trace_of, IsHeld, IsMade, IsOfFile, IsRead, Goes, Leads, IsCited, MayCite, TakesHyps, size_of, unmade}

@@ -12,7 +12,7 @@ use Rattle.mz_unify_theory.specs.Steps.{◌>>=◌, ◌>>◌, need, want}
 use Rattle.mz_machine_theory.specs.MachineState.{RowsBefore, State}
 use Rattle.mz_machine_theory.specs.Premises.{is_conversion}
 use Rattle.mz_machine_theory.specs.ProofMachine.{proof_step, referred}
-use Rattle.mz_trace_theory.specs.Traces.{Trace, traced}
+use Rattle.mz_trace.specs.Traces.{Trace, traced}
 use Rattle.mz_trace.specs.Commands.{Stage, Known, IsRead, state_of, trace_of, Goes, Leads}
 use Rattle.mz_trace.specs.Sharing.{nodes_for}
 

@@ -2,12 +2,12 @@
 use Rattle.std.proofs.Common.{◌≡◌, ℕ, List, [], ◌∷◌, ◌++◌, map, refl, sym, ap, ◌∙◌}
 use Rattle.std.specs.Prelude.{reverse}
 use Rattle.std.proofs.lemmas.List.{reverse-append}
-use Rattle.mz_base_theory.proofs.Offered.{slice_get-append}
+use Rattle.mz_base.proofs.Offered.{slice_get-append}
 use Rattle.mz_logic_theory.specs.Tree.{app}
 use Rattle.mz_unify_theory.specs.Profile.{expr, proof}
 use Rattle.mz_unify_theory.specs.Spells.{trees_of}
 use Rattle.mz_machine_theory.specs.MachineState.{RowsBefore}
-use Rattle.mz_trace_theory.specs.OneHoleContexts.{proved, converted}
+use Rattle.mz_trace.specs.OneHoleContexts.{proved, converted}
 use Rattle.mz_trace.specs.Nodes.{Value, an_expression, a_conversion, a_proof, expression_of, conversion_of, proof_of, expression_at, conversion_at, proof_at, expressions_at, conversions_at, proofs_at, value_of, IsExpression, IsConversion, IsProof, AreExpressions, AreConversions, AreProofs, conclusion_under, body_under, IsClaim, IsBody, HasParts}
 use Rattle.mz_trace.specs.Entries.{item_at, part_at, IsItem, AreItems, owed_at, items_at, parts_at, ArePairs, IsStack, IsWaiting}
 use Rattle.mz_trace.specs.declared.node.RunNode.{RunNode}

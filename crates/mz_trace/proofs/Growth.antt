@@ -21,8 +21,8 @@ use Rattle.mz_machine_theory.specs.ProofMachine.{proof_step, built}
 use Rattle.mz_machine_theory.specs.FileRows.{term_of_file}
 use Rattle.mz_machine_env.specs.Before.{Before}
 use Rattle.mz_machine_env.proofs.Offered.{term-before, binders_many}
-use Rattle.mz_trace_theory.specs.OneHoleContexts.{Part, expression}
-use Rattle.mz_trace_theory.specs.Traces.{Trace, stacked, kept, traced}
+use Rattle.mz_trace.specs.OneHoleContexts.{Part, expression}
+use Rattle.mz_trace.specs.Traces.{Trace, stacked, kept, traced}
 use Rattle.mz_trace.specs.Nodes.{Value, an_expression, expression_at, expressions_at, value_of, HasParts, HasArity, IsExpression, AreExpressions, Applies}
 use Rattle.mz_trace.specs.Entries.{item_at, part_at, items_at, parts_at, AreItems, IsItem, IsStack, HasExprs}
 use Rattle.mz_trace.specs.Commands.{Stage, with_node, with_stack, on_stack, values_in, context_of, state_of, trace_of, IsHeld, IsMade, IsOfFile, IsRead, Goes, Leads, IsBuilt, MayBuild, size_of, unmade}

@@ -2,7 +2,7 @@
 use Rattle.std.proofs.Common.{◌≡◌, ℕ, suc, zero, true, false, List, [], ◌∷◌, ◌++◌, Some, Ok, length, map, refl, sym, ap, ◌∙◌, subst, arith, length-append}
 use Rattle.std.specs.Prelude.{slice_get, drop, nat_lt, not, ◌&&◌}
 use Rattle.std.proofs.lemmas.List.{map-append, append_assoc, length-map}
-use Rattle.mz_base_theory.proofs.Offered.{slice_get-map_at, not-true}
+use Rattle.mz_base.proofs.Offered.{slice_get-map_at, not-true}
 use Rattle.mz_cmd.specs.declared.rule.K.TheVariants as k
 use Rattle.mz_cmd.specs.declared.code.ProofCode.TheVariants as code
 use Rattle.mz_logic_theory.specs.Tree.{Tree, var}
@@ -16,9 +16,9 @@ use Rattle.mz_unify_theory.proofs.Offered.{from_bind, from_need, from_want, take
 use Rattle.mz_machine_theory.specs.MachineState.{RowsBefore}
 use Rattle.mz_machine_theory.specs.Premises.{pop, pop_obligation, may_be_dummy_sort, bound_count, is_obligation}
 use Rattle.mz_machine_theory.specs.ProofMachine.{proof_step, has_provable_sort, referred}
-use Rattle.mz_trace_theory.specs.OneHoleContexts.{expression, proved, paid}
-use Rattle.mz_trace_theory.specs.Traces.{stacked, kept, named, traced, referred as referred-part}
-use Rattle.mz_trace_theory.proofs.Offered.{to_want}
+use Rattle.mz_trace.specs.OneHoleContexts.{expression, proved, paid}
+use Rattle.mz_trace.specs.Traces.{stacked, kept, named, traced, referred as referred-part}
+use Rattle.mz_trace.proofs.Following.{to_want}
 use Rattle.mz_trace.proofs.StreamsApart.{expressions-both}
 use Rattle.mz_trace.proofs.FewNodes.{one-node}
 use Rattle.mz_trace.specs.Nodes.{Value, expression_at, expressions_at, conversion_at, proof_at, IsExpression, IsProof, AreProofs, IsConversion}

@@ -28,3 +28,13 @@ pub mod Dispatch
 pub mod Begun
 mod Whole
 mod StatementAt
+pub mod Following
+pub mod Taken
+pub mod Standing
+pub mod RowsStand
+pub mod Shapes
+pub mod WholeTraces
+pub mod BodiesMake
+pub mod PlainProofs
+pub mod Deriving
+pub mod Proving

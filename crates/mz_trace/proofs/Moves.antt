@@ -13,8 +13,8 @@ use Rattle.mz_unify_theory.specs.Tests.{same_tree}
 use Rattle.mz_unify_theory.proofs.Offered.{from_need, taken-is}
 use Rattle.mz_machine_theory.specs.MachineState.{RowsBefore, State}
 use Rattle.mz_machine_theory.specs.ProofMachine.{proof_step}
-use Rattle.mz_trace_theory.specs.OneHoleContexts.{paid}
-use Rattle.mz_trace_theory.specs.Traces.{Trace, stacked, traced}
+use Rattle.mz_trace.specs.OneHoleContexts.{paid}
+use Rattle.mz_trace.specs.Traces.{Trace, stacked, traced}
 use Rattle.mz_trace.specs.Nodes.{Value, a_conversion, expression_at, conversion_at, value_of, HasParts, IsConversion}
 use Rattle.mz_trace.specs.Entries.{item_at, part_at, AreItems, parts_at, IsWaiting}
 use Rattle.mz_trace.specs.Commands.{Stage, with_node, with_stack, with_kept, values_in, state_of, trace_of, IsHeld, IsMade, IsMadeBelow, Known, IsAny, Goes, Leads, MayPay, Pays, size_of}

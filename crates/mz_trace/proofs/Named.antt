@@ -19,8 +19,8 @@ use Rattle.mz_machine_theory.specs.Premises.{pop_expr, pop_proof, pop_obligation
 use Rattle.mz_machine_theory.specs.ProofMachine.{matched_by, unfolding_of, proof_step}
 use Rattle.mz_machine_theory.specs.Bodies.{BodyCommand, ends, proves, body_command}
 use Rattle.mz_machine_theory.proofs.Offered.{from_follow}
-use Rattle.mz_trace_theory.specs.OneHoleContexts.{Part, expression, proved, owed, converted, for_proof, for_turned, for_operand, for_unfolded, for_cut, paid, by_operands}
-use Rattle.mz_trace_theory.specs.Traces.{Trace, stacked, kept, named, saved, referred, conversion_saved, to_convert, below_sides, variables_in, cited, traced, trace_turn, trace_command, trace_from}
+use Rattle.mz_trace.specs.OneHoleContexts.{Part, expression, proved, owed, converted, for_proof, for_turned, for_operand, for_unfolded, for_cut, paid, by_operands}
+use Rattle.mz_trace.specs.Traces.{Trace, stacked, kept, named, saved, referred, conversion_saved, to_convert, below_sides, variables_in, cited, traced, trace_turn, trace_command, trace_from}
 
 -- one let more, if any
 abbrev IsFew : Trace → Trace → Type 0

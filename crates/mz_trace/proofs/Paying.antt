@@ -7,8 +7,8 @@ use Rattle.mz_logic_theory.specs.declared.binder.Binder.{Binder}
 use Rattle.mz_mmu_theory.specs.Proof.{by_conv}
 use Rattle.mz_unify_theory.specs.Spells.{trees_of}
 use Rattle.mz_machine_theory.specs.MachineState.{RowsBefore}
-use Rattle.mz_trace_theory.specs.OneHoleContexts.{Part, then_conv, paid, for_operand, owed}
-use Rattle.mz_trace_theory.specs.Traces.{Trace, stacked}
+use Rattle.mz_trace.specs.OneHoleContexts.{Part, then_conv, paid, for_operand, owed}
+use Rattle.mz_trace.specs.Traces.{Trace, stacked}
 use Rattle.mz_trace.specs.Nodes.{Value, a_conversion, expression_at, expressions_at, conversion_at, conversions_at, proof_at, value_of, HasParts, IsConversion, AreConversions}
 use Rattle.mz_trace.specs.Entries.{owed_at, items_at, parts_at, ArePairs, IsStack, IsWaiting}
 use Rattle.mz_trace.specs.Commands.{Stage, with_node, with_stack, values_in, context_of, state_of, trace_of, IsHeld, IsMadeBelow, MayPay, IsPaid, Pays, IsPassedOn, PassesOn, unmade}

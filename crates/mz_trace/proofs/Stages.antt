@@ -7,8 +7,8 @@ use Rattle.mz_logic_theory.specs.declared.binder.Binder.{Binder}
 use Rattle.mz_mmu_theory.specs.Proof.{Proof}
 use Rattle.mz_unify_theory.specs.Profile.{Item as MachineItem}
 use Rattle.mz_machine_theory.specs.MachineState.{RowsBefore, State}
-use Rattle.mz_trace_theory.specs.OneHoleContexts.{Part}
-use Rattle.mz_trace_theory.specs.Traces.{Trace}
+use Rattle.mz_trace.specs.OneHoleContexts.{Part}
+use Rattle.mz_trace.specs.Traces.{Trace}
 use Rattle.mz_trace.specs.Nodes.{Value, an_expression, a_conversion, a_proof, expression_of, conversion_of, proof_of, expression_at, conversion_at, proof_at, expressions_at, value_of, HasParts, IsExpression, IsConversion, IsProof, AreExpressions, AreProofs}
 use Rattle.mz_trace.specs.Entries.{item_at, part_at, items_at, parts_at, AreItems, IsStack, IsWaiting}
 use Rattle.mz_trace.specs.Commands.{Stage, with_node, with_stack, values_in, context_of, state_of, trace_of, IsHeld}

@@ -2,7 +2,7 @@
 use Rattle.std.proofs.Common.{◌≡◌, ℕ, true, List, [], ◌∷◌, ◌++◌, Option, Some, Ok, refl, sym, ap, subst, ◌∙◌, ◌⊎◌, inl, inr, length, append_assoc}
 use Rattle.std.specs.Prelude.{reverse, slice_get, not, ◌==◌, ◌&&◌}
 use Rattle.std.proofs.lemmas.List.{map-append, reverse-append, reverse-reverse, nil_from_length}
-use Rattle.mz_base_theory.proofs.Offered.{both-true}
+use Rattle.mz_base.proofs.Offered.{both-true}
 use Rattle.mz_cmd.specs.declared.rule.K.TheVariants as k
 use Rattle.mz_cmd.specs.declared.code.UnifyCode.{UnifyCode}
 use Rattle.mz_cmd.specs.declared.code.UnifyCode.TheVariants.{Term, TermSave, Ref, Dummy, Hyp}
@@ -17,7 +17,7 @@ use Rattle.mz_unify_theory.specs.Tests.{same_tree, is_bound_var}
 use Rattle.mz_unify_theory.specs.UnifyMachine.{in_definition, UnifyState, top_target, operands_of, within_any, is_fresh, unify_step}
 use Rattle.mz_unify_theory.proofs.Offered.{from_bind, from_need, from_want, some_is, taken-is, top-is, apart-is, listed-trees_of}
 use Rattle.mz_machine_theory.specs.MachineState.{RowsBefore}
-use Rattle.mz_trace_theory.specs.Traces.{variable_in, variables_in}
+use Rattle.mz_trace.specs.Traces.{variable_in, variables_in}
 use Rattle.mz_trace.specs.Nodes.{Value, an_expression, expression_of, expression_at, expressions_at, value_of, values, IsExpression, AreExpressions, HaveParts, IsApplication, Applies, IsVariable, IsVariableAt}
 use Rattle.mz_trace.specs.Streams.{IsReached, Executes, MayTakeApart, TakesApart}
 use Rattle.mz_trace.specs.declared.node.RunNode.{RunNode}

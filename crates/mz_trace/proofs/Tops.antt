@@ -11,7 +11,7 @@ use Rattle.mz_unify_theory.specs.Tests.{same_tree}
 use Rattle.mz_unify_theory.proofs.Offered.{from_bind, from_need, taken-is}
 use Rattle.mz_machine_theory.specs.MachineState.{RowsBefore}
 use Rattle.mz_machine_theory.specs.Premises.{pop_expr, pop_proof, pop_obligation, pop_conversion, pop_sides, pop_exprs}
-use Rattle.mz_trace_theory.specs.OneHoleContexts.{proofs_above}
+use Rattle.mz_trace.specs.OneHoleContexts.{proofs_above}
 use Rattle.mz_trace.specs.Nodes.{Value, expression_at, expressions_at, proof_at, proofs_at, AreExpressions, AreProofs}
 use Rattle.mz_trace.specs.Entries.{items_at, parts_at, IsStack, exprs_onto, proofs_onto, HasExprs, TookSides}
 use Rattle.mz_trace.specs.declared.entry.Item.TheVariants.{Expr, Proof, Conversion}

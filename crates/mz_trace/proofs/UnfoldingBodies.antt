@@ -21,9 +21,9 @@ use Rattle.mz_machine_theory.specs.MachineState.{RowsBefore, State, signatures_i
 use Rattle.mz_machine_theory.specs.Premises.{pop_expr, pop_sides}
 use Rattle.mz_machine_theory.specs.ProofMachine.{proof_step, unfolding_of, matched_by, stream_of}
 use Rattle.mz_machine_theory.proofs.Offered.{stream-row}
-use Rattle.mz_trace_theory.specs.OneHoleContexts.{owed, for_unfolded}
-use Rattle.mz_trace_theory.specs.Traces.{stacked, traced, below_sides, variables_in}
-use Rattle.mz_trace_theory.proofs.Offered.{to_want, to_bind}
+use Rattle.mz_trace.specs.OneHoleContexts.{owed, for_unfolded}
+use Rattle.mz_trace.specs.Traces.{stacked, traced, below_sides, variables_in}
+use Rattle.mz_trace.proofs.Following.{to_want, to_bind}
 use Rattle.mz_trace.specs.Nodes.{Value, an_expression, expression_of, expression_at, expressions_at, IsExpression, body_under, IsBody, IsApplication, Applies}
 use Rattle.mz_trace.specs.Entries.{items_at, parts_at, IsStack, IsWaiting, HasSides, TookSides}
 use Rattle.mz_trace.specs.Commands.{Stage, with_stack, values_in, context_of, state_of, trace_of, IsMade, Known, IsRead, Goes, Leads, in_body, MayMeet, Meets, unmade}

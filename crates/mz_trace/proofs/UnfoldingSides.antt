@@ -16,9 +16,9 @@ use Rattle.mz_unify_theory.specs.Tests.{same_tree}
 use Rattle.mz_unify_theory.proofs.Offered.{from_want, taken-is, some_is, listed-trees_of, same_tree-refl}
 use Rattle.mz_machine_theory.specs.MachineState.{RowsBefore, State}
 use Rattle.mz_machine_theory.specs.ProofMachine.{proof_step, same_term, sides}
-use Rattle.mz_trace_theory.specs.OneHoleContexts.{owed, for_operand, paid, by_operands}
-use Rattle.mz_trace_theory.specs.Traces.{stacked, traced}
-use Rattle.mz_trace_theory.proofs.Offered.{to_want}
+use Rattle.mz_trace.specs.OneHoleContexts.{owed, for_operand, paid, by_operands}
+use Rattle.mz_trace.specs.Traces.{stacked, traced}
+use Rattle.mz_trace.proofs.Following.{to_want}
 use Rattle.mz_trace.specs.Nodes.{Value, an_expression, expression_of, expression_at, expressions_at, values, conversions_at, AreConversions, HaveParts, HasArity, IsExpression, AreExpressions, Applies}
 use Rattle.mz_trace.specs.Entries.{owed_at, items_at, parts_at, ArePairs, IsWaiting}
 use Rattle.mz_trace.specs.Commands.{Stage, with_stack, values_in, state_of, trace_of, IsMade, IsAny, Goes, Leads}

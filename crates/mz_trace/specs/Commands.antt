@@ -15,8 +15,8 @@ use Rattle.mz_layout_tables.specs.declared.rows_so_far.Rows.{Rows}
 use Rattle.mz_logic_theory.specs.Signature.{Signature}
 use Rattle.mz_layout_tables.specs.Tables.{term_row, thm_row, term_count, thm_count}
 use Rattle.mz_unify_theory.specs.UnifyMachine.{in_citation, in_definition, Matching, UnifyState, unify}
-use Rattle.mz_trace_theory.specs.OneHoleContexts.{paid}
-use Rattle.mz_trace_theory.specs.Traces.{Trace, stacked, traced, variables_in}
+use Rattle.mz_trace.specs.OneHoleContexts.{paid}
+use Rattle.mz_trace.specs.Traces.{Trace, stacked, traced, variables_in}
 use Rattle.mz_trace.specs.Nodes.{Value, values, expressions_at, expression_at, conversion_at, proof_at, HaveParts, IsExpression, AreExpressions, AreProofs, IsConversion, Applies, Uses}
 use Rattle.mz_trace.specs.Entries.{item_at, part_at, items_at, parts_at, AreItems, IsStack, IsWaiting, exprs_onto, proofs_onto, HasExprs, HasProofs}
 use Rattle.mz_trace.specs.Sharing.{nodes_for}

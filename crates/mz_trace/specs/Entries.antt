@@ -4,7 +4,7 @@ use Rattle.mz_unify_theory.specs.Profile.{expr, proof, obligation, conversion, I
 use Rattle.mz_logic_theory.specs.Tree.{Tree}
 use Rattle.mz_unify_theory.specs.Spells.{trees_of}
 use Rattle.mz_machine_theory.specs.MachineState.{RowsBefore}
-use Rattle.mz_trace_theory.specs.OneHoleContexts.{Part, expression, proved, owed, converted, for_proof, for_turned, for_operand, for_unfolded, for_cut}
+use Rattle.mz_trace.specs.OneHoleContexts.{Part, expression, proved, owed, converted, for_proof, for_turned, for_operand, for_unfolded, for_cut}
 use Rattle.mz_trace.specs.Nodes.{Value, expression_at, expressions_at, conversion_at, conversions_at, proof_at, IsExpression, AreExpressions, IsConversion, AreConversions, IsProof, IsBody}
 use Rattle.mz_trace.specs.declared.entry.Item.{Item}
 use Rattle.mz_trace.specs.declared.entry.Item.TheVariants.{Expr, Proof, Conversion}

@@ -7,3 +7,7 @@ pub mod Commands
 pub mod Runs
 pub mod Streams
 pub mod Sides
+pub mod OneHoleContexts
+pub mod Traces
+pub mod Laws
+pub mod Examples

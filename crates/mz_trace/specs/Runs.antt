@@ -16,7 +16,7 @@ use Rattle.mz_machine_env.specs.Before.{tables_before}
 use Rattle.mz_layout_tables.specs.declared.rows_so_far.Rows.{Rows}
 use Rattle.mz_cmd.specs.declared.statement.StmtAt.TheVariants.{Head}
 use Rattle.mz_cmd.specs.StatementList.{statement_at}
-use Rattle.mz_trace_theory.specs.Traces.{Made, trace_from}
+use Rattle.mz_trace.specs.Traces.{Made, trace_from}
 use Rattle.mz_trace.specs.Commands.{Stage, IsRead, IsMade, state_of, trace_of, size_of}
 use Rattle.mz_trace.specs.Sharing.{nodes_from, nodes_in}
 use Rattle.mz_trace.specs.Claims.{HasClaims}

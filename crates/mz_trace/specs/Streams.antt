@@ -9,7 +9,7 @@ use Rattle.mz_unify_theory.specs.Profile.{strict}
 use Rattle.mz_unify_theory.specs.Streams.{of_definition, UnifyCommand, command_in}
 use Rattle.mz_unify_theory.specs.UnifyMachine.{in_definition, UnifyState, unify_step}
 use Rattle.mz_machine_theory.specs.MachineState.{RowsBefore}
-use Rattle.mz_trace_theory.specs.Traces.{variables_in}
+use Rattle.mz_trace.specs.Traces.{variables_in}
 use Rattle.mz_trace.specs.Nodes.{values, expressions_at, HaveParts, AreExpressions}
 use Rattle.mz_trace.specs.declared.node.RunNode.{RunNode}
 

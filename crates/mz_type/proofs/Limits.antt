@@ -1,7 +1,7 @@
 -- The limits are decided, and one passes first.
 use Rattle.std.proofs.Common.{ℕ, List, [], ◌∷◌}
-use Rattle.mz_base_theory.specs.Checks.{AreDecided}
-use Rattle.mz_base_theory.proofs.Offered.{fails_first-unique, all_hold-excludes, all_hold-or_fails, are_decided-both, at_most-decided}
+use Rattle.mz_base.specs.Checks.{AreDecided}
+use Rattle.mz_base.proofs.Offered.{fails_first-unique, all_hold-excludes, all_hold-or_fails, are_decided-both, at_most-decided}
 use Rattle.mz_mmu_theory.specs.Statements.{Statement}
 use Rattle.mz_mmu_theory.specs.Weight.{Limit, parameter_limit, bound_limit, sort_count, parameter_count, bound_count, byte_bound, each_within, limit_checks}
 use Rattle.mz_mmu_theory.specs.TypeLaws.{EachIsLimited}

@@ -1,8 +1,8 @@
 -- A text's statements are checked one after another; what each declares and what it says beside that are kept apart.
 use Rattle.std.proofs.Common.{ℕ, zero, suc, ◌≡◌, ◌<◌, ◌+◌, ◌^◌, List, [], ◌∷◌, ◌++◌, length, get_or, refl, sym, ap, ◌∙◌, subst, arith, Bool, Some, length-append, append-nil}
 use Rattle.std.specs.Prelude.{option_map, slice_get}
-use Rattle.mz_base_theory.specs.Checks.{AllHold}
-use Rattle.mz_base_theory.proofs.Offered.{Decides, decides-whole}
+use Rattle.mz_base.specs.Checks.{AllHold}
+use Rattle.mz_base.proofs.Offered.{Decides, decides-whole}
 use Rattle.mz_sexpr.specs.Node.{Nodes}
 use Rattle.mz_sexpr.specs.Number.{first, rest, node_count}
 use Rattle.mz_logic_theory.specs.Declaration.{Declaration}

@@ -1,7 +1,7 @@
 -- Each text is well typed or has exactly one first fault.
 use Rattle.std.proofs.Common.{ℕ, ◌≡◌, ◌⊎◌, inl, inr, Bool, List, subst}
-use Rattle.mz_base_theory.specs.Checks.{FailsFirst}
-use Rattle.mz_base_theory.proofs.Offered.{fails_first-unique}
+use Rattle.mz_base.specs.Checks.{FailsFirst}
+use Rattle.mz_base.proofs.Offered.{fails_first-unique}
 use Rattle.mz_sexpr.specs.Node.{Nodes}
 use Rattle.mz_sexpr.specs.declared.rule.TextRefusal.{TextRefusal}
 use Rattle.mz_mmu_theory.specs.Statements.{Statement, Reads}

@@ -1,8 +1,8 @@
 -- Statements of a text, one after another.
 use Rattle.std.proofs.Common.{ℕ, suc, ◌≡◌, ◌+◌, Bool, true, false, List, [], ◌∷◌, ◌++◌, sym, ap, ◌∙◌, subst}
 use Rattle.std.specs.Prelude.{⊤}
-use Rattle.mz_base_theory.specs.Checks.{Checks, ◌>>◌, retold, AllHold}
-use Rattle.mz_base_theory.proofs.Offered.{Decides, retold-fails, retold-holds}
+use Rattle.mz_base.specs.Checks.{Checks, ◌>>◌, retold, AllHold}
+use Rattle.mz_base.proofs.Offered.{Decides, retold-fails, retold-holds}
 use Rattle.mz_sexpr.specs.Node.{Node, Nodes, atom, list, no_nodes, node, parts}
 use Rattle.mz_sexpr.specs.Number.{first, rest}
 use Rattle.mz_sexpr.specs.declared.rule.TextRefusal.{TextRefusal}

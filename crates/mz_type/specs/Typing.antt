@@ -1,6 +1,6 @@
 -- What checking the type rules of a text answers.
 use Rattle.std.specs.Prelude.{ℕ, ◌≡◌, ⊤, List}
-use Rattle.mz_base_theory.specs.Checks.{FailsFirst}
+use Rattle.mz_base.specs.Checks.{FailsFirst}
 use Rattle.mz_mmu_theory.specs.TextView.{Forms}
 use Rattle.mz_mmu.specs.declared.text.TextStop.{TextStop}
 use Rattle.mz_mmu.specs.declared.text.TextStop.TheVariants as text_stop

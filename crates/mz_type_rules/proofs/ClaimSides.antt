@@ -3,7 +3,7 @@ use Rattle.std.proofs.Common.{ℕ, ◌≡◌, ◌↔◌, ◌<◌, ◌≤◌, ◌
 use Rattle.std.specs.Prelude.{IsTrue, IfOk, not}
 use Rattle.std.proofs.lemmas.List.{drop_all}
 use Rattle.std.proofs.lemmas.Result.{IfOk-weaker}
-use Rattle.mz_base_theory.proofs.Offered.{drop-item}
+use Rattle.mz_base.proofs.Offered.{drop-item}
 use Rattle.mz_logic_theory.specs.Conversions.{Conversion, Conversions, refl_conv, sym_conv, cong_conv, unfold_conv, gap_conv}
 use Rattle.mz_logic_theory.specs.Tree.{Tree, Trees, var, app, none, more, listed, past, instances, followed_by, variables}
 use Rattle.mz_logic_theory.proofs.Offered.{past-end}

@@ -1,7 +1,7 @@
 -- Steps of the checks of conversions.
 use Rattle.std.proofs.Common.{ℕ, suc, ◌≡◌, ◌<◌, ◌+◌, true≢false, IsTrue, List, [], ◌∷◌, length, get_or, drop, slice_get, None, Result, refl, sym, ap, subst, inl, inr}
-use Rattle.mz_base_theory.specs.Checks.{Checks, demand, ◌>>◌, AllHold, FailsFirst}
-use Rattle.mz_base_theory.proofs.Offered.{fails-after, all_hold-both}
+use Rattle.mz_base.specs.Checks.{Checks, demand, ◌>>◌, AllHold, FailsFirst}
+use Rattle.mz_base.proofs.Offered.{fails-after, all_hold-both}
 use Rattle.mz_sexpr.specs.declared.rule.U.{U}
 use Rattle.mz_sexpr.specs.Node.{Node, Nodes, place, parts}
 use Rattle.mz_sexpr.specs.Number.{first, rest}

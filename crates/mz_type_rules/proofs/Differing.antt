@@ -1,7 +1,7 @@
 -- Variables that differ, none of them in V of an operand, looked at one after another.
 use Rattle.std.proofs.Common.{◌≡◌, ◌⊎◌, ◌↔◌, ℕ, Bool, true, false, true≢false, IsTrue, List, [], ◌∷◌, Contains, refl, sym, subst, inl, inr}
 use Rattle.std.specs.Prelude.{⊤, not}
-use Rattle.mz_base_theory.proofs.Offered.{contains_none, contains_tail, contains_head, contains_cases}
+use Rattle.mz_base.proofs.Offered.{contains_none, contains_tail, contains_head, contains_cases}
 use Rattle.mz_logic_theory.specs.Tree.{Trees}
 use Rattle.mz_logic_theory.specs.Variables.{InSomeV}
 use Rattle.mz_logic_theory.specs.declared.binder.Binder.{Binder}

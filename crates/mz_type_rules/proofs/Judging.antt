@@ -1,8 +1,8 @@
 -- Answers of checks one after another.
 use Rattle.std.proofs.Common.{◌≡◌, Result, Ok, Err, inr, sym, subst}
 use Rattle.std.specs.Result.{IsErrAnd}
-use Rattle.mz_base_theory.specs.Checks.{Checks, ask, ◌>>◌, AllHold, FailsFirst, Judges}
-use Rattle.mz_base_theory.proofs.Offered.{fails-before, fails-after, all_hold-both, Decides, decides-after}
+use Rattle.mz_base.specs.Checks.{Checks, ask, ◌>>◌, AllHold, FailsFirst, Judges}
+use Rattle.mz_base.proofs.Offered.{fails-before, fails-after, all_hold-both, Decides, decides-after}
 use Rattle.mz_mmu_theory.specs.Stops.{Stops}
 use Rattle.mz_mmu_theory.specs.declared.fault.Fault.{Fault}
 use Rattle.mz_mmu_theory.specs.declared.fault.Stop.{Stop}

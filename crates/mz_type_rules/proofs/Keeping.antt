@@ -2,7 +2,7 @@
 use Rattle.std.proofs.Common.{ℕ, zero, suc, ◌≡◌, ◌<◌, ◌+◌, List, [], ◌∷◌, ◌++◌, length, Option, slice_get, Some, None, option_to_list, true≢false, refl, sym, ap, ◌∙◌, subst, arith, ⊎_elim}
 use Rattle.std.specs.Prelude.{IsSome}
 use Rattle.std.proofs.lemmas.Option.{same_Some}
-use Rattle.mz_base_theory.proofs.Offered.{slice_get-append, slice_get-last, slice_get-push_cases}
+use Rattle.mz_base.proofs.Offered.{slice_get-append, slice_get-last, slice_get-push_cases}
 use Rattle.mz_logic_theory.specs.Declaration.{Declaration}
 use Rattle.mz_logic_theory.specs.Tree.{Tree, Trees, none, more, listed, operand, instance, instances}
 use Rattle.mz_logic_theory.proofs.Offered.{instance-instance}

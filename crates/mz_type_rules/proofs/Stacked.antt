@@ -2,7 +2,7 @@
 use Rattle.std.proofs.Common.{ℕ, ◌≡◌, ◌≤◌, ◌+◌, List, [], ◌∷◌, length, drop, take, Result, Ok, Err, refl, sym, ap, ◌∙◌, subst, arith}
 use Rattle.std.specs.Result.{OnOk}
 use Rattle.std.proofs.lemmas.List.{drop_all}
-use Rattle.mz_base_theory.specs.Checks.{Checks, nothing, ask, ◌>>◌, AllHold}
+use Rattle.mz_base.specs.Checks.{Checks, nothing, ask, ◌>>◌, AllHold}
 use Rattle.mz_sexpr.specs.Node.{Node, parts}
 use Rattle.mz_logic_theory.specs.Tree.{Tree, Trees, app, none, more, listed, operand, followed_by}
 use Rattle.mz_logic_theory.specs.Conversions.{Conversion}

@@ -1,7 +1,7 @@
 -- Steps of the checks of statements.
 use Rattle.std.proofs.Common.{ℕ, ◌≡◌, ◌<◌, ◌+◌, Bool, List, ◌∷◌, length, get_or, drop, ap, sym, ◌∙◌, add-one}
 use Rattle.std.proofs.lemmas.List.{drop_more}
-use Rattle.mz_base_theory.specs.Checks.{demand, ◌>>◌}
+use Rattle.mz_base.specs.Checks.{demand, ◌>>◌}
 use Rattle.mz_sexpr.specs.declared.rule.U.{U}
 use Rattle.mz_sexpr.specs.Node.{Nodes, place}
 use Rattle.mz_sexpr.specs.Number.{first, rest}

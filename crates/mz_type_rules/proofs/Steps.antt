@@ -1,8 +1,8 @@
 -- Steps of the checks of expressions.
 use Rattle.std.proofs.Common.{ℕ, ◌≡◌, ◌<◌, ◌≤◌, ◌+◌, List, [], ◌∷◌, length, get_or, drop, sym, ap, ◌∙◌, subst, arith}
 use Rattle.std.proofs.lemmas.List.{drop_more, drop_all}
-use Rattle.mz_base_theory.specs.Checks.{Checks, AllHold, demand, ◌>>◌}
-use Rattle.mz_base_theory.proofs.Offered.{Decides, decides-after}
+use Rattle.mz_base.specs.Checks.{Checks, AllHold, demand, ◌>>◌}
+use Rattle.mz_base.proofs.Offered.{Decides, decides-after}
 use Rattle.mz_sexpr.specs.Node.{Nodes}
 use Rattle.mz_sexpr.specs.Number.{first, rest}
 use Rattle.mz_sexpr.specs.declared.rule.U.{U}

@@ -1,7 +1,7 @@
 -- What checks that take memory answer.
 use Rattle.std.specs.Prelude.{◌≡◌, List, Option, Some, None, Result, Ok, Err}
 use Rattle.std.specs.Borrow.{Bor}
-use Rattle.mz_base_theory.specs.Checks.{Checks, demand, ◌>>◌, AllHold}
+use Rattle.mz_base.specs.Checks.{Checks, demand, ◌>>◌, AllHold}
 use Rattle.mz_sexpr.specs.Node.{Node, Nodes, parts, place}
 use Rattle.mz_sexpr.specs.declared.rule.U.{U}
 use Rattle.mz_logic_theory.specs.Conversions.{Conversion}

@@ -1,6 +1,6 @@
 //! What is asked of parameters, dummies and results.
 ghost use Rattle.std.specs.Prelude.{◌≡◌, ◌↔◌, ◌<◌, IsTrue, All, drop, length};
-ghost use Rattle.mz_base_theory.specs.Checks.{Judges};
+ghost use Rattle.mz_base.specs.Checks.{Judges};
 ghost use Rattle.mz_logic_theory.specs.Declaration.{sorts};
 ghost use Rattle.mz_logic_theory.specs.Legality.{IsParam};
 ghost use Rattle.mz_logic_theory.specs.Variables.{IsBoundAt};

@@ -1,6 +1,6 @@
 //! What is asked of conversions.
 ghost use Rattle.std.specs.Prelude.{◌≡◌, ◌↔◌, ⊤, Bool, true, false, IfOk, IsTrue, length};
-ghost use Rattle.mz_base_theory.specs.Checks.{Judges, AllHold};
+ghost use Rattle.mz_base.specs.Checks.{Judges, AllHold};
 ghost use Rattle.mz_sexpr.specs.Number.{first, rest};
 ghost use Rattle.mz_sexpr.specs.Node.{parts};
 ghost use Rattle.mz_logic_theory.specs.Conversions.{refl_conv, sym_conv, cong_conv, unfold_conv, gap_conv, IsBoundOf};
@@ -21,10 +21,9 @@ ghost use Rattle.mz_mmu_theory.specs.Sides.{side, left};
 use crate::claim::{Claim, is_side};
 use crate::cursor::Cursor;
 use crate::exprs::{check_expr, check_exprs, check_operands, params_of};
+use mz_logic::{is_bound_var, sort_of, sort_of_term};
 use mz_logic_free::{VariableSet, some_name_any};
-use mz_logic_theory::{
-    Binder, Context, Env, Expr, Exprs, Hyps, TermDecl, is_bound_var, sort_of, sort_of_term,
-};
+use mz_logic_theory::{Binder, Context, Env, Expr, Exprs, Hyps, TermDecl};
 use mz_mmu_theory::{Conv, Convs, Fault, Stop, Vars};
 use mz_sexpr::U;
 use std::alloc::{AllocError, Global};

@@ -1,6 +1,6 @@
 //! What is asked of expressions.
 ghost use Rattle.std.specs.Prelude.{◌≡◌, drop};
-ghost use Rattle.mz_base_theory.specs.Checks.{Judges, AllHold};
+ghost use Rattle.mz_base.specs.Checks.{Judges, AllHold};
 ghost use Rattle.mz_sexpr.specs.Node.{parts};
 ghost use Rattle.mz_sexpr.specs.Number.{first, rest};
 ghost use Rattle.mz_logic_theory.specs.Declaration.{signatures};
@@ -10,10 +10,8 @@ ghost use Rattle.mz_logic_theory.specs.View.{tree};
 ghost use Rattle.mz_mmu_theory.specs.Rules.{expr_rules, exprs_rules, operand_rules, own_operand_rules, claim_rules};
 
 use crate::cursor::Cursor;
-use mz_logic_theory::{
-    Binder, Context, Env, Expr, ExprRef, Exprs, Operands, Shape, is_claim, lent_is_bound_var,
-    lent_sort_of,
-};
+use mz_logic::{is_claim, lent_is_bound_var, lent_sort_of};
+use mz_logic_theory::{Binder, Context, Env, Expr, ExprRef, Exprs, Operands, Shape};
 use mz_mmu_theory::Fault;
 use mz_sexpr::U;
 

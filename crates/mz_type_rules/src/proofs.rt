@@ -1,6 +1,6 @@
 //! What is asked of proofs.
 ghost use Rattle.std.specs.Prelude.{◌≡◌, ◌↔◌, ◌<◌, ◌≤◌, ◌+◌, IfOk, IsTrue, OnOk, drop, take, length};
-ghost use Rattle.mz_base_theory.specs.Checks.{AllHold, nothing};
+ghost use Rattle.mz_base.specs.Checks.{AllHold, nothing};
 ghost use Rattle.mz_sexpr.specs.Node.{parts};
 ghost use Rattle.mz_sexpr.specs.Number.{first};
 ghost use Rattle.mz_logic_theory.specs.Declaration.{signatures, assertions};

@@ -1,6 +1,6 @@
 //! What is asked of statements.
 ghost use Rattle.std.specs.Prelude.{◌≡◌, ◌↔◌, ◌++◌, ◌<◌, [], IsTrue, All, drop, length, Some, None};
-ghost use Rattle.mz_base_theory.specs.Checks.{Judges};
+ghost use Rattle.mz_base.specs.Checks.{Judges};
 ghost use Rattle.mz_sexpr.specs.Node.{parts};
 ghost use Rattle.mz_sexpr.specs.Number.{first};
 ghost use Rattle.mz_logic_theory.specs.Declaration.{signatures, assertions, sorts, defined};
@@ -25,11 +25,10 @@ use crate::cursor::Cursor;
 use crate::exprs::{check_claim, check_expr};
 use crate::lets::Lets;
 use crate::proofs::claim_at;
-use mz_logic::may_be_result_sort;
+use mz_logic::{may_be_result_sort, sort_of as sort_of_expr};
 use mz_logic_free::free_vars_are_among;
 use mz_logic_theory::{
     Binder, Context, Decl, Env, Expr, Hyps, TermDecl, TermForm, ThmDecl, ThmForm,
-    sort_of as sort_of_expr,
 };
 use mz_mmu_theory::{Declared, Fault, Proof, ProofBox, Stop};
 use mz_sexpr::U;

@@ -5,7 +5,7 @@ use Rattle.std.specs.Int.{bit_at}
 use Rattle.std.proofs.lemmas.Nat.Bits.{bit_at_and, bit_at_or, bit_at-zero, bit_at-lt, same_from_bits}
 use Rattle.std.proofs.lemmas.Bool.{eqb-true, or_right, or_left}
 use Rattle.std.proofs.lemmas.Option.{get_or_from_slice_get}
-use Rattle.mz_base_theory.proofs.Offered.{or-cases}
+use Rattle.mz_base.proofs.Offered.{or-cases}
 use Rattle.mz_logic_theory.specs.Tree.{Tree, var, app}
 use Rattle.mz_logic_theory.specs.Variables.{InV}
 use Rattle.mz_logic_theory.specs.declared.binder.Binder.{Binder}

@@ -1,7 +1,7 @@
 -- Where target and hypotheses are an instance of what a stream spells, the stream runs.
 use Rattle.std.proofs.Common.{◌≡◌, ℕ, zero, suc, ◌+◌, List, [], ◌∷◌, ◌++◌, length, map, Some, refl, sym, ap, subst, ◌∙◌, arith, append-nil, true}
 use Rattle.std.specs.Prelude.{slice_get, take, reverse}
-use Rattle.mz_base_theory.proofs.Offered.{slice_get-append_add}
+use Rattle.mz_base.proofs.Offered.{slice_get-append_add}
 use Rattle.mz_logic_theory.specs.Tree.{Tree, Trees, var, none, listed, operand, followed_by, variables, instance, instances, size}
 use Rattle.mz_logic_theory.specs.Signature.{Signature}
 use Rattle.mz_logic_theory.specs.Conversions.{AreFresh}

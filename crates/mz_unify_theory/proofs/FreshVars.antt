@@ -2,7 +2,7 @@
 use Rattle.std.proofs.Common.{◌≡◌, ℕ, zero, suc, ◌+◌, ◌<◌, Bool, true, false, List, [], ◌∷◌, ◌++◌, length, map, Some, refl, sym, ap, subst, ◌∙◌, inl, inr, ◌⊎◌, arith, true≢false, eq-eqb}
 use Rattle.std.specs.Prelude.{slice_get, take, Contains, ◌&&◌, ◌||◌, not, ◌==◌}
 use Rattle.std.proofs.lemmas.Option.{get_or_from_slice_get}
-use Rattle.mz_base_theory.proofs.Offered.{contains_at}
+use Rattle.mz_base.proofs.Offered.{contains_at}
 use Rattle.mz_logic_theory.specs.Tree.{Tree, Trees, var}
 use Rattle.mz_logic_theory.specs.Signature.{Signature}
 use Rattle.mz_logic_theory.specs.Legality.{sort_of}

@@ -4,7 +4,7 @@ use Rattle.std.specs.Prelude.{slice_get, reverse, ◌&&◌}
 use Rattle.std.proofs.lemmas.List.{reverse-reverse}
 use Rattle.std.proofs.lemmas.Option.{slice_get_within}
 use Rattle.std.proofs.lemmas.Bool.{cases_lt}
-use Rattle.mz_base_theory.proofs.Offered.{slice_get-within}
+use Rattle.mz_base.proofs.Offered.{slice_get-within}
 use Rattle.mz_cmd.specs.declared.rule.K.TheVariants as k
 use Rattle.mz_logic_theory.specs.Tree.{Tree, Trees, var, app, none, more, listed, size, trees_size}
 use Rattle.mz_logic_theory.specs.Signature.{Signature}

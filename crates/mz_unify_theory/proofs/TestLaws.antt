@@ -2,7 +2,7 @@
 use Rattle.std.proofs.Common.{◌≡◌, ℕ, suc, Bool, true, false, cond, eqb, not, List, [], ◌∷◌, Option, Some, None, refl, sym, ap, ◌∙◌, ◌⊎◌, inl, inr, arith, eq-eqb}
 use Rattle.std.specs.Prelude.{slice_get, Contains, ◌==◌, IsBitSet, bit_and, ◌^◌}
 use Rattle.std.proofs.lemmas.Bool.{eqb-true, or_right, or_left}
-use Rattle.mz_base_theory.proofs.Offered.{or-cases}
+use Rattle.mz_base.proofs.Offered.{or-cases}
 use Rattle.mz_logic_theory.specs.Tree.{Tree, Trees, var, app, none, more}
 use Rattle.mz_logic_theory.specs.Sorts.{IsBoundVar}
 use Rattle.mz_logic_theory.specs.Variables.{InV, InSomeV, is_member}

@@ -1,5 +1,34 @@
--- The language server in Neovim.
+-- The language server in Neovim, and the goal at the cursor in a window of its own (:MzGoal).
 local mz = { clients = {} }
+
+-- The text of what is to be proved at the cursor goes to `show`.
+function mz.goal(show)
+  local place = vim.lsp.util.make_position_params(0, "utf-16")
+  vim.lsp.buf_request(0, "mz/goal", place, function(_, found)
+    show(found and found.text or "There is no proof here.")
+  end)
+end
+
+-- Opens the window, which follows the cursor while it is open.
+function mz.goals()
+  local source, buffer = vim.api.nvim_get_current_buf(), vim.api.nvim_create_buf(false, true)
+  vim.cmd("botright 12split")
+  vim.api.nvim_win_set_buf(0, buffer)
+  vim.bo[buffer].bufhidden = "wipe"
+  vim.cmd("wincmd p")
+  local function follow()
+    if not vim.api.nvim_buf_is_valid(buffer) then
+      return true -- the window is closed: no more is followed
+    end
+    mz.goal(function(text)
+      if vim.api.nvim_buf_is_valid(buffer) then
+        vim.api.nvim_buf_set_lines(buffer, 0, -1, false, vim.split(text, "\n"))
+      end
+    end)
+  end
+  vim.api.nvim_create_autocmd({ "CursorMoved", "CursorMovedI", "TextChanged" }, { buffer = source, callback = follow })
+  follow()
+end
 
 -- Starts the server for the present buffer; buffers of one folder share one.
 function mz.start()

@@ -9,6 +9,7 @@ augroup mz
   autocmd!
   if has("nvim")
     autocmd FileType mm0,mmu lua require("mz").start()
+    command! MzGoal lua require("mz").goals()
   else
     autocmd User lsp_setup call lsp#register_server({"name": "mz", "cmd": {_ -> [get(g:, "mz", "mz"), "serve"]},
           \ "allowlist": ["mm0", "mmu"]})

@@ -17,8 +17,8 @@ syntax keyword mm0LeftOut input output
 
 " The keywords of .proofs.
 if expand("%:e") ==# "proofs"
-  syntax keyword mm0Statement import local neighbour with of
-  syntax keyword mm0Step have where by
+  syntax keyword mm0Statement import local with equality congruence propositional
+  syntax keyword mm0Step have where by calc rw prop sorry
 endif
 
 highlight default link mm0Comment Comment

@@ -58,7 +58,16 @@ class Specifications(Folder):
         return explain.refusal(f"refused: specification statement 13 at byte {at}: {code} words", ["verify", path, path])
 
     def test_a_token_of_several(self):
-        self.assertIn("`x->x`; a delimiter or spaces are missing: `x -> x`", self.said("axiom a (x: wff): $ x->x $;", "S9", "x->x"))
+        self.assertIn("the token is `x->x`\n  parted it is x -> x", self.said("axiom a (x: wff): $ x->x $;", "S9", "x->x"))
+
+    def test_a_parenthesis_without_a_delimiter(self):
+        path = self.write("b.mm0", "sort s;\nterm f (a: s): s;\naxiom k (p: s): $ f (f p) $;\n")
+        said = explain.refusal("refused: specification statement 3 at byte 46: S9 words", ["verify", path, path])
+        self.assertIn("the token is `(f`\n  parted it is ( f: write it so, with spaces\n  no `delimiter` is declared, so that spaces alone", said)
+
+    def test_a_dollar_that_is_forgotten(self):
+        said = self.said("axiom a (x: wff): $ x -> x ;\naxiom b (x: wff): $ x $;", "S3", "x $;")
+        self.assertIn("a.mm0:13:19 runs on into the next statement: a $ is likely missing in `$ x -> x ;`", said)
 
     def test_a_token_whose_notation_comes_later(self):
         self.assertIn("declared only later, on line 14", self.said("axiom a (x: nat): $ x + x $;\ninfixl plus: $+$ prec 60;", "S9", "+ x"))
@@ -88,7 +97,7 @@ class Specifications(Folder):
         self.assertIn("near it: theorem", self.said("theorm a: $ b $;", "S3", "theorm"))
 
     def test_where_reading_stops(self):
-        for text, wanted in (("axiom a (x: wff): $ x -> $;", "the string ends where an operand belongs"), ("axiom a (x: wff): $ ( x -> x $;", "the string ends where a `)` belongs"),
+        for text, wanted in (("axiom a (x: wff): $ x -> $;", "behind the last of 2 tokens: the string ends, and an operand belongs here"), ("axiom a (x: wff): $ ( x -> x $;", "behind the last of 4 tokens: the string ends, and a `)` for the `(` of token 1 belongs here"),
                              ("axiom a (x: wff): $ -> x $;", "`->` stands between two operands"), ("axiom a (x: wff): $ x x $;", "behind `x` an infix constant or the end belongs, and not `x`"),
                              ("axiom a {x: nat} (p: wff): $ A. x ( p -> p ) ) $;", "`)` closes nothing")):
             with self.subTest(text):
@@ -113,6 +122,37 @@ class Specifications(Folder):
         self.assertIn("the letter \u00e9 (U+00E9)", explain.refusal("refused: specification statement 2 at byte 11: S1 character", ["verify", path, path]))
 
 
+class Kinds(Folder):
+    """What is said of files of another kind than the command takes."""
+
+    def setUp(self):
+        super().setUp()
+        self.spec, self.text = self.write("a.mm0", "-- A comment.\n" + PROLOGUE), self.write("a.mmu", TEXT)
+        self.binary, self.source = self.write("a.mmb", b"MM0B\1\0"), self.write("a.proofs", "theorem t = h;\n")
+
+    def said(self, *words, of="binary statement 1 at byte 0: K1"):
+        line = f"refused: {of} words"
+        return explain.refusal(line, list(words)).replace(self.room + os.sep, "").split("\n")
+
+    def test_each(self):
+        cases = [
+            (("verify", self.binary, self.spec), ["a.mmb is a binary, and a specification belongs there",
+                                                  "a.mm0 is a specification, and a binary belongs there", "meant is: ./mz verify a.mm0 a.mmb"]),
+            (("verify", self.spec, self.text), ["a.mmu is a proof text, and a binary belongs there", "meant is: ./mz compile a.mmu a.mmb"]),
+            (("compile", self.source, "o.mmb"), ["a.proofs is a proof source, and a proof text belongs there", "meant is: ./mz prove a.proofs"]),
+            (("compile", self.binary, "o.mmb"), ["a.mmb is a binary, and a proof text belongs there", "meant is: ./mz decompile SPEC a.mmb a.mmu"]),
+            (("compile", self.spec, "o.mmb"), ["a.mm0 is a specification, and a proof text belongs there", "meant is: ./mz check a.mm0"]),
+            (("show", self.text), ["a.mmu is a proof text, and a binary belongs there", "meant is: ./mz compile a.mmu a.mmb"]),
+        ]
+        refused = {"verify": "specification statement 1 at byte 0: S3", "compile": "text statement 1 at byte 0: U3"}
+        for words, wanted in cases:
+            of = "binary statement 1 at byte 0: K1" if words[1] == self.spec and words[0] == "verify" else refused.get(words[0], "binary statement 1 at byte 0: K1")
+            self.assertEqual(self.said(*words, of=of), wanted, words)
+
+    def test_nothing_where_all_fit(self):
+        self.assertTrue(self.said("verify", self.spec, self.binary)[0].startswith("K1"))
+
+
 class Texts(Folder):
     """What is said of a text: TEXT, and a statement behind it; the place is that of a piece of the statement."""
 
@@ -125,6 +165,15 @@ class Texts(Folder):
         said = self.said("(theorem t ((a wff ()) (b wff ())) ((h a) (k b)) b () (ax_mp (a b) (ax_1 (a b)) h))", "U10", "(ax_1")
         self.assertIn("ax_mp wants for its hypothesis 1 of 2: (im a b)", said)
         self.assertIn("the subproof proves: (im a (im b a))", said)
+
+    def test_a_hypothesis_that_is_left_out(self):
+        said = self.said("(theorem t ((a wff ()) (b wff ())) ((h (im a b)) (k a)) b () (ax_mp (a b) h))", "U6", "(ax_mp")
+        self.assertIn("left out is a proof of hypothesis 2: a", said)
+
+    def test_what_stands_between_statements(self):
+        said = self.said("foo\n(sort x)", "U3", "foo")
+        self.assertIn("found here: foo, which stands between two statements\n  a statement begins with sort", said)
+        self.assertIn("near it: sort", self.said("(srot x)", "U3", "(srot"))
 
     def test_an_unknown_hypothesis(self):
         said = self.said("(theorem t ((a wff ())) ((hyp a)) a () (:let k hyp hyq))", "U5", "hyq")
@@ -153,7 +202,7 @@ class Texts(Folder):
         path = os.path.join(EXAMPLES, "local_in_axiom.mmu")
         said = explain.refusal("refused: text statement 5: local definition", ["spec", path, "a.mm0"])
         self.assertIn("is a local definition, of line ", said)
-        self.assertIn("local_in_axiom.mmu, line 5: (axiom ", said)
+        self.assertIn("local_in_axiom.mmu:5:1: (axiom ", said)
 
     def test_the_notation_of_the_specification_beside(self):
         self.write("a.mm0", PROLOGUE)
@@ -245,8 +294,8 @@ class Everything(Folder):
 
     def test_places(self):
         path = self.write("text", b"one\ntwo \x00 three\n\n\n")
-        self.assertEqual(Source(path).shown(8), [f"{path}, line 2, column 5:", "    two ? three", "        ^"])
-        self.assertEqual(Source(path).shown(18), [f"{path}, line 2, column 12, behind which the text ends:", "    two ? three", "               ^"])
+        self.assertEqual(Source(path).shown(8), [f"{path}:2:5:", "    two ? three", "        ^"])
+        self.assertEqual(Source(path).shown(18), [f"{path}:2:12, behind which the text ends:", "    two ? three", "               ^"])
 
 
 if __name__ == "__main__":

@@ -12,7 +12,7 @@ sys.path.insert(0, os.path.join(TOP, "scripts"))
 
 from explore.check import dead_links  # noqa: E402
 from explore.development import Development, judged  # noqa: E402
-from explore.lexemes import Unreadable  # noqa: E402
+from explore.lexemes import Unreadable, comment_above  # noqa: E402
 from explore.names import Names  # noqa: E402
 from explore.notations import Notations  # noqa: E402
 from explore.printer import Page, Printer, ReadBack, plain  # noqa: E402
@@ -64,6 +64,13 @@ def program_is_there():
 
 HAS_PROGRAM = program_is_there()
 sys.setrecursionlimit(50_000)
+
+
+class Comments(unittest.TestCase):
+    def test_above(self):
+        for text, wanted in (("-- One\n-- two\nsort s;", "One two"), ("-- Title\n--| First\n--| second\n-- third\nsort s;", "First second third"),
+                             ("--| One\n\nsort s;", ""), ("sort s;", "")):
+            self.assertEqual(comment_above(text, text.index("sort")), wanted)
 
 
 class Tokens(unittest.TestCase):
@@ -224,7 +231,7 @@ class Pages(unittest.TestCase):
 
     @unittest.skipUnless(HAS_PROGRAM, "mz isn't built")
     def test_developments(self):
-        folders = glob(os.path.join(TOP, "examples", "*", "README.md"))
+        folders = glob(os.path.join(TOP, "examples", "*", "*.proofs"))
         self.assertGreaterEqual(len(folders), 4)
         for folder in map(os.path.dirname, folders):
             name = os.path.basename(folder)

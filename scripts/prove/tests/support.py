@@ -7,7 +7,7 @@ from prove.command import examined
 from prove.development import EXAMPLES
 
 os.environ["MZ_EXPLAIN"] = "0"
-LIBRARIES = ("propositional", "predicate", "arithmetic", "classes", "primes")
+LIBRARIES = ("propositional", "predicate", "arithmetic", "classes", "primes", "groups")
 
 MONOID = """delimiter $ ( $ $ ) $;
 provable sort wff;
@@ -31,6 +31,42 @@ axiom gen {x: elt} (p: wff x): $ p $ > $ A. x p $;
 axiom drop {x: elt} (p: wff): $ A. x p $ > $ p $;
 def cancels (a b: elt): wff = $ a * b = 1 $;
 def central (a: elt) {.x: elt}: wff = $ A. x a * x = x * a $;
+"""
+
+LOGIC = """delimiter $ ( ~ $ $ ) $;
+provable sort wff;
+sort nat;
+term im (a b: wff): wff; infixr im: $->$ prec 25;
+term not (a: wff): wff; prefix not: $~$ prec 41;
+def an (a b: wff): wff = $ ~(a -> ~b) $; infixl an: $/\\$ prec 34;
+def or (a b: wff): wff = $ ~a -> b $; infixl or: $\\/$ prec 30;
+def iff (a b: wff): wff = $ (a -> b) /\\ (b -> a) $; infixl iff: $<->$ prec 20;
+axiom ax_1 (a b: wff): $ a -> b -> a $;
+axiom ax_2 (a b c: wff): $ (a -> b -> c) -> (a -> b) -> a -> c $;
+axiom ax_3 (a b: wff): $ (~a -> ~b) -> b -> a $;
+axiom ax_mp (a b: wff): $ a -> b $ > $ a $ > $ b $;
+term eq (a b: nat): wff; infixl eq: $=$ prec 50;
+term all {x: nat} (p: wff x): wff; prefix all: $A.$ prec 41;
+def ex {x: nat} (p: wff x): wff = $ ~A. x ~p $; prefix ex: $E.$ prec 41;
+term zero: nat; prefix zero: $0$ prec max;
+term add (a b: nat): nat; infixl add: $+$ prec 64;
+def sum (a b c: nat) {.x: nat}: wff = $ E. x (a + b) + x = c $;
+axiom eqid (a: nat): $ a = a $;
+axiom eqcom (a b: nat): $ a = b -> b = a $;
+axiom eqtr (a b c: nat): $ a = b -> b = c -> a = c $;
+axiom addeq (a b c d: nat): $ a = b -> c = d -> a + c = b + d $;
+axiom eqeq (a b c d: nat): $ a = b -> c = d -> (a = c <-> b = d) $;
+axiom add0 (a: nat): $ a + 0 = a $;
+axiom addcom (a b: nat): $ a + b = b + a $;
+axiom addass (a b c: nat): $ a + b + c = a + (b + c) $;
+axiom biid (a: wff): $ a <-> a $;
+axiom bicom (a b: wff): $ (a <-> b) -> (b <-> a) $;
+axiom bitr (a b c: wff): $ (a <-> b) -> (b <-> c) -> (a <-> c) $;
+axiom bi1 (a b: wff): $ (a <-> b) -> a -> b $;
+axiom imeq (a b c d: wff): $ (a <-> b) -> (c <-> d) -> (a -> c <-> b -> d) $;
+axiom noteq (a b: wff): $ (a <-> b) -> (~a <-> ~b) $;
+axiom albii {x: nat} (p q: wff x): $ p <-> q $ > $ A. x p <-> A. x q $;
+axiom albidv {x: nat} (a: wff) (p q: wff x): $ a -> (p <-> q) $ > $ a -> (A. x p <-> A. x q) $;
 """
 
 

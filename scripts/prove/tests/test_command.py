@@ -62,6 +62,21 @@ class Run(unittest.TestCase):
         self.assertEqual((is_right, asked), (False, ["compile", "verify"]))
         self.assertEqual(done(RIGHT, compile="refused: text statement 1 at byte 1: U3 form")[1:3], (False, ["compile"]))
 
+    def test_a_text_that_was_not_made_stays(self):
+        with room(a_mm0=MONOID + LEFT, a_proofs=RIGHT, a_mmu="(sort s)\n") as path:
+            source, text = os.path.join(path, "a.proofs"), os.path.join(path, "a.mmu")
+            with self.assertRaises(Wrong) as caught:
+                run(source, "--text", None)
+            self.assertIn("a.mmu wasn't made by prove", str(caught.exception))
+            self.assertTrue(run(source, "--text", None, True)[1])
+            with open(text, encoding="ascii") as file:
+                made = file.read()
+            self.assertTrue(made.startswith("-- Made of a.proofs by mz prove.\n(sort wff provable)"))
+            self.assertTrue(run(source, "--text", None)[1])
+            with open(text, "w", encoding="ascii") as file:
+                file.write(made.split("\n", 1)[1])
+            self.assertTrue(run(source, "--text", None)[1])
+
     def test_checked_and_text_alone(self):
         lines, is_right, asked, files = done(RIGHT, "--check")
         self.assertEqual((lines, is_right, asked), (["a.mmu is not what a.proofs makes"], False, []))
@@ -69,6 +84,29 @@ class Run(unittest.TestCase):
         lines, is_right, asked, files = done(RIGHT, "--text")
         self.assertEqual((lines, is_right, asked), (["a.mmu is written"], True, []))
         self.assertIn("a.mmu", files)
+
+
+    def test_how_long_what_is_found_is(self):
+        """mul_eq is cited twice, with h and with a reflexive equation for each of the other two."""
+        spec = MONOID + "theorem left (a b c: elt): $ a = b $ > $ c * a * c = c * b * c $;"
+        said = "equality eq refl eq_refl symm eq_symm trans eq_trans; congruence mul_eq;\n"
+        with room(a_mm0=spec, a_proofs=said + "theorem left = rw [h];") as path:
+            lines, _ = run(os.path.join(path, "a.proofs"), "--text", StandIn())
+        self.assertTrue(lines[-1].startswith("1 proof is found by rw and prop, of 4 citations; the longest has 4: rw in left, "), lines[-1])
+        self.assertTrue(lines[-1].endswith("a.proofs:2:16"), lines[-1])
+
+
+class Folders(unittest.TestCase):
+    def test_a_folder_stands_for_its_source(self):
+        with room(b_mm0=MONOID + LEFT, b_proofs=RIGHT) as path:
+            run(path, "--text", StandIn())
+            self.assertIn("b.mmu", os.listdir(path))
+
+    def test_none_and_several(self):
+        with room(a_mm0=MONOID) as path:
+            self.assertIn("has no proof source", typed("--check", path)[0])
+        with room(a_proofs="", b_proofs="") as path:
+            self.assertIn("has more than one proof source\n  found  a.proofs\n         b.proofs", typed("--check", path)[0])
 
 
 class Typed(unittest.TestCase):
@@ -89,7 +127,7 @@ class Typed(unittest.TestCase):
             with open(os.path.join(path, "a.proofs"), "ab") as file:
                 file.write(b"--\xc3\xa4\n")
             text, _ = typed("--check", os.path.join(path, "a.proofs"))
-            self.assertEqual(said([text]).split("\n")[0], "a.proofs:2:3: a byte that isn't ASCII can't stand here")
+            self.assertEqual(said([text]).split("\n")[0], "a.proofs:2:3: no file may have this character, the first byte of the letter ä (U+00E4)")
 
     def test_a_program_that_is_not_there(self):
         program = Program()

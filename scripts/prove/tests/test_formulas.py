@@ -50,7 +50,7 @@ class Refused(unittest.TestCase):
         known = theory()
         variables = {it.name: it for it in known.assertions["eq_trans"].binders}
         cases = {"a = ": "1:4: the formula ends too soon", "a = b b": "1:7: 'b' can't stand here",
-                 "a + b": "1:3: '+' can't stand here", "a * (b": "1:7: a ')' is wanting",
+                 "a + b": "1:3: '+' can't stand here", "a * (b": "1:7: a ')' is wanting\n  opened  '(', 1:5",
                  "x = a": "1:1: 'x' is no variable, constant or term here",
                  "= a": "1:1: '=' is no variable, constant or term here (it stands between two operands)",
                  "a * b": "1:1: this has the sort elt, and wff is wanted",

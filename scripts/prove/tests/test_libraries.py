@@ -9,7 +9,7 @@ from prove.texts import laid_out, place_in
 
 from .support import LIBRARIES, library
 
-COUNTS = {"propositional": 92, "predicate": 63, "arithmetic": 46, "classes": 43, "primes": 25}
+COUNTS = {"propositional": 92, "predicate": 63, "arithmetic": 46, "classes": 43, "primes": 25, "groups": 46}
 PROVE = os.path.dirname(os.path.dirname(os.path.abspath(__file__)))
 
 

@@ -11,25 +11,38 @@ class Kept {
   }
 }
 
-const providers = {}, told = {}, warnings = [];
+const providers = {}, told = {}, warnings = [], commands = {}, panel = { webview: {}, onDidDispose: () => {}, reveal: () => {} };
 const register = kind => (languages, provider) => ((providers[kind] = provider), new Kept());
 const listen = kind => call => ((told[kind] = call), new Kept());
 const uri = text => ({ toString: () => text });
 const [program, file] = process.argv.slice(2);
+const proofs = file.replace(/mm0$/, "proofs");
+const source = { languageId: "proofs", version: 1, uri: uri(`file://${proofs}`), getText: () => fs.readFileSync(proofs, "utf8").replace("(h,", "(sorry,") };
+const editor = { document: source, selection: { active: { line: 3, character: 10 } } };
 const document = { languageId: "mm0", version: 1, uri: uri(`file://${file}`), getText: () => fs.readFileSync(file, "utf8") };
 
 const vscode = {
   Range: Kept, Location: Kept, Diagnostic: Kept, CompletionItem: Kept, DocumentSymbol: Kept, Hover: Kept, MarkdownString: Kept,
-  Uri: { parse: uri },
+  CodeLens: Kept, CodeAction: Kept, CodeActionKind: { QuickFix: "quickfix" }, ViewColumn: { Beside: -2 }, Uri: { parse: uri },
+  WorkspaceEdit: class {
+    replace(...parts) {
+      this.parts = parts;
+    }
+  },
+  commands: { registerCommand: (name, call) => ((commands[name] = call), new Kept()) },
   languages: {
     createDiagnosticCollection: () => ({ set: () => {} }),
     registerHoverProvider: register("hover"), registerDefinitionProvider: register("definition"),
     registerReferenceProvider: register("references"), registerDocumentSymbolProvider: register("symbols"),
-    registerCompletionItemProvider: register("completion"),
+    registerCompletionItemProvider: register("completion"), registerCodeLensProvider: register("lenses"),
+    registerCodeActionsProvider: register("actions"),
   },
-  window: { showWarningMessage: text => warnings.push(text) },
+  window: {
+    showWarningMessage: text => warnings.push(text), createWebviewPanel: () => panel, activeTextEditor: editor,
+    onDidChangeTextEditorSelection: listen("selected"),
+  },
   workspace: {
-    textDocuments: [document],
+    textDocuments: [document, source],
     getConfiguration: () => ({ get: () => program }),
     onDidOpenTextDocument: listen("opened"), onDidChangeTextDocument: listen("changed"),
     onDidSaveTextDocument: listen("saved"), onDidCloseTextDocument: listen("closed"),
@@ -53,6 +66,17 @@ async function main() {
   assert.deepStrictEqual(symbols.map(it => it.parts[0]), ["wff", "elt", "eq", "mul", "eq_refl", "eq_symm", "mul_eq", "eq_left"]);
   const items = await providers.completion.provideCompletionItems(document, { line: 12, character: 50 });
   assert(items.some(it => it.parts[0] === "mul"));
+  await commands["mz.goal"]();
+  assert.match(panel.webview.html, /goal +a = b\n +visible +h: a = b/);
+  const lenses = await providers.lenses.provideCodeLenses(source);
+  const titles = await Promise.all(lenses.map(async it => (await providers.lenses.resolveCodeLens(it)).command.title));
+  assert.deepStrictEqual(titles, ["k: c = c", "⊢ a = b"]);
+  const place = { start: editor.selection.active, end: editor.selection.active };
+  const [action] = await providers.actions.provideCodeActions(source, place);
+  const { edit } = await providers.actions.resolveCodeAction(action);
+  assert.strictEqual(edit.parts[2], "h");
+  const steps = await providers.completion.provideCompletionItems(source, editor.selection.active);
+  assert.strictEqual(steps.reduce((a, b) => (b.sortText < a.sortText ? b : a)).parts[0], "h");
   told.closed(document);
   await extension.deactivate();
   console.log("the extension answers");

@@ -1,5 +1,5 @@
 use Rattle.std.proofs.Common.{◌∙◌, ℕ, refl, subst}
-use Rattle.mz_base_theory.specs.Checks.{AllHold}
+use Rattle.mz_base.specs.Checks.{AllHold}
 use Rattle.mz_layout_tables.specs.Tables.{thm_row}
 use Rattle.mz_layout_tables.specs.RowWords.{first_sorts, param_checks}
 use Rattle.mz_binary.specs.Remembering.{AreRight}

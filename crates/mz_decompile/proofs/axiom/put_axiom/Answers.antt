@@ -1,7 +1,7 @@
 use Rattle.std.proofs.Common.{◌<◌, ◌∷◌, [], ℕ, All, List, subst, sym, length}
-use Rattle.mz_decompile_text_theory.specs.Phrases.{a_list}
-use Rattle.mz_decompile_text_theory.specs.Naming.{vocabulary_by}
-use Rattle.mz_decompile_phrases.specs.ByNumber.{phrases_at}
+use Rattle.mz_decompile_text.specs.Phrases.{a_list}
+use Rattle.mz_decompile_text.specs.Naming.{vocabulary_by}
+use Rattle.mz_decompile_text.specs.ByNumber.{phrases_at}
 use Rattle.mz_decompile.specs.Adding.{Adds}
 use Rattle.mz_decompile.proofs.Statements.{axiom-told}
 use Rattle.mz_decompile.proofs.axiom.put_axiom.Goals as goal

@@ -1,9 +1,9 @@
 use Rattle.std.proofs.Common.{[], ◌∷◌}
 use Rattle.mz_layout_tables.specs.Tables.{thm_row}
 use Rattle.mz_logic_theory.specs.Words.{binders_of}
-use Rattle.mz_decompile_text_theory.specs.Phrases.{a_word, a_list}
-use Rattle.mz_decompile_text_theory.specs.Phrasing.{binders}
-use Rattle.mz_decompile_text_theory.specs.Naming.{vocabulary_by}
+use Rattle.mz_decompile_text.specs.Phrases.{a_word, a_list}
+use Rattle.mz_decompile_text.specs.Phrasing.{binders}
+use Rattle.mz_decompile_text.specs.Naming.{vocabulary_by}
 use Rattle.mz_decompile.proofs.Adding.{adds-then, word-is}
 use Rattle.mz_decompile.proofs.axiom.put_heading.Goals as goal
 

@@ -1,7 +1,7 @@
 use Rattle.std.proofs.Common.{◌+◌, drop, map}
 use Rattle.mz_unify_theory.specs.Spells.{dummy_of}
-use Rattle.mz_decompile_text_theory.specs.Phrasing.{binders}
-use Rattle.mz_decompile_text_theory.specs.Naming.{vocabulary_by}
+use Rattle.mz_decompile_text.specs.Phrasing.{binders}
+use Rattle.mz_decompile_text.specs.Naming.{vocabulary_by}
 use Rattle.mz_decompile.specs.Adding.{AreAdded}
 use Rattle.mz_decompile.proofs.dummies.put_dummies.Given as goal
 

@@ -1,7 +1,7 @@
 use Rattle.std.proofs.Common.{[], ◌∷◌}
 use Rattle.std.proofs.lemmas.Result.{on_ok_weaker}
-use Rattle.mz_decompile_text_theory.specs.Phrases.{a_word}
-use Rattle.mz_decompile_text_theory.specs.Naming.{vocabulary_by}
+use Rattle.mz_decompile_text.specs.Phrases.{a_word}
+use Rattle.mz_decompile_text.specs.Naming.{vocabulary_by}
 use Rattle.mz_decompile.proofs.Adding.{there, closed, begun, adds-then, word-is}
 use Rattle.mz_decompile.proofs.dummies.put_dummy.Goals as goal
 

@@ -1,10 +1,10 @@
 use Rattle.std.proofs.Common.{◌+◌, [], ◌∷◌, drop, get_or, refl, subst}
 use Rattle.std.proofs.lemmas.Result.{on_ok_weaker}
-use Rattle.mz_decompile_text_theory.specs.Phrases.{Phrase, a_word}
-use Rattle.mz_decompile_text_theory.specs.Phrasing.{list_of}
-use Rattle.mz_decompile_text_theory.specs.Naming.{vocabulary_by}
-use Rattle.mz_decompile_phrases.specs.ByNumber.{phrase_at, phrases_at}
-use Rattle.mz_decompile_proofs.proofs.Offered.{same-phrase}
+use Rattle.mz_decompile_text.specs.Phrases.{Phrase, a_word}
+use Rattle.mz_decompile_text.specs.Phrasing.{list_of}
+use Rattle.mz_decompile_text.specs.Naming.{vocabulary_by}
+use Rattle.mz_decompile_text.specs.ByNumber.{phrase_at, phrases_at}
+use Rattle.mz_decompile_text.proofs.Offered.{same-phrase}
 use Rattle.mz_decompile.specs.Adding.{Adds}
 use Rattle.mz_decompile.specs.Hypotheses.{named}
 use Rattle.mz_decompile.proofs.Adding.{added-first, added-more, added-there, added-last, one-there}

@@ -1,6 +1,6 @@
 use Rattle.std.proofs.Common.{drop}
-use Rattle.mz_decompile_text_theory.specs.Naming.{vocabulary_by}
-use Rattle.mz_decompile_phrases.specs.ByNumber.{phrases_at}
+use Rattle.mz_decompile_text.specs.Naming.{vocabulary_by}
+use Rattle.mz_decompile_text.specs.ByNumber.{phrases_at}
 use Rattle.mz_decompile.specs.Adding.{AreAdded}
 use Rattle.mz_decompile.specs.Hypotheses.{named}
 use Rattle.mz_decompile.proofs.hypotheses.put_hypotheses.Given as goal

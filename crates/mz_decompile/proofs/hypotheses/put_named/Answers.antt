@@ -1,8 +1,8 @@
 use Rattle.std.proofs.Common.{[], ◌∷◌}
 use Rattle.std.proofs.lemmas.Result.{on_ok_weaker}
-use Rattle.mz_decompile_text_theory.specs.Phrases.{a_word}
-use Rattle.mz_decompile_text_theory.specs.Naming.{vocabulary_by}
-use Rattle.mz_decompile_phrases.specs.ByNumber.{phrase_at}
+use Rattle.mz_decompile_text.specs.Phrases.{a_word}
+use Rattle.mz_decompile_text.specs.Naming.{vocabulary_by}
+use Rattle.mz_decompile_text.specs.ByNumber.{phrase_at}
 use Rattle.mz_decompile.proofs.Adding.{there, closed, named-one}
 use Rattle.mz_decompile.proofs.hypotheses.put_named.Goals as goal
 

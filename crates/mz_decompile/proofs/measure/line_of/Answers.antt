@@ -1,8 +1,8 @@
 use Rattle.std.proofs.Common.{◌∙◌, ap}
-use Rattle.mz_decompile_text_theory.specs.Naming.{vocabulary_by}
-use Rattle.mz_decompile_text_theory.specs.Phrases.{depth}
-use Rattle.mz_decompile_text_theory.specs.Phrasing.{statement}
-use Rattle.mz_decompile_phrases.specs.ByNumber.{phrase_at}
+use Rattle.mz_decompile_text.specs.Naming.{vocabulary_by}
+use Rattle.mz_decompile_text.specs.Phrases.{depth}
+use Rattle.mz_decompile_text.specs.Phrasing.{statement}
+use Rattle.mz_decompile_text.specs.ByNumber.{phrase_at}
 use Rattle.mz_decompile.proofs.Walking.{line-length, deep-is}
 use Rattle.mz_decompile.proofs.measure.line_of.Goals as goal
 

@@ -1,5 +1,5 @@
 use Rattle.std.proofs.Common.{refl, sym, subst, arith}
-use Rattle.mz_decompile_text_theory.specs.Naming.{vocabulary_by}
+use Rattle.mz_decompile_text.specs.Naming.{vocabulary_by}
 use Rattle.mz_binary_walk.specs.declared.passed.Passed.{Passed}
 use Rattle.mz_decompile.specs.declared.measure.Sizes.{Sizes}
 use Rattle.mz_decompile.proofs.Walking.{IsMeasuring, measuring-asks, measuring-first, measuring-stands, measuring-deep, measuring-more, measuring-last, deep-if, low-unless}

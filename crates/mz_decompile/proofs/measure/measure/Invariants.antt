@@ -1,6 +1,6 @@
 use Rattle.std.proofs.Common.{◌-◌, List, length}
 use Rattle.mz_mmu_theory.specs.Statements.{Statement}
-use Rattle.mz_decompile_text_theory.specs.Naming.{vocabulary_by}
+use Rattle.mz_decompile_text.specs.Naming.{vocabulary_by}
 use Rattle.mz_binary_walk.specs.Walk.{IsPlaced}
 use Rattle.mz_decompile.specs.Standing.{AreAll}
 use Rattle.mz_decompile.proofs.Walking.{IsMeasuring}

@@ -2,9 +2,9 @@ use Rattle.std.proofs.Common.{◌∙◌, ◌++◌, [], ◌∷◌, ap, subst}
 use Rattle.std.specs.Prelude.{if◌then◌else◌}
 use Rattle.std.proofs.lemmas.Result.{on_ok_weaker}
 use Rattle.mz_logic_theory.specs.Words.{places_set, word_bound, word_deps, word_sort}
-use Rattle.mz_decompile_text_theory.specs.Phrases.{Phrase, a_word}
-use Rattle.mz_decompile_text_theory.specs.Phrasing.{variable_names}
-use Rattle.mz_decompile_text_theory.specs.Naming.{vocabulary_by}
+use Rattle.mz_decompile_text.specs.Phrases.{Phrase, a_word}
+use Rattle.mz_decompile_text.specs.Phrasing.{variable_names}
+use Rattle.mz_decompile_text.specs.Naming.{vocabulary_by}
 use Rattle.mz_decompile.specs.Adding.{Adds}
 use Rattle.mz_decompile.proofs.Adding.{there, closed, begun, adds-then, word-is}
 use Rattle.mz_decompile.proofs.Lists.{binder-is}

@@ -1,8 +1,8 @@
 use Rattle.std.proofs.Common.{◌/◌, ◌+◌, ◌%◌, [], ◌∷◌, drop, get_or, refl}
 use Rattle.std.specs.Prelude.{◌==◌, if◌then◌else◌}
 use Rattle.std.proofs.lemmas.Result.{on_ok_weaker}
-use Rattle.mz_decompile_text_theory.specs.Phrases.{a_word}
-use Rattle.mz_decompile_text_theory.specs.Naming.{vocabulary_by}
+use Rattle.mz_decompile_text.specs.Phrases.{a_word}
+use Rattle.mz_decompile_text.specs.Naming.{vocabulary_by}
 use Rattle.mz_decompile.proofs.Adding.{added-first, added-more, added-there, added-last}
 use Rattle.mz_decompile.proofs.Lists.{deps-from, deps-step, deps-end}
 use Rattle.mz_decompile.proofs.params.put_deps.Goals as goal

@@ -1,5 +1,5 @@
 use Rattle.std.proofs.Common.{drop}
-use Rattle.mz_decompile_text_theory.specs.Naming.{vocabulary_by}
+use Rattle.mz_decompile_text.specs.Naming.{vocabulary_by}
 use Rattle.mz_decompile.specs.Adding.{AreAdded}
 use Rattle.mz_decompile.proofs.Lists.{deps-from}
 use Rattle.mz_decompile.proofs.params.put_deps.Given as goal

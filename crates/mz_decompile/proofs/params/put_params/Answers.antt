@@ -3,8 +3,8 @@ use Rattle.std.proofs.lemmas.Option.{get_or_from_slice_get, slice_get_within}
 use Rattle.mz_logic_theory.specs.Words.{binder_of, binders_of, bound_places}
 use Rattle.mz_match_theory.proofs.Offered.{places-step, places-end}
 use Rattle.mz_layout_tables.specs.Rows.{params_of}
-use Rattle.mz_decompile_text_theory.specs.Phrasing.{binder, binders}
-use Rattle.mz_decompile_text_theory.specs.Naming.{vocabulary_by}
+use Rattle.mz_decompile_text.specs.Phrasing.{binder, binders}
+use Rattle.mz_decompile_text.specs.Naming.{vocabulary_by}
 use Rattle.mz_decompile.specs.Adding.{Adds}
 use Rattle.mz_decompile.proofs.Adding.{added-first, added-more, added-there, added-last}
 use Rattle.mz_decompile.proofs.Lists.{params-from, params-step, params-end}

@@ -1,8 +1,8 @@
 use Rattle.std.proofs.Common.{◌≡◌, ◌++◌, drop}
 use Rattle.mz_logic_theory.specs.Words.{binders_of, bound_places}
 use Rattle.mz_layout_tables.specs.Rows.{params_of}
-use Rattle.mz_decompile_text_theory.specs.Phrasing.{binders}
-use Rattle.mz_decompile_text_theory.specs.Naming.{vocabulary_by}
+use Rattle.mz_decompile_text.specs.Phrasing.{binders}
+use Rattle.mz_decompile_text.specs.Naming.{vocabulary_by}
 use Rattle.mz_decompile.specs.Adding.{AreAdded}
 use Rattle.mz_decompile.proofs.Lists.{params-from}
 use Rattle.mz_decompile.proofs.params.put_params.Given as goal

@@ -1,9 +1,9 @@
 use Rattle.std.proofs.Common.{◌∙◌, [], ◌∷◌, ℕ, ap, subst}
 use Rattle.std.proofs.lemmas.Result.{on_ok_weaker}
 use Rattle.mz_logic_theory.specs.Words.{places_set, word_deps, word_sort}
-use Rattle.mz_decompile_text_theory.specs.Phrases.{a_word}
-use Rattle.mz_decompile_text_theory.specs.Phrasing.{variable_names}
-use Rattle.mz_decompile_text_theory.specs.Naming.{vocabulary_by}
+use Rattle.mz_decompile_text.specs.Phrases.{a_word}
+use Rattle.mz_decompile_text.specs.Phrasing.{variable_names}
+use Rattle.mz_decompile_text.specs.Naming.{vocabulary_by}
 use Rattle.mz_decompile.specs.Adding.{Adds}
 use Rattle.mz_decompile.proofs.Adding.{there, closed, begun, adds-then, word-is}
 use Rattle.mz_decompile.proofs.params.put_result.Goals as goal

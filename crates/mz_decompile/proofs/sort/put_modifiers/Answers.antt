@@ -1,8 +1,8 @@
 use Rattle.std.proofs.Common.{◌≡◌, ◌++◌, ◌/◌, ◌%◌, List, sym, subst}
 use Rattle.std.specs.Prelude.{◌==◌, codes, map}
 use Rattle.std.proofs.lemmas.Result.{on_ok_weaker}
-use Rattle.mz_decompile_text_theory.specs.Phrases.{Phrase, a_word}
-use Rattle.mz_decompile_text_theory.specs.Phrasing.{modifiers}
+use Rattle.mz_decompile_text.specs.Phrases.{Phrase, a_word}
+use Rattle.mz_decompile_text.specs.Phrasing.{modifiers}
 use Rattle.mz_decompile.specs.Adding.{Adds}
 use Rattle.mz_decompile.proofs.Adding.{adds-then}
 use Rattle.mz_decompile.proofs.Lists.{word-if, four-words}

@@ -3,9 +3,9 @@ use Rattle.std.specs.Prelude.{codes, map}
 use Rattle.std.proofs.lemmas.Result.{on_ok_weaker}
 use Rattle.std.proofs.lemmas.Option.{same_Some}
 use Rattle.mz_logic_theory.specs.declared.binder.SortMods.{SortMods}
-use Rattle.mz_decompile_text_theory.specs.Phrases.{a_word}
-use Rattle.mz_decompile_text_theory.specs.Phrasing.{modifiers}
-use Rattle.mz_decompile_text_theory.specs.Naming.{vocabulary_by}
+use Rattle.mz_decompile_text.specs.Phrases.{a_word}
+use Rattle.mz_decompile_text.specs.Phrasing.{modifiers}
+use Rattle.mz_decompile_text.specs.Naming.{vocabulary_by}
 use Rattle.mz_decompile.specs.Adding.{Adds}
 use Rattle.mz_decompile.proofs.Adding.{adds-then, word-is}
 use Rattle.mz_decompile.proofs.sort.put_sort.Goals as goal

@@ -1,9 +1,9 @@
 use Rattle.std.proofs.Common.{◌≡◌, ◌∙◌, ◌++◌, Bool, sym, ap, subst}
 use Rattle.std.specs.Prelude.{codes}
-use Rattle.mz_decompile_text_theory.specs.Phrases.{Phrase}
-use Rattle.mz_decompile_text_theory.specs.Phrasing.{declared_parts, list_of}
-use Rattle.mz_decompile_text_theory.specs.Naming.{vocabulary_by}
-use Rattle.mz_decompile_rows.specs.Rows.{IsPhrase}
+use Rattle.mz_decompile_text.specs.Phrases.{Phrase}
+use Rattle.mz_decompile_text.specs.Phrasing.{declared_parts, list_of}
+use Rattle.mz_decompile_text.specs.Naming.{vocabulary_by}
+use Rattle.mz_decompile_text.specs.Rows.{IsPhrase}
 use Rattle.mz_decompile.proofs.Adding.{there, begun, adds-then, told-phrase}
 use Rattle.mz_decompile.proofs.Lists.{word-if, marked-is}
 use Rattle.mz_decompile.proofs.statement.statement.Goals as goal

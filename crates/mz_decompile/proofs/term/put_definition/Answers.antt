@@ -1,9 +1,9 @@
 use Rattle.std.proofs.Common.{◌∷◌, [], ℕ, List, subst, arith, map}
 use Rattle.mz_layout_tables.proofs.Offered.{length-term_words}
 use Rattle.mz_unify_theory.specs.Spells.{dummy_of}
-use Rattle.mz_decompile_text_theory.specs.Phrases.{a_list}
-use Rattle.mz_decompile_text_theory.specs.Phrasing.{binders}
-use Rattle.mz_decompile_text_theory.specs.Naming.{vocabulary_by}
+use Rattle.mz_decompile_text.specs.Phrases.{a_list}
+use Rattle.mz_decompile_text.specs.Phrasing.{binders}
+use Rattle.mz_decompile_text.specs.Naming.{vocabulary_by}
 use Rattle.mz_decompile.specs.Adding.{Adds}
 use Rattle.mz_decompile.proofs.Statements.{definition-told, body-there}
 use Rattle.mz_decompile.proofs.term.put_definition.Goals as goal

@@ -4,9 +4,9 @@ use Rattle.mz_layout_tables.specs.Tables.{term_row}
 use Rattle.mz_layout_tables.proofs.Offered.{length-term_words}
 use Rattle.mz_logic_theory.specs.Words.{binders_of, places_set, result_of, word_deps, word_sort}
 use Rattle.mz_logic_theory.specs.declared.word.Word.{Word}
-use Rattle.mz_decompile_text_theory.specs.Phrases.{a_word, a_list}
-use Rattle.mz_decompile_text_theory.specs.Phrasing.{binders, result}
-use Rattle.mz_decompile_text_theory.specs.Naming.{vocabulary_by}
+use Rattle.mz_decompile_text.specs.Phrases.{a_word, a_list}
+use Rattle.mz_decompile_text.specs.Phrasing.{binders, result}
+use Rattle.mz_decompile_text.specs.Naming.{vocabulary_by}
 use Rattle.mz_decompile.specs.Adding.{Adds}
 use Rattle.mz_decompile.proofs.Adding.{adds-then, word-is}
 use Rattle.mz_decompile.proofs.term.put_signature.Goals as goal

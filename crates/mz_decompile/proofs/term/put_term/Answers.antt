@@ -1,6 +1,6 @@
 use Rattle.std.proofs.Common.{◌∙◌, sym, arith}
 use Rattle.mz_layout_tables.proofs.Offered.{length-term_words}
-use Rattle.mz_decompile_text_theory.specs.Naming.{vocabulary_by}
+use Rattle.mz_decompile_text.specs.Naming.{vocabulary_by}
 use Rattle.mz_decompile.proofs.Statements.{plain-told}
 use Rattle.mz_decompile.proofs.term.put_term.Goals as goal
 

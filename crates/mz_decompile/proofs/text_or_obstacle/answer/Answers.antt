@@ -1,6 +1,6 @@
 use Rattle.std.proofs.Common.{subst, length}
-use Rattle.mz_decompile_text_theory.specs.Naming.{vocabulary_by}
-use Rattle.mz_decompile_text_theory.specs.Phrasing.{text_of}
+use Rattle.mz_decompile_text.specs.Naming.{vocabulary_by}
+use Rattle.mz_decompile_text.specs.Phrasing.{text_of}
 use Rattle.mz_mmu_theory.specs.Weight.{weight_of}
 use Rattle.mz_decompile.specs.Passes.{IsMeasured}
 use Rattle.mz_decompile.specs.declared.measure.Measured.{Measured}

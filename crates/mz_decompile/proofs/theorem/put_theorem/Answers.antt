@@ -1,9 +1,9 @@
 use Rattle.std.proofs.Common.{◌<◌, ◌∷◌, [], ℕ, All, List, subst, sym, length, map, arith}
 use Rattle.mz_unify_theory.specs.Spells.{dummy_of}
-use Rattle.mz_decompile_text_theory.specs.Phrases.{a_list}
-use Rattle.mz_decompile_text_theory.specs.Phrasing.{binders}
-use Rattle.mz_decompile_text_theory.specs.Naming.{vocabulary_by}
-use Rattle.mz_decompile_phrases.specs.ByNumber.{phrases_at}
+use Rattle.mz_decompile_text.specs.Phrases.{a_list}
+use Rattle.mz_decompile_text.specs.Phrasing.{binders}
+use Rattle.mz_decompile_text.specs.Naming.{vocabulary_by}
+use Rattle.mz_decompile_text.specs.ByNumber.{phrases_at}
 use Rattle.mz_decompile.specs.Adding.{Adds}
 use Rattle.mz_decompile.specs.Hypotheses.{named}
 use Rattle.mz_decompile.proofs.Statements.{theorem-told}

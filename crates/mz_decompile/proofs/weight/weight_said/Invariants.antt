@@ -1,6 +1,6 @@
 use Rattle.std.proofs.Common.{◌≡◌, ◌<◌, ◌+◌, ◌^◌, drop}
-use Rattle.mz_decompile_phrases.specs.ByNumber.{phrases_at}
-use Rattle.mz_decompile_phrases.specs.Measures.{capped, words_of_all}
+use Rattle.mz_decompile_text.specs.ByNumber.{phrases_at}
+use Rattle.mz_decompile_text.specs.Measures.{capped, words_of_all}
 use Rattle.mz_decompile.proofs.weight.weight_said.Given as goal
 
 abbrev pub invariant-hypotheses : goal.invariant-hypotheses

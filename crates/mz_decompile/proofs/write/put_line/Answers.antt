@@ -1,7 +1,7 @@
 use Rattle.std.proofs.Common.{◌≡◌, ◌∙◌, ◌++◌, ℕ, List, [], ◌∷◌, ap, append_assoc}
-use Rattle.mz_decompile_text_theory.specs.Naming.{vocabulary_by}
-use Rattle.mz_decompile_text_theory.specs.Phrases.{Phrase, written}
-use Rattle.mz_decompile_text_theory.specs.Phrasing.{statement}
+use Rattle.mz_decompile_text.specs.Naming.{vocabulary_by}
+use Rattle.mz_decompile_text.specs.Phrases.{Phrase, written}
+use Rattle.mz_decompile_text.specs.Phrasing.{statement}
 use Rattle.mz_decompile.proofs.write.put_line.Goals as goal
 
 pub write-requires : goal.write-requires

@@ -1,5 +1,5 @@
 use Rattle.std.proofs.Common.{sym, subst, arith}
-use Rattle.mz_decompile_text_theory.specs.Naming.{vocabulary_by}
+use Rattle.mz_decompile_text.specs.Naming.{vocabulary_by}
 use Rattle.mz_binary_walk.specs.declared.passed.Passed.{Passed}
 use Rattle.mz_decompile.proofs.Walking.{IsWriting, writing-asks, writing-first, writing-stands, writing-more, writing-last}
 use Rattle.mz_decompile.proofs.write.text.Goals as goal

@@ -5,7 +5,7 @@ use Rattle.mz_mmu_theory.specs.Meaning.{LegalAsStated}
 use Rattle.mz_type.specs.StatedView.{AreRead}
 use Rattle.mz_mmu_theory.specs.Weight.{IsWithinLimits}
 use Rattle.mz_type.proofs.Offered.{statements_many}
-use Rattle.mz_emit_accepted_theory.specs.CompiledFile.{compiled_parts}
+use Rattle.mz_emit_theory.specs.CompiledFile.{compiled_parts}
 use Rattle.mz_emit.proofs.Existing.{fits, has_binary}
 use Rattle.mz_emit.proofs.Looping.{own_mode}
 use Rattle.mz_emit.proofs.compile.emit.Goals as goal

@@ -18,6 +18,7 @@ loop-beside-init c =
         are = ap (statements_of c.args.env.now) back;
       };
       written = c.new-emitter.ensures;
+      front = c.new-emitter.ensures.env;
     }
 
 pub loop-beside-smaller : goal.loop-beside-smaller
@@ -32,8 +33,21 @@ unreachable-requires c =
     let left = subst (λ (bs : List Beside). AreLeft (statements_of c.args.env.now c.args.besides.items) c.args.env.now bs at.place) (taken at.besides.items new c.in-Some.beside c.in-Some.ensures) at.invariant.left in
     is_declared c.args.env.now at.place (length (reverse new)) left.many (sym c.in_default-get.ensures)
 
-pub statement-requires : goal.statement-requires
-statement-requires c =
+pub statement-requires-clause-there : goal.statement-requires-clause-there
+statement-requires-clause-there c = sym c.in-Some-get.ensures
+
+pub statement-requires-clause-before : goal.statement-requires-clause-before
+statement-requires-clause-before c = c.loop-beside.invariant.front
+
+pub statement-requires-clause-room : goal.statement-requires-clause-room
+statement-requires-clause-room c =
+    let at = c.loop-beside in
+    let new = c.take_last.new.items.items in
+    let left = subst (λ (bs : List Beside). AreLeft (statements_of c.args.env.now c.args.besides.items) c.args.env.now bs at.place) (taken at.besides.items new c.in-Some.beside c.in-Some.ensures) at.invariant.left in
+    omega (arith, left.many, c.requires.few)
+
+pub statement-requires-clause-next : goal.statement-requires-clause-next
+statement-requires-clause-next c =
     let env = c.args.env.now in
     let ss = statements_of env c.args.besides.items in
     let mode = c.requires.legal.0 in
@@ -66,7 +80,8 @@ loop-beside-preserved c =
     let there = sym c.in-Some-get.ensures in
     record {
       left = others_left ss env b rest at.place left d there;
-      written = written_more ss env b rest at.place left d there at.emitter c.statement.new.self c.in_ok-statement.ensures at.invariant.written;
+      written = written_more ss env b rest at.place left d there at.emitter c.statement.new.self c.in_ok-statement.ensures.emits at.invariant.written;
+      front = c.in_ok-statement.ensures.before;
     }
 
 pub loop-beside-preserved-in_ok-statement : goal.loop-beside-preserved-in_ok-statement
@@ -81,7 +96,8 @@ loop-beside-preserved-in_ok-statement c =
     let there = sym c.in-Some-get.ensures in
     record {
       left = others_left ss env b rest at.place left d there;
-      written = written_more ss env b rest at.place left d there at.emitter c.statement.new.self c.in_ok-statement.ensures at.invariant.written;
+      written = written_more ss env b rest at.place left d there at.emitter c.statement.new.self c.in_ok-statement.ensures.emits at.invariant.written;
+      front = c.in_ok-statement.ensures.before;
     }
 
 pub returns : goal.returns

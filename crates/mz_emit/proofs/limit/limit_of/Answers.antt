@@ -1,6 +1,6 @@
 use Rattle.std.proofs.Common.{◌≡◌, ◌≤◌, arith}
 use Rattle.mz_mmu_theory.specs.Weight.{parameter_limit, bound_limit, sort_count, byte_bound}
-use Rattle.mz_emit_accepted_theory.specs.Limits.{over}
+use Rattle.mz_emit_theory.specs.Limits.{over}
 use Rattle.mz_emit.proofs.Limiting.{many_params, many_bound, many_bytes, none_passes}
 use Rattle.mz_emit.proofs.limit.limit_of.Goals as goal
 

@@ -1,7 +1,7 @@
 use Rattle.std.specs.List.{range_with_len}
 use Rattle.std.proofs.lemmas.Result.{err_from_is_err_and}
-use Rattle.mz_base_theory.specs.Checks.{each_in_order}
-use Rattle.mz_base_theory.proofs.Offered.{fails-before, judges-after}
+use Rattle.mz_base.specs.Checks.{each_in_order}
+use Rattle.mz_base.proofs.Offered.{fails-before, judges-after}
 use Rattle.mz_layout_tables.specs.Tables.{term_count, thm_count}
 use Rattle.mz_layout_tables.specs.Layout.{term_check, thm_check}
 use Rattle.mz_layout_tables.proofs.checks.check_rows.Goals as goal

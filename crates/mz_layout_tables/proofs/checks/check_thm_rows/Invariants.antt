@@ -1,6 +1,6 @@
 use Rattle.std.specs.List.{range_with_len}
-use Rattle.mz_base_theory.specs.Checks.{each_in_order}
-use Rattle.mz_base_theory.proofs.Offered.{Decides, rows_from}
+use Rattle.mz_base.specs.Checks.{each_in_order}
+use Rattle.mz_base.proofs.Offered.{Decides, rows_from}
 use Rattle.mz_layout_tables.specs.Tables.{thm_count}
 use Rattle.mz_layout_tables.specs.Layout.{thm_check}
 use Rattle.mz_layout_tables.proofs.checks.check_thm_rows.Given as goal

@@ -1,4 +1,4 @@
-use Rattle.mz_base_theory.proofs.Offered.{all_hold-excludes, all_hold-or_fails, fails_first-unique}
+use Rattle.mz_base.proofs.Offered.{all_hold-excludes, all_hold-or_fails, fails_first-unique}
 use Rattle.mz_layout_tables.specs.Layout.{layout_checks}
 use Rattle.mz_layout_tables.proofs.Decided.{layout-decided}
 use Rattle.mz_layout_tables.proofs.laws.each_file_has_one_layout.Goals as goal

@@ -1,6 +1,6 @@
 use Rattle.std.proofs.Common.{◌≡◌, ◌≤◌, ◌∙◌, true, false, refl, sym, subst, arith}
 use Rattle.std.proofs.lemmas.Bool.{false≢true}
-use Rattle.mz_base_theory.specs.Checks.{FailsFirst}
+use Rattle.mz_base.specs.Checks.{FailsFirst}
 use Rattle.mz_cmd.specs.declared.rule.K.TheVariants.{Binder}
 use Rattle.mz_logic_theory.specs.Words.{word_bound}
 use Rattle.mz_layout_tables.specs.Rows.{params_of, words_at_of}

@@ -1,5 +1,5 @@
 use Rattle.std.proofs.Common.{◌≡◌, ◌≤◌, length, take}
-use Rattle.mz_base_theory.proofs.Offered.{Decides, rows_from}
+use Rattle.mz_base.proofs.Offered.{Decides, rows_from}
 use Rattle.mz_layout_tables.specs.Rows.{params_of, words_at_of}
 use Rattle.mz_layout_tables.specs.RowWords.{bound_count, first_sorts, param_check, param_checks}
 use Rattle.mz_layout_tables.proofs.row_words.check_params.Given as goal

@@ -1,8 +1,8 @@
 use Rattle.std.proofs.Common.{◌≡◌, ◌+◌, ◌*◌, ◌∙◌, length, refl, sym, ap, subst, inl, arith}
 use Rattle.std.proofs.lemmas.Bool.{false≢true}
 use Rattle.std.proofs.lemmas.Result.{err_from_is_err_and}
-use Rattle.mz_base_theory.specs.Checks.{FailsFirst, demand}
-use Rattle.mz_base_theory.proofs.Offered.{all_hold-both, fails-after, fails-before}
+use Rattle.mz_base.specs.Checks.{FailsFirst, demand}
+use Rattle.mz_base.proofs.Offered.{all_hold-both, fails-after, fails-before}
 use Rattle.mz_cmd.specs.declared.rule.K.TheVariants.{Result}
 use Rattle.mz_layout_tables.specs.Tables.{term_row}
 use Rattle.mz_layout_tables.proofs.TableLists.{length-term_words}

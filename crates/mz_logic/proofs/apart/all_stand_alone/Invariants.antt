@@ -1,5 +1,5 @@
 use Rattle.std.proofs.Common.{◌≡◌, [], true}
-use Rattle.mz_base_theory.proofs.Offered.{AllSoFar}
+use Rattle.mz_base.proofs.Offered.{AllSoFar}
 use Rattle.mz_logic_theory.specs.declared.binder.Binder.{Binder}
 use Rattle.mz_logic.proofs.apart.all_stand_alone.Given as goal
 

@@ -1,5 +1,5 @@
 use Rattle.std.proofs.Common.{ℕ, ◌<◌, refl}
-use Rattle.mz_base_theory.proofs.Offered.{all_so_far_more}
+use Rattle.mz_base.proofs.Offered.{all_so_far_more}
 use Rattle.mz_logic_theory.specs.Variables.{IsBoundAt}
 use Rattle.mz_logic_theory.proofs.Offered.{all_at_end}
 use Rattle.mz_logic.proofs.check.are_bound_before.Goals as goal

@@ -1,5 +1,5 @@
 use Rattle.std.proofs.Common.{◌<◌}
-use Rattle.mz_base_theory.proofs.Offered.{AllSoFar}
+use Rattle.mz_base.proofs.Offered.{AllSoFar}
 use Rattle.mz_logic_theory.specs.Variables.{IsBoundAt}
 use Rattle.mz_logic.proofs.check.are_bound_before.Given as goal
 

@@ -1,4 +1,4 @@
-use Rattle.mz_base_theory.proofs.Offered.{AllSoFar}
+use Rattle.mz_base.proofs.Offered.{AllSoFar}
 use Rattle.mz_logic_theory.specs.Legality.{IsDummy}
 use Rattle.mz_logic.proofs.check.are_dummies.Given as goal
 

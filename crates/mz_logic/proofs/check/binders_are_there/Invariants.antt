@@ -1,4 +1,4 @@
-use Rattle.mz_base_theory.proofs.Offered.{AllSoFar}
+use Rattle.mz_base.proofs.Offered.{AllSoFar}
 use Rattle.mz_logic_theory.specs.Declaration.{sorts}
 use Rattle.mz_logic_theory.specs.Legality.{IsBinderThere}
 use Rattle.mz_logic.proofs.check.binders_are_there.Given as goal

@@ -1,5 +1,5 @@
 use Rattle.std.proofs.Common.{◌<◌}
-use Rattle.mz_base_theory.proofs.Offered.{AllSoFar}
+use Rattle.mz_base.proofs.Offered.{AllSoFar}
 use Rattle.mz_logic.proofs.check.places_are_below.Given as goal
 
 abbrev pub invariant-loop-j : goal.invariant-loop-j

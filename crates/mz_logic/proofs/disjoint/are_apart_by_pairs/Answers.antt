@@ -1,6 +1,6 @@
 use Rattle.std.proofs.Common.{ℕ, ◌<◌, ◌∙◌, ap, sym, refl, length, arith, true≢false}
 use Rattle.std.proofs.lemmas.Option.{slice_get_within, get_or_from_slice_get}
-use Rattle.mz_base_theory.proofs.Offered.{each_before_more}
+use Rattle.mz_base.proofs.Offered.{each_before_more}
 use Rattle.mz_logic_theory.specs.Declaration.{signatures}
 use Rattle.mz_logic_theory.specs.Variables.{ApartAt}
 use Rattle.mz_logic_theory.specs.declared.binder.Binder.{Binder}

@@ -1,5 +1,5 @@
 use Rattle.std.proofs.Common.{◌∙◌, ◌↔◌, IsTrue, ap, arith, inl, inr, length, refl, sym, subst, true≢false}
-use Rattle.mz_base_theory.proofs.Offered.{drop-item}
+use Rattle.mz_base.proofs.Offered.{drop-item}
 use Rattle.mz_logic_theory.specs.Declaration.{signatures}
 use Rattle.mz_logic_theory.specs.Kinds.{kind_tree, HasSmaller}
 use Rattle.mz_logic_theory.specs.Legality.{InRange, AllInRange}

@@ -1,6 +1,6 @@
 use Rattle.std.proofs.Common.{ℕ, ◌≡◌, ◌<◌, ◌+◌, ◌∷◌, Contains, All, IsTrue, IfOk, sym, ap, refl, subst, ◌∙◌, ◌↔◌, arith, drop, length, true≢false}
 use Rattle.std.proofs.lemmas.Result.{IfOk-weaker}
-use Rattle.mz_base_theory.proofs.Offered.{drop-item}
+use Rattle.mz_base.proofs.Offered.{drop-item}
 use Rattle.mz_logic_theory.specs.Declaration.{signatures}
 use Rattle.mz_logic_theory.specs.DeclView.{signature}
 use Rattle.mz_logic_theory.specs.Legality.{InRange, AllInRange}

@@ -1,5 +1,5 @@
 use Rattle.std.proofs.Common.{◌≡◌, ◌∙◌, ℕ, All, Contains, refl, subst, sym, true≢false}
-use Rattle.mz_base_theory.proofs.Offered.{all_so_far_more}
+use Rattle.mz_base.proofs.Offered.{all_so_far_more}
 use Rattle.mz_logic_theory.specs.Tree.{operand, var}
 use Rattle.mz_logic_theory.specs.Variables.{IsBoundAt}
 use Rattle.mz_logic_theory.proofs.Offered.{all_at_end}

@@ -1,5 +1,5 @@
 use Rattle.std.proofs.Common.{ℕ, ◌≡◌, Contains}
-use Rattle.mz_base_theory.proofs.Offered.{AllSoFar}
+use Rattle.mz_base.proofs.Offered.{AllSoFar}
 use Rattle.mz_logic_theory.specs.Tree.{operand, var}
 use Rattle.mz_logic_theory.specs.Variables.{IsBoundAt}
 use Rattle.mz_logic_free.proofs.free.covers_bound_operands.Given as goal

@@ -1,5 +1,5 @@
 use Rattle.std.proofs.Common.{◌∙◌, ◌<◌, length, ℕ, List, Contains, get_or, refl, subst, sym, true≢false}
-use Rattle.mz_base_theory.proofs.Offered.{all_so_far_more}
+use Rattle.mz_base.proofs.Offered.{all_so_far_more}
 use Rattle.mz_logic_theory.proofs.Offered.{all_at_end}
 use Rattle.mz_logic_free.proofs.free.covers_places.Goals as goal
 

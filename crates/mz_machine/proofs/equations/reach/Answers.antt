@@ -1,6 +1,6 @@
 use Rattle.std.proofs.Common.{◌≤◌, length, ap, arith, refl, add-one, eqb-true, eq-eqb}
 use Rattle.std.proofs.lemmas.Option.{slice_get-get_or}
-use Rattle.mz_base_theory.proofs.Offered.{drop-past}
+use Rattle.mz_base.proofs.Offered.{drop-past}
 use Rattle.mz_machine.specs.OpenEquations.{stored, many_to_come}
 use Rattle.mz_machine.proofs.OpenStacks.{reach-next}
 use Rattle.mz_machine.proofs.equations.reach.Goals as goal

@@ -1,5 +1,5 @@
 use Rattle.std.proofs.Common.{◌∙◌, sym, ap, subst}
-use Rattle.mz_base_theory.specs.Checks.{Judges}
+use Rattle.mz_base.specs.Checks.{Judges}
 use Rattle.mz_cmd.specs.Codes.{statement_byte}
 use Rattle.mz_logic_theory.specs.Declaration.{Declaration}
 use Rattle.mz_logic_theory.specs.DeclView.{assertion_of, assertion_view, is_axiom}

@@ -1,5 +1,5 @@
 use Rattle.std.proofs.Common.{suc, drop, subst, List, ℕ}
-use Rattle.mz_base_theory.specs.Checks.{Judges}
+use Rattle.mz_base.specs.Checks.{Judges}
 use Rattle.mz_logic_theory.specs.DeclView.{declaration}
 use Rattle.mz_spec_theory.specs.State.{env_of}
 use Rattle.mz_spec_proved_theory.specs.Match.{match_checks, partner_of}

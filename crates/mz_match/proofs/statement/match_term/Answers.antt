@@ -3,7 +3,7 @@ use Rattle.std.proofs.lemmas.Bool.{false≢true}
 use Rattle.mz_layout_tables.proofs.Offered.{length-term_words}
 use Rattle.mz_logic_theory.specs.Declaration.{Declaration}
 use Rattle.mz_logic_theory.specs.DeclView.{term_view, term_of}
-use Rattle.mz_base_theory.specs.Checks.{Judges}
+use Rattle.mz_base.specs.Checks.{Judges}
 use Rattle.mz_spec_proved_theory.specs.Match.{match_checks}
 use Rattle.mz_match_rows.proofs.Offered.{exact-no, term-kind-differs, term-form-differs, term-row, term-whole}
 use Rattle.mz_match.proofs.statement.match_term.Goals as goal

@@ -1,5 +1,5 @@
 use Rattle.std.proofs.Common.{◌≡◌, ◌<◌, ◌-◌, ◌∙◌, Some, length, refl, sym, subst, arith}
-use Rattle.mz_base_theory.proofs.Offered.{slice_get-some}
+use Rattle.mz_base.proofs.Offered.{slice_get-some}
 use Rattle.mz_logic_theory.specs.Tree.{Tree, listed}
 use Rattle.mz_logic_theory.specs.View.{tree}
 use Rattle.mz_spec_proved_theory.specs.AlphaTrees.{SameTree}

@@ -1,5 +1,5 @@
 use Rattle.std.proofs.Common.{drop}
-use Rattle.mz_base_theory.proofs.Offered.{Decides}
+use Rattle.mz_base.proofs.Offered.{Decides}
 use Rattle.mz_math_theory.specs.Formula.{known_checks}
 use Rattle.mz_math.proofs.formula.first_unknown.Given as goal
 

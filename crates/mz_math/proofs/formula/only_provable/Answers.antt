@@ -1,7 +1,7 @@
 use Rattle.std.proofs.Common.{◌∙◌, arith, sym, subst}
 use Rattle.std.specs.Prelude.{IfSome}
 use Rattle.std.proofs.lemmas.Bool.{true≢false}
-use Rattle.mz_base_theory.proofs.Offered.{contains_at}
+use Rattle.mz_base.proofs.Offered.{contains_at}
 use Rattle.mz_logic_theory.specs.Declaration.{sorts}
 use Rattle.mz_logic_theory.specs.Modifiers.{MayBeClaimSort}
 use Rattle.mz_math_coercions.specs.Reached.{Has}

@@ -1,5 +1,5 @@
 use Rattle.std.proofs.Common.{◌∙◌, sym, drop}
-use Rattle.mz_base_theory.proofs.Offered.{nil-cons}
+use Rattle.mz_base.proofs.Offered.{nil-cons}
 use Rattle.mz_logic_theory.specs.View.{tree}
 use Rattle.mz_math_theory.proofs.Offered.{some-left}
 use Rattle.mz_math.proofs.parser.all_read.Goals as goal

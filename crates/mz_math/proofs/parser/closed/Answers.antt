@@ -1,6 +1,6 @@
 use Rattle.std.proofs.Common.{◌∙◌, ◌∷◌, ◌+◌, sym, ap, refl, drop, arith}
 use Rattle.std.proofs.lemmas.Bool.{true≢false}
-use Rattle.mz_base_theory.proofs.Offered.{same-head, nil-cons}
+use Rattle.mz_base.proofs.Offered.{same-head, nil-cons}
 use Rattle.mz_logic_theory.specs.View.{tree}
 use Rattle.mz_math_theory.proofs.Offered.{parens-open, parens-begun}
 use Rattle.mz_math.proofs.parser.closed.Goals as goal

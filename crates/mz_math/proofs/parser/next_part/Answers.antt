@@ -1,6 +1,6 @@
 use Rattle.std.proofs.Common.{◌∙◌, ◌∷◌, ◌+◌, refl, sym, ap, subst, drop}
 use Rattle.std.proofs.lemmas.Bool.{true≢false}
-use Rattle.mz_base_theory.proofs.Offered.{same-head, nil-cons}
+use Rattle.mz_base.proofs.Offered.{same-head, nil-cons}
 use Rattle.mz_math.specs.Steps.{IsFormUnderWay, asked, tree_made, level_made, is_left_made}
 use Rattle.mz_math.proofs.Waiting.{constant-next, no-constant}
 use Rattle.mz_math.proofs.parser.next_part.Goals as goal

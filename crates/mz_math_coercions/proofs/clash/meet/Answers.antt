@@ -1,6 +1,6 @@
 use Rattle.std.proofs.Common.{◌∙◌, arith, refl, sym}
 use Rattle.std.proofs.lemmas.Bool.{false≢true, true≢false}
-use Rattle.mz_base_theory.proofs.Offered.{contains_at}
+use Rattle.mz_base.proofs.Offered.{contains_at}
 use Rattle.mz_math_coercions.specs.Reached.{Has}
 use Rattle.mz_math_coercions.proofs.Leading.{before-all, before-more}
 use Rattle.mz_math_coercions.proofs.clash.meet.Goals as goal

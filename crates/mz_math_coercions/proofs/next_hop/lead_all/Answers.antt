@@ -1,6 +1,6 @@
 use Rattle.std.proofs.Common.{◌∙◌, ℕ, arith, inl, refl, sym}
 use Rattle.std.proofs.lemmas.Option.{none-some}
-use Rattle.mz_base_theory.proofs.Offered.{slice_get-some}
+use Rattle.mz_base.proofs.Offered.{slice_get-some}
 use Rattle.mz_math_coercions.specs.Firsts.{IsOfStarts, first_of}
 use Rattle.mz_math_coercions.specs.Reached.{Has}
 use Rattle.mz_math_coercions.proofs.Leading.{before-all, start-changed, start-seen}

@@ -1,7 +1,7 @@
 use Rattle.std.proofs.Common.{◌<◌, ◌∙◌, ap, arith, length, subst, sym, take, take_all}
 use Rattle.std.proofs.lemmas.Bool.{eqb-true}
 use Rattle.std.proofs.lemmas.List.{take_more}
-use Rattle.mz_base_theory.proofs.Offered.{length-push}
+use Rattle.mz_base.proofs.Offered.{length-push}
 use Rattle.mz_math_coercions.specs.Reached.{AreFoundIn}
 use Rattle.mz_math_coercions.proofs.Walks.{found-push}
 use Rattle.mz_math_coercions.proofs.reached.note.Goals as goal

@@ -1,5 +1,5 @@
 use Rattle.std.proofs.Common.{◌≡◌, ◌+◌, ◌∙◌, suc, [], ◌∷◌, ◌++◌, length, map, append-nil, ap, sym, subst, refl, arith}
-use Rattle.mz_base_theory.proofs.Offered.{Decides, decides-whole, length-push}
+use Rattle.mz_base.proofs.Offered.{Decides, decides-whole, length-push}
 use Rattle.mz_sexpr.specs.Number.{node_at, nodes_after}
 use Rattle.mz_base.specs.Gaps.{gaps_of}
 use Rattle.mz_mmu_theory.specs.Cursor.{nodes_from, IsThere, nodes_size}

@@ -1,5 +1,5 @@
 use Rattle.std.proofs.Common.{ℕ, suc, ◌+◌, ◌<◌, ◌^◌, List, ◌++◌, length, map}
-use Rattle.mz_base_theory.proofs.Offered.{Decides}
+use Rattle.mz_base.proofs.Offered.{Decides}
 use Rattle.mz_base.specs.Gaps.{gaps_of}
 use Rattle.mz_mmu_theory.specs.Cursor.{nodes_from, IsThere, nodes_size}
 use Rattle.mz_mmu.specs.EntryView.{entry, root, AreNumbers}

@@ -1,7 +1,7 @@
 use Rattle.std.proofs.Common.{ℕ, ◌≡◌, ◌<◌, length, get_or, sym, ap, ◌∙◌, arith, add-one}
 use Rattle.std.specs.Prelude.{bit_and, if◌then◌else◌}
 use Rattle.std.proofs.lemmas.Option.{slice_get-get_or}
-use Rattle.mz_base_theory.proofs.Offered.{slice_get-some}
+use Rattle.mz_base.proofs.Offered.{slice_get-some}
 use Rattle.mz_logic_theory.specs.Words.{word_bound, word_deps}
 use Rattle.mz_logic_theory.specs.declared.word.Word.{Word}
 use Rattle.mz_pmachine_unify.specs.Numbering.{tree_of, vars_of}

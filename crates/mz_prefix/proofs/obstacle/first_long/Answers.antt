@@ -1,5 +1,5 @@
 use Rattle.std.proofs.Common.{◌≡◌, ◌∙◌, true, false, refl, sym, arith}
-use Rattle.mz_prefix_theory.specs.Wording.{IsBrief, long_checks, long_in}
+use Rattle.mz_prefix.specs.Wording.{IsBrief, long_checks, long_in}
 use Rattle.mz_prefix.proofs.Checking.{all-left, next-left, stops-here, none-left}
 use Rattle.mz_prefix.proofs.obstacle.first_long.Goals as goal
 

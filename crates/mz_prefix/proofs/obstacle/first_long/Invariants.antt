@@ -1,6 +1,6 @@
 use Rattle.std.proofs.Common.{◌≡◌, false, refl}
-use Rattle.mz_prefix_theory.specs.Declared.{Vocabulary}
-use Rattle.mz_prefix_theory.specs.Wording.{IsBrief, long_checks, long_in}
+use Rattle.mz_prefix.specs.NamedDeclarations.{Vocabulary}
+use Rattle.mz_prefix.specs.Wording.{IsBrief, long_checks, long_in}
 use Rattle.mz_prefix.proofs.Checking.{Left}
 use Rattle.mz_prefix.proofs.obstacle.first_long.Given as goal
 

@@ -1,6 +1,6 @@
 use Rattle.std.proofs.Common.{◌≡◌, ◌∙◌, true, false, sym, subst}
 use Rattle.mz_logic_theory.specs.DeclView.{declaration}
-use Rattle.mz_prefix_theory.specs.Wording.{IsBrief}
+use Rattle.mz_prefix.specs.Wording.{IsBrief}
 use Rattle.mz_prefix.proofs.Gathering.{told-of}
 use Rattle.mz_prefix.proofs.obstacle.is_brief_at.Goals as goal
 

@@ -1,7 +1,7 @@
 use Rattle.std.proofs.Common.{◌≡◌, ◌∙◌, true, false, refl, sym, subst, arith}
 use Rattle.mz_logic_theory.specs.Groups.{Repeats}
 use Rattle.mz_logic_theory.proofs.Offered.{at-end}
-use Rattle.mz_prefix_theory.specs.Declared.{AreShort}
+use Rattle.mz_prefix.specs.NamedDeclarations.{AreShort}
 use Rattle.mz_prefix.proofs.Measuring.{short-is, is-short}
 use Rattle.mz_prefix.proofs.Shared.{short_repeated}
 use Rattle.mz_prefix.proofs.omitted.are_short.Goals as goal

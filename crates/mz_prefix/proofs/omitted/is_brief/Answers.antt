@@ -1,5 +1,5 @@
 use Rattle.std.proofs.Common.{◌≡◌, ◌∙◌, true, false, sym, ap}
-use Rattle.mz_prefix_theory.specs.Wording.{is_short}
+use Rattle.mz_prefix.specs.Wording.{is_short}
 use Rattle.mz_prefix.proofs.Measuring.{short-is, is-short}
 use Rattle.mz_prefix.proofs.omitted.is_brief.Goals as goal
 

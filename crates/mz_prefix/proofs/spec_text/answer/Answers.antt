@@ -1,4 +1,4 @@
-use Rattle.mz_prefix_theory.specs.Wording.{vocabulary_of}
+use Rattle.mz_prefix.specs.Wording.{vocabulary_of}
 use Rattle.mz_prefix.proofs.Answering.{local-first, long-first}
 use Rattle.mz_prefix.proofs.spec_text.answer.Goals as goal
 

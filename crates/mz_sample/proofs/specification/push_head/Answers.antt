@@ -1,4 +1,4 @@
-use Rattle.mz_base_theory.proofs.Offered.{appended}
+use Rattle.mz_base.proofs.Offered.{appended}
 use Rattle.mz_sample.proofs.specification.push_head.Goals as goal
 
 pub returns : goal.returns

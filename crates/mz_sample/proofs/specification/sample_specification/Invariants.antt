@@ -1,5 +1,5 @@
 use Rattle.std.proofs.Common.{◌≡◌}
-use Rattle.mz_sample_theory.specs.Samples.{sample_specification}
+use Rattle.mz_sample.specs.Samples.{sample_specification}
 use Rattle.mz_sample.proofs.specification.sample_specification.Given as goal
 
 abbrev pub invariant-loop-k : goal.invariant-loop-k

@@ -1,6 +1,6 @@
 use Rattle.std.proofs.Common.{ℕ, List, ◌≡◌, ◌++◌, ◌∙◌, ap, append_assoc, codes, decimal, string_bytes}
 use Rattle.std.proofs.lemmas.Result.{IfOk-weaker}
-use Rattle.mz_sample_theory.specs.Samples.{body_expression}
+use Rattle.mz_sample.specs.Samples.{body_expression}
 use Rattle.mz_sample.proofs.text.proved_theorem.Goals as goal
 
 pub returns : goal.returns

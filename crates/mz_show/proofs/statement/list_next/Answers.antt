@@ -1,6 +1,6 @@
 use Rattle.std.proofs.Common.{sym, subst, inl}
-use Rattle.mz_base_theory.proofs.Offered.{retold-fails}
-use Rattle.mz_base_theory.specs.Checks.{FailsFirst}
+use Rattle.mz_base.proofs.Offered.{retold-fails}
+use Rattle.mz_base.specs.Checks.{FailsFirst}
 use Rattle.mz_cmd.specs.declared.rule.Refusal.{Refusal}
 use Rattle.mz_layout_tables.specs.Heads.{head_checks}
 use Rattle.mz_show.specs.Statements.{place_checks, refusal_at}

@@ -1,5 +1,5 @@
 use Rattle.std.proofs.Common.{◌≡◌, ◌+◌, ℕ, List, [], refl, sym, subst, inl, append-nil, arith}
-use Rattle.mz_base_theory.proofs.Offered.{all_hold-excludes}
+use Rattle.mz_base.proofs.Offered.{all_hold-excludes}
 use Rattle.mz_cmd.specs.declared.rule.Refusal.{Refusal}
 use Rattle.mz_layout_tables.specs.Layout.{layout_checks}
 use Rattle.mz_io.specs.Calls.{Grows}

@@ -1,6 +1,6 @@
 use Rattle.std.proofs.Common.{OnOk, sym, subst}
 use Rattle.mz_spec_theory.specs.StatementCode.{statement}
-use Rattle.mz_spec.specs.Answers.{JudgesStatement}
+use Rattle.mz_spec_rules.specs.Answers.{JudgesStatement}
 use Rattle.mz_spec_theory.specs.Declaring.{After}
 use Rattle.mz_spec_rules.specs.Entries.{state}
 use Rattle.mz_spec.proofs.statements.add_read.Goals as goal

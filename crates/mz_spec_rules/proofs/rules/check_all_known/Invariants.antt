@@ -1,6 +1,6 @@
 use Rattle.std.proofs.Common.{map, drop}
-use Rattle.mz_base_theory.specs.Checks.{each_in_order}
-use Rattle.mz_base_theory.proofs.Offered.{Decides}
+use Rattle.mz_base.specs.Checks.{each_in_order}
+use Rattle.mz_base.proofs.Offered.{Decides}
 use Rattle.mz_spec_theory.specs.StatementCode.{lexeme}
 use Rattle.mz_spec_theory.specs.Rules.{is_known}
 use Rattle.mz_spec_rules.proofs.rules.check_all_known.Given as goal

@@ -1,7 +1,7 @@
 use Rattle.std.proofs.Common.{◌≡◌, ◌∙◌, ◌+◌, ◌++◌, ◌∷◌, [], map, drop, Err, ap, refl, subst, sym}
 use Rattle.std.proofs.lemmas.Result.{err_from_is_err_and}
-use Rattle.mz_base_theory.specs.Checks.{AllHold}
-use Rattle.mz_base_theory.proofs.Offered.{Decides, decides-after, decides-whole, drop-item, drop-past}
+use Rattle.mz_base.specs.Checks.{AllHold}
+use Rattle.mz_base.proofs.Offered.{Decides, decides-after, decides-whole, drop-item, drop-past}
 use Rattle.mz_spec_rules.specs.Answers.{JudgesOrMem}
 use Rattle.mz_spec_theory.specs.Rules.{are_others, is_other}
 use Rattle.mz_spec_variables.proofs.Offered.{made-end, made-step}

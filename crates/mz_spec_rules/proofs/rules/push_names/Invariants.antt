@@ -1,5 +1,5 @@
 use Rattle.std.proofs.Common.{◌≡◌, ◌++◌, [], map, drop}
-use Rattle.mz_base_theory.proofs.Offered.{Decides}
+use Rattle.mz_base.proofs.Offered.{Decides}
 use Rattle.mz_spec_variables.specs.Code.{variable}
 use Rattle.mz_spec_theory.specs.Rules.{are_others}
 use Rattle.mz_spec_theory.specs.View.{names_of}

@@ -1,6 +1,6 @@
 use Rattle.std.proofs.Common.{◌≡◌, ◌∙◌, ◌++◌, ◌+◌, append_assoc, ap, drop, map, refl, subst, sym}
 use Rattle.std.proofs.lemmas.List.{append-nil}
-use Rattle.mz_base_theory.proofs.Offered.{drop-item, drop-past}
+use Rattle.mz_base.proofs.Offered.{drop-item, drop-past}
 use Rattle.mz_spec_theory.specs.StatementCode.{group}
 use Rattle.mz_spec_variables.specs.Code.{typed, typed_group, typed_groups, variable}
 use Rattle.mz_spec_theory.specs.View.{group_variables, variables_of}

@@ -1,13 +1,16 @@
-use Rattle.std.proofs.Common.{Some, sym, ◌∙◌, subst}
-use Rattle.mz_store.proofs.Finding.{IsSought, not-both, earlier-none, earlier-some, earlier-less, sought-first, sought-none, next-within, next-term, next-order, next-found, next-other}
+use Rattle.std.proofs.Common.{sym, ◌∙◌, subst}
+use Rattle.mz_store.proofs.Finding.{IsSought, not-both, earlier-none, earlier-some, earlier-less, sought-first, sought-none, next-within, next-order, next-found, next-other}
 use Rattle.mz_store.proofs.buckets.find.Goals as goal
 use Rattle.mz_store.proofs.buckets.find.Goals.{else-made-head-via-then-made-head+else-are_same, else-made-head-via-else-made-head}
 
 pub chain-init : goal.chain-init
-chain-init c = sought-first c.args.operands.now c.args.nodes.now c.args.head c.args.args.now (Some c.args.newest) c.requires
+chain-init c =
+    subst (IsSought c.args.operands.now c.args.nodes.now c.args.head c.args.args.now) c.in-Some.is (sought-first c.args.operands.now c.args.nodes.now c.args.head c.args.args.now c.args.newest c.requires)
 
 pub returns-in_default-clause-none : goal.returns-in_default-clause-none
-returns-in_default-clause-none c = λ i node. absurd (next-term c.args.operands.now c.args.nodes.now c.args.head c.args.args.now c.chain.next _ c.chain.invariant c.in_default.field-0 c.in_default.is)
+returns-in_default-clause-none c =
+    sought-none c.args.operands.now c.args.nodes.now c.args.head c.args.args.now
+    (subst (IsSought c.args.operands.now c.args.nodes.now c.args.head c.args.args.now) c.in_default.is (sought-first c.args.operands.now c.args.nodes.now c.args.head c.args.args.now c.args.newest c.requires))
 
 pub part-requires-clause-order : goal.part-requires-clause-order
 part-requires-clause-order c = (next-order c.requires.0 c.args.operands.now c.args.nodes.now c.chain.next _ c.in-Application.made c.requires.1 (next-within c.args.operands.now c.args.nodes.now c.args.head c.args.args.now c.chain.next c.chain.invariant) c.in-Application.is).0

@@ -1,7 +1,7 @@
 use Rattle.std.proofs.Common.{◌∙◌, refl, ap, subst}
 use Rattle.mz_base.specs.Gaps.{gaps_of}
-use Rattle.mz_emit_accepted_theory.specs.Compiling.{IsCompilation}
-use Rattle.mz_emit_accepted_theory.specs.Lines.{line_of}
+use Rattle.mz_emit_theory.specs.Compiling.{IsCompilation}
+use Rattle.mz_emit_theory.specs.Lines.{line_of}
 use Rattle.mz_tool.proofs.Compiles.{is-not-compiled, compiled-alone, not-compiled-alone, as-finished, short-binary, put-short}
 use Rattle.mz_tool.proofs.compile.compile.Goals as goal
 

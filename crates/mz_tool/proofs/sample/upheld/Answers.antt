@@ -1,5 +1,5 @@
 use Rattle.std.proofs.Common.{false, ap, sym, subst}
-use Rattle.mz_emit_accepted_theory.specs.Compiling.{CompilesTo}
+use Rattle.mz_emit_theory.specs.Compiling.{CompilesTo}
 use Rattle.mz_tool_engine.specs.Inputs.{bytes_of}
 use Rattle.mz_tool.proofs.Sampled.{compiled-put, verified-yes, verified-no, verified-proved, not-yes, not-fit}
 use Rattle.mz_tool.proofs.sample.upheld.Goals as goal

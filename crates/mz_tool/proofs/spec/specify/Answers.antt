@@ -1,5 +1,5 @@
 use Rattle.std.proofs.Common.{◌∙◌, refl, ap, subst}
-use Rattle.mz_prefix_theory.specs.Wording.{longest}
+use Rattle.mz_prefix.specs.Wording.{longest}
 use Rattle.mz_prefix.specs.SpecTexts.{IsWording, DeclaresItsText}
 use Rattle.mz_tool.specs.Specified.{spec_line}
 use Rattle.mz_tool.proofs.Compiles.{put-short}

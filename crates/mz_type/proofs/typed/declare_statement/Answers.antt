@@ -1,5 +1,5 @@
 use Rattle.std.proofs.Common.{[], ◌∷◌, ◌++◌, length, ◌+◌, length-append, sym, ap, ◌∙◌, subst}
-use Rattle.mz_base_theory.specs.Checks.{AllHold}
+use Rattle.mz_base.specs.Checks.{AllHold}
 use Rattle.mz_sexpr.specs.Number.{first}
 use Rattle.mz_logic_theory.specs.DeclView.{declaration}
 use Rattle.mz_mmu.specs.EntryView.{entry}

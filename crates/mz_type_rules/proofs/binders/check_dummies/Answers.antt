@@ -1,7 +1,7 @@
 use Rattle.std.proofs.Common.{◌+◌, true≢false, drop, get_or, sym, ap, subst, refl, inl}
 use Rattle.std.proofs.lemmas.List.{drop_more}
-use Rattle.mz_base_theory.specs.Checks.{demand}
-use Rattle.mz_base_theory.proofs.Offered.{Decides}
+use Rattle.mz_base.specs.Checks.{demand}
+use Rattle.mz_base.proofs.Offered.{Decides}
 use Rattle.mz_sexpr.specs.declared.rule.U.{U}
 use Rattle.mz_sexpr.specs.Node.{place}
 use Rattle.mz_sexpr.specs.Number.{first, rest}

@@ -1,6 +1,6 @@
 use Rattle.std.proofs.Common.{◌+◌, true≢false, drop, refl, sym, subst, inl}
-use Rattle.mz_base_theory.specs.Checks.{demand}
-use Rattle.mz_base_theory.proofs.Offered.{Decides}
+use Rattle.mz_base.specs.Checks.{demand}
+use Rattle.mz_base.proofs.Offered.{Decides}
 use Rattle.mz_sexpr.specs.Node.{place}
 use Rattle.mz_sexpr.specs.Number.{first, rest}
 use Rattle.mz_sexpr.specs.declared.rule.U.{U}

@@ -1,5 +1,5 @@
 use Rattle.std.proofs.Common.{drop}
-use Rattle.mz_base_theory.proofs.Offered.{Decides}
+use Rattle.mz_base.proofs.Offered.{Decides}
 use Rattle.mz_mmu_theory.specs.Rules.{param_rules}
 use Rattle.mz_type_rules.proofs.binders.check_params.Given as goal
 

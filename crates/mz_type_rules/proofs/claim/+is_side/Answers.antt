@@ -1,5 +1,5 @@
 use Rattle.std.proofs.Common.{◌∙◌, ap, arith, refl, sym, true≢false}
-use Rattle.mz_base_theory.proofs.Offered.{drop-item}
+use Rattle.mz_base.proofs.Offered.{drop-item}
 use Rattle.mz_logic_theory.specs.Tree.{app}
 use Rattle.mz_mmu_theory.specs.ConvCode.{convs_steps}
 use Rattle.mz_mmu_theory.specs.ConvView.{conversions}

@@ -1,6 +1,6 @@
 use Rattle.std.proofs.Common.{subst}
-use Rattle.mz_base_theory.specs.Checks.{AllHold, FailsFirst, Judges}
-use Rattle.mz_base_theory.proofs.Offered.{judges-after}
+use Rattle.mz_base.specs.Checks.{AllHold, FailsFirst, Judges}
+use Rattle.mz_base.proofs.Offered.{judges-after}
 use Rattle.mz_sexpr.specs.Node.{parts}
 use Rattle.mz_sexpr.specs.Number.{first}
 use Rattle.mz_logic_theory.specs.Declaration.{signatures}

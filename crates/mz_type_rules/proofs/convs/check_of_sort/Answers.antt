@@ -1,5 +1,5 @@
 use Rattle.std.proofs.Common.{sym, ◌∙◌, inl}
-use Rattle.mz_base_theory.proofs.Offered.{fails-after, all_hold-both}
+use Rattle.mz_base.proofs.Offered.{fails-after, all_hold-both}
 use Rattle.mz_sexpr.specs.Number.{first}
 use Rattle.mz_logic_theory.specs.Declaration.{signatures}
 use Rattle.mz_logic_theory.specs.View.{tree}

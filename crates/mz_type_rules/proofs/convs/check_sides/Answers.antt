@@ -1,5 +1,5 @@
 use Rattle.std.proofs.Common.{◌<◌, ◌+◌, drop, arith, length, subst, sym}
-use Rattle.mz_base_theory.proofs.Offered.{Decides}
+use Rattle.mz_base.proofs.Offered.{Decides}
 use Rattle.mz_sexpr.specs.Number.{first, rest}
 use Rattle.mz_logic_theory.specs.Declaration.{signatures}
 use Rattle.mz_mmu_theory.specs.ConvView.{conversion, conversions}

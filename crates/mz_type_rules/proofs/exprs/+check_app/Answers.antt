@@ -1,6 +1,6 @@
 use Rattle.std.proofs.Common.{◌≡◌, ◌+◌, ◌∙◌, sym, ap, subst, arith}
-use Rattle.mz_base_theory.specs.Checks.{AllHold, Judges}
-use Rattle.mz_base_theory.proofs.Offered.{fails-before, Decides}
+use Rattle.mz_base.specs.Checks.{AllHold, Judges}
+use Rattle.mz_base.proofs.Offered.{fails-before, Decides}
 use Rattle.mz_sexpr.specs.Node.{place}
 use Rattle.mz_sexpr.specs.Number.{first}
 use Rattle.mz_logic_theory.specs.Declaration.{signatures}

@@ -1,6 +1,6 @@
 use Rattle.std.proofs.Common.{sym, ap, ◌∙◌, subst, length, inl}
-use Rattle.mz_base_theory.specs.Checks.{Judges}
-use Rattle.mz_base_theory.proofs.Offered.{fails-after, judges-after}
+use Rattle.mz_base.specs.Checks.{Judges}
+use Rattle.mz_base.proofs.Offered.{fails-after, judges-after}
 use Rattle.mz_sexpr.specs.Node.{parts}
 use Rattle.mz_sexpr.specs.Number.{first, rest}
 use Rattle.mz_logic_theory.specs.Declaration.{signatures}

@@ -1,5 +1,5 @@
 use Rattle.std.proofs.Common.{subst}
-use Rattle.mz_base_theory.specs.Checks.{Judges}
+use Rattle.mz_base.specs.Checks.{Judges}
 use Rattle.mz_logic_theory.specs.Declaration.{signatures}
 use Rattle.mz_mmu_theory.specs.Rules.{exprs_rules}
 use Rattle.mz_type_rules.proofs.exprs.check_exprs.Goals as goal

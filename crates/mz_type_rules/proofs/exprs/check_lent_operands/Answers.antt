@@ -1,5 +1,5 @@
 use Rattle.std.proofs.Common.{◌<◌, ◌+◌, drop, arith, length, sym, subst}
-use Rattle.mz_base_theory.proofs.Offered.{fails-before, Decides}
+use Rattle.mz_base.proofs.Offered.{fails-before, Decides}
 use Rattle.mz_sexpr.specs.Number.{first}
 use Rattle.mz_logic_theory.specs.Declaration.{signatures}
 use Rattle.mz_logic_theory.specs.Tree.{past}

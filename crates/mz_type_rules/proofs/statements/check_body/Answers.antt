@@ -1,6 +1,6 @@
 use Rattle.std.proofs.Common.{◌++◌, ℕ, Contains, true≢false, sym, ap, ◌∙◌, subst, inl, inr}
-use Rattle.mz_base_theory.specs.Checks.{Judges}
-use Rattle.mz_base_theory.proofs.Offered.{fails-after, all_hold-both}
+use Rattle.mz_base.specs.Checks.{Judges}
+use Rattle.mz_base.proofs.Offered.{fails-after, all_hold-both}
 use Rattle.mz_sexpr.specs.Node.{parts, place}
 use Rattle.mz_sexpr.specs.Number.{first}
 use Rattle.mz_sexpr.specs.declared.rule.U.{U}

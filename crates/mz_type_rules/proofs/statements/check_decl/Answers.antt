@@ -1,7 +1,7 @@
 use Rattle.std.proofs.Common.{sym, subst}
 use Rattle.std.specs.Prelude.{Some, None}
-use Rattle.mz_base_theory.specs.Checks.{AllHold, nothing, ◌>>◌}
-use Rattle.mz_base_theory.proofs.Offered.{all_hold-both}
+use Rattle.mz_base.specs.Checks.{AllHold, nothing, ◌>>◌}
+use Rattle.mz_base.proofs.Offered.{all_hold-both}
 use Rattle.mz_logic_theory.specs.DeclView.{assertion_view, declaration}
 use Rattle.mz_mmu_theory.specs.ProofView.{proof_view}
 use Rattle.mz_type_rules.specs.Answers.{Judged, stated}

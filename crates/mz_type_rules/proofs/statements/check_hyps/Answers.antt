@@ -1,7 +1,7 @@
 use Rattle.std.proofs.Common.{◌+◌, drop, sym, subst, arith}
 use Rattle.std.proofs.lemmas.List.{drop_all}
-use Rattle.mz_base_theory.specs.Checks.{AllHold, FailsFirst}
-use Rattle.mz_base_theory.proofs.Offered.{Decides, decides-whole}
+use Rattle.mz_base.specs.Checks.{AllHold, FailsFirst}
+use Rattle.mz_base.proofs.Offered.{Decides, decides-whole}
 use Rattle.mz_sexpr.specs.Number.{first, rest}
 use Rattle.mz_logic_theory.specs.View.{tree, trees}
 use Rattle.mz_logic_theory.proofs.Offered.{expr-read, exprs-within, exprs_of, length-exprs, trees-exprs}

@@ -1,6 +1,6 @@
 use Rattle.std.proofs.Common.{◌++◌, ap, ◌∙◌, subst}
 use Rattle.std.specs.Prelude.{Some}
-use Rattle.mz_base_theory.specs.Checks.{Judges}
+use Rattle.mz_base.specs.Checks.{Judges}
 use Rattle.mz_sexpr.specs.Node.{parts}
 use Rattle.mz_sexpr.specs.Number.{first}
 use Rattle.mz_logic_theory.specs.DeclView.{assertion_view}

@@ -1,7 +1,7 @@
 use Rattle.std.proofs.Common.{true≢false, refl, sym, ap, ◌∙◌, subst, inl, []}
 use Rattle.std.specs.Prelude.{None}
-use Rattle.mz_base_theory.specs.Checks.{Judges}
-use Rattle.mz_base_theory.proofs.Offered.{fails-after}
+use Rattle.mz_base.specs.Checks.{Judges}
+use Rattle.mz_base.proofs.Offered.{fails-after}
 use Rattle.mz_sexpr.specs.Node.{parts, place}
 use Rattle.mz_sexpr.specs.Number.{first}
 use Rattle.mz_sexpr.specs.declared.rule.U.{U}

@@ -1,5 +1,5 @@
 use Rattle.std.proofs.Common.{subst, arith}
-use Rattle.mz_base_theory.proofs.Offered.{all_hold-excludes}
+use Rattle.mz_base.proofs.Offered.{all_hold-excludes}
 use Rattle.mz_layout_tables.specs.Heads.{IsNextHead, StandsAt, head_checks}
 use Rattle.mz_binary_walk.proofs.Heads.{ahead, goes-on}
 use Rattle.mz_binary_walk.proofs.passed.Passed.next.Goals as goal

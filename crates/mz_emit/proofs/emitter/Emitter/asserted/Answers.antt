@@ -15,7 +15,7 @@ use Rattle.mz_type_rules.specs.Answers.{stated}
 use Rattle.mz_emit_theory.specs.InReach.{AreSorted}
 use Rattle.mz_emit_bodies.specs.Variables.{IsShared}
 use Rattle.mz_emit_theory.specs.StreamWriting.{assertion_written, stream_of}
-use Rattle.mz_emit_accepted_theory.specs.CompiledFile.{assertion_body_of}
+use Rattle.mz_emit_theory.specs.CompiledFile.{assertion_body_of}
 use Rattle.mz_emit.proofs.Speaking.{few_bound, has_params, dummies_behind, few_words, held_after, conclusion_sorted, hyps_sorted, conclusion_reach, hyps_reach, hyps_provable, sound_there}
 use Rattle.mz_emit.proofs.emitter.Emitter.asserted.Goals as goal
 

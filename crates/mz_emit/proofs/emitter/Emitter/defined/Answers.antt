@@ -5,7 +5,7 @@ use Rattle.mz_logic_theory.specs.declared.word.Word.{Word}
 use Rattle.mz_store.specs.Bits.{bound_vars}
 use Rattle.mz_machine_env.proofs.Offered.{binders_many}
 use Rattle.mz_emit_bodies.specs.Variables.{IsShared}
-use Rattle.mz_emit_accepted_theory.specs.CompiledFile.{definition_stream_of, definition_body_of}
+use Rattle.mz_emit_theory.specs.CompiledFile.{definition_stream_of, definition_body_of}
 use Rattle.mz_emit.proofs.Speaking.{few_bound, has_params, dummies_behind, few_words}
 use Rattle.mz_emit.proofs.emitter.Emitter.defined.Goals as goal
 

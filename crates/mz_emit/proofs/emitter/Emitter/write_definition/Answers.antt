@@ -5,7 +5,7 @@ use Rattle.mz_logic_theory.specs.Legality.{IsLegalEnv}
 use Rattle.mz_logic_theory.specs.View.{tree}
 use Rattle.mz_type.specs.StatedView.{with_decl}
 use Rattle.mz_emit.specs.Emitting.{CanBeDefined}
-use Rattle.mz_emit_accepted_theory.specs.CompiledFile.{with_term, with_form, term_row, definition_stream_of, definition_body_of}
+use Rattle.mz_emit_theory.specs.CompiledFile.{with_term, with_form, term_row, definition_stream_of, definition_body_of}
 use Rattle.mz_emit.proofs.Rows.{terms_room}
 use Rattle.mz_emit.proofs.Saying.{term_words, definition_can}
 use Rattle.mz_emit.proofs.emitter.Emitter.write_definition.Goals as goal

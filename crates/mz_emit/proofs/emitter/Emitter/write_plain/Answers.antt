@@ -1,7 +1,7 @@
 use Rattle.std.proofs.Common.{refl, sym, ap, ◌∙◌, append-nil}
 use Rattle.mz_logic_theory.specs.DeclView.{signature, form, term_of}
 use Rattle.mz_type.specs.StatedView.{with_decl}
-use Rattle.mz_emit_accepted_theory.specs.CompiledFile.{with_form}
+use Rattle.mz_emit_theory.specs.CompiledFile.{with_form}
 use Rattle.mz_emit.proofs.Rows.{terms_room}
 use Rattle.mz_emit.proofs.Saying.{term_words}
 use Rattle.mz_emit.proofs.emitter.Emitter.write_plain.Goals as goal

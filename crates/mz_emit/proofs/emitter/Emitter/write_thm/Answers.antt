@@ -13,7 +13,7 @@ use Rattle.mz_type_rules.specs.Answers.{stated}
 use Rattle.mz_type.specs.StatedView.{with_decl}
 use Rattle.mz_type.specs.TypedText.{declared}
 use Rattle.mz_emit.specs.Emitting.{CanBeAsserted, table_of}
-use Rattle.mz_emit_accepted_theory.specs.CompiledFile.{with_thm, thm_row, assertion_code, assertion_stream_of, assertion_body_of}
+use Rattle.mz_emit_theory.specs.CompiledFile.{with_thm, thm_row, assertion_code, assertion_stream_of, assertion_body_of}
 use Rattle.mz_emit.proofs.Rows.{proved_here, room_here}
 use Rattle.mz_emit.proofs.Saying.{thm_words, assertion_can}
 use Rattle.mz_emit.proofs.emitter.Emitter.write_thm.Goals as goal

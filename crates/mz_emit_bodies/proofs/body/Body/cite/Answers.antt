@@ -20,7 +20,7 @@ ids-requires-clause-sorted c = (let k = c.requires.can.1.can.0.1 in
 
 pub conclusion_id-requires-clause-there : goal.conclusion_id-requires-clause-there
 conclusion_id-requires-clause-there c = cite_reach c.args.self.now.before.env.now _ c.args.number c.args.es.now _ (assertion_view c.in-Some.thm.now) c.ids.new.self.store c.in_ok-operands.operands.items c.deref.result.now
-    c.requires.can.1.can.0.1 c.in-Some.ensures c.deref.ensures.value c.in_ok-operands.ensures.trees
+    c.requires.can.1.can.0.1 (c.in-Some.ensures c.requires.can.1.can.0.1.0 c.requires.can.1.can.0.1.1 ∙ sym c.requires.can.1.can.0.1.1) c.deref.ensures.value c.in_ok-operands.ensures.trees
 
 pub returns-clause-does : goal.returns-clause-does
 returns-clause-does c = on_ok_weaker c.add_citation.result (λ tasks-are o d.
@@ -36,7 +36,7 @@ returns-clause-does c = on_ok_weaker c.add_citation.result (λ tasks-are o d.
       c.in_ok-conclusion.ensures.holds.1
           ∙ ap (λ is. instance (trees_of c.ids.new.self.store is) (tree c.in-Some.thm.now.conclusion)) c.deref.ensures.value
           ∙ ap (λ es. instance es (tree c.in-Some.thm.now.conclusion)) c.in_ok-operands.ensures.trees
-          ∙ ap (instance c.args.es.now) (concl_is c.args.self.now.before.env.now c.args.number (assertion_view c.in-Some.thm.now) c.in-Some.ensures),
+          ∙ ap (instance c.args.es.now) (concl_is c.args.self.now.before.env.now c.args.number (assertion_view c.in-Some.thm.now) (c.in-Some.ensures c.requires.can.1.can.0.1.0 c.requires.can.1.can.0.1.1 ∙ sym c.requires.can.1.can.0.1.1)),
     )
     (tasks-are ∙ ap (λ is. pushes is ++ push c.in_ok-conclusion.conclusion.0 ∷ give code.Thm c.args.number ∷ to_do c.args.self.now.tasks.items) c.deref-2.ensures.value) d))
     c.add_citation.ensures
@@ -52,7 +52,7 @@ returns-clause-less c = on_ok_weaker c.add_citation.result (λ tasks-are.
     (c.in_ok-conclusion.ensures.holds.1
     ∙ ap (λ is. instance (trees_of c.ids.new.self.store is) (tree c.in-Some.thm.now.conclusion)) c.deref.ensures.value
     ∙ ap (λ es. instance es (tree c.in-Some.thm.now.conclusion)) c.in_ok-operands.ensures.trees
-    ∙ ap (instance c.args.es.now) (concl_is c.args.self.now.before.env.now c.args.number (assertion_view c.in-Some.thm.now) c.in-Some.ensures))
+    ∙ ap (instance c.args.es.now) (concl_is c.args.self.now.before.env.now c.args.number (assertion_view c.in-Some.thm.now) (c.in-Some.ensures c.requires.can.1.can.0.1.0 c.requires.can.1.can.0.1.1 ∙ sym c.requires.can.1.can.0.1.1)))
     (tasks-are ∙ ap (λ is. pushes is ++ push c.in_ok-conclusion.conclusion.0 ∷ give code.Thm c.args.number ∷ to_do c.args.self.now.tasks.items) c.deref-2.ensures.value) c.requires.can.1)
     c.add_citation.ensures
 
@@ -60,11 +60,11 @@ pub conclusion_id-requires-clause-instances : goal.conclusion_id-requires-clause
 conclusion_id-requires-clause-instances c = (
   c.args.self.now.before.env.now,
   instances_grown c.args.self.now.before.env.now c.args.self.now.shared.store c.ids.new.self.store c.args.instances.now.items.items c.in_ok-operands.ensures.grows c.requires.instances,
-  concl_is c.args.self.now.before.env.now c.args.number (assertion_view c.in-Some.thm.now) c.in-Some.ensures,
+  concl_is c.args.self.now.before.env.now c.args.number (assertion_view c.in-Some.thm.now) (c.in-Some.ensures c.requires.can.1.can.0.1.0 c.requires.can.1.can.0.1.1 ∙ sym c.requires.can.1.can.0.1.1),
 )
 
 pub returns-clause-instances : goal.returns-clause-instances
 returns-clause-instances c = on_ok_weaker c.add_citation.result (λ tasks-are. c.in_ok-conclusion.ensures.instances c.args.self.now.before.env.now
     (instances_grown c.args.self.now.before.env.now c.args.self.now.shared.store c.ids.new.self.store c.args.instances.now.items.items c.in_ok-operands.ensures.grows c.requires.instances)
-    (concl_is c.args.self.now.before.env.now c.args.number (assertion_view c.in-Some.thm.now) c.in-Some.ensures))
+    (concl_is c.args.self.now.before.env.now c.args.number (assertion_view c.in-Some.thm.now) (c.in-Some.ensures c.requires.can.1.can.0.1.0 c.requires.can.1.can.0.1.1 ∙ sym c.requires.can.1.can.0.1.1)))
     c.add_citation.ensures

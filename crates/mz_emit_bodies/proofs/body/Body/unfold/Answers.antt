@@ -37,7 +37,7 @@ pub instance-requires-clause-there : goal.instance-requires-clause-there
 instance-requires-clause-there c =
     let can = c.requires.can.1.can.0 in
     let env = c.args.self.now.before.env.now in
-    subst (InReach (length c.deref-2.result.now)) (body_found env c.args.number (term_view c.in-Some.term.now) (tree c.in-Some-body.body.now) c.in-Some.ensures.term c.in-Some-body.ensures)
+    subst (InReach (length c.deref-2.result.now)) (body_found env c.args.number (term_view c.in-Some.term.now) (tree c.in-Some-body.body.now) (c.in-Some.ensures c.requires.can.1.can.0.2.0.3.0 c.requires.can.1.can.0.2.0.3.3.0 ∙ sym c.requires.can.1.can.0.2.0.3.3.0) c.in-Some-body.ensures)
     (unfold_reach env c.args.self.now.shared.store.context c.args.number c.args.es.now c.args.vars.now (conversion c.args.part.now) can.0 can.1 (length c.deref-2.result.now) c.requires.before.0 can.2.0
     (ap length c.deref-2.ensures.value ∙ c.in_ok-push_variables.ensures.many
     ∙ ap (λ (n : ℕ). n + length c.args.vars.now) (many_ids c.ids.new.self.store c.in_ok-operands.operands.items ∙ ap (λ es. length (listed es)) c.in_ok-operands.ensures.trees)))
@@ -51,7 +51,7 @@ instance-requires-clause-sorted c =
     ∙ ap (λ es. followed_by es (variables c.args.vars.now))
     (trees_grown c.ids.new.self.store c.app.new.self.store c.in_ok-left.ensures.grows c.in_ok-operands.operands.items c.in_ok-operands.ensures.ids ∙ c.in_ok-operands.ensures.trees))
     ∙ ap (instance (followed_by c.args.es.now (variables c.args.vars.now)))
-    (sym (body_found env c.args.number (term_view c.in-Some.term.now) (tree c.in-Some-body.body.now) c.in-Some.ensures.term c.in-Some-body.ensures)))
+    (sym (body_found env c.args.number (term_view c.in-Some.term.now) (tree c.in-Some-body.body.now) (c.in-Some.ensures c.requires.can.1.can.0.2.0.3.0 c.requires.can.1.can.0.2.0.3.3.0 ∙ sym c.requires.can.1.can.0.2.0.3.3.0) c.in-Some-body.ensures)))
     (unfolded_sorted env c.args.self.now.shared.store.context c.args.number c.args.es.now c.args.vars.now (conversion c.args.part.now) can.0 can.1 can.2.0)
 
 pub returns-clause-does : goal.returns-clause-does
@@ -69,7 +69,7 @@ returns-clause-does c = on_ok_weaker c.add_unfolding.result (λ tasks-are o d.
     ∙ ap (λ es. instance es (tree c.in-Some-body.body.now)) (ap (trees_of s₂) c.deref-2.ensures.value ∙ c.in_ok-push_variables.ensures.trees
     ∙ ap (λ es. followed_by es (variables c.args.vars.now)) (trees_grown s₁ s₂ g₂ c.in_ok-operands.operands.items c.in_ok-operands.ensures.ids ∙ c.in_ok-operands.ensures.trees))
     ∙ ap (instance (followed_by c.args.es.now (variables c.args.vars.now)))
-    (sym (body_found env c.args.number (term_view c.in-Some.term.now) (tree c.in-Some-body.body.now) c.in-Some.ensures.term c.in-Some-body.ensures)) in
+    (sym (body_found env c.args.number (term_view c.in-Some.term.now) (tree c.in-Some-body.body.now) (c.in-Some.ensures c.requires.can.1.can.0.2.0.3.0 c.requires.can.1.can.0.2.0.3.3.0 ∙ sym c.requires.can.1.can.0.2.0.3.3.0) c.in-Some-body.ensures)) in
     let v-is = c.in_ok-unfolded.ensures.variables ∙ c.in_ok-left.ensures.variables ∙ c.in_ok-operands.ensures.variables in
     vars_as _ o s₃ _ _ _ _ _ _ _ _ v-is
     (unfold_done env o _ s₃ gr _ _ _ _ _ c.args.number c.args.es.now c.args.vars.now (conversion c.args.part.now) c.in_ok-left.left.0 c.in_ok-unfolded.unfolded.0
@@ -93,7 +93,7 @@ returns-clause-less c = on_ok_weaker c.add_unfolding.result (λ tasks-are.
     ∙ ap (λ es. instance es (tree c.in-Some-body.body.now)) (ap (trees_of s₂) c.deref-2.ensures.value ∙ c.in_ok-push_variables.ensures.trees
     ∙ ap (λ es. followed_by es (variables c.args.vars.now)) (trees_grown s₁ s₂ g₂ c.in_ok-operands.operands.items c.in_ok-operands.ensures.ids ∙ c.in_ok-operands.ensures.trees))
     ∙ ap (instance (followed_by c.args.es.now (variables c.args.vars.now)))
-    (sym (body_found env c.args.number (term_view c.in-Some.term.now) (tree c.in-Some-body.body.now) c.in-Some.ensures.term c.in-Some-body.ensures)) in
+    (sym (body_found env c.args.number (term_view c.in-Some.term.now) (tree c.in-Some-body.body.now) (c.in-Some.ensures c.requires.can.1.can.0.2.0.3.0 c.requires.can.1.can.0.2.0.3.3.0 ∙ sym c.requires.can.1.can.0.2.0.3.3.0) c.in-Some-body.ensures)) in
     unfold_cost env c.requires.can.0 c.args.self.now.shared.store s₃ gr c.args.self.now.shared.variables.items c.args.self.now.heap.places.items c.args.self.now.heap.len c.args.self.now.hyps.items
     c.args.self.now.cells.cells.items c.args.number c.args.es.now c.args.vars.now (conversion c.args.part.now) c.in_ok-left.left.0 c.in_ok-unfolded.unfolded.0
     (to_do c.args.self.now.tasks.items) (to_do c.add_unfolding.new.tasks.items) c.args.self.now.out.items tasks-are left-is unfolded-is c.requires.can.1)

@@ -1,5 +1,5 @@
 use Rattle.std.proofs.Common.{◌≡◌, ◌<◌, ◌-◌, ◌∙◌, length, suc, ap, ap₂, subst, sym, arith}
-use Rattle.mz_base_theory.proofs.Offered.{length-push as length-end}
+use Rattle.mz_base.proofs.Offered.{length-push as length-end}
 use Rattle.mz_logic_theory.specs.Tree.{listed, followed_by, copies}
 use Rattle.mz_logic_theory.specs.Groups.{Rise, up_to}
 use Rattle.mz_logic_theory.specs.View.{tree}

@@ -1,6 +1,6 @@
 use Rattle.std.proofs.Common.{◌<◌, ◌+◌, ◌++◌, ◌∷◌, [], ◌∙◌, drop, length, sym, ap, subst, refl, arith}
 use Rattle.std.proofs.lemmas.List.{append-nil}
-use Rattle.mz_base_theory.specs.Checks.{FailsFirst}
+use Rattle.mz_base.specs.Checks.{FailsFirst}
 use Rattle.mz_spec_theory.specs.State.{env_of}
 use Rattle.mz_match.specs.declared.progress.Matching.{Matching}
 use Rattle.mz_match_theory.specs.declared.verdict.Verdict.TheVariants as verdicts

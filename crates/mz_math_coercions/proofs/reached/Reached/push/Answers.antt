@@ -1,5 +1,5 @@
 use Rattle.std.proofs.Common.{◌≡◌, ◌<◌, ◌∙◌, ℕ, suc, List, ap, arith, length, subst, sym}
-use Rattle.mz_base_theory.proofs.Offered.{length-push}
+use Rattle.mz_base.proofs.Offered.{length-push}
 use Rattle.mz_math_coercions.specs.Reached.{AreFoundIn}
 use Rattle.mz_math_coercions.proofs.reached.Reached.push.Goals as goal
 

@@ -1,6 +1,6 @@
 use Rattle.std.proofs.Common.{◌≡◌, subst, Contains}
 use Rattle.std.specs.Prelude.{MatchOption}
-use Rattle.mz_math_notation.specs.Names.{IsFoundAs}
+use Rattle.mz_math_operators.specs.Names.{IsFoundAs}
 use Rattle.mz_math_theory.specs.Notation.{Table, TermName}
 use Rattle.mz_math_notation.proofs.table.Notations.named.Goals as goal
 

@@ -1,7 +1,7 @@
 use Rattle.std.proofs.Common.{◌≡◌, ◌↔◌, subst, Contains}
 use Rattle.std.specs.Prelude.{IsTrue}
 use Rattle.mz_math_theory.specs.Notation.{Table, TermName}
-use Rattle.mz_math_notation.proofs.Naming.{found-decides}
+use Rattle.mz_math_operators.proofs.Offered.{found-decides}
 use Rattle.mz_math_notation.proofs.table.Notations.names_term.Goals as goal
 
 pub returns : goal.returns

@@ -6,7 +6,7 @@ use Rattle.mz_math_theory.specs.Clear.{IsClear}
 use Rattle.mz_math_theory.specs.Kept.{IsTable}
 use Rattle.mz_math_theory.specs.NotationAnswers.{IsClearTable}
 use Rattle.mz_math_theory.proofs.Offered.{infix-other, infix-is, pushed-infix, added-mem}
-use Rattle.mz_math_notation.proofs.Spotting.{joined-apart}
+use Rattle.mz_math_operators.proofs.Offered.{joined-apart}
 use Rattle.mz_math_notation.proofs.table.Notations.push_infix.Goals as goal
 
 pub returns-in_err-is_clear : goal.returns-in_err-is_clear

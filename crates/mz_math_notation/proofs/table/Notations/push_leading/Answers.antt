@@ -6,7 +6,7 @@ use Rattle.mz_math_theory.specs.Clear.{IsClear}
 use Rattle.mz_math_theory.specs.Kept.{IsTable}
 use Rattle.mz_math_theory.specs.NotationAnswers.{IsClearTable}
 use Rattle.mz_math_theory.proofs.Offered.{leading-other, leading-is, pushed-leading, added-mem}
-use Rattle.mz_math_notation.proofs.Spotting.{led-apart}
+use Rattle.mz_math_operators.proofs.Offered.{led-apart}
 use Rattle.mz_math_notation.proofs.table.Notations.push_leading.Goals as goal
 
 pub returns-in_err-is_clear : goal.returns-in_err-is_clear

@@ -1,5 +1,5 @@
 use Rattle.std.proofs.Common.{sym, subst, refl}
-use Rattle.mz_base_theory.specs.Checks.{◌>>◌}
+use Rattle.mz_base.specs.Checks.{◌>>◌}
 use Rattle.mz_logic_theory.specs.View.{tree}
 use Rattle.mz_sexpr.specs.Node.{place}
 use Rattle.mz_sexpr.specs.Number.{node_at}

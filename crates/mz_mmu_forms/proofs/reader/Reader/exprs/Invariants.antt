@@ -1,4 +1,4 @@
-use Rattle.mz_base_theory.proofs.Offered.{Decides}
+use Rattle.mz_base.proofs.Offered.{Decides}
 use Rattle.mz_logic_theory.specs.Tree.{Trees, followed_by}
 use Rattle.mz_mmu_theory.specs.Cursor.{nodes_from, IsThere, nodes_size}
 use Rattle.mz_mmu_theory.specs.Expressions.{AreExprs}

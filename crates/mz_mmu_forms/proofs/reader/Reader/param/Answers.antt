@@ -1,5 +1,5 @@
 use Rattle.std.proofs.Common.{◌∙◌, refl, sym, subst, true, false}
-use Rattle.mz_base_theory.specs.Checks.{◌>>◌}
+use Rattle.mz_base.specs.Checks.{◌>>◌}
 use Rattle.mz_sexpr.specs.Node.{node, no_nodes, parts}
 use Rattle.mz_sexpr.specs.Number.{node_at}
 use Rattle.mz_mmu_theory.specs.Expressions.{IsParam}

@@ -1,5 +1,5 @@
 use Rattle.std.proofs.Common.{ap, sym, subst, refl, arith, [], ◌∷◌, ◌++◌, length, append-nil}
-use Rattle.mz_base_theory.proofs.Offered.{length-push}
+use Rattle.mz_base.proofs.Offered.{length-push}
 use Rattle.mz_sexpr.specs.Number.{node_at, nodes_after}
 use Rattle.mz_mmu_theory.specs.Cursor.{nodes_from, nodes_size}
 use Rattle.mz_mmu_theory.specs.Expressions.{IsParam, AreBinders, AreParams}

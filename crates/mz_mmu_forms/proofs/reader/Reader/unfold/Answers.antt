@@ -1,5 +1,5 @@
 use Rattle.std.proofs.Common.{sym, subst}
-use Rattle.mz_base_theory.specs.Checks.{◌>>◌}
+use Rattle.mz_base.specs.Checks.{◌>>◌}
 use Rattle.mz_sexpr.specs.Node.{Node, place}
 use Rattle.mz_sexpr.specs.Number.{node_at}
 use Rattle.mz_mmu_theory.specs.Cursor.{nodes_from}

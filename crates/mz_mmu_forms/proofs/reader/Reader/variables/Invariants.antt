@@ -1,5 +1,5 @@
 use Rattle.std.proofs.Common.{ℕ, List, ◌++◌}
-use Rattle.mz_base_theory.proofs.Offered.{Decides}
+use Rattle.mz_base.proofs.Offered.{Decides}
 use Rattle.mz_sexpr.specs.Number.{node_at}
 use Rattle.mz_mmu_theory.specs.Cursor.{nodes_from, IsThere, nodes_size}
 use Rattle.mz_mmu_theory.specs.Expressions.{AreVariables, IsVariableList}

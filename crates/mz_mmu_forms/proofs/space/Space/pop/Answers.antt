@@ -1,7 +1,7 @@
 use Rattle.std.proofs.Common.{◌≡◌, ◌<◌, ◌∙◌, ◌++◌, ◌∷◌, [], ℕ, List, Option, Some, None, false, true, sym, ap, subst, arith, length, map, length-append}
 use Rattle.std.specs.Prelude.{IsSome, ◌↔◌}
 use Rattle.std.specs.Option.{option_to_list}
-use Rattle.mz_base_theory.proofs.Offered.{length-push}
+use Rattle.mz_base.proofs.Offered.{length-push}
 use Rattle.mz_mmu_forms.specs.SpaceView.{Key, word_of_key, AreKeysFrom}
 use Rattle.mz_mmu_forms.proofs.Keys.{keys-front, words-more, same-front, length-words}
 use Rattle.mz_mmu_forms.proofs.space.Space.pop.Goals as goal

@@ -1,7 +1,6 @@
 use Rattle.std.proofs.Common.{◌≡◌, ◌∙◌, ◌++◌, ◌∷◌, [], sym, ap, subst, refl, arith, length, inl, map, if◌then◌else◌}
-use Rattle.mz_base_theory.proofs.Offered.{length-push}
+use Rattle.mz_base.proofs.Offered.{length-push, no-place}
 use Rattle.mz_base.specs.Names.{IsNew}
-use Rattle.mz_base.proofs.Offered.{no-place}
 use Rattle.mz_mmu_forms.specs.SpaceView.{word_of_key, AreKeysFrom}
 use Rattle.mz_mmu_forms.proofs.Keys.{is_key, keys-tell, keys-more, words-more, length-words}
 use Rattle.mz_mmu_forms.proofs.space.Space.push.Goals as goal

@@ -1,5 +1,5 @@
 use Rattle.std.proofs.Common.{◌≡◌, ◌≤◌, ◌+◌, ◌∙◌, ◌++◌, ◌∷◌, [], suc, sym, ap, subst, arith, length, inr, map, if◌then◌else◌}
-use Rattle.mz_base_theory.proofs.Offered.{length-push}
+use Rattle.mz_base.proofs.Offered.{length-push}
 use Rattle.mz_mmu_forms.specs.SpaceView.{word_of_key, AreKeysFrom}
 use Rattle.mz_mmu_forms.proofs.Keys.{none_at_place, keys-more, words-more, length-words}
 use Rattle.mz_mmu_forms.proofs.space.Space.push_other.Goals as goal

@@ -1,6 +1,6 @@
 use Rattle.std.proofs.Common.{◌∙◌, sym, ap, arith}
 use Rattle.mz_logic_theory.proofs.Offered.{past-end}
-use Rattle.mz_prefix_theory.specs.PublicPart.{any_mentions_local}
+use Rattle.mz_prefix.specs.PublicPart.{any_mentions_local}
 use Rattle.mz_prefix.proofs.names.Names.+mentions_local.Goals as goal
 
 pub any_mentions_local-returns : goal.any_mentions_local-returns

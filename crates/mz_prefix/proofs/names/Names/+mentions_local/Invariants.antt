@@ -1,6 +1,6 @@
 use Rattle.std.proofs.Common.{◌≡◌, ◌+◌, ◌*◌}
 use Rattle.mz_logic_theory.specs.Tree.{past, size, trees_size}
-use Rattle.mz_prefix_theory.specs.PublicPart.{any_mentions_local}
+use Rattle.mz_prefix.specs.PublicPart.{any_mentions_local}
 use Rattle.mz_prefix.proofs.names.Names.+mentions_local.Given as goal
 
 abbrev pub decreases-mentions_local : goal.decreases-mentions_local

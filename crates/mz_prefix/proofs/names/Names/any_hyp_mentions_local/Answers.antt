@@ -1,5 +1,5 @@
 use Rattle.std.proofs.Common.{◌∙◌, ap}
-use Rattle.mz_prefix_theory.specs.PublicPart.{any_mentions_local}
+use Rattle.mz_prefix.specs.PublicPart.{any_mentions_local}
 use Rattle.mz_prefix.proofs.Shared.{any_repeated}
 use Rattle.mz_prefix.proofs.names.Names.any_hyp_mentions_local.Goals as goal
 

@@ -1,6 +1,6 @@
 use Rattle.std.proofs.Common.{◌≡◌, ◌∙◌, true, false, sym, subst}
 use Rattle.mz_logic_theory.specs.DeclView.{declaration}
-use Rattle.mz_prefix_theory.specs.PublicPart.{IsSayable}
+use Rattle.mz_prefix.specs.PublicPart.{IsSayable}
 use Rattle.mz_prefix.proofs.Gathering.{told-of}
 use Rattle.mz_prefix.proofs.names.Names.can_say.Goals as goal
 

@@ -1,6 +1,6 @@
 use Rattle.std.proofs.Common.{◌≡◌, ◌∙◌, true, false, refl, sym, arith}
-use Rattle.mz_prefix_theory.specs.PublicPart.{IsSayable}
-use Rattle.mz_prefix_theory.specs.Wording.{local_checks, local_in}
+use Rattle.mz_prefix.specs.PublicPart.{IsSayable}
+use Rattle.mz_prefix.specs.Wording.{local_checks, local_in}
 use Rattle.mz_prefix.proofs.Checking.{all-left, next-left, stops-here, none-left}
 use Rattle.mz_prefix.proofs.names.Names.first_local.Goals as goal
 

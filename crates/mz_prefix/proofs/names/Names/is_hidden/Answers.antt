@@ -1,7 +1,7 @@
 use Rattle.std.specs.Prelude.{not, ◌||◌}
 use Rattle.std.proofs.Common.{◌∙◌, sym, ap}
-use Rattle.mz_prefix_theory.specs.PublicPart.{mentions_local}
-use Rattle.mz_prefix_theory.specs.Wording.{is_short}
+use Rattle.mz_prefix.specs.PublicPart.{mentions_local}
+use Rattle.mz_prefix.specs.Wording.{is_short}
 use Rattle.mz_prefix.specs.Names.{spoken}
 use Rattle.mz_prefix.proofs.names.Names.is_hidden.Goals as goal
 

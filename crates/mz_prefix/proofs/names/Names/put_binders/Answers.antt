@@ -1,5 +1,5 @@
 use Rattle.std.proofs.Common.{◌++◌, ◌∙◌, sym, ap}
-use Rattle.mz_base_theory.proofs.Offered.{appended}
+use Rattle.mz_base.proofs.Offered.{appended}
 use Rattle.mz_prefix.specs.Names.{spoken}
 use Rattle.mz_prefix.proofs.Parts.{binders-are}
 use Rattle.mz_prefix.proofs.names.Names.put_binders.Goals as goal

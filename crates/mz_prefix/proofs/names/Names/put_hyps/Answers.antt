@@ -1,7 +1,7 @@
 use Rattle.std.proofs.Common.{◌∙◌, ◌++◌, ap, sym, arith}
-use Rattle.mz_base_theory.proofs.Offered.{appended}
+use Rattle.mz_base.proofs.Offered.{appended}
 use Rattle.mz_logic_theory.proofs.Offered.{past-at, past-end}
-use Rattle.mz_prefix_theory.specs.Declared.{formula_of}
+use Rattle.mz_prefix.specs.NamedDeclarations.{formula_of}
 use Rattle.mz_prefix.specs.Names.{spoken}
 use Rattle.mz_prefix.proofs.Parts.{all-written, hyp-is, hyps-cut, hyps_text, part-written}
 use Rattle.mz_prefix.proofs.names.Names.put_hyps.Goals as goal

@@ -1,7 +1,7 @@
 use Rattle.std.proofs.Common.{◌++◌, ◌∙◌, sym, ap}
-use Rattle.mz_prefix_theory.specs.Lines.{type_words}
-use Rattle.mz_prefix_theory.specs.Tokens.{written}
-use Rattle.mz_prefix_theory.specs.Declared.{plain_type}
+use Rattle.mz_prefix.specs.Lines.{type_words}
+use Rattle.mz_prefix.specs.Tokens.{written}
+use Rattle.mz_prefix.specs.NamedDeclarations.{plain_type}
 use Rattle.mz_prefix.specs.Names.{spoken}
 use Rattle.mz_prefix.proofs.Parts.{param-is, six-parts}
 use Rattle.mz_prefix.proofs.names.Names.put_param.Goals as goal

@@ -3,8 +3,8 @@ use Rattle.std.proofs.Common.{◌≡◌, ◌++◌, ◌∙◌, sym, ap, subst}
 use Rattle.mz_logic_theory.specs.DeclView.{signature, form}
 use Rattle.mz_logic_theory.specs.Declaration.{defined, term_decl}
 use Rattle.mz_logic_theory.specs.View.{tree}
-use Rattle.mz_prefix_theory.specs.Lines.{line_text}
-use Rattle.mz_prefix_theory.specs.Declared.{term_line_of}
+use Rattle.mz_prefix.specs.Lines.{line_text}
+use Rattle.mz_prefix.specs.NamedDeclarations.{term_line_of}
 use Rattle.mz_prefix.specs.Names.{spoken}
 use Rattle.mz_prefix.specs.Writing.{told}
 use Rattle.mz_prefix.proofs.LineTexts.{told-plain, told-abstract, told-hidden, told-defined}

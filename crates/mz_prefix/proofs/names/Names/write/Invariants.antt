@@ -1,5 +1,5 @@
 use Rattle.std.proofs.Common.{◌≡◌, ◌++◌}
-use Rattle.mz_prefix_theory.specs.Wording.{prefix_text}
+use Rattle.mz_prefix.specs.Wording.{prefix_text}
 use Rattle.mz_prefix.proofs.Writings.{left_text}
 use Rattle.mz_prefix.proofs.names.Names.write.Given as goal
 

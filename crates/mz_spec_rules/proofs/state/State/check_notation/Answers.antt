@@ -1,7 +1,7 @@
 use Rattle.std.proofs.Common.{◌∙◌, map, Err, ap, subst, sym}
 use Rattle.std.proofs.lemmas.Result.{err_from_is_err_and}
-use Rattle.mz_base_theory.specs.Checks.{AllHold, FailsFirst}
-use Rattle.mz_base_theory.proofs.Offered.{all_hold-both}
+use Rattle.mz_base.specs.Checks.{AllHold, FailsFirst}
+use Rattle.mz_base.proofs.Offered.{all_hold-both}
 use Rattle.mz_spec_theory.specs.StatementCode.{lexeme, type_text}
 use Rattle.mz_spec_theory.specs.Reading.{OnFault}
 use Rattle.mz_spec_rules.specs.Answers.{JudgesOrMem}

@@ -1,6 +1,6 @@
 use Rattle.std.proofs.Common.{map, refl}
 use Rattle.std.proofs.lemmas.Result.{err_from_is_err_and}
-use Rattle.mz_base_theory.specs.Checks.{each_in_order}
+use Rattle.mz_base.specs.Checks.{each_in_order}
 use Rattle.mz_spec_theory.specs.StatementCode.{type_text}
 use Rattle.mz_spec_rules.specs.Entries.{state}
 use Rattle.mz_spec_theory.specs.Rules.{type_checks}

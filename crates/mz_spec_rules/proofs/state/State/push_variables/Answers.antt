@@ -1,7 +1,7 @@
 use Rattle.std.proofs.Common.{◌+◌, ◌∙◌, ◌++◌, ◌∷◌, length, map, drop, ap, sym, refl, subst, arith, length-append}
 use Rattle.std.proofs.lemmas.List.{length-map}
 use Rattle.std.proofs.lemmas.Option.{none-some}
-use Rattle.mz_base_theory.proofs.Offered.{drop-item}
+use Rattle.mz_base.proofs.Offered.{drop-item}
 use Rattle.mz_math_theory.specs.Kept.{AreVariables}
 use Rattle.mz_spec_variables.specs.Code.{IsOfTypes, typed, variable}
 use Rattle.mz_spec_rules.specs.Entries.{state}

@@ -1,15 +1,15 @@
-use Rattle.std.proofs.Common.{◌∙◌, ap, nat_eq, sym}
-use Rattle.std.specs.Map.{lookup}
+use Rattle.std.proofs.Common.{◌∙◌, ap, sym}
 use Rattle.mz_store.specs.Nodes.{no_expressions, all_made}
 use Rattle.mz_store.proofs.Growing.{mode-of}
-use Rattle.mz_store.proofs.Restarting.{restarted, chained-variables}
+use Rattle.mz_store.proofs.Restarting.{restarted}
+use Rattle.mz_store.proofs.Tabled.{table-variables}
 use Rattle.mz_store.proofs.store.Store.restart.Goals as goal
 
 pub invariant_of-self : goal.invariant_of-self
 invariant_of-self c =
     let r = restarted c.self.inside.expressions.mode c.self.inside.expressions.bound_count c.self.inside.expressions.operands.items c.self.inside.expressions.nodes.items c.args.self.now c.self.view_is c.self.invariant.0
     c.args.params c.requires.there c.requires.first c.clear.new.self.items c.truncate.new.self.items c.clear.ensures.items c.truncate.ensures.items in
-    (r.kept c.args.bound c.requires.bound, chained-variables c.self.inside.factor c.clear.new.self.items c.truncate.new.self.items _ r.variables (λ q. ap (lookup (nat_eq q)) c.clear-2.ensures.empty))
+    (r.kept c.args.bound c.requires.bound, table-variables c.forget.new.self c.clear.new.self.items c.truncate.new.self.items r.variables c.forget.ensures)
 
 pub returns-clause-mode : goal.returns-clause-mode
 returns-clause-mode c =

@@ -1,6 +1,6 @@
 use Rattle.std.proofs.Common.{◌+◌, ◌∙◌, ap, arith, drop, sym, subst, length}
-use Rattle.mz_base_theory.specs.Checks.{AllHold}
-use Rattle.mz_base_theory.proofs.Offered.{Decides}
+use Rattle.mz_base.specs.Checks.{AllHold}
+use Rattle.mz_base.proofs.Offered.{Decides}
 use Rattle.mz_sexpr.specs.Number.{first, rest}
 use Rattle.mz_sexpr.specs.Node.{place}
 use Rattle.mz_logic_theory.specs.Conversions.{sym_conv, unfold_conv}

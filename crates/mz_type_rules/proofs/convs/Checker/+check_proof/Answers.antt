@@ -1,8 +1,8 @@
 use Rattle.std.proofs.Common.{◌≡◌, ◌+◌, suc, true≢false, drop, take, sym, ap, ◌∙◌, subst, refl, length, arith}
 use Rattle.std.proofs.lemmas.List.{drop_all}
 use Rattle.std.proofs.lemmas.Result.{on_ok_weaker}
-use Rattle.mz_base_theory.specs.Checks.{AllHold, ◌>>◌}
-use Rattle.mz_base_theory.proofs.Offered.{all_hold-both, all_hold-first, all_hold-rest, Decides}
+use Rattle.mz_base.specs.Checks.{AllHold, ◌>>◌}
+use Rattle.mz_base.proofs.Offered.{all_hold-both, all_hold-first, all_hold-rest, Decides}
 use Rattle.mz_sexpr.specs.Number.{first, rest}
 use Rattle.mz_sexpr.specs.Node.{parts}
 use Rattle.mz_logic_theory.specs.Tree.{none, more, listed, operand, followed_by}

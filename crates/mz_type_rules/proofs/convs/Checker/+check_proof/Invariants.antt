@@ -1,5 +1,5 @@
 use Rattle.std.proofs.Common.{◌≡◌, ◌≤◌, ◌+◌, ◌*◌, drop, length}
-use Rattle.mz_base_theory.proofs.Offered.{Decides}
+use Rattle.mz_base.proofs.Offered.{Decides}
 use Rattle.mz_logic_theory.specs.Declaration.{signatures, assertions}
 use Rattle.mz_logic_theory.specs.Tree.{listed, followed_by}
 use Rattle.mz_mmu_theory.specs.ProofCode.{proof_steps, proofs_steps}

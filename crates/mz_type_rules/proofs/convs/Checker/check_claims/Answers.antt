@@ -1,7 +1,7 @@
 use Rattle.std.proofs.Common.{◌≡◌, ◌<◌, ◌+◌, true≢false, drop, length, refl, sym, ap, ◌∙◌, subst, inl, arith}
 use Rattle.std.proofs.lemmas.List.{drop_all}
-use Rattle.mz_base_theory.specs.Checks.{demand, AllHold}
-use Rattle.mz_base_theory.proofs.Offered.{Decides, decides-whole}
+use Rattle.mz_base.specs.Checks.{demand, AllHold}
+use Rattle.mz_base.proofs.Offered.{Decides, decides-whole}
 use Rattle.mz_sexpr.specs.Node.{place}
 use Rattle.mz_sexpr.specs.Number.{first, rest}
 use Rattle.mz_sexpr.specs.declared.rule.U.{U}

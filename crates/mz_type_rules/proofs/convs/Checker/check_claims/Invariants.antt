@@ -1,5 +1,5 @@
 use Rattle.std.proofs.Common.{◌≡◌, drop}
-use Rattle.mz_base_theory.proofs.Offered.{Decides}
+use Rattle.mz_base.proofs.Offered.{Decides}
 use Rattle.mz_logic_theory.specs.Tree.{instances}
 use Rattle.mz_logic_theory.specs.View.{trees}
 use Rattle.mz_logic_theory.proofs.Offered.{exprs_of}

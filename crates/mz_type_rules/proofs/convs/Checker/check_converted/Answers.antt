@@ -1,5 +1,5 @@
 use Rattle.std.proofs.Common.{subst}
-use Rattle.mz_base_theory.specs.Checks.{Judges, ◌>>◌}
+use Rattle.mz_base.specs.Checks.{Judges, ◌>>◌}
 use Rattle.mz_sexpr.specs.Number.{first}
 use Rattle.mz_sexpr.specs.Node.{parts}
 use Rattle.mz_logic_theory.specs.Declaration.{signatures}

@@ -4,7 +4,7 @@ use Rattle.mz_sexpr.specs.Number.{first}
 use Rattle.mz_logic_theory.specs.Declaration.{signatures}
 use Rattle.mz_logic_theory.specs.DeclView.{assertion_view}
 use Rattle.mz_mmu_theory.specs.Stops.{Stops}
-use Rattle.mz_base_theory.specs.Checks.{AllHold}
+use Rattle.mz_base.specs.Checks.{AllHold}
 use Rattle.mz_type_rules.specs.Claims.{claim_tree, claim_trees}
 use Rattle.mz_mmu_theory.specs.Rules.{citation_rules}
 use Rattle.mz_mmu_theory.specs.Sides.{with_fact}

@@ -1,8 +1,0 @@
-pub mod CheckLaws
-pub mod InOrder
-pub mod Retold
-mod Deciding
-mod Loops
-mod Members
-mod Places
-pub mod Offered

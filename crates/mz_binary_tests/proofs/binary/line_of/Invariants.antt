@@ -1,4 +1,0 @@
-use Rattle.mz_binary_tests.proofs.binary.line_of.Given as goal
-
-abbrev pub ghosts-check_with : goal.ghosts-check_with
-ghosts-check_with g a = record { name = a.blank.name; parts = a.blank.parts }

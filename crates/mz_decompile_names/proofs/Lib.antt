@@ -1,5 +1,0 @@
-pub mod Named
-mod Listing
-mod Runs
-mod Walking
-pub mod Offered

@@ -1,5 +1,0 @@
-use Rattle.mz_decompile_names.proofs.Named.{named-alike}
-use Rattle.mz_decompile_names.proofs.laws.named_statements_name.Goals as goal
-
-pub returns : goal.returns
-returns c = named-alike

@@ -1,8 +1,0 @@
-use Rattle.std.proofs.Common.{◌≡◌, max}
-use Rattle.mz_mmu_theory.specs.DeclaredNames.{longest_run}
-use Rattle.mz_decompile_text_theory.specs.Names.{declared_names}
-use Rattle.mz_decompile_names.proofs.Runs.{rest}
-use Rattle.mz_decompile_names.proofs.source.longest_run.Given as goal
-
-abbrev pub invariant-loop-k : goal.invariant-loop-k
-invariant-loop-k l = max l.run (longest_run (rest l.spec l.declared l.k)) ≡ longest_run (declared_names l.spec l.declared)

@@ -1,8 +1,0 @@
-use Rattle.std.proofs.Common.{arith}
-use Rattle.mz_decompile_phrases.proofs.Fields.{count}
-use Rattle.mz_decompile_phrases.proofs.phrases.Phrases.len.Goals as goal
-
-pub returns : goal.returns
-returns c =
-    let many = count c.self.inside c.args.self.now c.self.view_is in
-    omega (arith, many, c.len.ensures, c.self.inside.nodes.ok.0)

@@ -1,9 +1,0 @@
-use Rattle.std.proofs.Common.{arith}
-use Rattle.mz_decompile_phrases.proofs.Fields.{count, found}
-use Rattle.mz_decompile_phrases.proofs.phrases.Phrases.words.Goals as goal
-
-pub index-requires : goal.index-requires
-index-requires c = let many = count c.self.inside c.args.self.now c.self.view_is in omega arith
-
-pub returns : goal.returns
-returns c = (found c.self.inside c.args.self.now c.args.n c.index.result.now (record { is = c.self.view_is; kept = c.self.invariant }) c.requires c.index.ensures).measured.words

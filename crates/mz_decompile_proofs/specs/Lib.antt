@@ -1,4 +1,0 @@
-pub mod Growing
-pub mod Telling
-pub mod Gathering
-pub mod Retelling

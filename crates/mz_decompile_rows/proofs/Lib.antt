@@ -1,5 +1,0 @@
-pub mod Numbers
-pub mod Commands
-pub mod Frames
-pub mod Steps
-pub mod Rows

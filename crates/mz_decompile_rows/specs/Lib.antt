@@ -1,4 +1,0 @@
-pub mod Rows
-pub mod Numbers
-pub mod Frames
-pub mod Reading

@@ -1,6 +1,0 @@
-pub mod Phrases
-pub mod Phrasing
-pub mod Naming
-pub mod Phrasable
-pub mod Laws
-pub mod Names

@@ -1,2 +1,0 @@
--- What crates above may use of these proofs; all else is this crate's own, and may change.
-pub use Rattle.mz_decompile_theory.proofs.Theorems.{theorem-asked}

@@ -1,3 +1,0 @@
-pub mod Restated
-pub mod Texts
-pub mod Laws

@@ -1,5 +1,0 @@
-use Rattle.mz_emit_accepted_theory.proofs.Accepted.{files-accepted}
-use Rattle.mz_emit_accepted_theory.proofs.accepted_laws.written_files_are_accepted.Goals as goal
-
-pub returns : goal.returns
-returns c = files-accepted

@@ -1,5 +1,0 @@
-use Rattle.mz_emit_accepted_theory.proofs.Sound.{stated_sound}
-use Rattle.mz_emit_accepted_theory.proofs.claims_laws.stated_proofs_are_sound.Goals as goal
-
-pub returns : goal.returns
-returns c = stated_sound

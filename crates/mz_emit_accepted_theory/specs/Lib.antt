@@ -1,9 +1,0 @@
-pub mod LawsByIdentity
-pub mod AcceptedLaws
-pub mod ClaimsLaws
-pub mod Limits
-pub mod Lines
-pub mod Gapped
-pub mod Compiling
-pub mod CompiledFile
-pub mod CompiledLaws

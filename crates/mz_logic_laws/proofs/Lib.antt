@@ -1,0 +1,2 @@
+mod NearMisses
+pub mod WorkedExamples

@@ -1,3 +1,0 @@
-pub mod HypLists
-pub mod StatementDispatch
-mod UnderscoreRuns

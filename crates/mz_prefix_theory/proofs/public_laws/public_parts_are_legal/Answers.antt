@@ -1,5 +1,0 @@
-use Rattle.mz_prefix_theory.proofs.Legal.{public-parts-legal}
-use Rattle.mz_prefix_theory.proofs.public_laws.public_parts_are_legal.Goals as goal
-
-pub returns : goal.returns
-returns c = public-parts-legal

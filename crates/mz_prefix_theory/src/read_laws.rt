@@ -1,7 +1,0 @@
-// Laws on the definitions: the contract of each function is one, and its body is empty.
-ghost use Rattle.mz_prefix_theory.specs.ReadLaws.{PrintedSpecificationsDeclare};
-
-/// Legal declarations with names, printed line by line, are a specification that declares them.
-pub fn printed_specifications_declare()
-    ensures { PrintedSpecificationsDeclare }
-{}

@@ -1,0 +1,4 @@
+use Rattle.mz_read_tests.proofs.machine.ended.Given as goal
+
+abbrev pub ghosts-by_hand : goal.ghosts-by_hand
+ghosts-by_hand a = record { name = a.blank.name; parts = a.blank.parts }

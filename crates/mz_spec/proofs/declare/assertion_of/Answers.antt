@@ -1,4 +1,0 @@
-use Rattle.mz_spec.proofs.declare.assertion_of.Goals as goal
-
-pub assertion_with-requires-clause-new : goal.assertion_with-requires-clause-new
-assertion_with-requires-clause-new c = c.in_ok-check_new.ensures

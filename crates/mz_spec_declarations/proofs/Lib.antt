@@ -1,0 +1,3 @@
+pub mod Bodied
+pub mod Hyps
+pub mod Told

@@ -1,0 +1,4 @@
+mod Noted
+mod Numerals
+mod Sizes
+mod Spans

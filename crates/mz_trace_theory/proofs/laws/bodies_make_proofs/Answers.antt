@@ -1,5 +1,0 @@
-use Rattle.mz_trace_theory.proofs.BodiesMake.{bodies-make, made-once}
-use Rattle.mz_trace_theory.proofs.laws.bodies_make_proofs.Goals as goal
-
-pub returns : goal.returns
-returns c = record { some = bodies-make; one = made-once }

@@ -1,4 +1,0 @@
-pub mod OneHoleContexts
-pub mod Traces
-pub mod Laws
-pub mod Examples

@@ -1,4 +1,0 @@
-use Rattle.mz_type_tests.proofs.sexpr.+outline.Given as goal
-
-abbrev pub decreases-outline : goal.decreases-outline
-decreases-outline l = l.limit

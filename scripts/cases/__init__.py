@@ -1,0 +1,1 @@
+"""Runs the cases of tests/ over the built program."""

@@ -1,0 +1,58 @@
+"""./mz same: whether a specification says what a database says."""
+import os
+
+from explore.lexemes import Unreadable
+
+from . import original
+from .checking import Check
+from .telling import CANT_READ, Failed, plural, read_text
+
+SHOWN = 20  # lines of one kind
+
+
+def same(spec, path, proved="|-", is_exported=False, is_brief=False):
+    """Compares, tells, and gives the exit number. What isn't a difference is only counted where it is to be brief."""
+    report = compared(spec, path, proved, is_exported)
+    name, counts = os.path.basename(path), report.counts
+    _list("differs", report.faults)
+    if is_brief:
+        _count("without a $d of the database", report.dropped)
+        _count("notations with other constants", report.written)
+        _count("abbreviations", [[it] for it in report.short])
+    else:
+        _list("without $d", [f"{label}: {', '.join(pairs)}" for label, pairs in report.dropped])
+        _list("abbreviations", [", ".join(report.short)] if report.short else [])
+        _list("written otherwise", [f"{term}: {theirs} is {mine} here" for term, theirs, mine in report.written])
+    if report.faults:
+        print(f"not the same as {name}: {plural(len(report.faults), 'statement')} of the specification")
+        return 1
+    print(f"the same as {name}: {plural(counts.terms, 'term')}, {plural(counts.definitions, 'definition')}, "
+          f"{plural(counts.axioms, 'axiom')}, {plural(counts.theorems, 'theorem')}, {plural(counts.copies, 'instance')}")
+    return 0
+
+
+def compared(spec, path, proved="|-", is_exported=False):
+    """What differs, and what was compared."""
+    text = read_text(spec)
+    try:
+        check = Check(original.read(path), proved, is_exported)
+    except OSError as fault:
+        raise Failed(f"{fault.filename} can't be read: {fault.strerror}", CANT_READ) from None
+    except ValueError as fault:
+        raise Failed(f"{path} is no Metamath database: {fault}") from None
+    try:
+        return check.run(text)
+    except Unreadable as fault:
+        raise Failed(f"{spec}, line {text.count(chr(10), 0, fault.at) + 1}: {fault}") from None
+
+
+def _list(title, found):
+    for it in found[:SHOWN]:
+        print(f"{title}: {it}")
+    if len(found) > SHOWN:
+        print(f"{title}: and {len(found) - SHOWN:,} more")
+
+
+def _count(title, found):
+    if found:
+        print(f"{title}: {len(found):,}, as {found[0][0]}")

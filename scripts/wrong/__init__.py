@@ -1,0 +1,1 @@
+"""Wrong bodies: edits of functions that the prover has to refuse."""
