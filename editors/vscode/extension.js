@@ -208,7 +208,9 @@ async function activate(context) {
   const found = vscode.languages.createDiagnosticCollection("mz");
   server = new Connection(process, (method, params) => {
     if (method === "textDocument/publishDiagnostics") found.set(vscode.Uri.parse(params.uri), params.diagnostics.map(diagnostic));
-    if (method === "window/showMessage") vscode.window.showWarningMessage(params.message);
+    if (method === "window/showMessage") {
+      (params.type < 3 ? vscode.window.showWarningMessage : vscode.window.showInformationMessage)(params.message);
+    }
   });
   await server.ask("initialize", { processId: null, rootUri: null, capabilities: {} });
   server.tell("initialized", {});

@@ -33,7 +33,7 @@ def listing(refusal, given):
     line, at = lines_before(source.data, refusal.statement)
     if line is None:
         return [f"the text ends behind line {refusal.statement - 1}; a listing ends with a line `end` and a newline"]
-    said = [f"{source.path}, line {refusal.statement}: {line[:100]}"]
+    said = [f"{source.path}:{refusal.statement}:1: {line[:100]}"]
     head = head_of(source.data, at)
     if refusal.code == "A3":
         kind = line.rpartition(" ")[0].rpartition(" ")[0]

@@ -99,16 +99,16 @@ class Pair:
         code = self.refusal.code
         if code == "M1":
             said = [f"the binary's list ends after {many(self.refusal.statement - 1, 'statement')}; none is left for declaration {self.refusal.declaration}:"]
-            return [*said, f"specification, {self.where()}: {self.spec_text()}"]
+            return [*said, f"{self.where()}: {self.spec_text()}"]
         if code == "M2":
             said = f"the specification has {many(self.refusal.declaration - 1, 'declaration')}; the binary's statement {self.refusal.statement} is public too:"
             return [said, f"binary: {self.binary_text()}"]
-        left, right = f"specification, {self.where()}: ", "binary: "
+        left, right = f"{self.where()}: ", "binary: "
         width = max(len(left), len(right))
         return [left.ljust(width) + self.spec_text(), right.ljust(width) + self.binary_text(), *marked(self.spec_text(), self.binary_text(), width), *self.more()]
 
     def where(self):
-        return f"line {self.source.line(self.declared.at)}"
+        return self.source.named(self.declared.at)
 
     def more(self):
         code, made = self.refusal.code, self.declared

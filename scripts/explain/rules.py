@@ -27,7 +27,7 @@ def examples():
     found, code = {}, None
     with open(PAGE, encoding="utf-8") as file:
         for line in file:
-            heading, shown = re.match(r"### ([A-Z]\d+) ", line), re.match(r"- Shown by: `\./mz ([^`]+)`", line)
+            heading, shown = re.match(r"### ([A-Z]\d+) ", line), re.match(r"- Shown: `\./mz ([^`]+)`", line)
             if heading:
                 code = heading[1]
             elif shown and code:

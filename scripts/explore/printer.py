@@ -29,6 +29,8 @@ class Printer:
         self._forms = {}
         self.coercions = {it.name for path in self.notations.paths.values() for it in path}
         self.parentheses = self._glued("("), self._glued(")")
+        # Around a constant alone `typeset` takes them away.
+        self.around_constant = ("<s>(</s>", "<s>)</s>") if symbols else self.parentheses
 
     def form(self, term):
         """The form in which a term is written, and its literals."""
@@ -105,8 +107,9 @@ class Page:
         printer, term, operands = self.printer, self.trees.heads[number], self.trees.operands[number]
         form, literals = printer.form(term)
         is_inside = form.level < level and not (form.groups_left and form.level == left)
+        parentheses = printer.parentheses if operands else printer.around_constant
         if is_inside:
-            words.append(printer.parentheses[0])
+            words.append(parentheses[0])
         for constant, index, sort, inner, inner_left in literals:
             if constant is None:
                 operand = operands[index]
@@ -116,7 +119,7 @@ class Page:
             else:
                 words.append(_linked(constant, link(term)) if link else constant)
         if is_inside:
-            words.append(printer.parentheses[1])
+            words.append(parentheses[1])
 
     def _bare(self, number, is_read):
         """What is left of an expression without the coercions at its top that a reader puts there."""
@@ -193,9 +196,10 @@ class ReadBack:
 
 
 def typeset(html, symbols):
-    """HTML with symbols in the place of marked tokens."""
+    """HTML with symbols in the place of marked tokens, and without parentheses around a constant alone."""
     if not symbols:
         return html
+    html = html.replace("<s>(</s> ", "").replace(" <s>)</s>", "")
     shown = lambda it: f'<span title="{it[1]}">{escape(symbols[unescape(it[1])], quote=False)}</span>'
     return re.sub("<u>([^<]*)</u>", shown, html)
 

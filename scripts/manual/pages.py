@@ -31,7 +31,7 @@ def overview(manual):
         "Exit numbers:\n" + "\n".join(f"  {number:>3}  {text}" for number, text in manual.exits),
         wrapped(FIRST),
         "To read on: mz help COMMAND, or mz COMMAND --help; README.md, examples/README.md; docs/RULES.md\n"
-        "(what each refusal says), docs/TUTORIAL.md (a theory of one's own)",
+        "(what each refusal says), docs/TUTORIAL.md (a theory of one's own), docs/USING.md",
     ]
     return "\n\n".join(parts)
 
@@ -87,6 +87,6 @@ def man_page(manual):
         ".PP\nFrom 2 to 7 a word on standard error names the cause.",
         ".SH ENVIRONMENT",
         *(f".TP\n{name}\n{roff(text)}" for name, text in manual.variables),
-        ".SH SEE ALSO\nREADME.md, docs/FORMAT.md, docs/RULES.md and docs/TUTORIAL.md of the repository.",
+        ".SH SEE ALSO\nREADME.md, docs/TUTORIAL.md, docs/USING.md, docs/FORMAT.md and docs/RULES.md of the repository.",
     ]
     return "\n".join(parts) + "\n"

@@ -11,7 +11,7 @@ from dataclasses import dataclass
 from .expressions import Expressions, Untranslatable
 from .statements import Statement
 
-_NUMBERS = re.compile("[U-Y]*[A-T]|Z")
+_NUMBERS = re.compile("[U-Y]*+[A-T]|Z")
 
 
 class _Letters(dict):
@@ -105,7 +105,7 @@ class Building:
         self.hypotheses = [expressions.instance(x, places) for x in it.hypotheses]
         self.conclusion = None if it.conclusion is None else expressions.instance(it.conclusion, places)
         for pattern in (*it.hypotheses, it.conclusion or ()):
-            self.heads.update(x for x in pattern if x < 0)
+            self.heads.update([x for x in pattern if x < 0])
 
     # By unfolding
 
@@ -345,6 +345,8 @@ class Building:
     def _cited(self, it, says, registers):
         """The step that cites a statement."""
         size, width = len(it.floats) + 1, it.width + 1
+        if it.plain_row is not None:
+            return says, it.plain_row, registers[1:size], registers[size:width]
         parts = registers[size:width] if it.parts is None else [registers[i] for i in it.parts]
         if it.bound:
             first, partition = [], []

@@ -1,24 +1,31 @@
 """Reads a Metamath database: its statements and their scopes. Frames and proofs are made when they are asked for.
 
-The text is cut at each `$`: outside comments nothing else holds one, so that every piece begins with the letter of a
-keyword. A statement keeps the number of its piece, and its line is counted when a fault has to be told."""
+One regular expression cuts the whole text into parts: a comment, the mark of a scope, or a statement, each with the label
+before it. A statement keeps the number of its part; its line is counted when a fault has to be told."""
 import os
 import re
 from typing import NamedTuple
 
+_COMMENT = r"\$\([^$]*+(?:\$(?!\))[^$]*+)*+\$\)"
+_SAID = rf"[^$]*+(?:{_COMMENT}[^$]*+)*+"
+# What stands before; then a comment, the mark of a scope, or a keyword with what it says and `=` with a proof; or, from what
+# can't be read on, everything.
+_PART = re.compile(rf"([^$]*+)(?:\$(?:\(([^$]*+(?:\$(?!\))[^$]*+)*+)\$\)|([{{}}])|([cvdfeap])({_SAID})\$(?:(={_SAID})\$)?\.)|(.*))", re.S)
+_COMMENTS = re.compile(_COMMENT)
+_INCLUDED = re.compile(rf"{_COMMENT}|\$\[(?P<path>[^$]*)(?P<end>\$\])?")
 _HEADING = re.compile(r"\s*(?P<rule>####|#\*#\*|=-=-|-\.-\.)\S*\s*\n(?P<title>.*?)\n\s*(?P=rule)", re.S)
 _LEVELS = {"####": 1, "#*#*": 2, "=-=-": 3, "-.-.": 4}
 
 
 class Faulty(ValueError):
-    """What is wrong with a database; the words begin with the file and the line."""
+    """What is wrong with a database; the words begin with the file, the line and the column."""
 
 
 class Float(NamedTuple):
     label: str
     code: str
     variable: str
-    at: int  # its piece
+    at: int  # its part
 
 
 class Essential(NamedTuple):
@@ -31,17 +38,25 @@ class Assertion(NamedTuple):
     is_axiom: bool
     code: str  # its typecode
     at: int
-    proof: int  # the piece of its proof, 0 where there is none
     floats: object  # chains of what is active: (chain before, number), or (chain before, words)
     essentials: object
     distinct: object
-    comment: tuple  # the pieces of the comment right before it, from and to
+    comment: int  # the part that is the comment right before it, or -1
 
 
 class Heading(NamedTuple):
     level: int  # 1 is the highest
     title: str
     before: int  # the assertion that follows, by number
+
+
+class Segment(NamedTuple):
+    """Lines of a file, as they stand in the text that is read."""
+
+    start: int
+    path: str
+    line: int
+    column: int
 
 
 class Frame(NamedTuple):
@@ -63,6 +78,11 @@ class Frame(NamedTuple):
         return made
 
 
+def line_and_column(text, at):
+    """Which line and column of a text a place is in, both from 1."""
+    return text.count("\n", 0, at) + 1, len(text[:at]) - text.rfind("\n", 0, at)
+
+
 def read_file(path):
     """The text of a file."""
     with open(path, "rb") as file:
@@ -70,208 +90,188 @@ def read_file(path):
     try:
         return data.decode("utf-8")
     except UnicodeDecodeError as fault:
-        line = data.count(b"\n", 0, fault.start) + 1
-        raise Faulty(f"{path}:{line}: this isn't UTF-8, so that it is no Metamath database") from None
+        line, column = line_and_column(data[: fault.start].decode("utf-8"), fault.start)
+        raise Faulty(f"{path}:{line}:{column}: this isn't UTF-8, so that it is no Metamath database") from None
 
 
 def read_database(path):
     return Database(read_file(path), path)
 
 
+class Included:
+    """A text with the files that it includes, each where it is named first."""
+
+    def __init__(self, text, path):
+        self.path, self.texts, self.segments, self._length = path, [], [], 0
+        self._seen = {os.path.realpath(path)}
+        self._add(text, path)
+
+    def _add(self, text, path):
+        done = 0
+        for found in _INCLUDED.finditer(text) if "$[" in text else ():
+            if found["path"] is not None:
+                self._put(text, path, done, found.start())
+                done = found.end()
+                self._include(found, ":".join(map(str, (path, *line_and_column(text, found.start())))))
+        self._put(text, path, done, len(text))
+
+    def _put(self, text, path, start, end):
+        self.segments.append(Segment(self._length, path, *line_and_column(text, start)))
+        self.texts.append(text[start:end] if end - start < len(text) else text)
+        self._length += end - start
+
+    def _include(self, found, place):
+        if not found["end"]:
+            raise Faulty(f"{place}: $[ isn't closed by $]")
+        path = os.path.join(os.path.dirname(self.path), found["path"].strip())
+        if os.path.realpath(path) not in self._seen:
+            self._seen.add(os.path.realpath(path))
+            try:
+                self._add(read_file(path), path)
+            except OSError as fault:
+                raise Faulty(f"{place}: {path} can't be read: {fault.strerror}") from None
+
+
 class Database:
     def __init__(self, text, path="the database"):
         self.path = path
-        self.pieces = text.split("$")
-        self.pieces[0] = ";" + self.pieces[0]
-        self.constants, self.variables = set(), set()
+        included = Included(text, path)
+        self._text, self._segments = "".join(included.texts), included.segments
+        self._parts = _PART.findall(self._text)
+        self.variables = set()
         self.floats, self.essentials, self.assertions, self.headings = [], [], [], []
         self.typesetting = []  # the text of comments that begin with $t
         self.labels = {}  # label: (kind, number)
-        self._label, self._comment = "", (0, 0)  # what stands before the statement that is read
-        self._active, self._scopes = (None, None, None), []  # chains of $f, $e and $d
-        self._included = []  # (first piece, piece behind the last one, path)
-        self._floats_of, self._symbols_of, self._frames, self._places = {}, {}, {}, {}
+        self._floats_of, self._symbols_of, self._frames = {}, {}, {}
         self._read()
 
-    # Reading: each kind of piece has a method that gives the last piece of what begins there.
+    # Reading
 
     def _read(self):
-        pieces, at = self.pieces, 0
-        read = {"(": self._read_comment, "d": self._read_distinct, "e": self._read_essential, "a": self._read_assertion,
-                "p": self._read_assertion, "{": self._open, "}": self._close, "f": self._read_float, "c": self._read_constants,
-                "v": self._read_variables, "[": self._include, ";": lambda at: at}
-        while at < len(pieces):
-            kind = pieces[at][:1]
-            if kind not in read:
-                raise self.fault(at, f"the keyword ${kind} can't stand here")
-            at = read[kind](at)
-            rest = pieces[at][1:].strip()
-            if rest or kind != "(":
-                self._label = rest
-            at += 1
-        if self._scopes:
-            raise self.fault(self._scopes[-1][1], "the scope that opens here isn't closed")
-        if self._label:
-            raise self.fault(len(pieces) - 1, f"the file ends in the statement {self._label.split()[-1]}")
+        active, scopes, pending, about = (None, None, None), [], "", -1
+        for at, (before, comment, mark, kind, said, proof, rest) in enumerate(self._parts):
+            label = before.strip() or pending
+            if kind == "d" and not label:
+                active = active[0], active[1], (active[2], said)
+            elif kind == "e":
+                pending, active = "", self._essential(at, label, active)
+            elif kind in ("p", "a"):
+                self._assertion(at, label, kind == "a", said, active, about)
+                pending, about = "", -1
+            elif kind == "f":
+                pending, active = "", self._float(at, label, active)
+            elif comment:
+                pending, about = label, self._comment(at, comment, about)
+            elif rest:
+                raise self._unread(at, rest)
+            elif label and (kind or mark):
+                raise self.fault(at, f"{label.split()[0]} isn't a statement")
+            elif mark == "{":
+                scopes.append((active, at))
+            elif mark:
+                if not scopes:
+                    raise self.fault(at, "a scope is closed here, and none is open")
+                active, _ = scopes.pop()
+            elif kind == "v":
+                self.variables.update(self.symbols(at))
+            elif not kind:
+                pending = label
+            if proof and kind != "p":
+                raise self.fault(at, f"{label}, an axiom, has a proof" if kind == "a" else f"the keyword $= stands in a statement ${kind}")
+        if scopes:
+            raise self.fault(scopes[-1][1], "the scope that opens here isn't closed")
+        if pending:
+            raise self._fault(self._text.rfind(pending.split()[-1]), f"the file ends in the statement {pending.split()[-1]}")
 
-    def fault(self, at, why):
-        """A fault at a piece."""
-        path, line = self.place(at)
-        return Faulty(f"{path}:{line}: {why}")
+    def _assertion(self, at, label, is_axiom, said, active, about):
+        self._named("a", len(self.assertions), at, label)
+        code = said[:60].split(None, 1)
+        if not code or not (is_axiom or self._parts[at][5]):
+            raise self.fault(at, f"{label} has no {'typecode' if not code else 'proof'}")
+        self.assertions.append(Assertion(label, is_axiom, code[0], at, *active, about))
 
-    def place(self, at):
-        """The file and the line of a piece's keyword."""
-        first, end, path = 0, len(self.pieces), self.path
-        for part in self._included:
-            if part[0] <= at < part[1]:
-                first, end, path = part
-        inner = [(a, b) for a, b, _ in self._included if first <= a and b <= at and (a, b) != (first, end)]
-        lines = sum(self.pieces[it].count("\n") for it in range(first, at) if not any(a <= it < b for a, b in inner))
-        return path, lines + 1
+    def _essential(self, at, label, active):
+        number = len(self.essentials)
+        self._named("e", number, at, label)
+        self.essentials.append(Essential(label, at))
+        return active[0], (active[1], number), active[2]
 
-    def _behind_comment(self, at):
-        """The piece that closes a comment."""
-        pieces, start = self.pieces, at
-        while pieces[at][:1] != ")":
-            at += 1
-            if at == len(pieces):
-                raise self.fault(start, "the comment that begins here has no end")
-        return at
-
-    def _read_comment(self, at):
-        pieces, end = self.pieces, self._behind_comment(at)
-        if end > at + 1 and pieces[at + 1][:2] in ("t ", "t\n", "j ", "j\n") and not pieces[at][1:].strip():
-            if pieces[at + 1][0] == "t":
-                self.typesetting.append("$".join(pieces[at + 1 : end])[1:])
-            return end
-        self._comment = at, end
-        if pieces[at][1:].lstrip()[:4] in _LEVELS:
-            found = _HEADING.match("$".join(pieces[at:end])[1:])
-            if found:
-                self.headings.append(Heading(_LEVELS[found["rule"]], " ".join(found["title"].split()), len(self.assertions)))
-                self._comment = 0, 0
-        return end
-
-    def _closing(self, at):
-        """The piece that ends a statement's symbols; comments among them are taken out."""
-        pieces, end = self.pieces, at + 1
-        if end < len(pieces) and pieces[end][:1] == ".":
-            return end
-        while end < len(pieces) and pieces[end][:1] == "(":
-            close = self._behind_comment(end)
-            pieces[at] += pieces[close][1:]
-            pieces[close] = ")"
-            end = close + 1
-        if end == len(pieces):
-            raise self.fault(at, "the file ends in the statement that begins here")
-        if pieces[end][:1] not in ".=":
-            raise self.fault(end, f"the keyword ${pieces[end][:1]} stands in a statement")
-        return end
-
-    def _words(self, at):
-        """The words of a statement without a proof, and the piece that ends it."""
-        end = self._closing(at)
-        return self.pieces[at][1:].split(), end
-
-    def _named(self, kind, number, at):
-        """Notes the label of a statement."""
-        label = self._label
-        if not label or " " in label or "\n" in label:
-            raise self.fault(at, "a label belongs before this statement" if not label else f"{label.split()[0]} isn't a statement")
-        if label in self.labels:
-            raise self.fault(at, f"{label}: a second statement of this label")
-        self.labels[label] = kind, number
-        return label
-
-    def _read_assertion(self, at):
-        pieces, number = self.pieces, len(self.assertions)
-        label, end, proof = self._named("a", number, at), self._closing(at), 0
-        is_axiom = pieces[at][0] == "a"
-        if pieces[end][:1] == "=":
-            proof, end = end, self._closing(end)
-        code = pieces[at][1:60].split(None, 1)
-        if is_axiom == bool(proof) or not code:
-            raise self.fault(at, f"{label} has {'no' if code else 'neither typecode nor'} proof" if not is_axiom
-                             else f"{label}, an axiom, has {'a proof' if code else 'no typecode'}")
-        self.assertions.append(Assertion(label, is_axiom, code[0], at, proof, *self._active, self._comment))
-        self._comment = 0, 0
-        return end
-
-    def _read_essential(self, at):
-        floats, essentials, distinct = self._active
-        self._active = floats, (essentials, len(self.essentials)), distinct
-        self.essentials.append(Essential(self._named("e", len(self.essentials), at), at))
-        return self._closing(at)
-
-    def _read_distinct(self, at):
-        floats, essentials, distinct = self._active
-        words, end = self._words(at)
-        self._active = floats, essentials, (distinct, words)
-        return end
-
-    def _read_float(self, at):
-        floats, essentials, distinct = self._active
-        words, end = self._words(at)
-        label = self._named("f", len(self.floats), at)
+    def _float(self, at, label, active):
+        number, words = len(self.floats), self.symbols(at)
+        self._named("f", number, at, label)
         if len(words) != 2 or words[1] not in self.variables:
             raise self.fault(at, f"{label}: a typecode and a variable belong here")
-        self._active = (floats, len(self.floats)), essentials, distinct
         self.floats.append(Float(label, *words, at))
-        return end
+        return (active[0], number), *active[1:]
 
-    def _read_constants(self, at):
-        words, end = self._words(at)
-        self.constants.update(words)
-        return end
+    def _named(self, kind, number, at, label):
+        """Notes the label of a statement."""
+        if not label or label in self.labels or len(label.split()) > 1:
+            why = f"{label}: a second statement of this label" if label in self.labels else "a label belongs before this statement"
+            raise self.fault(at, why if len(label.split()) < 2 else f"{label.split()[0]} isn't a statement")
+        self.labels[label] = kind, number
 
-    def _read_variables(self, at):
-        words, end = self._words(at)
-        self.variables.update(words)
-        return end
+    def _comment(self, at, comment, about):
+        """Looks at a comment; gives the part of the comment that speaks of the next assertion."""
+        start = comment.lstrip()[:4]
+        if start[:1] == "$" and start[1:2] in ("t", "j") and start[2:3].isspace():
+            if start[1] == "t":
+                self.typesetting.append(comment.lstrip()[2:])
+            return about
+        found = _HEADING.match(comment) if start in _LEVELS else None
+        if not found:
+            return at
+        self.headings.append(Heading(_LEVELS[found["rule"]], " ".join(found["title"].split()), len(self.assertions)))
+        return -1
 
-    def _open(self, at):
-        self._scopes.append((self._active, at))
-        return at
+    # Faults
 
-    def _close(self, at):
-        if not self._scopes:
-            raise self.fault(at, "a scope is closed here, and none is open")
-        self._active, _ = self._scopes.pop()
-        return at
+    def _unread(self, at, rest):
+        """What is wrong with a text that begins with no part."""
+        start, kind = self._start(at), rest[1:2]
+        plain = _COMMENTS.sub(lambda it: " " * len(it[0]), rest[2:])
+        plain = plain.replace("$=", "  ", 1) if kind in ("a", "p") else plain
+        other = plain.find("$") + 2 if "$" in plain else 0
+        if kind not in list("(cvdfeap"):
+            return self._fault(start, f"the keyword ${kind} can't stand here")
+        if kind == "(" or other and rest[other + 1 : other + 2] == "(":
+            return self._fault(start + other * (kind != "("), "the comment that begins here has no end")
+        if not other:
+            return self._fault(start, "the file ends in the statement that begins here")
+        return self._fault(start + other, f"the keyword ${rest[other + 1 : other + 2]} stands in a statement")
 
-    def _include(self, at):
-        """Puts the pieces of an included file where it is named; one that was included before is left out."""
-        pieces = self.pieces
-        if at + 1 == len(pieces) or pieces[at + 1][:1] != "]":
-            raise self.fault(at, "$[ isn't closed by $]")
-        path = os.path.join(os.path.dirname(self.path), pieces[at][1:].strip())
-        if os.path.realpath(path) not in {os.path.realpath(it) for it in (self.path, *(p for _, _, p in self._included))}:
-            try:
-                inner = read_file(path).split("$")
-            except OSError as fault:
-                raise self.fault(at, f"{path} can't be read: {fault.strerror}") from None
-            inner[0] = ";" + inner[0]
-            behind, count = at + 2, len(inner)
-            self._included = [(a, b + count if b >= behind else b, p) for a, b, p in self._included]
-            pieces[behind:behind] = inner
-            pieces.insert(behind + count, ";" + pieces[at + 1][1:])
-            pieces[at + 1] = "]"
-            self._included.append((behind, behind + count, path))
-        return at + 1
+    def _start(self, at):
+        """Where a part begins: at its `$`."""
+        return next(found.end(1) for number, found in enumerate(_PART.finditer(self._text)) if number == at)
+
+    def fault(self, at, why):
+        """A fault at a part."""
+        return self._fault(self._start(at), why)
+
+    def _fault(self, start, why):
+        it = [it for it in self._segments if it.start <= start][-1]
+        line, column = line_and_column(self._text[it.start :], start - it.start)
+        behind = it.column - 1 if line == 1 else 0
+        return Faulty(f"{it.path}:{it.line + line - 1}:{column + behind}: {why}")
 
     # What is asked of it
 
+    def said(self, at):
+        """What the statement at a part says, as it is written."""
+        text = self._parts[at][4]
+        return _COMMENTS.sub(" ", text) if "$" in text else text
+
     def symbols(self, at):
-        """The symbols of the statement at a piece."""
+        """The symbols of the statement at a part."""
         made = self._symbols_of.get(at)
         if made is None:
-            made = self._symbols_of[at] = self.pieces[at][1:].split()
+            made = self._symbols_of[at] = self.said(at).split()
         return made
 
     def comment(self, number):
         """The comment right before an assertion."""
-        start, end = self.assertions[number].comment
-        return "$".join(self.pieces[start:end])[1:]
+        at = self.assertions[number].comment
+        return "" if at < 0 else self._parts[at][1]
 
     def float_of(self, chain):
         """The active `$f` of each variable."""
@@ -292,13 +292,12 @@ class Database:
 
     def _frame(self, it):
         symbols, essentials, here = self.symbols(it.at), [], it.essentials
+        used = self.variables.intersection(symbols)
         while here:
             here, essential = here
             essentials.append(essential)
-        essentials.reverse()
-        used = self.variables.intersection(symbols)
-        for essential in essentials:
             used |= self.variables.intersection(self.symbols(self.essentials[essential].at))
+        essentials.reverse()
         of = self.float_of(it.floats)
         try:
             floats = sorted([of[x] for x in used])
@@ -307,7 +306,7 @@ class Database:
         groups, here = [], it.distinct
         while here:
             here, words = here
-            group = used.intersection(words)
+            group = used.intersection(_COMMENTS.sub(" ", words).split() if "$" in words else words.split())
             if len(group) > 1:
                 groups.append(group)
         order = None
@@ -316,17 +315,20 @@ class Database:
             order.sort(key=lambda x: (self.floats if x[0] == "f" else self.essentials)[x[1]].at)
         return Frame(symbols, floats, essentials, order, groups)
 
+    def _proof_text(self, number):
+        text = self._parts[self.assertions[number].at][5][1:]
+        return _COMMENTS.sub(" ", text) if "$" in text else text
+
     def proof_labels(self, number):
         """The labels that a proof names."""
-        words = self.pieces[self.assertions[number].proof][1:]
+        words = self._proof_text(number)
         if words.lstrip()[:1] != "(":
             return {label for label in words.split() if label != "?"}
         return words[: words.find(")")].split()[1:]
 
     def proof(self, number):
         """A proof: the labels that it names, and its letters; or its labels in order, and None."""
-        it = self.assertions[number]
-        words = self.pieces[it.proof][1:]
+        words = self._proof_text(number)
         if "?" in words:
             raise ValueError("its proof isn't finished")
         if words.lstrip()[:1] != "(":

@@ -10,6 +10,8 @@ from dataclasses import dataclass
 from .expressions import Expressions
 from .statements import MAX_BOUND
 
+LONGEST = 200  # characters of a rule that says of a relation that it is reflexive or symmetric
+
 
 @dataclass
 class Found:
@@ -38,10 +40,9 @@ class Definitions:
         longest, proved = max(map(len, shapes), default=0) + 1, self.syntax.proved
         found, symmetric, variables = {}, set(), database.variables
         for number, it in enumerate(database.assertions[:last]):
-            if it.code != proved or len(database.pieces[it.at]) > 200:
-                continue
-            symbols = database.pieces[it.at].split()[2:]
-            if len(symbols) >= longest:
+            text = database.said(it.at) if it.code == proved else ""
+            symbols = text.split()[1:] if len(text) < LONGEST else ()
+            if not 0 < len(symbols) < longest:
                 continue
             term = shapes.get(tuple("" if x in variables else x for x in symbols))
             if term is None:

@@ -8,7 +8,7 @@ from explore.specification import read_specification
 from . import opinion
 from .exporting import Export, TooLong
 from .same_command import same
-from .telling import Failed, plural, read_bytes, read_text, written
+from .telling import WRONG_WORDS, Failed, plural, read_bytes, read_text, written
 
 KINDS = {"term": "term", "def": "term", "axiom": "assertion", "theorem": "assertion"}
 DUMMIES = {"def": 2, "theorem": 3}  # where they stand behind the name
@@ -18,7 +18,7 @@ def export(spec, binary, out, text=None, has_definitions=False):
     """Makes, tells, and gives the exit number."""
     for path in (spec, binary, *([text] if text else [])):
         if os.path.exists(out) and os.path.exists(path) and os.path.samefile(out, path):
-            raise Failed(f"{out} is one of the files that are read")
+            raise Failed(f"{out} is one of the files that are read", WRONG_WORDS)
     source, data = read_text(spec), read_bytes(binary)
     known = read_text(text) if text else None
     print(run("verify", spec, binary).strip(), flush=True)

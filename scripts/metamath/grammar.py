@@ -52,6 +52,12 @@ class Grammar:
                 return found[0]
         return self.read_all(code, symbols, variables)
 
+    def begins(self, code):
+        """The constants, and the typecodes of variables, with which an expression can begin."""
+        if self._first is None:
+            self._analyse()
+        return self._first.get(code, set())
+
     def read_all(self, code, symbols, variables):
         """As `read`, with a fault where there is a second reading."""
         if self._first is None:
@@ -67,7 +73,7 @@ class Grammar:
             elif it.term is None:
                 made.append(it.kids)
             elif not it.is_clear:
-                raise ValueError("the grammar of the database has two readings of it")
+                raise ValueError("the grammar of the database has two readings of it, and a specification says one")
             else:
                 open_.append(self._heads[it.term])
                 open_ += [it.kids[i] for i in reversed(self._orders[it.term])]

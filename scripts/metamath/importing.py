@@ -62,6 +62,8 @@ class Import:
 
     def run(self, progress=None):
         database, proved = self.database, self.syntax.proved
+        if self.chosen is None and self.options.notations:
+            self.output.find_operators()
         for number in range(self.last):
             if progress and not number & 15:
                 progress(number, self.last)
@@ -74,7 +76,8 @@ class Import:
                 self._term(self.syntax.term_of[number])
         if self.chosen is None:
             for number in range(len(self.syntax.terms)):
-                self.output.term(number)
+                if not self.output.operators.parts(number):
+                    self.output.term(number)
         self._look_at_skipped()
         self.output.finish()
         return self

@@ -3,6 +3,7 @@
 In `( A F B )` and `A R B` any class can stand in the middle, and a notation needs a constant there. So each closed term that
 stands there in a formula of the specification becomes an infix of its own, defined as the database's formula with it in
 the middle. Proofs speak of the database's formulas; a conversion leads from these to the statement, or from an axiom."""
+from .finding import operators_in
 from .syntax import Term
 from .writing import operator_notation
 
@@ -27,11 +28,16 @@ class Operators:
 
     def find(self, formulas):
         """Declares the operators that these formulas, pairs of expressions and a number, have."""
-        for expressions, number in formulas:
-            for here in expressions.parts(number):
-                pair = self._pair(expressions, here)
-                if pair and pair not in self._of:
-                    self._of[pair] = self._declared(*pair)
+        self._declare(self._pair(expressions, here) for expressions, number in formulas for here in expressions.parts(number))
+
+    def find_in(self, database, statements):
+        """Declares those of a whole database."""
+        self._declare(operators_in(database, self.syntax, statements, self._frames) if self._frames else ())
+
+    def _declare(self, pairs):
+        for pair in pairs:
+            if pair and pair not in self._of:
+                self._of[pair] = self._declared(*pair)
 
     def _pair(self, expressions, number):
         """A frame and the constant in its middle."""

@@ -13,7 +13,7 @@ from .writing import Names, Printer, identifier, notation_text, written_otherwis
 
 WIDTH = 120
 _FORMULA = re.compile(r"\$([^$]*)\$")
-# Why an axiom stands there again.
+# Why an axiom or a theorem stands there again.
 ONE = "in the database two variables may be one, here bound ones are always different."
 LONGEST = 4096  # tokens of a formula in a specification
 SORT, AXIOM, TERM, THEOREM, LOCAL_TERM, LOCAL_THEOREM = 4, 2, 5, 6, 13, 14  # kinds of statements
@@ -46,6 +46,7 @@ class Output:
         self.uses = {}  # of each definition its body's terms
         self.asked = set()  # terms of public axioms and theorems
         self.term_rows, self.theorem_rows = [], []  # number of parameters, third byte, words and stream
+        self.written = set()  # the heads of terms that have a row
         self.list = []  # kind, body, and a term
         self.labels = []  # of each statement of the list that is an axiom or theorem; else None
         self.printer = Printer(self.syntax.terms)
@@ -54,6 +55,7 @@ class Output:
         self.long = []  # labels of theorems that are too long for a specification
         # Of chosen theorems nothing is written before it is known what they need.
         self.waiting, self.assigned = None if whole.targets is None else [], 0
+        self.cited = set()  # the numbers of what is cited; of a whole database labels
         for it in self.syntax.sorts:
             words = [w for bit, w in ((1, "pure"), (2, "strict"), (4, "provable")) if it.modifiers & bit]
             self.spec.append(" ".join([*words, "sort", it.name]) + ";")
@@ -88,10 +90,20 @@ class Output:
             self.term(~head)
         number = self._number()
         if self.waiting is None:
-            self._assertion(number, building, building.root is None or self._is_target(building))
+            self._pair(number, building, building.assertion.label in self.cited)
         else:
             self.waiting.append((number, building))
         return number
+
+    def find_operators(self):
+        """Looks for the operators of a whole database, and for the theorems that proofs cite."""
+        database, definitions = self.whole.database, self.whole.definitions
+        self.operators.find_in(database, self.whole.statements)
+        for number, it in enumerate(database.assertions):
+            if not it.is_axiom:
+                self.cited.update(database.proof_labels(number))
+            if it.label.endswith("just") or number in definitions.reflexive.values():
+                self.cited.add(it.label)
 
     def finish(self):
         """Writes what waited and is needed."""
@@ -100,7 +112,6 @@ class Output:
         waiting, self.waiting = self.waiting, None
         assertions = {it[0]: it[1] for it in waiting if len(it) == 2}
         needed, open_ = set(), [row for row, it in assertions.items() if self._is_target(it)]
-        self.cited = set()
         while open_:
             here = open_.pop()
             if here not in needed:
@@ -117,7 +128,7 @@ class Output:
             if len(it) > 2:
                 self._definition(*it)
             elif it[0] in needed:
-                self._pair(*it)
+                self._pair(*it, it[0] in self.cited)
 
     def _formulas(self, waiting):
         """The formulas that can stand in the specification."""
@@ -131,9 +142,9 @@ class Output:
     def _is_target(self, building):
         return not building.is_copy and (self.whole.targets is None or building.assertion.label in self.whole.targets)
 
-    def _pair(self, number, building):
-        """Writes an assertion that is cited by this number. Where it has abbreviations in the specification, proofs cite another
-        one without them."""
+    def _pair(self, number, building, is_cited):
+        """Writes an assertion, that others may cite by this number. Where it has abbreviations in the specification, they cite
+        another one without them."""
         is_axiom, operators = building.root is None, self.operators
         is_public = is_axiom or self._is_target(building)
         said = building.shortened(operators) if is_public else (building.hypotheses, building.conclusion)
@@ -145,7 +156,7 @@ class Output:
             public = building.with_statement(*said)
             self._assertion(other, public, True)
             self._assertion(number, building.plain().citing(other, *said, operators, True), False)
-        elif number in self.cited:
+        elif is_cited:
             self._assertion(number, building.plain(), False)
             public = building.with_statement(*said)
             self._assertion(other, public.citing(number, building.hypotheses, building.conclusion, operators, False), True)
@@ -178,6 +189,7 @@ class Output:
         self.asked.add(number)  # what has no body can't be local
         self.list.append((TERM, b"", number))
         it.row = len(self.term_rows)
+        self.written.add(~number)
         self.term_rows.append((len(variables), it.sort, words_of(variables) + word(it.sort, False, it.result_needs) + END))
 
     def _notation(self, it, binders, result, names):
@@ -223,6 +235,7 @@ class Output:
         writer.expression(body)
         self.list.append((TERM, bytes(writer.out + END), number))
         it.row = len(self.term_rows)
+        self.written.add(~number)
         data = words_of(own[:count]) + word(it.sort, False, it.result_needs) + writer.stream([body])
         self.term_rows.append((count, it.sort | 128, data))
 
@@ -242,7 +255,7 @@ class Output:
         if not is_axiom:
             writer.count_steps(building.steps, building.uses)
         writer.count_operands()
-        if any(self.syntax.terms[~head].row < 0 for head in building.heads):
+        if not building.heads <= self.written:
             for head in sorted(writer.heads()):
                 self._term(~head)
         own = [(it.sort, it.bound, it.needs) for it in variables[:count]]
@@ -250,7 +263,7 @@ class Output:
             name, names = self._name(building), self.syntax.names([it.float for it in variables])
             is_public = is_public and self._state(building, name, names, own)
         if self.proof_text:
-            self.proof_text.assertion(number, building, writer, name, names, own, is_public)
+            self.proof_text.assertion(number, building, writer, name, names, own, is_public, self._about_lemma(building, is_public))
         writer.hypotheses(building.hypotheses)
         if is_axiom:
             writer.expression(building.conclusion)
@@ -262,6 +275,12 @@ class Output:
         stream = writer.stream([building.conclusion, *reversed(building.hypotheses)])
         self.commands.rows[number] = len(self.theorem_rows)
         self.theorem_rows.append((count, 0, words_of(own) + stream))
+
+    def _about_lemma(self, building, is_public):
+        """What a proof text says of a statement that the database doesn't have as it stands there."""
+        if building.is_copy:
+            return self._why_again(building)
+        return f"{building.assertion.label} without abbreviations, as proofs cite it." if building.suffix and not is_public else ""
 
     def _name(self, building):
         name = identifier(building.assertion.label) + building.suffix
@@ -293,8 +312,7 @@ class Output:
                 return False
             formulas.append(f"$ {' '.join(tokens)} $")
         if building.is_copy:
-            same = ", ".join(f"{a} is {b}" for a, b in self._merged(building))
-            self.spec += ["", *filled(f"{building.assertion.label} where {same}: {ONE}".split(), MARK)]
+            self.spec += ["", *filled(self._why_again(building).split(), MARK)]
         else:
             self._about(building.number)
         kind = "axiom" if is_axiom else "theorem"
@@ -305,14 +323,14 @@ class Output:
                 self.asked.update(~head for head in building.expressions.spread(it)[1])
         return True
 
-    def _merged(self, building):
-        it, floats, first = building.statement, self.whole.database.floats, {}
+    def _why_again(self, building):
+        """Why an axiom or a theorem stands there again."""
+        it, floats, first, same = building.statement, self.whole.database.floats, {}, []
         for at, part in zip(it.bound, building.parts):
             variable = floats[it.floats[at]].variable
-            if part in first:
-                yield variable, first[part]
-            else:
-                first[part] = variable
+            if first.setdefault(part, variable) != variable:
+                same.append(f"{variable} is {first[part]}")
+        return f"{building.assertion.label} where {', '.join(same)}: {ONE}"
 
     # Lines
 

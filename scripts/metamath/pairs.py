@@ -1,13 +1,13 @@
-"""The pairs of the pages with examples, as metamath judges them: a second opinion on the verdicts of mz.
+"""The pairs of the examples, as metamath judges them: a second opinion on the verdicts of mz.
 
 Each pair is exported without asking mz first, and metamath verifies the database. Where mz says yes it has to say yes, but
 for what is too long to be written out. Where mz refuses what is claimed or proved, metamath has to refuse it too, or nothing
 can be written. Of what is refused for another thing, as the layout of a file or a rule of specifications, nothing is asked."""
-import glob
 import os
 import re
 from typing import NamedTuple
 
+import worked
 from explore.specification import read_specification
 
 from . import opinion
@@ -15,7 +15,7 @@ from .binaries import Binary
 from .exporting import Export, TooLong
 
 TOP = os.path.dirname(os.path.dirname(os.path.dirname(os.path.abspath(__file__))))
-ROW = re.compile(r"\| `\./mz verify (\S+) (\S+)` \| `([^`]*)` \|")
+VERIFY = re.compile(r"\./mz verify (\S+) (\S+)$")
 YES, NO, NOTHING, TOO_LONG = "verified", "refused", "can't be written", "too long"
 CLAIMS = {"M7", "M8", "K21", "K25", "K29"}  # hypotheses, conclusion, what is cited, disjointness, conversion
 
@@ -42,14 +42,13 @@ class Pair(NamedTuple):
 
 
 def pairs():
-    """Each pair of the pages once, but for those whose files are only made there."""
+    """Each pair once, but for those whose files are only made there."""
     found = {}
-    for page in sorted(glob.glob(os.path.join(TOP, "examples", "**", "README.md"), recursive=True)):
-        with open(page, encoding="utf-8") as file:
-            for *names, line in ROW.findall(file.read()):
-                specification, binary = (os.path.join(TOP, it) for it in names)
-                if os.path.exists(specification) and os.path.exists(binary):
-                    found[specification, binary] = Pair(specification, binary, line)
+    for it in worked.everywhere():
+        if names := VERIFY.match(it.command):
+            specification, binary = (os.path.join(TOP, name) for name in names.groups())
+            if os.path.exists(specification) and os.path.exists(binary):
+                found[specification, binary] = Pair(specification, binary, it.printed.rstrip("\n"))
     return list(found.values())
 
 

@@ -54,12 +54,14 @@ class ProofText:
             known[number] = made
         return made
 
-    def assertion(self, number, building, body, name, names, variables, is_public):
-        """An axiom or theorem. `body` counted what its proof uses."""
+    def assertion(self, number, building, body, name, names, variables, is_public, about=""):
+        """An axiom or theorem. `body` counted what its proof uses; `about` is said above it."""
         known = {}
         spelled = lambda it: self._spelled(building.expressions, names, it, known)
         binders = self._binders(variables, names)
         self.names[number] = name
+        if about:
+            self.lines.append(f"-- {about}\n")
         if building.root is None:
             given = " ".join(map(spelled, building.hypotheses))
             self.lines.append(f"(axiom {name} {binders} ({given}) {spelled(building.conclusion)})\n")

@@ -43,7 +43,8 @@ def compared(spec, path, proved="|-", is_exported=False):
     try:
         return check.run(text)
     except Unreadable as fault:
-        raise Failed(f"{spec}, line {text.count(chr(10), 0, fault.at) + 1}: {fault}") from None
+        line, column = text.count("\n", 0, fault.at) + 1, fault.at - text.rfind("\n", 0, fault.at)
+        raise Failed(f"{spec}:{line}:{column}: {fault}") from None
 
 
 def _list(title, found):

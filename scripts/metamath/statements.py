@@ -11,7 +11,7 @@ class Statement:
     """A logical assertion. Patterns are formulas as the grammar reads them, over the places of its `$f`."""
 
     __slots__ = ("number", "floats", "sorts", "order", "labels", "essentials", "bound", "regular", "needs", "hypotheses", "syntax",
-                 "conclusion", "rows", "width", "shuffle", "steps", "root", "parts")
+                 "conclusion", "rows", "width", "shuffle", "steps", "root", "parts", "plain_row")
 
     def __init__(self, number, floats, sorts, order):
         self.number, self.floats, self.sorts, self.order = number, floats, sorts, order
@@ -32,6 +32,8 @@ class Statement:
             self.shuffle = [0, *(at["f", i] for i in range(size)), *(at["e", label] for label in self.labels)]
         if self.syntax:
             self.parts = [size + 1 + i for i, label in enumerate(self.labels) if label not in self.syntax]
+        # Where nothing is bound, and all hypotheses are proved, there is one row.
+        self.plain_row = None if self.bound or self.syntax else self.rows.get(())
         made = compiled(self.conclusion, arity, self.width)
         self.steps, self.root = made or (None, None)
 
@@ -59,9 +61,13 @@ class Statements:
             made = self._syntax[number] = self._read(it.at, {f: i for i, f in enumerate(frame.floats)}, it.code)
         return made
 
+    def formula(self, number, at):
+        """A formula of an assertion, over the places of its `$f`."""
+        return self._read(at, {f: i for i, f in enumerate(self.database.frame(number).floats)}, self.syntax.formulas)
+
     def _read(self, at, places, code, is_careful=False):
-        """The formula at a piece, over these places. Formulas of one text are read once."""
-        text = self.database.pieces[at]
+        """The formula at a part, over these places. Formulas of one text are read once."""
+        text = self.database.said(at)
         pattern = self._patterns.get(text)
         if pattern is None or is_careful or any(it >= 0 and it not in places for it in pattern):
             floats = self.database.floats

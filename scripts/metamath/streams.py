@@ -107,18 +107,16 @@ class Body:
 
     def count_operands(self):
         """Counts the operands of what is used, once for each application."""
-        uses, arity, keys = self.uses, self.arity, self.keys
-        for number in range(len(keys) - 1, -1, -1):
-            if uses[number]:
-                key = keys[number]
-                if key.__class__ is tuple:
-                    size = arity[~key[0]]
-                    if size == 2:
-                        uses[key[1]] += 1
-                        uses[key[2]] += 1
-                    elif size:
-                        for it in key[1] if size > 3 else key[1 : size + 1]:
-                            uses[it] += 1
+        uses, arity = self.uses, self.arity
+        for key, used in zip(reversed(self.keys), reversed(uses)):  # what is counted lies before, and is seen when it is reached
+            if used and key.__class__ is tuple:
+                size = arity[~key[0]]
+                if size == 2:
+                    uses[key[1]] += 1
+                    uses[key[2]] += 1
+                elif size:
+                    for it in key[1] if size > 3 else key[1 : size + 1]:
+                        uses[it] += 1
 
     def heads(self):
         """The heads of the terms that are used."""

@@ -78,9 +78,9 @@ class Syntax:
                 made.add(it.code)
         codes = list(dict.fromkeys([it.code for it in database.floats] + [database.assertions[it].code for it in self._axioms]))
         if not database.assertions:
-            raise Faulty(f"{database.path}:1: there is no axiom or theorem in it, so that it is no Metamath database")
+            raise Faulty(f"{database.path}:1:1: there is no axiom or theorem in it, so that it is no Metamath database")
         if self.formulas not in codes:
-            raise Faulty(f"{database.path}:1: no variable and no syntax axiom has the typecode {self.formulas}; "
+            raise Faulty(f"{database.path}:1:1: no variable and no syntax axiom has the typecode {self.formulas}; "
                          "--provable gives that of what is proved, and that of formulas")
         names = Names()
         self.sorts = [Sort(names.take(identifier(it)), it, it not in made, it == self.formulas) for it in codes]

@@ -6,7 +6,7 @@ import tempfile
 import time
 from contextlib import contextmanager
 
-CANT_READ, CANT_WRITE, OUT_FAULT = 3, 5, 6  # exit numbers, as the program has them
+WRONG_WORDS, CANT_READ, CANT_WRITE, OUT_FAULT = 2, 3, 5, 6  # exit numbers, as the program has them
 
 
 class Failed(Exception):

@@ -346,7 +346,7 @@ class Writer:
         self.looked_at = {}  # theorems of imports that `rw` and `prop` have looked at
         self.goals = []  # what is open, as Gaps; the reports in `gaps` are of these
         self.records = development.memory.records_for(development)
-        self.record = Record()
+        self.record = self.whole = Record()
         self.scope = Scope(self, development, {})
         progress = Progress(len(development.order), "statements")
         for it, item in development.order:
@@ -374,7 +374,8 @@ class Writer:
         outer, known = self.record, self.records.get(key)
         if known and known.holds(self):
             known.put(self)
-            outer.absorb(known)
+            if outer is not self.whole:  # nobody asks on what the whole rests
+                outer.absorb(known)
             return
         self.record = Record()
         try:

@@ -44,8 +44,9 @@ class Record:
     def holds(self, writer):
         """Whether all is still so on which this rests. What was said is said in the notations of then."""
         spaces = {"terms": writer.terms, "assertions": writer.assertions}
-        if any(spaces[space].get(name) is not found for (space, name), found in self.asked.items()):
-            return False
+        for (space, name), found in self.asked.items():
+            if spaces[space].get(name) is not found:
+                return False
         theory = writer.development.theory
         if self.state == theory.state:
             return True
@@ -126,13 +127,15 @@ class Memory:
         return self.read(piece, theory, lambda reader: reader.item(), SourceReader)
 
     def read(self, piece, theory, read, reader_class):
-        known = piece.readings.get(theory.state) or fitting(piece, theory)
+        same = piece.readings.get(theory.state)
+        known = same or fitting(piece, theory)
         if known is None:
             known = self.anew(piece, theory, read, reader_class)
         else:
             for what, given in known.notes:
                 theory.notations.note(what, *given)
-        piece.readings = {theory.state: known}
+        if known is not same:
+            piece.readings = {theory.state: known}
         return known.made
 
     def anew(self, piece, theory, read, reader_class):

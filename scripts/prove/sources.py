@@ -1,4 +1,4 @@
-"""Reads a proof source (.proofs); docs/PROVING.md has its grammar."""
+"""Reads a proof source (.proofs); docs/USING.md has its grammar."""
 from functools import wraps
 
 from .places import Wrong

@@ -5,6 +5,7 @@
 
 The environment's MZ names the program; where it isn't built, it isn't built for this.
 """
+import gc
 import os
 import sys
 
@@ -50,6 +51,7 @@ def main(words):
 
 
 def serve():
+    gc.set_threshold(50_000, 20, 100)  # what is kept lives long: to go through it at a keystroke would be felt
     status = running.deep(lambda: main(sys.argv[1:]))
     sys.stdout.flush()
     os._exit(status)  # what still waits for the editor is left

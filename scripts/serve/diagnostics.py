@@ -75,7 +75,7 @@ class Diagnostics:
         entry = entries[min(number, len(entries)) - 1] if entries else None
         start = entry.name_start if entry else 0
         end = start + len(entry.name) if entry else 0
-        message = _explained(line, words)
+        message = _explained(line, words).replace(words[1], os.path.basename(spec.path))
         return [_diagnostic(document.range(start, end), f"{os.path.basename(spec.path)}: {message}", ERROR, found[2])]
 
     def _source(self, document):

@@ -23,14 +23,19 @@ def uri_of(path):
     return "file://" + quote(os.path.abspath(path))
 
 
-class Document:
-    """One text, with places as editors count them: lines, and in a line UTF-16 units."""
+def utf_16_units(text):
+    return len(text.encode("utf-16-le", "surrogatepass")) // 2
 
-    def __init__(self, uri, text):
-        self.uri, self.text = uri, text
+
+class Document:
+    """One text, with places as editors count them: lines, and in a line UTF-16 units. `version` is the editor's number for it."""
+
+    def __init__(self, uri, text, version=None):
+        self.uri, self.text, self.version = uri, text, version
         self.path = path_of(uri)
         self.stem, ending = os.path.splitext(self.path)
         self.kind = ending[1:]
+        self._units = len if text.isascii() else utf_16_units
         self._starts = [0]
         for line in self.text.split("\n"):
             self._starts.append(self._starts[-1] + len(line) + 1)
@@ -38,8 +43,7 @@ class Document:
     def position(self, at):
         line = bisect_right(self._starts, at) - 1
         line = min(line, len(self._starts) - 2)
-        before = self.text[self._starts[line] : at]
-        return {"line": line, "character": len(before.encode("utf-16-le", "surrogatepass")) // 2}
+        return {"line": line, "character": self._units(self.text[self._starts[line] : at])}
 
     def range(self, start, end):
         return {"start": self.position(start), "end": self.position(end)}

@@ -10,7 +10,7 @@ from prove.sources import Have, Missing
 DEPTHS = (2, 3)
 METHOD, FUNCTION, KEYWORD, FIELD = 2, 3, 14, 5  # as the protocol counts kinds of items
 PROOF_WORDS = ("have", "where", "calc", "rw", "prop", "sorry")
-_OPEN = re.compile(r"--[^\n]*|\$[^$]*\$?|\b(?:sorry|have)\b|\?")
+_OPEN = re.compile(r"--[^\n]*|\$[^$]*\$?|(?P<what>\b(?:sorry|have)\b|\?(?:\s*(?P<depth>\d+))?)")
 
 
 class Goals:
@@ -52,7 +52,7 @@ class Goals:
     def lenses(self, document):
         """Where a lens may stand: at each `sorry`, `?` and `have`. What it says is asked for when it is seen."""
         return [{"range": document.range(it.start(), it.end()), "data": {"uri": document.uri, "at": it.start()}}
-                for it in _OPEN.finditer(document.text) if it.group() in ("sorry", "have", "?")] if document.kind == "proofs" else []
+                for it in _OPEN.finditer(document.text) if it["what"]] if document.kind == "proofs" else []
 
     def lens(self, document, offset):
         """What a lens says: the goal, or what is had."""
@@ -92,30 +92,39 @@ class Goals:
         return statement(found, writer.printer) if found else ""
 
     def actions(self, document, start, end):
-        """What can be done for the open goals in a range: to look for a proof."""
+        """What can be done for the open goals in a range, or where none is for a theorem that is left out: to look for a proof."""
         if document.kind != "proofs":
             return []
-        found = []
-        for where in self._open(document):
-            if where[0] <= end and start <= where[1]:
-                found += [{"title": f"Look for a proof (depth {depth})", "kind": "quickfix",
-                           "data": {"uri": document.uri, "from": where[0], "to": where[1], "depth": depth}} for depth in DEPTHS]
-        return found
+        here = [it for it in self._open(document) if it[0] <= end and start <= it[1]] or list(self._left_out(document, start, end))
+        return [{"title": f"Look for a proof{of} (depth {depth})", "kind": "quickfix",
+                 "data": {"uri": document.uri, "from": where, "to": there, "depth": depth}} for where, there, of, depths in here for depth in depths]
 
-    def _open(self, document):
-        """Where the open goals stand: each `sorry` and `?`, and the places of theorems that are left out."""
-        writer, _ = self.workspace.examined(document)
+    @staticmethod
+    def _open(document):
+        """Each `sorry` and `?`: from where to where it stands, what it is called, and how deep proofs may be looked for."""
         for it in _OPEN.finditer(document.text):
-            if it.group() in ("sorry", "?"):
-                yield it.start(), it.end()
+            if it["what"] and it["what"] != "have":
+                yield it.start(), it.end(), "", sorted({*DEPTHS, int(it["depth"] or DEPTHS[0])})
+
+    def _left_out(self, document, start, end):
+        """The same of theorems that are left out. Where one belongs is near on the line before, too."""
+        for at, goal in self._missing(document).items():
+            line = document.text.rfind("\n", 0, max(document.text.rfind("\n", 0, at), 0)) + 1
+            if line <= end and start <= at:
+                yield at, at, f" of {goal.elaborator.theorem.name}", DEPTHS
+
+    def _missing(self, document):
+        """The goals of theorems that are left out, by their places: at each place the first."""
+        writer, _ = self.workspace.examined(document)
+        found = {}
         for goal in writer.goals if writer else ():
             if isinstance(goal.sorry, Missing):
-                yield goal.sorry.place.at, goal.sorry.place.at
+                found.setdefault(goal.sorry.place.at, goal)
+        return found
 
     def found(self, document, start, end, depth, seconds=SECONDS):
         """The edits that write proofs which are found for an open goal, the best first; and how far was looked."""
-        writer, _ = self.workspace.examined(document)
-        missing = next((it for it in writer.goals if isinstance(it.sorry, Missing) and it.sorry.place.at == start == end), None)
+        missing = self._missing(document).get(start) if start == end else None
         if missing:
             goal, scope, text = missing.goal, surroundings(missing), f"theorem {missing.elaborator.theorem.name} = {{}};\n"
         else:

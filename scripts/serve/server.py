@@ -8,8 +8,9 @@ from .diagnostics import Diagnostics, NoProgram
 from .documents import Document, Workspace
 from .protocol import Unreadable
 
-PAUSE = 0.05  # seconds without a message, after which what was changed is judged
+PAUSE = 0.01  # seconds without a message, after which what was changed is judged
 NO_METHOD, INVALID, INTERNAL, NO_JSON = -32601, -32600, -32603, -32700
+WARNING, INFORMATION = 2, 3  # as the protocol counts kinds of messages
 CAPABILITIES = {
     "textDocumentSync": {"openClose": True, "change": 1, "save": True},
     "hoverProvider": True, "definitionProvider": True, "referencesProvider": True, "documentSymbolProvider": True,
@@ -134,23 +135,26 @@ class Server:
         it = action["data"]
         edits, said = self.goals.found(self.workspace.open[it["uri"]], it["from"], it["to"], it["depth"])
         if not edits:
-            self._show(f"Nothing is found: {said}")
+            self._show(f"Nothing is found: {said}", WARNING)
             return action
+        others = "".join(f"\nor {other['newText'].strip()}" for other in edits[1:])
+        self._show(f"Found: {said}{others}", INFORMATION)
         return {**action, "edit": {"changes": {it["uri"]: edits[:1]}}}
 
-    def _show(self, text):
-        self.channel.write({"method": "window/showMessage", "params": {"type": 2, "message": text}})
+    def _show(self, text, how):
+        self.channel.write({"method": "window/showMessage", "params": {"type": how, "message": text}})
 
     def _opened(self, parameters):
         it = parameters["textDocument"]
-        self._set(it["uri"], it["text"])
+        self._set(it["uri"], it["text"], it.get("version"))
 
     def _edited(self, parameters):
         if parameters["contentChanges"]:
-            self._set(parameters["textDocument"]["uri"], parameters["contentChanges"][-1]["text"])
+            it = parameters["textDocument"]
+            self._set(it["uri"], parameters["contentChanges"][-1]["text"], it.get("version"))
 
-    def _set(self, uri, text):
-        self.workspace.open[uri] = document = Document(uri, text)
+    def _set(self, uri, text, version):
+        self.workspace.open[uri] = document = Document(uri, text, version)
         self.changed[uri] = None
         if document.kind in ("mm0", "proofs"):  # the open sources may rest on it
             self.changed.update({it.uri: None for it in self.workspace.open.values() if it.kind == "proofs" and it is not document})
@@ -173,14 +177,17 @@ class Server:
         uri = next(iter(self.changed))
         del self.changed[uri]
         try:
-            self._publish(uri, self.diagnostics.of(self.workspace.open[uri]))
+            document = self.workspace.open[uri]
+            self._publish(uri, self.diagnostics.of(document), document.version)
         except NoProgram as why:
             if not self.has_warned:
-                self._show(str(why))
+                self._show(str(why), WARNING)
             self.has_warned = True
 
-    def _publish(self, uri, found):
-        self.channel.write({"method": "textDocument/publishDiagnostics", "params": {"uri": uri, "diagnostics": found}})
+    def _publish(self, uri, found, version=None):
+        """Says what is wrong, and in which version, where the editor counts them."""
+        said = {"uri": uri, "diagnostics": found} if version is None else {"uri": uri, "version": version, "diagnostics": found}
+        self.channel.write({"method": "textDocument/publishDiagnostics", "params": said})
 
 
 def is_message(message):

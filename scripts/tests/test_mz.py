@@ -1,6 +1,7 @@
 """Tries ./mz over a small repository, with a kit that proves nothing and a program that only prints what it was given."""
 import hashlib
 import os
+import pty
 import shutil
 import signal
 import subprocess
@@ -481,6 +482,16 @@ class Mz(unittest.TestCase):
         self.assertIn("mz: no such file: no such file", complained)
         _, _, complained = self.at.run("compile", "a", "no folder/b", FAKE_STATUS="5")
         self.assertIn("there is no directory no folder", complained)
+
+    def test_long_work_is_told_on_a_terminal_alone(self):
+        slow = self.at.write("slow", "#!/bin/sh\nsleep 4\n", 0o755)
+        ours, theirs = pty.openpty()
+        how = {"cwd": self.at.room, "env": {**self.at.environment, "MZ_PROGRAM": slow}, "stdin": subprocess.DEVNULL, "stderr": theirs}
+        self.assertEqual(subprocess.run([os.path.join(self.at.top, "mz"), "compile", "a", "b"], check=False, **how).returncode, 0)
+        self.assertRegex(os.read(ours, 1000), rb"^mz: compile of \d+ KB goes on \.\.\r\n$")
+        os.close(ours)
+        os.close(theirs)
+        self.assertEqual(self.at.run("compile", "a", "b", MZ_PROGRAM=slow), (0, "", ""))
 
     def test_what_is_read_is_not_written_over(self):
         text = self.at.write("text", "(sort s)")

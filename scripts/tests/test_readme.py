@@ -1,4 +1,5 @@
-"""That README counts what is believed of the way to the program (the script, and what finds and builds the program), and what a first build takes."""
+"""That README counts what is believed of the way to the program (the script, and what finds and builds the program), and what a first build takes;
+and that lines which pages show of a source or a script stand there."""
 import ast
 import io
 import os
@@ -50,11 +51,43 @@ class Believed(unittest.TestCase):
         self.assertLessEqual(abs(found - said), 20, f"README says {said}, and there are {found}")
 
 
+class Said(unittest.TestCase):
+    """What README says of the limits of an answer, of its cost, and of what one writes, whatever the words are."""
+
+    SAID = {
+        "what a binary may bring": r"may bring .*definitions", "what is bounded": r"steps .*are .*bounded",
+        "the one answer without a cause": r"memory ran out|out of memory", "a process that is killed": r"killed",
+        "a real library, and its time": r"set\.mm.*seconds", "the second command's cost": r"processor minutes.*GB of memory",
+        "what one writes": r"[Pp]roof source \(`\.proofs`\)",
+    }
+
+    def test_each(self):
+        lines = text_of("README.md").split("\n")
+        for what, pattern in self.SAID.items():
+            self.assertTrue(any(re.search(pattern, it) for it in lines), what)
+
+
 class FirstBuild(unittest.TestCase):
     def test_help_and_readme_say_the_same_minutes(self):
         """README has what was measured; help says it too."""
         minutes = re.search(r"that took (\d+) minutes on four processors\. .*?: (\d+) minutes more", text_of("README.md")).groups()
         self.assertEqual(re.search(r"that took (\d+) minutes, and (\d+) more", pages.FIRST.replace("\n", " ")).groups(), minutes)
+
+
+class Shown(unittest.TestCase):
+    def stand_in(self, lines, path):
+        """The lines stand in the file, in this order."""
+        rest = iter(text_of(path).splitlines())
+        for line in lines:
+            self.assertIn(line, rest, path)
+
+    def test_lines_of_a_source(self):
+        block = re.search(r"Six lines of .*?```\n(.*?)```", text_of("README.md"), re.S)[1].splitlines()
+        self.assertEqual(len(block), 6)
+        self.stand_in(block, "examples/arithmetic/arithmetic.proofs")
+
+    def test_lines_of_a_tool(self):
+        self.stand_in(re.search(r"```\n(STEP = .*?)```", text_of("docs/TOOLS.md"), re.S)[1].splitlines(), "examples/tools/sums.py")
 
 
 if __name__ == "__main__":

@@ -20,6 +20,7 @@ CALLS = {
     "check-crates": [],
     "check-edits": [],
     "check-examples": ["README.md"],
+    "check-links": [],
     "check-rules": [],
     "check-words": [],
     "crates": ["--check"],
@@ -40,7 +41,8 @@ MISFITS = [
     ["explain", "1", REFUSAL, "verify", "D", "F/x"], ["explain", "3", "", "verify", "D", "F/x"], ["explain", "5", "", "compile", "F", "F/x"], ["explain", "--fits", "verify", "D", "F/x"],
     ["bytes", "D"], ["bytes", "F"], ["bytes", "F", "D"],
     ["dist", "F"], ["dist", "D"], ["fail-allocations", "D"], ["hostile-texts", "D"], ["make-developments", "F/x"], ["make-developments", "D/x"], ["check-examples", "D"],
-    ["manual", "D"], ["build", "F"],
+    ["manual", "D"], ["build", "F"], ["sessions", "D"], ["sessions", "--check", "F"], ["sessions", "F/x"],
+    ["metamath", "import", "F", "D"], ["metamath", "import", "D", "F"], ["metamath", "export", "D", "F", "F"], ["metamath", "same", "F", "D"], ["unfolded", "D", "F"],
 ]
 
 

@@ -53,6 +53,26 @@ class Sentences(unittest.TestCase):
         self.assertIn("a sentence of 62 words, 60 are the most", said)
         self.assertIn("32.0 words at the mean", said)
 
+    def links(self, text):
+        with tempfile.TemporaryDirectory() as folder:
+            for name, content in (("a.md", text), ("b.md", "# The `first` heading: one\n")):
+                with open(os.path.join(folder, name), "w", encoding="utf-8") as file:
+                    file.write(content)
+            return [it.split(": ", 1)[1] for it in self.words.link_problems(os.path.join(folder, "a.md"))]
+
+    def test_links_that_lead_somewhere(self):
+        self.assertEqual(self.links("# Own\n[a](b.md#the-first-heading-one), [b](#own), [c](https://example.org/x), `[d](e)`\n"), [])
+
+    def test_links_that_lead_nowhere(self):
+        said = self.links("[a](gone.md) and [b](b.md#second) and [c](#own)\n")
+        self.assertEqual([it.split()[-1] for it in said], ["gone.md", "#second", "#own"])
+
+    def test_what_two_pages_say(self):
+        run = " ".join(f"word{it}" for it in range(self.words.RUN))
+        texts = {"a": f"First {run}.", "b": f"Then {run}, once more.", "c": run[:-1]}
+        self.words.pages, self.words.text_of = lambda: sorted(texts), texts.get
+        self.assertEqual(self.words.said_twice(), {f"{run}": ["a", "b"]})
+
     def test_a_page_without_a_reader(self):
         self.assertIn("doesn't say for whom it is", "\n".join(self.problems("# A page\n\nIt is here.\n")))
 

@@ -4,7 +4,8 @@
 
 A wrong body is an edit, crates/NAME/wrong/BODY.edit. With words, those of these crates or of these names are tried. The
 changed function alone is proved, with what it calls, over the libraries that `rt ci` has built in this checkout, or in the
-one that is named. Of each the goals that aren't proved are printed, and the processor seconds. The exit number is 1 where a body is
+one that is named. Those of a crate are tried in one run of the prover, whose seconds are shared among them; one that it
+doesn't refuse is tried again by itself. Of each the goals that aren't proved are printed, and the processor seconds. The exit number is 1 where a body is
 proved, where no goal refuses it, where it is no Rattle, or where it can't be tried.
 """
 import argparse
@@ -43,10 +44,12 @@ def quiet():
 
 
 def results(prover, bodies, jobs):
-    """Yields the trials, in the order of the bodies. Where this is interrupted, the trials are ended."""
+    """Yields the trials, crate by crate. Where this is interrupted, the trials are ended."""
+    groups = trials.groups(bodies, lambda crate: os.path.join(TOP, "crates", crate))
     with concurrent.futures.ProcessPoolExecutor(max(jobs, 1), initializer=quiet) as pool:
         try:
-            yield from pool.map(functools.partial(trials.tried, prover), bodies)
+            for group in pool.map(functools.partial(trials.tried, prover), groups):
+                yield from group
         except (KeyboardInterrupt, GeneratorExit):
             for it in multiprocessing.active_children():
                 it.terminate()

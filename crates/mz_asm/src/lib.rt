@@ -1,9 +1,15 @@
-//! From a listing to the binary that it is the listing of.
+//! From a listing to its binary: read line by line, written in the normal layout.
 //!
-//! A listing's lines say which sorts, terms, axioms and theorems a binary has, and the commands of
-//! their unify streams and bodies. The binary is written in the normal layout, each command as short
-//! as it can be. `specs/Assembling.antt` says which texts are listings, and which rule a text breaks,
-//! `specs/NormalBytes.antt` what stands where in a file in the normal layout.
+//! `assemble_bytes` gives exactly the binary of a listing, in the normal layout and with shortest commands; or the
+//! number of the first line that breaks a rule, and the rule (A1, A2, A3); or that the binary would be too long. Else
+//! memory ran out. It asks nothing else: whether the binary is good is the verifier's to say.
+//!
+//! The laws (`specs/Laws.antt`): exactly one answer fits a text, the listing of a binary in the normal layout
+//! assembles to it, and compiled files are in this layout. `specs/NormalBytes.antt` says so by what stands where, for
+//! a reader with the file at hand.
+//!
+//! With it files are made by hand, good and bad, for tests. Start with `specs/Assembling.antt`, then
+//! `src/assemble.rt`.
 #![tactic(auto)]
 
 mod assemble;

@@ -16,4 +16,3 @@ pub mod Listing
 pub mod Texting
 pub mod Adding
 pub mod Naming
-pub mod Gapping

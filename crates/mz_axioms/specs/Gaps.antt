@@ -2,8 +2,6 @@
 use Rattle.std.specs.Prelude.{◌≡◌, ◌++◌, ℕ, List, length, codes, decimal, flat_map}
 use Rattle.mz_spec_theory.specs.State.{Entry}
 use Rattle.mz_spec_theory.specs.Spec.{SpecMakes}
-use Rattle.mz_match_theory.specs.declared.verdict.Counts.{Counts}
-use Rattle.mz_match.specs.Drafts.{DraftAccepts}
 use Rattle.mz_spec_theory.specs.Names.{name_at}
 
 -- how many of the theorems do
@@ -21,7 +19,3 @@ gap_lines text entries places = flat_map (gap_line text entries) places
 -- the text of a specification's gapped theorems, which has so many theorems
 abbrev pub IsGapsTextOf : List ℕ → ℕ → List ℕ → List ℕ → Type 0
 IsGapsTextOf text theorems places lines = (entries : List Entry) × SpecMakes text entries × (lines ≡ count_line (length places) theorems ++ gap_lines text entries places)
-
--- a binary is accepted with gaps against the specification, and its gapped theorems stand at these places
-abbrev pub AreGapsOf : List ℕ → List ℕ → Type 0
-AreGapsOf text places = (bin : List ℕ) × (counts : Counts) × DraftAccepts text bin counts places

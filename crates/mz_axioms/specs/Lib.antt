@@ -9,5 +9,4 @@ pub mod Lists
 pub mod Reading
 pub mod Text
 pub mod Pieces
-pub mod Printing
 pub mod Gaps

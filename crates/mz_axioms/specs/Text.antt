@@ -1,9 +1,10 @@
 -- What is printed of the supports (this project's own).
-use Rattle.std.specs.Prelude.{◌≡◌, ◌++◌, ℕ, List, codes, flat_map}
+use Rattle.std.specs.Prelude.{◌≡◌, ◌++◌, ℕ, List, Result, codes, flat_map}
+use Rattle.mz_io.specs.Calls.{Call, IsWriting}
 use Rattle.mz_spec_theory.specs.State.{Entry}
 use Rattle.mz_spec_theory.specs.Spec.{SpecMakes}
 use Rattle.mz_spec_theory.specs.Names.{name_at}
-use Rattle.mz_axioms.specs.Lists.{TheoremSupport, AreSupports}
+use Rattle.mz_axioms.specs.Lists.{TheoremSupport}
 
 -- for each axiom a space and its name
 abbrev pub axiom_names : List ℕ → List Entry → List ℕ → List ℕ
@@ -21,6 +22,6 @@ supports_text text entries supports = flat_map (support_line text entries) suppo
 abbrev pub IsTextOf : List ℕ → List TheoremSupport → List ℕ → Type 0
 IsTextOf text supports line = (entries : List Entry) × SpecMakes text entries × (line ≡ supports_text text entries supports)
 
--- a binary proves the specification, and these are the supports of its theorems
-abbrev pub AreOfSome : List ℕ → List TheoremSupport → Type 0
-AreOfSome text supports = (bin : List ℕ) × AreSupports text bin supports
+-- the text is written whole, or a prefix of it where the sink fails
+abbrev pub IsPrinting : {T E : Type 0} → List ℕ → List TheoremSupport → Result T E → List Call → Type 0
+IsPrinting text supports result calls = (line : List ℕ) × IsTextOf text supports line × IsWriting result line calls

@@ -1,16 +1,17 @@
 // A specification and a binary together: what each theorem rests on.
-ghost use Rattle.std.specs.Prelude.{◌≡◌, ◌≤◌, ◌<◌, ◌⊎◌, ◌+◌, ◌*◌, ◌^◌, List, length, IfOk};
+ghost use Rattle.std.specs.Prelude.{◌≡◌, ◌≤◌, ◌<◌, ◌⊎◌, ◌+◌, ◌*◌, ◌^◌, ℕ, List, length, IfOk};
 ghost use Rattle.mz_match_theory.specs.declared.verdict.Verdict.{Verdict as TheVerdict};
 ghost use Rattle.mz_match_theory.specs.Verdict.{Accepts, FirstRefusal};
 ghost use Rattle.mz_axioms.specs.Reading.{IsAxiomsRead, IsLists, TicksAs};
-ghost use Rattle.mz_binary_theory.specs.Good.{IsGood};
-ghost use Rattle.mz_axioms.specs.Rows.{RowTold, TellsFile, supports_of};
+ghost use Rattle.mz_match.specs.Judged.{IsAccepted};
+ghost use Rattle.mz_binary_theory.specs.Standards.{strict_standard};
+ghost use Rattle.mz_axioms.specs.Lists.{AreSupports};
 
 use crate::lists::{Lists, lists_of};
 use crate::walk::rows_of;
+use mz_binary::StrictBodies;
 use mz_cmd::Steps;
-use mz_layout_tables::Mmb;
-use mz_match::verify_bytes;
+use mz_match::{Accepted, judge};
 use mz_match_theory::Verdict;
 use mz_spec::Hashing;
 use mz_store::Seed;
@@ -47,25 +48,23 @@ pub fn axioms_of<L: Ledger>(
     ensures steps { TicksAs bin.now steps.old steps.new result }
     ensures bound { steps.new ≤ steps.old + (length bin.now * length bin.now + length bin.now) }
 {
-    match verify_bytes(alloc, seed, spec, bin, steps) {
-        Verdict::Accepted(_) => match lists_in(alloc, seed, bin) {
+    match judge::<StrictBodies, L>(alloc, seed, spec, bin, steps) {
+        Ok(pair) => match axioms_in(alloc, seed, &pair) {
             Ok(lists) => AxiomsRead::Lists(lists),
             Err(_) => AxiomsRead::Mem,
         },
-        Verdict::Mem => AxiomsRead::Mem,
-        verdict => AxiomsRead::Refused(verdict),
+        Err(verdict) => match verdict {
+            Verdict::Mem => AxiomsRead::Mem,
+            _ => AxiomsRead::Refused(verdict),
+        },
     }
 }
 
-/// The lists of the public theorems of a good binary.
-fn lists_in(alloc: Global, seed: Seed, bin: &[u8]) -> Result<Lists, AllocError>
-    requires small { length bin.now < 2 ^ 32 }
-    requires good { IsGood bin.now }
-    ensures { IfOk result (λ lists. (rows : List RowTold) × TellsFile bin.now rows × (lists ≡ supports_of rows)) }
+/// What the theorems of a pair rest on that is accepted.
+pub fn axioms_in(alloc: Global, seed: Seed, pair: &Accepted) -> Result<Lists, AllocError>
+    requires { (spec : List ℕ) × (bin : List ℕ) × IsAccepted strict_standard spec bin pair.now }
+    ensures { (spec bin : List ℕ) → IsAccepted strict_standard spec bin pair.now → IfOk result (AreSupports spec bin) }
 {
-    let Ok(mmb) = Mmb::read(bin) else {
-        unreachable!()
-    };
-    let table = rows_of(alloc, Hashing::from(seed), &mmb)?;
+    let table = rows_of(alloc, Hashing::from(seed), &pair.mmb)?;
     lists_of(alloc, table)
 }

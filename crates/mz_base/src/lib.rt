@@ -1,12 +1,15 @@
-//! What every part of the project uses: lemmas on lists, ordered checks, names, and how maps hash them.
+//! What every part of the project uses: ordered checks, names, lemmas on lists, and how maps hash names.
 //!
-//! Ordered checks are facts asked in order, each with the refusal that comes where it is the first that doesn't hold
-//! (`specs/Checks.antt`): the whole project refuses by this one notion, and `proofs/CheckLaws.antt` and `proofs/InOrder.antt` have
-//! its laws. `specs/Identifiers.antt` and `specs/Names.antt` say what a name is and when it is new, `specs/Gaps.antt` whether a
-//! proof may leave gaps.
+//! Ordered checks are facts asked in order. The first that fails gives the refusal. The whole project refuses by this
+//! one notion, so each input has at most one first refusal. A name is an identifier, and its number is its index among
+//! the names of its space. Specifications and proof texts both rest on this, so they speak of the same names and
+//! numbers.
 //!
-//! `proofs/Places.antt` says what stands where in a list, `proofs/Members.antt` what is in it, `proofs/Loops.antt` what a loop has
-//! seen of it, and `proofs/Deciding.antt` which facts hold or fail; the library of the kit doesn't have these.
+//! A `Mode` says whether proofs may have gaps. A `Hashing` begins with a seed, and no contract says more of it: no
+//! answer but out of memory depends on the seed.
+//!
+//! The lemmas on lists are those that the kit's library doesn't have. Start with `specs/Checks.antt` and
+//! `specs/Names.antt`. What other crates cite is listed in `proofs/Offered.antt`.
 #![tactic(auto)]
 
 mod hashing;

@@ -1,8 +1,15 @@
-//! The statements of a binary, checked in order.
+//! The list of statements of a binary, checked: each in order, or the first rule that fails.
 //!
-//! After header and tables a binary is a list of statements. Each names, by its command, a kind, and
-//! takes the next row of that kind's table, which says what is declared. A checker goes through the
-//! list, statement by statement, and reports each one or the first rule that fails, at its place.
+//! A [`Checker`] goes over the list: `check_next` gives the next statement, the end, or the first rule that fails
+//! there, and `check_all` says of a whole file that it is good or gives its first fault. Answers and counted commands
+//! are exact. Of a finished file out of memory comes only where a body is to run.
+//!
+//! Who runs bodies is a parameter, the trait [`Bodies`], which names the standard it holds them to. Here are
+//! [`StrictBodies`] and [`DraftBodies`]; `mz_portable` brings the one by identity. So all is proved once, and
+//! `verify` stands on no other machine. Words of rows that were right last aren't gone through again
+//! (`src/words.rt`).
+//!
+//! What a good file is says `mz_binary_theory`. Start with `specs/Judging.antt`, then `src/checker.rt`.
 #![tactic(auto)]
 
 mod bodies;

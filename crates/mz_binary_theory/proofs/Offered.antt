@@ -17,4 +17,4 @@ pub use Rattle.mz_binary_theory.proofs.PlacesJudged.{empty-decides, judges-test,
 pub use Rattle.mz_binary_theory.proofs.RowLaws.{HasRightRow, good-rows, no-assertion, right-row}
 pub use Rattle.mz_binary_theory.proofs.SortsSoFar.{HasSorts, chain-sorts, sorts-more}
 pub use Rattle.mz_binary_theory.proofs.SpellingLaws.{one-good}
-pub use Rattle.mz_binary_theory.proofs.WholeFiles.{at-head, good-excludes, good-or-fault, good-spelled, one-list}
+pub use Rattle.mz_binary_theory.proofs.WholeFiles.{at-head, good-or-fault, good-spelled, one-list}

@@ -1,8 +1,16 @@
-//! What a good binary is, and what follows.
+//! What a good binary is, as a definition: what is asked of each statement of its list; and what follows.
 //!
-//! After header and tables a binary is a list of statements. `specs/Spelling.antt` and `specs/Chains.antt` say
-//! which one, `specs/Checking.antt` what is asked of each statement, in order, and `specs/Good.antt` when a
-//! file is good and what its first fault is, held to a [`Standard`]. Nothing here reads a file.
+//! `specs/Checking.antt` says what is asked of each statement of the list, in order; `specs/Chains.antt` has the chain
+//! of statements in which each is good after those before; `specs/Good.antt` says when a file is good and else what
+//! its first fault is. All of it takes a [`Standard`]: finished proofs, drafts, or by identity too
+//! (`specs/Standards.antt`). `specs/FileRun.antt` computes the same, and counts commands.
+//!
+//! The laws (`specs/WholeLaws.antt`): the statements of a good file are a legal list, and each theorem of a finished
+//! one has a derivation from axioms alone. A file is good or has one first fault. A file of n bytes executes at most n
+//! * n + n commands. A theorem that isn't gapped has a derivation without gaps.
+//!
+//! Nothing here reads a file: `mz_binary` does. Who writes files or walks accepted ones rests on this and on no
+//! checker. Some seventy computed files stand in `specs/Files.antt` and `specs/WholeExamples.antt`.
 #![tactic(auto)]
 
 mod draft_laws;

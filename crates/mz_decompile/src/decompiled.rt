@@ -1,17 +1,17 @@
 // A binary as a text.
-ghost use Rattle.std.specs.Prelude.{◌≡◌, ◌≤◌, ◌<◌, ◌+◌, ◌*◌, ◌^◌, IfOk, length};
-ghost use Rattle.mz_match_theory.specs.Verdict.{Accepts};
+ghost use Rattle.std.specs.Prelude.{◌≡◌, ◌≤◌, ◌<◌, ◌+◌, ◌*◌, ◌^◌, ℕ, List, IfOk, length};
+ghost use Rattle.mz_binary_theory.specs.Standards.{strict_standard};
+ghost use Rattle.mz_match.specs.Judged.{IsAccepted};
 ghost use Rattle.mz_decompile.specs.Decompiling.{IsDecompilation, IsTextForPair, TicksAs};
 ghost use Rattle.mz_decompile.specs.Passes.{IsOfAccepted};
 
 use crate::text_or_obstacle::answer;
 use crate::{accepted_are_restated, plain_texts_are_texts};
+use mz_binary::StrictBodies;
 use mz_cmd::{Mem, Steps};
 use mz_decompile_text::PairNames;
-use mz_layout_tables::Mmb;
-use mz_match::verify_bytes;
+use mz_match::{Accepted, judge};
 use mz_match_theory::Verdict;
-use mz_spec::Hashing;
 use mz_store::Seed;
 use mz_trace::bodies_make_proofs;
 use mz_type::typed_or_faulty;
@@ -52,32 +52,28 @@ pub fn decompile_bytes<L: Ledger>(
     ensures steps { TicksAs bin.now steps.old steps.new result }
     ensures bound { steps.new ≤ steps.old + (length bin.now * length bin.now + length bin.now) }
 {
-    match verify_bytes(alloc, seed, spec, bin, steps) {
-        Verdict::Accepted(_) => match of_accepted(alloc, seed, spec, bin) {
+    typed_or_faulty();
+    plain_texts_are_texts();
+    match judge::<StrictBodies, L>(alloc, seed, spec, bin, steps) {
+        Ok(pair) => match of_accepted(alloc, &pair) {
             Ok(answer) => answer,
             Err(_) => Decompiled::Mem,
         },
-        Verdict::Mem => Decompiled::Mem,
-        verdict => Decompiled::Refused(verdict),
+        Err(verdict) => match verdict {
+            Verdict::Mem => Decompiled::Mem,
+            _ => Decompiled::Refused(verdict),
+        },
     }
 }
 
 /// The text of a pair that is accepted, or what stands first against it.
-fn of_accepted(alloc: Global, seed: Seed, spec: &[u8], bin: &[u8]) -> Result<Decompiled, Mem>
-    requires spec { length spec.now < 2 ^ 32 }
-    requires bin { length bin.now < 2 ^ 32 }
-    requires accepted { Accepts spec.now bin.now }
-    ensures answer { IfOk result (λ d. IsDecompilation spec.now bin.now d) }
-    ensures text { IfOk result (λ d. IsTextForPair spec.now bin.now d) }
+fn of_accepted(alloc: Global, pair: &Accepted) -> Result<Decompiled, Mem>
+    requires { (spec : List ℕ) × (bin : List ℕ) × IsAccepted strict_standard spec bin pair.now }
+    ensures answer { (spec bin : List ℕ) → IsAccepted strict_standard spec bin pair.now → IfOk result (IsDecompilation spec bin) }
     ensures own { IfOk result IsOfAccepted }
 {
-    typed_or_faulty();
     bodies_make_proofs();
     accepted_are_restated();
-    plain_texts_are_texts();
-    let Ok(mmb) = Mmb::read(bin) else {
-        unreachable!();
-    };
-    let names = PairNames::of(alloc, Hashing::from(seed), spec, &mmb)?;
-    answer(alloc, &mmb, &names)
+    let names = PairNames::of(alloc, &pair.spec, &pair.mmb)?;
+    answer(alloc, &pair.mmb, &names)
 }

@@ -1,11 +1,14 @@
-//! From a binary that proves a specification to a text that states it, proofs and all.
+//! From a binary to a proof text: what it proves of a specification is stated, proofs and all.
 //!
-//! `specs/Restated.antt` has the binary's statements under the specification's names, with the proofs that its bodies
-//! make, and what stands against their text. The law (`specs/Laws.antt`) is that the text is well typed and says the
-//! binary's statements.
+//! `decompile_bytes` gives exactly the text of an accepted pair, the pair's first refusal, or what stands first
+//! against the text: lists more than 4,096 deep, or more than 4,294,967,295 bytes, of it or of the bound on its
+//! compiled file. Else memory ran out. The text is well typed, and what it compiles to is accepted against the
+//! specification.
 //!
-//! `specs/Decompiling.antt` says what is answered. A statement's row, its stream and its body are read in place, and what they say is
-//! put together part by part (`specs/Adding.antt`); `specs/Telling.antt` says what is known of a statement, and what is said of it.
+//! It goes over the file twice. The first pass makes each statement's phrase and weighs it, without writing anything;
+//! the second writes. A text can be exponentially longer than a binary that shares: then the limit is reported.
+//!
+//! `specs/Restated.antt` says what the text states, and what stands against it. Start there, then `src/decompiled.rt`.
 #![tactic(auto)]
 
 mod axiom;

@@ -1,12 +1,12 @@
 // The names of an accepted pair, gathered statement by statement.
-ghost use Rattle.std.specs.Prelude.{◌≡◌, ◌<◌, ◌^◌, [], length, IfOk, OnOk};
+ghost use Rattle.std.specs.Prelude.{◌≡◌, ℕ, List, [], IfOk, OnOk};
 ghost use Rattle.mz_cmd.specs.Codes.{statement_byte};
 ghost use Rattle.mz_binary_theory.specs.Spelling.{is_local_code};
-ghost use Rattle.mz_match_theory.specs.Verdict.{Accepts};
+ghost use Rattle.mz_spec.specs.Named.{IsNamed};
 ghost use Rattle.mz_binary_theory.specs.Good.{IsGood};
 ghost use Rattle.mz_decompile_text.specs.Names.{declared_names};
 ghost use Rattle.mz_decompile_text.specs.Accepted.{IsNamingOf};
-ghost use Rattle.mz_decompile_text.specs.Adding.{AreGathered, IsAdded, local_name, next_name};
+ghost use Rattle.mz_decompile_text.specs.Adding.{IsAdded, local_name, next_name};
 
 use crate::list::NameList;
 use crate::names::{PairNames, put_numbered};
@@ -14,32 +14,20 @@ use crate::source::prefix_beside;
 use mz_binary_walk::{Passed, is_local};
 use mz_cmd::{Mem, StatementCode};
 use mz_layout_tables::Mmb;
-use mz_spec::Hashing;
-use mz_spec_names::{declared_by, declared_name};
-use mz_spec_theory::Spec;
+use mz_spec::NamedSpec;
 use std::alloc::Global;
 
 impl PairNames {
     /// The names of the statements of a binary that is accepted against a specification.
-    pub fn of(alloc: Global, hashing: Hashing, spec: &[u8], mmb: &Mmb) -> Result<PairNames, Mem>
-        requires small { length spec.now < 2 ^ 32 }
-        requires accepted { Accepts spec.now mmb.now }
-        ensures { IfOk result (λ names. IsNamingOf spec.now mmb.now names) }
-    {
-        let declared = declared_by(alloc, hashing, spec)?;
-        PairNames::gathered(alloc, spec, &declared, mmb)
-    }
-
-    /// The names of the statements of a good binary, under those of these declarations.
-    fn gathered(alloc: Global, spec: &[u8], declared: &Spec, mmb: &Mmb) -> Result<PairNames, Mem>
+    pub fn of(alloc: Global, spec: &NamedSpec, mmb: &Mmb) -> Result<PairNames, Mem>
         requires { IsGood mmb.now }
-        ensures { IfOk result (λ names. AreGathered (declared_names spec.now declared.now) mmb.now names) }
+        ensures { (text : List ℕ) → IsNamed text spec.now → IfOk result (IsNamingOf text mmb.now) }
     {
-        let mut names = PairNames::with_prefix(alloc, prefix_beside(alloc, spec, declared)?);
+        let mut names = PairNames::with_prefix(alloc, prefix_beside(alloc, spec)?);
         let mut passed = Passed::nothing(mmb);
         'statements: while let Some((head, after)) = passed.next(mmb) {
             let number = after.statements;
-            names.add_next(alloc, spec, declared, head.code, passed.publics, number)?;
+            names.add_next(alloc, spec, head.code, passed.publics, number)?;
             passed = after;
         }
         Ok(names)
@@ -61,20 +49,19 @@ impl PairNames {
     fn add_next(
         &mut self,
         alloc: Global,
-        spec: &[u8],
-        declared: &Spec,
+        spec: &NamedSpec,
         code: StatementCode,
         publics: u32,
         number: u32,
     ) -> Result<(), Mem>
         ensures { OnOk result (IsAdded code
-            (next_name (declared_names spec.now declared.now) self.old.prefix (is_local_code (statement_byte code)) publics number) self.old self.new) }
+            (next_name (declared_names spec.now.text.now spec.now.declared) self.old.prefix (is_local_code (statement_byte code)) publics number) self.old self.new) }
     {
         if is_local(code) {
             let name = self.local_name(alloc, number)?;
             return self.add(code, &name);
         }
-        self.add(code, declared_name(spec, declared, publics))
+        self.add(code, spec.name(publics))
     }
 
     /// The name of the local statement of this number.

@@ -1,12 +1,14 @@
-//! The text that states what a binary proves: names, and statements and proofs as phrases.
+//! The text that states what a binary proves: its names, and statements and proofs as phrases.
 //!
-//! Public statements have the names of the specification's declarations, and local ones are numbered (`specs/Names.antt`,
-//! `specs/Accepted.antt`). `specs/Phrases.antt` has phrases and how they are written, `specs/Phrasing.antt` those of statements. The
-//! law (`specs/Laws.antt`) is that the text reads as the statements of which it was written.
+//! A phrase is an s-expression without places, kept as a node over lower ones. Its length, depth and number of tokens
+//! are exact, also where it is far too long to be written; `write` appends exactly the phrase (`src/phrases.rt`).
+//! `assertion` and `definition` read a row's stream as phrases, `retell` a traced proof. `PairNames::of` has the
+//! names: those of the specification for public statements, new ones for all else.
 //!
-//! The text of a shared proof can be exponentially longer than the proof. So phrases are nodes over lower ones, and how long each is,
-//! how deep, and how many tokens it has is kept beside it (`specs/Measures.antt`). A row's stream becomes phrases command by command
-//! (`specs/Reading.antt`), a proof's nodes one by one (`specs/Telling.antt`, `specs/Retelling.antt`).
+//! The law `stated_texts_are_read`: the text of statements that can be phrased reads as just these statements.
+//!
+//! It knows no binary as a whole: `mz_decompile` puts the parts together. Start with `specs/Phrases.antt`,
+//! `specs/Phrasing.antt` and `specs/Names.antt`.
 #![tactic(auto)]
 
 mod command;

@@ -2,7 +2,7 @@
 ghost use Rattle.std.specs.Prelude.{◌≡◌, ◌++◌, ◌∷◌, [], get_or, IfOk, OnOk};
 
 use mz_cmd::Mem;
-use mz_spec_names::bytes_between;
+use mz_spec::bytes_between;
 use std::alloc::Global;
 use std::marker::Model;
 

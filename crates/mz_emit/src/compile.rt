@@ -15,7 +15,7 @@ use crate::limit::limit_of;
 use mz_base::{Hashing, Mode};
 use mz_cmd::Mem;
 use mz_emit_theory::{Compiled, Passed, stated_proofs_are_sound};
-use mz_logic_laws::words_are_read_back;
+use mz_logic::words_are_read_back;
 use mz_logic_theory::Env;
 use mz_mmu::{TextRead, read_text};
 use mz_store::Seed;

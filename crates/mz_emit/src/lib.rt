@@ -1,9 +1,14 @@
-//! The compiler: a well-typed proof text within the limits becomes a binary that is accepted
-//! against each specification with which the text's public statements agree. What it answers is said in
-//! `mz_emit_theory`.
+//! The compiler: from a proof text to a binary that is accepted against each specification that the text agrees with.
 //!
-//! Bodies are those of `mz_emit_bodies`; a unify stream spells a statement's conclusion and hypotheses, or a definition's
-//! body, and builds each expression once (`src/stream.rt`).
+//! `compile_bytes` answers exactly one of four: the binary, the first rule that the text breaks, the first limit that
+//! it passes, or out of memory. The binary is one function of the text's statements, whatever the seed and the mode.
+//! It is a good file, at most 64 + 32 * weight bytes long; of a finished text it is accepted by identity too. What
+//! all this means is said in `mz_emit_theory`, whose laws carry it.
+//!
+//! Statement by statement it gathers words, stream and body, and the writer of `mz_layout` puts the file together.
+//! Streams are written over ids with a list of what is left, without recursion (`src/stream.rt`).
+//!
+//! Start with `src/compile.rt` and `src/emitter.rt`, then `specs/Emitting.antt`, what holds between two statements.
 #![tactic(auto)]
 
 mod compile;

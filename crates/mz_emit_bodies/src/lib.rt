@@ -1,10 +1,15 @@
-//! The body of one statement as a compiler writes it, each expression built once.
+//! The body of one statement as a compiler writes it: each expression built once; and what streams and bodies share.
 //!
-//! Bodies of statements: the commands that make a definition's expression, an axiom's hypotheses and
-//! conclusion, or a theorem's proof, each expression built once.
+//! `definition_body`, `axiom_body` and `theorem_body` write exactly the commands that `BodyWriting.antt` of
+//! `mz_emit_theory` says. So the body builds no application twice, uses an assertion or a gap exactly where the proof
+//! does, and is short (`src/laws.rt`). [`BinderWords`] are the words of binders, [`Shared`] the statement's
+//! expressions, each kept once, [`Heap`] where they stand.
 //!
-//! What unify streams and bodies of one statement share: the text's sorts and terms as words, the words of
-//! binders, the statement's expressions, each kept once, and where expressions stand in a heap.
+//! There is no recursion over a proof: what is to do is a list of tasks (`src/work_list.rt`, `src/body.rt`). Lets are
+//! cells, each with the next one outward (`src/let_scopes.rt`). A large conclusion that is cited again with the same
+//! arguments is found again (`src/instances.rt`).
+//!
+//! Start with `specs/TaskInvariant.antt` and `specs/Going.antt`, then `src/body.rt`. PROOFS tells why it ends.
 #![tactic(auto)]
 
 mod body;

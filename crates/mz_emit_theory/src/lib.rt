@@ -1,11 +1,17 @@
-//! What a compiler may write of a text: bodies, unify streams and whole files, and why what it writes is accepted.
+//! What a compiler may write of a text: bodies, streams and files, and why these are accepted.
 //!
-//! A body is given by what its commands make (`specs/Steps.antt`), a file statement by statement (`specs/FileWriting.antt`). What a
-//! text states as a proof is what the compiler writes a body for: a stated proof is sound, and proves the conclusion.
+//! A body is given by what its commands make, in the logic's words and the text's numbering (`specs/Steps.antt`); a
+//! stream by a function of the text (`specs/StreamWriting.antt`); a file statement by statement
+//! (`specs/FileWriting.antt`). None of these speaks of a machine, of places in a file or of a specification.
 //!
-//! A legal text that is written within the format's bounds is accepted against each specification with which its public statements
-//! agree, and a finished one by verifiers that compare by identity too. `specs/Compiling.antt` says what compiling a text answers,
-//! `specs/CompiledFile.antt` which file it is, and `specs/Limits.antt` which limits there are.
+//! The laws: right steps run, each legal statement has steps, streams spell what they were written from. So a written
+//! file is good, and accepted against each specification with which the public statements agree. What shares all it
+//! builds is accepted by identity too. What a stated proof proves is said in `specs/Claims.antt`, what it uses in
+//! `specs/Uses.antt`.
+//!
+//! `specs/Compiling.antt` says what compiling a text answers, `specs/CompiledFile.antt` which file it is. The laws
+//! hold for any writer that shares; here it is `mz_emit_bodies` and `mz_emit`. PROOFS goes through it. Start with
+//! `specs/Compiling.antt`.
 #![tactic(auto)]
 
 mod accepted_laws;

@@ -1,5 +1,12 @@
-//! The writer of a binary: it is given the parts and writes them in the one normal layout. What reads a layout, and
-//! the definitions, stand in `mz_layout_tables` and are shown here too.
+//! The writer of a binary: it takes the parts and writes them in the one normal layout.
+//!
+//! A [`LayoutWriter`] takes sorts, entries of tables and statements one by one; `finish` gives exactly the bytes that
+//! `Normal.antt` of `mz_layout_tables` says: header, sorts, tables, each entry's words and stream, the list, with
+//! gaps of zeros. `length` is exact. What fails for memory changes nothing. That such a file is read back as it was
+//! written is a law there.
+//!
+//! The compiler and the assembler both write through it. What reads a layout is `mz_layout_tables`, whose types are
+//! shown here too. Start with `src/writer.rt`.
 #![tactic(auto)]
 
 mod file;

@@ -1,13 +1,13 @@
-//! The layout of a binary, read in place: its header, tables and rows, what stands at a place of its list of
-//! statements, and what is asked of the words of a row.
+//! The layout of a binary, read in place: its header, its tables, the heads of its statements, the words of a row.
 //!
-//! A binary's integers stand lowest byte first. The header says how many sorts, terms and theorems
-//! there are, where the tables of terms and of theorems stand, and where the list of statements
-//! begins. A reader copies nothing: each part is a slice of the one file.
+//! `Mmb::read` answers a binary exactly where header and tables are in order, or the first rule that fails (K1, K2).
+//! Each accessor gives what the file's bytes say, as a slice: nothing is copied. `head_at` says what stands at a
+//! place of the list of statements, or which of K3 to K7 fails first. `check_term_words` and `check_thm_words` do so
+//! of a row's words (K8, K9). No call takes memory. Not looked at, as the format says: reserved fields, the high four
+//! bits of a sort's byte, the name index, and alignment; parts may overlap.
 //!
-//! `specs/RowWords.antt` says what is asked of a row's words, in order: of each parameter's (K8), and of a term's
-//! result's (K9). `check_term_words` and `check_thm_words` read them in place and answer the first that isn't
-//! right, by its place and rule.
+//! `specs/Normal.antt` has the normal layout that `mz_layout` writes, with its laws, so that nobody else calculates
+//! with places. Start with `specs/Tables.antt`, `specs/Layout.antt` and `specs/Heads.antt`.
 #![tactic(auto)]
 
 mod bytes;

@@ -8,4 +8,8 @@ pub mod OneKind
 pub mod SomeNext
 pub mod Lexing
 pub mod MathStrings
+pub mod Placing
+pub mod Cutting
+pub mod Strings
+pub mod Marking
 pub mod Offered

@@ -3,3 +3,8 @@ pub mod Lexemes
 pub mod Scan
 pub mod Laws
 pub mod RuleText
+pub mod MathTokens
+pub mod Sets
+pub mod Places
+pub mod Names
+pub mod Answers

@@ -1,2 +1,4 @@
 mod Owning
 mod Paths
+mod NearMisses
+pub mod WorkedExamples

@@ -1,12 +1,22 @@
-//! The logic of Metamath Zero, checked: whether a declaration is legal, which sorts and variables an expression has,
-//! and whether operands are apart.
+//! The logic of Metamath Zero, checked, and its laws: whether a declaration is legal, its sorts and variables.
 //!
-//! What all of this means is said in `mz_logic_theory`, whose types are shown here too.
+//! `check_decl` says whether a declaration is legal over an environment, or the first rule that fails. `sort_of`
+//! gives an expression's sort. `are_apart` says whether arguments are disjoint where their parameters ask for it.
+//! Each answer is exact.
+//!
+//! The definitions are those of `mz_logic_theory`, whose types are shown here too. Each law is a function with an
+//! empty body: `src/laws.rt` has those of all declarations (sorts are unique, instances keep them, what is derived is
+//! provable, legal lists are closed), `src/examples.rt` declarations that are legal, and near misses that aren't.
+//!
+//! The type rules of proof texts stand on this crate; binaries are checked over shared expressions instead. Start
+//! with `src/check.rt`.
 #![tactic(auto)]
 
 mod apart;
 mod check;
 mod disjoint;
+mod examples;
+mod laws;
 mod sorts;
 mod vars;
 
@@ -15,6 +25,18 @@ pub use check::{
     are_bound_before, check_decl, may_be_bound_sort, may_be_dummy_sort, may_be_result_sort,
 };
 pub use disjoint::are_apart_by_pairs;
+pub use examples::{
+    apart_in_any_order, citations_are_apart, conversions_are_sorted, definition_unfolds,
+    dependencies_come_before, dummies_are_not_free, four_statements_are_legal, gaps_prove_nothing,
+    implication_is_derived, no_theorem_cites_itself, operands_are_apart,
+    results_free_their_operands, unfoldings_are_fresh,
+};
+pub use laws::{
+    conversions_keep_sorts, derived_is_provable, instances_have_what_is_put_in,
+    instances_keep_sorts, instances_stay_apart, legal_declarations_are_sorted,
+    legal_lists_are_closed, legal_lists_are_legal_envs, longer_ones_keep, sorts_are_unique,
+    words_are_read_back, words_say_binders,
+};
 pub use mz_logic_theory::{
     Binder, Binders, Context, Decl, DeclFault, Deps, Env, Expr, ExprKind, ExprRef, Exprs, Hyps,
     Operands, ResultType, Shape, SortMods, TermDecl, TermForm, TermPath, Terms, ThmDecl, ThmForm,

@@ -1,5 +1,10 @@
-//! Which variables an expression names, reported in one walk over it whatever their number (Carneiro, the
-//! section on variables and dependencies). What V and FV are is said in `mz_logic_theory`.
+//! Which variables an expression names: decided in one walk over it, however many they are.
+//!
+//! `free_vars_are_among` says whether all free variables of an expression are among given ones. `names_other` and
+//! `some_name_any` say the like of all its variables. Each answer is exact, as V and FV of `mz_logic_theory` have it
+//! (Carneiro, the section on variables and dependencies). Only out of memory is free.
+//!
+//! A walk for each variable would take time in proportion to the square of a hostile file. Start with `src/free.rt`.
 #![tactic(auto)]
 
 mod free;

@@ -1,8 +1,13 @@
-//! The logic of Metamath Zero: declarations and expressions, what makes a declaration legal, and derivations.
+//! The logic of Metamath Zero as definitions: expressions, declarations, what makes one legal, and derivations.
 //!
-//! The definitions that the whole project cites stand in `specs/`; docs/DEFINITIONS.md reads them in
-//! order. The types are what declarations and expressions are in code; what checks them is `mz_logic`, and the laws of these
-//! definitions are `mz_logic_laws`.
+//! The promise of a yes is made in these words. So nothing here checks anything: `mz_logic` does, and the laws are
+//! those of `mz_logic`. The code has the data types alone: declarations and expressions as all other crates keep
+//! them. A chain of coercions is one node. Whoever walks over an expression asks for its shape, so no walk knows of
+//! chains.
+//!
+//! Read in this order: `specs/Tree.antt`, `specs/Sorts.antt`, `specs/Variables.antt`, `specs/Legality.antt`,
+//! `specs/Derivations.antt`, `specs/LegalLists.antt`, `specs/Closed.antt`. DEFINITIONS goes through them. The largest
+//! proof inlines all lemmas of a derivation (`proofs/Graft.antt`); PROOFS tells how.
 #![tactic(auto)]
 
 mod binder;

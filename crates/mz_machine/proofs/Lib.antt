@@ -34,4 +34,5 @@ mod WholeEnds
 mod Executed
 mod Obeying
 mod Proceeding
+mod Referring
 pub mod Offered

@@ -33,6 +33,10 @@ pub record IsBegun (gaps : Bool) (file : List ℕ) (kind row : ℕ) (before : Ro
 
 -- ---- a command
 
+-- Ref with this operand
+abbrev pub reference : (place len : ℕ) → Cmd
+reference place len = record { code = 0x12; value = place; len = len }
+
 -- the same body, with at most one expression more in the store; a gap was left before or is left now
 pub record GoesOn (u : Underway) (c : Cmd) (after : Underway) : Type 0 where
   pub gaps : after.gaps ≡ u.gaps

@@ -1,5 +1,6 @@
 //! A whole body, read in place.
-ghost use Rattle.std.specs.Prelude.{◌≡◌, ◌≤◌, ◌<◌, ◌^◌, ◌+◌, ◌-◌, ◌*◌, false, IfSome, length};
+ghost use Rattle.std.specs.Prelude.{◌≡◌, ◌≤◌, ◌<◌, ◌^◌, ◌+◌, ◌-◌, ◌*◌, false, IfSome, Ok, length};
+ghost use Rattle.mz_cmd.specs.Reading.{first_command};
 ghost use Rattle.mz_base.specs.Gaps.{gaps_of};
 ghost use Rattle.mz_unify_theory.specs.Profile.{plain};
 ghost use Rattle.mz_machine_theory.specs.Bodies.{body_run, body_steps, body_from, body_steps_from};
@@ -12,7 +13,7 @@ ghost use Rattle.mz_machine.specs.BodyAnswers.{IsBodyRun, UnlessMem, WhereGood};
 ghost use Rattle.mz_machine.specs.Parameters.{Remembers};
 ghost use Rattle.mz_machine.specs.Rooms.{HoldsAtMost, IsTidy, IsTidyDesk, OneACommand};
 ghost use Rattle.mz_machine.specs.Running.{IsRunning, machine_of};
-ghost use Rattle.mz_machine.specs.Stepping.{ended_at, stopped_at};
+ghost use Rattle.mz_machine.specs.Stepping.{ended_at, reference, stopped_at};
 
 use crate::machine::{Finished, Parts, Setting};
 use crate::params::Entered;
@@ -237,6 +238,14 @@ fn run<L: Ledger>(
 {
     let mut at = 0;
     'commands: loop {
+        if let Some((place, len)) = reference_at(&bytes[at as usize..]) {
+            // Most commands are such.
+            match setting.refer(parts, place, steps) {
+                Ok(()) => at += len,
+                Err(stop) => return BodyChecked::stopped(from + at, stop),
+            }
+            continue 'commands;
+        }
         let Ok(cmd) = cmd_at(bytes, at) else {
             return BodyChecked::Refused {
                 at: from + at,
@@ -257,5 +266,23 @@ fn run<L: Ledger>(
             Ok(()) => at = next,
             Err(stop) => return BodyChecked::stopped(from + at, stop),
         }
+    }
+}
+
+/// The place to which the command at the front refers, and how many bytes it takes, where its first byte
+/// says that it is a reference with a short operand.
+#[inline(always)]
+fn reference_at(bytes: &[u8]) -> Option<(u32, u32)>
+    ensures { IfSome result (λ told. first_command bytes.now ≡ Ok (reference told.0 told.1)) }
+{
+    let [first, low, high, ..] = bytes else {
+        return None;
+    };
+    let short = u32::from(*low);
+    match *first {
+        0x12 => Some((0, 1)),
+        0x52 => Some((short, 2)),
+        0x92 => Some((short + 256 * u32::from(*high), 3)),
+        _ => None,
     }
 }

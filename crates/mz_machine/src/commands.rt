@@ -97,7 +97,7 @@ fn push_both(heap: &mut Heap, stack: &mut Vec<Item>, item: Item) -> Result<(), S
 
 /// Executes a command over the heap.
 #[inline(always)]
-fn keep(
+pub(crate) fn keep(
     earlier: &Earlier,
     command: Keeping,
     value: u32,
@@ -216,7 +216,7 @@ fn is_cong(command: Converting) -> bool
 
 /// The same answer of a command that opens no equation.
 #[inline(always)]
-fn opens_none(answer: Result<(), Stop>) -> Result<Option<(Id, Id)>, Stop>
+pub(crate) fn opens_none(answer: Result<(), Stop>) -> Result<Option<(Id, Id)>, Stop>
     ensures { MatchResult answer (λ _. result ≡ Ok None) (λ stop. result ≡ Err stop) }
 {
     match answer {

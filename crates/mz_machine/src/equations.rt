@@ -70,6 +70,7 @@ fn begin(
 }
 
 /// Writes out the next obligation of the last equation, where the one in hand is paid.
+#[inline(always)]
 fn settle(store: &Store, stack: &mut Vec<Item>, equations: &mut Vec<Equation>) -> Result<(), Stop>
     requires stack { AreItemsIn store.now stack.old.items }
     requires standing { AreOpen (stored store.now) (reverse equations.old.items) (items_at store.now stack.old.items) }

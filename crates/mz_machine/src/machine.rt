@@ -11,13 +11,14 @@ ghost use Rattle.mz_machine_env.specs.Before.{tables_of, signatures_of};
 ghost use Rattle.mz_machine.specs.OverStore.{UnlessMem as OrMem};
 ghost use Rattle.mz_machine.specs.Executing.{AreHyps, Counts, IsReady, Proceeds, StopsAs};
 ghost use Rattle.mz_machine.specs.Steps.{heading_for, tables_for, steps_for, row_by, steps_by, end_steps, is_sorry, TakesNone};
-ghost use Rattle.mz_machine.specs.Stepping.{IsBegun, IsStepped, IsFinished, stepped_to, UnlessMem, UnlessEndMem};
+ghost use Rattle.mz_machine.specs.Stepping.{reference, IsBegun, IsStepped, IsFinished, stepped_to, UnlessMem, UnlessEndMem};
 ghost use Rattle.mz_machine.specs.OpenEquations.{stored, AreSettled, whole_state};
 ghost use Rattle.mz_machine.specs.Running.{IsRunning, machine_of};
 ghost use Rattle.mz_machine.specs.Parameters.{Remembers};
 
 use crate::body::BodyEnd;
-use crate::commands::obey;
+use crate::command::Keeping;
+use crate::commands::{keep, obey, opens_none};
 use crate::end::end;
 use crate::equations::{Equation, resume};
 use crate::lack::lack;
@@ -273,6 +274,36 @@ impl<'a> Setting<'a> {
             &mut parts.spare,
             steps,
         )
+    }
+
+    /// Executes a reference to a place of the heap as `advance` does: it asks for no items.
+    #[inline(always)]
+    pub(crate) fn refer<L: Ledger>(
+        &self,
+        parts: &mut Parts,
+        place: u32,
+        steps: &mut Steps<L>,
+    ) -> Result<(), Stop>
+        requires { IsRunning self.now parts.old }
+        ensures running { OnOk result (IsRunning self.now parts.new) }
+        ensures row { (at len : ℕ) → IsStepped (machine_of self.now parts.old) (reference place len) at (stepped_to (machine_of self.now parts.new) result) }
+        ensures steps { (len : ℕ) → OrMem result (steps.new ≡ steps.old + steps_for (gaps_of self.now.mode) (tables_of self.now.earlier) (heading_for (machine_of self.now parts.old)) (machine_of self.now parts.old).state (reference place len)) }
+        ensures most { steps.new ≤ steps.old + (1 + length self.now.earlier.file) }
+        ensures nodes { length parts.new.store.entries ≤ length parts.old.store.entries + 1 }
+    {
+        steps.tick();
+        match opens_none(keep(
+            &self.earlier,
+            Keeping::Ref,
+            place,
+            &mut parts.store,
+            &mut parts.heap,
+            &mut parts.stack,
+            &mut parts.hyps,
+        )) {
+            Ok(opened) => resume(&parts.store, &mut parts.stack, &mut parts.equations, opened),
+            Err(stop) => Err(stop),
+        }
     }
 
     /// Ends the body, and counts the steps of its END.

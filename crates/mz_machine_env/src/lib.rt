@@ -1,7 +1,14 @@
-//! The rows that are declared before a statement, read in place, and the statement's own row.
+//! The rows before a statement, and its own: read in place, for both proof machines.
 //!
-//! Both machines read them so, the one over a store and the one by identity; and what else they
-//! say alike of a body stands here once.
+//! An [`Earlier`] is the file with counts of rows: so many sorts, terms and assertions have had their statement. It
+//! lends their words and streams exactly as the file has them. For the store it is a table of terms. `own_arity`,
+//! `read_words` and `own_stream` do the same for the statement's own row.
+//!
+//! Both machines stand on it, the one over a store and the one by identity. What they say alike stands here once:
+//! items of the stack, the [`Heap`], disjoint arguments by their words, and how a body goes on from command to
+//! command.
+//!
+//! Start with `specs/Before.antt` and `specs/OwnRow.antt`.
 #![tactic(auto)]
 
 mod command;

@@ -1,9 +1,15 @@
-//! The proof machine as a definition, and why what it accepts is proved.
+//! The proof machine as a definition: one clause a command, and why what it accepts is proved.
 //!
-//! `specs/ProofMachine.antt` has the machine's rows, one clause a command, `specs/Bodies.antt` whole
-//! bodies, and `specs/Invariant.antt` the fact that every row keeps. A body runs or stops at one place by
-//! one rule; what it accepts is legal and derivable (`specs/Sound.antt`). The machine that runs over a
-//! store is `mz_machine`.
+//! `specs/ProofMachine.antt` has one clause a command: its premises in order, each with its rule, and the next state.
+//! `specs/Bodies.antt` has whole bodies. A body runs, or stops at one place by one rule. `specs/Invariant.antt` is
+//! the fact that each command keeps, and the heart of the soundness of `mz`: PROOFS tells how it goes.
+//!
+//! The laws (`specs/Sound.antt`): where a body runs, its row spells a legal declaration. A theorem has a derivation
+//! that cites only what the body cites, and has a gap only where the body leaves one. A body of m bytes executes at
+//! most m * (n + 1) commands, beside streams of n bytes (`steps_bounded`). `worked_bodies` are computed examples.
+//!
+//! Nothing here runs and nothing knows a store: `mz_machine` does. All is said over a profile, so that the machine by
+//! identity and drafts are other values of it.
 #![tactic(auto)]
 
 mod examples;

@@ -3,3 +3,5 @@ pub mod Pairing
 pub mod UnnamedFollow
 pub mod GapPlaces
 pub mod OneDraft
+pub mod Judging
+pub mod Offered

@@ -1,16 +1,14 @@
 -- Of a draft that is accepted, the theorems follow whose places aren't named.
-use Rattle.std.proofs.Common.{◌≡◌, ◌<◌, ◌∙◌, ℕ, zero, Bool, false, List, [], ◌∷◌, ◌++◌, Contains, length, slice_get, Some, refl, sym, ap, subst, inl, inr, append_assoc, append-nil, zero-lt-suc}
-use Rattle.std.specs.Prelude.{MatchBool}
+use Rattle.std.proofs.Common.{ℕ, zero, List, [], ◌∷◌, ◌++◌, Contains, length, refl, sym, subst, inl, inr, append_assoc, append-nil, zero-lt-suc}
 use Rattle.std.proofs.lemmas.List.Elements.{Contains-append_left, Contains-append_right}
-use Rattle.mz_logic_theory.specs.Declaration.{Declaration, Assertion, assertion_decl, assertions}
-use Rattle.mz_logic_theory.specs.Closed.{IsClosed}
+use Rattle.mz_logic_theory.specs.Declaration.{Declaration, Assertion, assertions}
 use Rattle.mz_logic_theory.specs.LegalLists.{Statement, declarations, DraftLegal}
 use Rattle.mz_logic_theory.proofs.Offered.{closed_unless}
 use Rattle.mz_binary_theory.specs.Gapped.{GappedIn, AreFreeUnlessGapped}
 use Rattle.mz_spec_proved_theory.specs.Headline.{stated}
 use Rattle.mz_spec_proved_theory.specs.Match.{publics, Agrees}
 use Rattle.mz_spec_proved_theory.proofs.Offered.{ungapped-proved}
-use Rattle.mz_match.specs.Drafts.{IsGapOf, IsGapHere, ListsGaps, ListsGapsOf, UnnamedFollow}
+use Rattle.mz_match.specs.Drafts.{IsGapHere, ListsGaps, ListsGapsOf, UnnamedFollow}
 
 -- a public theorem with G is named
 named-here : (G : ℕ → Type 0) (before : List Statement) (a : Assertion) (here : List ℕ) → IsGapHere G before (stated a) here

@@ -21,7 +21,7 @@ use std::sync::ledger::Ledger;
 /// order.
 #[derive(Drop)]
 pub struct Gaps {
-    places: Vec<u32>,
+    pub(crate) places: Vec<u32>,
 }
 
 impl Model for Gaps {
@@ -95,20 +95,21 @@ fn judge_draft<L: Ledger>(
     ensures steps { TicksBy draft_standard bin.now steps.old steps.new (verdict_of result) }
     ensures bound { steps.new ≤ steps.old + (length bin.now * length bin.now + length bin.now) }
 {
-    let mut places = Vec::new(alloc);
-    match judge::<DraftBodies, L>(alloc, seed, spec, bin, &mut places, steps) {
-        Verdict::Accepted(counts) => Draft::Accepted(counts, Gaps { places }),
-        Verdict::Spec(refusal) => Draft::Spec(refusal),
-        Verdict::Binary(refusal) => Draft::Binary(refusal),
-        Verdict::Match {
-            declaration,
-            statement,
-            rule,
-        } => Draft::Match {
+    match judge::<DraftBodies, L>(alloc, seed, spec, bin, steps) {
+        Ok(pair) => Draft::Accepted(pair.counts, pair.gaps),
+        Err(Verdict::Spec(refusal)) => Draft::Spec(refusal),
+        Err(Verdict::Binary(refusal)) => Draft::Binary(refusal),
+        Err(
+            Verdict::Match {
+                declaration,
+                statement,
+                rule,
+            },
+        ) => Draft::Match {
             declaration,
             statement,
             rule,
         },
-        Verdict::Mem => Draft::Mem,
+        Err(Verdict::Accepted(_) | Verdict::Mem) => Draft::Mem,
     }
 }

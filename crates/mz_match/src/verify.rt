@@ -1,18 +1,21 @@
 // A specification and a binary together.
-ghost use Rattle.std.specs.Prelude.{◌≡◌, ◌⊎◌, ◌<◌, ◌≤◌, ◌+◌, ◌*◌, ◌^◌, ℕ, List, [], length, OnOk};
+ghost use Rattle.std.specs.Prelude.{◌≡◌, ◌⊎◌, ◌<◌, ◌≤◌, ◌+◌, ◌*◌, ◌^◌, ℕ, List, [], length, MatchResult, OnOk};
 ghost use Rattle.mz_layout_tables.specs.Layout.{Layout};
 ghost use Rattle.mz_spec_theory.specs.Spec.{SpecMakes};
 ghost use Rattle.mz_match.specs.Drafts.{IsJudged, places_past};
+ghost use Rattle.mz_match.specs.Judged.{IsAccepted, IsRefused, verdict_in};
 ghost use Rattle.mz_spec_proved_theory.specs.Headline.{Proves};
 ghost use Rattle.mz_match_theory.specs.Verdict.{AcceptsWith, AcceptsWithBy, FirstRefusal, FirstRefusalBy, IsSoundIfAccepted, IsVerdict, IsVerdictBy, Ticks, TicksBy};
 
+use crate::accepted::Accepted;
+use crate::draft::Gaps;
 use crate::progress::Matching;
 use mz_binary::{Bodies, Checker, Next, StrictBodies};
 use mz_binary_theory::Statement;
 use mz_cmd::{Mem, Steps};
 use mz_layout_tables::Mmb;
 use mz_match_theory::{Counts, Verdict};
-use mz_spec::{Hashing, SpecRead, read_spec};
+use mz_spec::{Hashing, NamedSpec, SpecRead, read_spec};
 use mz_spec_theory::Spec;
 use mz_store::Seed;
 use std::alloc::Global;
@@ -56,34 +59,51 @@ pub fn verify_by<B: Bodies, L: Ledger>(
     ensures steps { TicksBy B.STANDARD bin.now steps.old steps.new result }
     ensures bound { steps.new ≤ steps.old + (length bin.now * length bin.now + length bin.now) }
 {
-    let mut places = Vec::new(alloc);
-    judge::<B, L>(alloc, seed, spec, bin, &mut places, steps)
+    match judge::<B, L>(alloc, seed, spec, bin, steps) {
+        Ok(pair) => Verdict::Accepted(pair.counts),
+        Err(verdict) => verdict,
+    }
 }
 
-/// What is said of the two, and in a draft the places of the declarations whose theorems rest on a gap.
-pub(crate) fn judge<B: Bodies, L: Ledger>(
+/// Verifies so, and hands on what was read where the pair is accepted.
+///
+/// # Errors
+///
+/// The first refusal, or out of memory.
+pub fn judge<'a, B: Bodies, L: Ledger>(
     alloc: Global,
     seed: Seed,
-    spec: &[u8],
-    bin: &[u8],
-    places: &mut Vec<u32>,
+    spec: &'a [u8],
+    bin: &'a [u8],
     steps: &mut Steps<L>,
-) -> Verdict
+) -> Result<Accepted<'a>, Verdict>
     requires spec { length spec.now < 2 ^ 32 }
     requires bin { length bin.now < 2 ^ 32 }
-    requires none { places.old.items ≡ [] }
-    ensures verdict { IsJudged B.STANDARD spec.now bin.now result places.new.items }
-    ensures steps { TicksBy B.STANDARD bin.now steps.old steps.new result }
+    ensures judged { MatchResult result (IsAccepted B.STANDARD spec.now bin.now) (IsRefused B.STANDARD spec.now bin.now) }
+    ensures steps { TicksBy B.STANDARD bin.now steps.old steps.new (verdict_in result) }
     ensures bound { steps.new ≤ steps.old + (length bin.now * length bin.now + length bin.now) }
 {
     let declared = match read_spec(alloc, Hashing::from(seed), spec) {
         SpecRead::Spec(declared) => declared,
-        SpecRead::Refused(refusal) => return Verdict::Spec(refusal),
-        SpecRead::Mem => return Verdict::Mem,
+        SpecRead::Refused(refusal) => return Err(Verdict::Spec(refusal)),
+        SpecRead::Mem => return Err(Verdict::Mem),
     };
-    match Mmb::read(bin) {
-        Ok(mmb) => check_list::<B, L>(alloc, seed, &declared, &mmb, places, steps),
-        Err(refusal) => Verdict::Binary(refusal),
+    let mmb = match Mmb::read(bin) {
+        Ok(mmb) => mmb,
+        Err(refusal) => return Err(Verdict::Binary(refusal)),
+    };
+    let mut places = Vec::new(alloc);
+    match check_list::<B, L>(alloc, seed, &declared, &mmb, &mut places, steps) {
+        Verdict::Accepted(counts) => Ok(Accepted {
+            spec: NamedSpec {
+                text: spec,
+                declared,
+            },
+            mmb,
+            counts,
+            gaps: Gaps { places },
+        }),
+        verdict => Err(verdict),
     }
 }
 

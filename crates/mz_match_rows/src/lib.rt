@@ -1,6 +1,15 @@
-//! Parts of a declaration compared with a row's words and unify stream, read in place.
+//! A declaration beside a row of the binary: its parts compared with the row's words and unify stream, read in place.
 //!
-//! `specs/Comparison.antt` says what is compared, by `mz_spec_proved_theory` when the two agree.
+//! `match_params` and `match_signature` compare binders with words. `same_body`, `same_first` and `same_hyps` compare
+//! an expression of the specification with what a stream says at its place. Each answers yes exactly where the two
+//! are the same (`specs/Comparison.antt`). None needs memory for its answer: a mark that couldn't be kept is looked
+//! for.
+//!
+//! The recursion is on the specification's tree, and a reference goes on at its mark. So a stream of exponential size
+//! is compared without being written out. Hypotheses of one formula are compared once with a place, then by number. A
+//! row has 55 dummies at most, so their pairs stand in an array.
+//!
+//! Start with `specs/Streams.antt`, then `src/expression.rt`.
 #![tactic(auto)]
 
 mod by_number;

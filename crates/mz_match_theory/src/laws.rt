@@ -3,6 +3,7 @@ ghost use Rattle.std.specs.Prelude.{◌≡◌, ◌⊎◌, ◌↔◌, ℕ, false,
 ghost use Rattle.std.specs.List.{All};
 ghost use Rattle.mz_logic_theory.specs.Tree.{none};
 ghost use Rattle.mz_logic_theory.specs.Declaration.{Assertion, Declaration, assertion_decl};
+ghost use Rattle.mz_logic_theory.specs.Closed.{IsClosed};
 ghost use Rattle.mz_logic_theory.specs.LegalLists.{Statement, Legal};
 ghost use Rattle.mz_spec_theory.specs.Spec.{SpecOf};
 ghost use Rattle.mz_match_theory.specs.declared.verdict.Counts.{Counts};
@@ -10,6 +11,7 @@ ghost use Rattle.mz_match_theory.specs.declared.verdict.Verdict.{Verdict};
 ghost use Rattle.mz_spec_proved_theory.specs.declared.kind.Kind.TheVariants as kinds;
 ghost use Rattle.mz_spec_proved_theory.specs.Match.{kind_of, publics, Agrees};
 ghost use Rattle.mz_spec_proved_theory.specs.Headline.{IsConcrete, Proves};
+ghost use Rattle.mz_spec_proved_theory.specs.ByItself.{BarsDummies};
 ghost use Rattle.mz_binary_theory.specs.Gapped.{NoneIsGapped};
 ghost use Rattle.mz_binary_theory.specs.Standards.{draft_standard};
 ghost use Rattle.mz_match_theory.specs.Verdict.{Accepts, AcceptsBy, AcceptsWith, AcceptsWithBy, FirstRefusal, FirstRefusalBy, IsSound, counts_of};
@@ -46,9 +48,13 @@ pub fn accepted_pairs_are_sound()
 /// Where a binary is accepted, the specification is proved, which says nothing of the binary. It is
 /// proved exactly where a legal list of statements, in which each definition has its body, has just its
 /// declarations for public ones; and a theorem without hypotheses is, only where an axiom is declared before it.
+/// Where, before a theorem, each sort is strict or free and each definition has its body in the specification, the
+/// theorem follows from the specification's own declarations alone: no definition of a binary is needed.
 pub fn accepted_pairs_prove()
     ensures accepted { (spec bin : List ℕ) → Accepts spec bin → Proves spec }
     ensures exact { (spec : List ℕ) → Proves spec ↔ ((ds : List Declaration) × (ss : List Statement) × SpecOf spec ds × Legal ss × All (λ s. IsConcrete s.decl) ss × Agrees ds (publics ss)) }
     ensures grounded { (spec : List ℕ) (p : Proves spec) (i : ℕ) (a : Assertion) → slice_get p.declared i ≡ Some (assertion_decl a) → a.is_axiom ≡ false → a.hyps ≡ none
         → (k : ℕ) × (d : Declaration) × (slice_get (take i p.declared) k ≡ Some d) × (kind_of d ≡ kinds.Axiom) }
+    ensures itself { (spec : List ℕ) (p : Proves spec) (i : ℕ) (a : Assertion) → slice_get p.declared i ≡ Some (assertion_decl a) → a.is_axiom ≡ false
+        → All IsConcrete (take i p.declared) → BarsDummies (take i p.declared) → IsClosed (take i p.declared) a }
 {}

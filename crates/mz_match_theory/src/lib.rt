@@ -1,7 +1,13 @@
-//! What is accepted of a specification and a binary, and what the first refusal of the two is else.
+//! The verdict as a definition: what is accepted of a specification and a binary, and else the first refusal of the
+//! two.
 //!
-//! `specs/Verdict.antt` says it, `specs/Lines.antt` has the printed lines. What a yes promises is said in
-//! `mz_spec_proved_theory`, which speaks of no binary. Nothing here reads a file.
+//! `specs/Verdict.antt` says it: accepted, the first refusal, and the commands executed. `specs/Lines.antt` has the
+//! printed lines. `accepted_pairs_prove`: where a pair is accepted the specification is proved, in the words of
+//! `mz_spec_proved_theory`, which speak of no binary. `each_pair_has_one_verdict`: each two files are accepted or
+//! have just one first refusal, never both. Drafts have the same laws.
+//!
+//! Nothing here reads a file: `mz_match` does. What is proved of a compiled file, of a printed specification and of a
+//! decompiled text rests on these definitions and on no checker. Start with `specs/Verdict.antt`.
 #![tactic(auto)]
 
 mod laws;

@@ -1,18 +1,18 @@
 -- Expressions within one another, and what a step makes of one.
 use Rattle.std.proofs.Common.{◌≡◌, ◌≤◌, ◌<◌, ◌+◌, ◌-◌, ◌*◌, ◌++◌, ◌∙◌, ℕ, List, [], ◌∷◌, Bool, false, not, length, drop, length-append, sym, refl, subst, ap, arith}
-use Rattle.std.specs.Prelude.{Contains}
-use Rattle.mz_base.proofs.Offered.{same-tail}
+use Rattle.std.specs.Prelude.{Contains, MatchOption, Option, None, Some, option_map}
+use Rattle.mz_base.proofs.Offered.{same-head, same-tail}
 use Rattle.mz_logic_theory.specs.Tree.{Tree, Trees, app, none, more, followed_by}
 use Rattle.mz_logic_theory.specs.View.{tree}
 use Rattle.mz_math_theory.specs.declared.notation.Notation.{Notation}
 use Rattle.mz_math_theory.specs.Clear.{LedBy, JoinedBy}
 use Rattle.mz_math_theory.specs.FormulaAnswers.{MayLead, IsMaxBefore}
-use Rattle.mz_math_theory.specs.Lookups.{NoVariable, NoLeading}
+use Rattle.mz_math_theory.specs.Lookups.{NoInfix, NoVariable, NoLeading}
 use Rattle.mz_math_theory.specs.Grammar.{Words, Item, token, expr, items, operands_at_max, last_level, notated_tree, head_level, applied, IsTermName}
 use Rattle.mz_math_theory.specs.Readable.{IsReadable}
 use Rattle.mz_math_theory.specs.Notation.{max_level}
 use Rattle.mz_math_theory.specs.Reading.{NoReading, NoParts, NotJoined, IsRead, IsBegun}
-use Rattle.mz_math.specs.Steps.{IsUnderWay, Waits, outer_level, Says, turns}
+use Rattle.mz_math.specs.Steps.{IsUnderWay, JoinsNext, Waits, outer_level, Says, turns}
 use Rattle.mz_math.specs.declared.parser.Found.{Found}
 use Rattle.mz_math.specs.declared.parser.Step.{Step}
 use Rattle.mz_math.specs.declared.parser.Step.TheVariants as steps
@@ -37,6 +37,20 @@ left many os step = 3 * length os + turns many step
 pub highest-unjoined : (ws : Words) → IsReadable ws → (tokens : List (List ℕ)) → NotJoined ws max_level tokens
 highest-unjoined ws right [] = tt
 highest-unjoined ws right (w ∷ tokens) = λ k in_k by. right.clear.not_max k in_k
+
+-- what is found of a token is what the one that stands next joins, where it is this one
+pub joins-found : (ws : Words) (here : List (List ℕ)) (w : List ℕ) (rest : List (List ℕ)) → {A : Type 0} → (f : A → Notation) (o : Option A) → MatchOption o (NoInfix ws w) (λ k. Contains ws.infixes (f k) × JoinedBy (f k) w)
+    → here ≡ w ∷ rest → JoinsNext ws here (option_map f o)
+joins-found ws here w rest f None never is v tail at = subst (NoInfix ws) (same-head (sym is ∙ at)) never
+joins-found ws here w rest f (Some k) found is v tail at = subst (λ u. Contains ws.infixes (f k) × JoinedBy (f k) u) (same-head (sym is ∙ at)) found
+
+-- what the token that stands next joins
+module _ (ws : Words) (here : List (List ℕ)) (w : List ℕ) (rest : List (List ℕ)) (o : Option Notation) where
+  pub joins-none : JoinsNext ws here o → o ≡ None → here ≡ w ∷ rest → NoInfix ws w
+  joins-none next empty is = subst (λ p. MatchOption p (NoInfix ws w) (λ k. Contains ws.infixes k × JoinedBy k w)) empty (next w rest is)
+
+  pub joins-some : (k : Notation) → JoinsNext ws here o → o ≡ Some k → here ≡ w ∷ rest → Contains ws.infixes k × JoinedBy k w
+  joins-some k next some is = subst (λ p. MatchOption p (NoInfix ws w) (λ l. Contains ws.infixes l × JoinedBy l w)) some (next w rest is)
 
 module _ (ws : Words) (right : IsReadable ws) where
   -- ---- forms that begin

@@ -1,13 +1,17 @@
 -- The steps of the parser: how far an expression has been read, and the expressions around it.
-use Rattle.std.specs.Prelude.{◌≡◌, ◌≤◌, ◌<◌, ◌+◌, ◌-◌, ◌*◌, ◌^◌, ⊤, ℕ, List, [], ◌∷◌, Bool, false, not, drop, codes}
+use Rattle.std.specs.Prelude.{◌≡◌, ◌≤◌, ◌<◌, ◌+◌, ◌-◌, ◌*◌, ◌^◌, ⊤, ℕ, List, [], ◌∷◌, Bool, false, not, drop, codes, Option, option_map, MatchOption, Contains}
 use Rattle.mz_logic_theory.specs.Tree.{Tree, Trees, app}
 use Rattle.mz_logic_theory.specs.View.{tree}
 use Rattle.mz_math_theory.specs.Grammar.{Words, Item, token, expr, items, operands_at_max, last_level, notated_tree, head_level, applied}
+use Rattle.mz_math_theory.specs.declared.notation.Notation.{Notation}
+use Rattle.mz_math_theory.specs.Clear.{JoinedBy}
+use Rattle.mz_math_theory.specs.Lookups.{NoInfix}
 use Rattle.mz_math_theory.specs.Reading.{IsRead, NoReading, IsBegun, ArePartsRead, NoParts}
 use Rattle.mz_math.specs.declared.form.Form.{Form}
 use Rattle.mz_math.specs.declared.form.Form.TheVariants as forms
 use Rattle.mz_math.specs.declared.form.Part.{Part}
 use Rattle.mz_math.specs.declared.form.Part.TheVariants as parts
+use Rattle.mz_math.specs.declared.parser.Ahead.{Ahead}
 use Rattle.mz_math.specs.declared.parser.Found.{Found}
 use Rattle.mz_math.specs.declared.parser.Pending.{Pending}
 use Rattle.mz_math.specs.declared.parser.Outer.{Outer}
@@ -64,6 +68,13 @@ IsPending ws from here p = IsFormUnderWay ws from here (asked p.form p.part) p
 
 abbrev pub IsBegunAs : Words → ℕ → List (List ℕ) → List (List ℕ) → Found → Type 0
 IsBegunAs ws level from here f = IsBegun ws level from here (tree f.tree) f.level f.is_left
+
+-- where a token stands next, this is the infix notation that it joins, if there is one
+abbrev pub JoinsNext : Words → List (List ℕ) → Option Notation → Type 0
+JoinsNext ws here o = (w : List ℕ) (rest : List (List ℕ)) → here ≡ w ∷ rest → MatchOption o (NoInfix ws w) (λ k. Contains ws.infixes k × JoinedBy k w)
+
+abbrev pub IsAhead : Words → List (List ℕ) → Ahead → Type 0
+IsAhead ws tokens a = JoinsNext ws (drop a.at tokens) (option_map (λ k. k.now) a.joining)
 
 -- the precedence of the expression around
 abbrev pub outer_level : Outer → ℕ

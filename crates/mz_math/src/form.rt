@@ -8,9 +8,9 @@ ghost use Rattle.mz_math_theory.specs.FormulaAnswers.{MayLead};
 ghost use Rattle.mz_math.specs.Steps.{IsNextPart, asked, tree_made, level_made, is_left_made};
 
 use crate::permute::arranged;
+use mz_lex::Bytes;
 use mz_logic_theory::{Expr, Exprs};
 use mz_math_theory::{ElementRef, Elements, MAX, Notation};
-use mz_math_tokens::Bytes;
 use std::alloc::Global;
 
 /// A form that makes an expression of operands.

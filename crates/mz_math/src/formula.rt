@@ -12,17 +12,16 @@ ghost use Rattle.mz_math_theory.specs.Readable.{IsReadable};
 ghost use Rattle.mz_math_theory.specs.Kept.{AreVariables};
 ghost use Rattle.mz_math.specs.Claims.{IsJudgedOver, IsOnlyClaim, IsRootOf};
 ghost use Rattle.mz_math_coercions.specs.Found.{AreFound};
-ghost use Rattle.mz_math_tokens.specs.MathTokens.{MathTokens, token_texts};
+ghost use Rattle.mz_lex.specs.MathTokens.{MathTokens, token_texts};
 
 use crate::elaborate::{coerced, sort_of};
 use crate::parser::parse;
 use crate::vocabulary::Vocabulary;
-use mz_lex::S;
+use mz_lex::{MathToken, S, Tokens};
 use mz_logic_theory::{Context, Env, Expr, ExprRef};
 use mz_math_coercions::{Coercions, Paths, Reached, distance, reached_from, wrap};
 use mz_math_notation::{Notations, Scope};
 use mz_math_theory::{Built, Parsed, Syntax, Wanted};
-use mz_math_tokens::{MathToken, Tokens};
 use std::alloc::{AllocError, Global};
 
 /// At most so many tokens, and at most so high a tree.

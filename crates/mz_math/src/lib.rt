@@ -1,8 +1,14 @@
-//! Math strings: the tree that notations make of their tokens, and the coercions by which the tree
-//! stands for an expression (mm0.md, sections on math strings, notations and coercions).
+//! Math strings read: the tree that notations make of tokens, and the expression for which it stands by coercions.
 //!
-//! What a math string stands for, and the first rule that it breaks, is said in `mz_math_theory`. Tokens
-//! stand in `mz_math_tokens`, what the statements on notations declare in `mz_math_notation`.
+//! `parse_formula` gives exactly the expression that a string means, or exactly the first rule that it breaks. The
+//! definitions, and why there is one tree at most, stand in `mz_math_theory`. The laws of whole strings stand here, in
+//! `src/laws.rt`.
+//!
+//! The parser is one loop with a list of what is open, so that no string is too deep for the stack (`src/parser.rt`).
+//! What calls itself goes over the tree, of at most 4,096 levels (`src/elaborate.rt`). Not claimed: how long a call
+//! takes, and that thousands of coercions in a row fit the stack.
+//!
+//! Start with `src/formula.rt`, then `specs/Steps.antt`, which says what the parser knows at each step.
 #![tactic(auto)]
 
 mod elaborate;
@@ -19,8 +25,8 @@ pub use laws::{
     each_string_has_one_meaning, each_string_is_read_or_refused, each_token_list_has_one_tree,
     statements_are_judged, statements_keep_tables,
 };
+pub use mz_lex::{Bytes, Delimiters, MathToken};
 pub use mz_math_notation::{Notations, Scope};
 pub use mz_math_theory::{
     Coercion, Element, ElementRef, Elements, Literal, Notation, NoteFault, Parsed, Tail, Wanted,
 };
-pub use mz_math_tokens::{Bytes, Delimiters, MathToken};

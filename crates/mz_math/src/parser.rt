@@ -1,17 +1,18 @@
 // Expressions of the notation grammar.
-ghost use Rattle.std.specs.Prelude.{◌≡◌, ◌↔◌, ◌≤◌, ◌<◌, ◌+◌, ◌*◌, ◌-◌, ◌^◌, ◌∷◌, ⊤, [], ℕ, List, IsTrue, MatchOption, length, drop, codes};
+ghost use Rattle.std.specs.Prelude.{◌≡◌, ◌≢◌, ◌↔◌, ◌≤◌, ◌<◌, ◌+◌, ◌*◌, ◌-◌, ◌^◌, ◌∷◌, ⊤, [], ℕ, List, IsTrue, MatchOption, length, drop, codes, option_map};
 ghost use Rattle.mz_logic_theory.specs.View.{tree};
 ghost use Rattle.mz_math_theory.specs.Readable.{IsReadable};
 ghost use Rattle.mz_math_theory.specs.FormulaAnswers.{IfParsed, IfNotParsed};
 ghost use Rattle.mz_math_theory.specs.Reading.{IsRead};
 ghost use Rattle.mz_math_theory.specs.Grammar.{Words};
-ghost use Rattle.mz_math.specs.Steps.{IsBegunAs, IsPending, Waits, Says, outer_level, asked, turns};
+ghost use Rattle.mz_math.specs.Steps.{IsAhead, IsBegunAs, IsPending, JoinsNext, Waits, Says, outer_level, asked, turns};
+ghost use Rattle.mz_math_theory.specs.Notation.{max_level};
 
 use crate::form::{Form, Part, can_lead};
 use crate::vocabulary::Vocabulary;
+use mz_lex::Tokens;
 use mz_logic_theory::{Expr, Exprs};
-use mz_math_theory::{MAX, Syntax};
-use mz_math_tokens::Tokens;
+use mz_math_theory::{MAX, Notation, Syntax};
 use std::alloc::Global;
 
 /// An expression at the front of the tokens.
@@ -65,6 +66,13 @@ pub enum Step<'w> {
     Mem,
 }
 
+/// The infix notation that the token at a place joins, where there is a token and it joins one.
+#[derive(Clone, Copy)]
+pub struct Ahead<'w> {
+    at: usize,
+    joining: Option<&'w Notation>,
+}
+
 fn token_at<'a>(tokens: &Tokens<'a>, at: usize) -> Option<&'a [u8]>
     ensures token { MatchOption result (drop at tokens.now ≡ []) (λ w. drop at tokens.now ≡ w.now ∷ drop (at + 1) tokens.now) }
     ensures within { MatchOption result (length tokens.now ≤ at) (λ w. at < length tokens.now) }
@@ -96,6 +104,10 @@ pub fn parse(alloc: Global, words: &Vocabulary<'_>, tokens: &Tokens<'_>) -> Synt
 {
     let mut outers: Vec<Outer> = Vec::new(alloc);
     let mut step = begin(alloc, words, tokens, 0, 0);
+    let mut ahead = Ahead {
+        at: tokens.len(),
+        joining: None,
+    };
     'reading: loop {
         match step {
             Step::Inner(outer, level, at) => {
@@ -105,7 +117,10 @@ pub fn parse(alloc: Global, words: &Vocabulary<'_>, tokens: &Tokens<'_>) -> Synt
                 step = begin(alloc, words, tokens, at, level);
             }
             Step::Parts(pending, at) => step = next_part(alloc, tokens, pending, at),
-            Step::Begun(found, level) => step = joined(alloc, words, tokens, found, level),
+            Step::Begun(found, level) => {
+                ahead = ahead_at(words, tokens, ahead, found.next, level);
+                step = joined(alloc, tokens, ahead.joining, found, level);
+            }
             Step::Whole(found) => match outers.pop() {
                 None => return all_read(tokens, found),
                 Some(outer) => step = back(tokens, outer, found),
@@ -236,27 +251,56 @@ fn finished(alloc: Global, pending: Pending<'_>, at: usize) -> Step<'_>
     }
 }
 
-/// The infix form around what stands before, if there is one.
-fn joined<'w>(
-    alloc: Global,
+/// What the token at a place joins, before which an expression of this precedence ends; it is looked up
+/// once, however many expressions end there. Nothing joins the highest precedence.
+fn ahead_at<'w>(
     words: &Vocabulary<'w>,
     tokens: &Tokens<'_>,
+    ahead: Ahead<'w>,
+    at: usize,
+    level: u32,
+) -> Ahead<'w>
+    requires { IsAhead words.now tokens.now ahead }
+    ensures known { IsAhead words.now tokens.now result }
+    ensures next { level ≢ max_level → JoinsNext words.now (drop at tokens.now) (option_map (λ k. k.now) result.joining) }
+{
+    if level == MAX {
+        return ahead;
+    }
+    if ahead.at == at {
+        return ahead;
+    }
+    match token_at(tokens, at) {
+        None => Ahead { at, joining: None },
+        Some(token) => Ahead {
+            at,
+            joining: words.infix(token),
+        },
+    }
+}
+
+/// The infix form around what stands before, if there is one; this is the notation that the next token joins.
+fn joined<'w>(
+    alloc: Global,
+    tokens: &Tokens<'_>,
+    joining: Option<&'w Notation>,
     before: Found,
     level: u32,
 ) -> Step<'w>
-    requires readable { IsReadable words.now }
-    ensures says { (from : List (List ℕ)) → IsBegunAs words.now level from (drop before.next tokens.now) before → Says words.now tokens.now from level result }
+    ensures says { (ws : Words) (from : List (List ℕ)) → IsReadable ws → (level ≢ max_level → JoinsNext ws (drop before.next tokens.now) (option_map (λ k. k.now) joining.entry))
+        → IsBegunAs ws level from (drop before.next tokens.now) before → Says ws tokens.now from level result }
     ensures less { turns (length tokens.now) result < 8 * (length tokens.now - before.next) + 4 }
 {
     // No infix constant has the highest precedence.
     if level == MAX {
         return Step::Whole(before);
     }
-    let token = match token_at(tokens, before.next) {
+    // Called for its clauses: where no token follows, nothing is joined, and else its place can be counted.
+    let _token = match token_at(tokens, before.next) {
         None => return Step::Whole(before),
         Some(token) => token,
     };
-    match words.infix(token) {
+    match joining {
         None => Step::Whole(before),
         Some(notation) => {
             if notation.level < level {

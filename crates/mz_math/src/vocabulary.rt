@@ -5,10 +5,10 @@ ghost use Rattle.mz_math_theory.specs.Clear.{JoinedBy, LedBy};
 ghost use Rattle.mz_math_theory.specs.Grammar.{IsKnown, IsTermName, words_of};
 ghost use Rattle.mz_math_theory.specs.Lookups.{NoInfix, NoLeading, NoTermName, NoVariable};
 
+use mz_lex::is_parenthesis;
 use mz_logic_theory::Env;
 use mz_math_notation::{Notations, Scope};
 use mz_math_theory::Notation;
-use mz_math_tokens::is_parenthesis;
 use std::marker::Model;
 
 /// The notations and names so far, the declarations, and the statement's variables.

@@ -1,9 +1,15 @@
-//! Coercions and their paths (mm0.md, section on coercions).
+//! Coercions and their paths: of two sorts the one path between them (mm0.md, section on coercions).
 //!
-//! What a path is, and that there is one at most between two sorts, is said in `mz_math_theory`.
-//! `specs/Firsts.antt` says what is kept so that a path is found step by step, `specs/Reached.antt`
-//! what a walk along coercions reaches, `specs/Groups.antt` between which sorts no path leads,
-//! `specs/Found.antt` what is kept of paths that have been found.
+//! `Coercions::add` adds a coercion exactly where at most one path leads between two sorts with it too. `distance`
+//! gives a path's length, `wrap` an expression wrapped in it, `reached_from` all sorts to which paths lead. Each is
+//! exact; a call that fails for memory changes nothing.
+//!
+//! Sorts stand in groups, so that a coercion between two groups is added at once. Below 128 sorts a square has the
+//! first coercion for each pair, beyond that a walk finds it. The terms of a path are kept and shared: an expression
+//! in a long path is one node. How long a call takes isn't proved: a new coercion within a group goes over all that
+//! it could reach.
+//!
+//! Start with `specs/Firsts.antt`, then `src/coercions.rt`.
 #![tactic(auto)]
 
 mod clash;

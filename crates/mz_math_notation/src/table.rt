@@ -12,6 +12,7 @@ ghost use Rattle.mz_math_operators.specs.Names.{IsFoundAs};
 ghost use Rattle.mz_math_theory.specs.Notation.{TermName, empty_table, with_coercion, with_infix, with_leading, with_name, with_notation};
 
 use mz_base::Hashing;
+use mz_lex::Delimiters;
 use mz_logic_theory::{Env, ResultType};
 use mz_math_coercions::Coercions;
 use mz_math_operators::{
@@ -19,7 +20,6 @@ use mz_math_operators::{
     is_clear_with_leading, is_coercion, prefix_of,
 };
 use mz_math_theory::{Coercion, Literal, Notation, NoteFault, Tail};
-use mz_math_tokens::Delimiters;
 use std::alloc::Global;
 use std::marker::Model;
 
@@ -37,7 +37,7 @@ pub struct Notations {
 
 impl Model for Notations {
     ghost use Rattle.mz_math_theory.specs.Notation.{Table};
-    ghost use Rattle.mz_math_tokens.specs.declared.tokens.Delimiters.{Delimiters};
+    ghost use Rattle.mz_lex.specs.declared.tokens.Delimiters.{Delimiters};
     ghost use Rattle.mz_math_theory.specs.Kept.{IsTable};
 
     ghost Value = { Table };

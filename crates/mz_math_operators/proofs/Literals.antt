@@ -3,10 +3,10 @@ use Rattle.std.proofs.Common.{◌≡◌, ◌≢◌, ◌<◌, ◌+◌, ◌++◌, 
 use Rattle.std.specs.Prelude.{slice_range, IsErrAnd}
 use Rattle.std.proofs.lemmas.Option.{slice_get_within, get_or_from_slice_get}
 use Rattle.mz_logic_theory.specs.Signature.{Signature}
-use Rattle.mz_math_tokens.specs.declared.tokens.Delimiters.{Delimiters}
+use Rattle.mz_lex.specs.declared.tokens.Delimiters.{Delimiters}
 use Rattle.mz_math_theory.specs.declared.notation.Element.{Element}
 use Rattle.mz_math_theory.specs.declared.notation.Notation.{Notation}
-use Rattle.mz_math_tokens.specs.MathTokens.{IsConstant}
+use Rattle.mz_lex.specs.MathTokens.{IsConstant}
 use Rattle.mz_math_theory.specs.Forms.{IsElement, AreElements, IsSpan, General, IsGeneral, EachOnce, Begins}
 use Rattle.mz_math_theory.specs.declared.literal.Literal.{Literal}
 use Rattle.mz_math_theory.specs.declared.literal.Literal.TheVariants.{Constant as constant, Name as name}

@@ -7,7 +7,7 @@ use Rattle.std.proofs.lemmas.Bool.Decides.{eqb_tells}
 use Rattle.std.proofs.lemmas.Option.{slice_get_within, slice_get-get_or, same_Some, none-some}
 use Rattle.std.proofs.lemmas.Slice.Eq.{bytes_eq-Decides}
 use Rattle.mz_base.proofs.Offered.{place-of}
-use Rattle.mz_math_tokens.specs.Places.{place_of}
+use Rattle.mz_lex.specs.Places.{place_of}
 use Rattle.mz_math_theory.specs.NotationAnswers.{KeepsOwnLevels}
 use Rattle.mz_math_operators.specs.Levels.{IsLevelNoted}
 use Rattle.mz_math_theory.specs.declared.notation.Element.{Element}

@@ -13,7 +13,7 @@ use Rattle.mz_math_theory.specs.NotationAnswers.{NoOtherJoined, NoOtherLed}
 use Rattle.mz_math_operators.specs.Headed.{AreFound, IsHeadedBy, IsNoted, StandsAt}
 use Rattle.mz_math_theory.specs.Listed.{AreListed}
 use Rattle.mz_math_theory.proofs.Offered.{constant-listed}
-use Rattle.mz_math_tokens.specs.Places.{place_of}
+use Rattle.mz_lex.specs.Places.{place_of}
 use Rattle.mz_math_operators.specs.declared.notations.Spot.{Spot}
 
 fixed-word : {w v : List ℕ} {q p : ℕ} → Some (fixed w q) ≡ Some (fixed v p) → w ≡ v

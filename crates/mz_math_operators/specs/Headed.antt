@@ -6,7 +6,7 @@ use Rattle.std.specs.BTreeMap.{BTreeMap}
 use Rattle.mz_math_theory.specs.declared.notation.Notation.{Notation}
 use Rattle.mz_math_theory.specs.declared.notation.Element.TheVariants.{Fixed as fixed}
 use Rattle.mz_math_theory.specs.Clear.{JoinedBy, LedBy}
-use Rattle.mz_math_tokens.specs.Places.{place_of}
+use Rattle.mz_lex.specs.Places.{place_of}
 use Rattle.mz_math_operators.specs.declared.notations.Spot.{Spot}
 
 -- the constant with which it begins, or the one behind its first parameter

@@ -2,7 +2,7 @@
 use Rattle.std.specs.Prelude.{◌≡◌, ◌≢◌, ◌↔◌, ◌⊎◌, ℕ, List, Bool, Some, MatchBool}
 use Rattle.mz_math_theory.specs.declared.notation.Element.{Element}
 use Rattle.mz_math_theory.specs.declared.notation.Element.TheVariants.{Fixed as fixed}
-use Rattle.mz_math_tokens.specs.Places.{place_of}
+use Rattle.mz_lex.specs.Places.{place_of}
 
 -- the precedences are those before and the element's; or the element is a constant that has another precedence before
 abbrev pub IsLevelNoted : Bool → List (List ℕ × ℕ) → Element → List (List ℕ × ℕ) → Type 0

@@ -9,8 +9,8 @@ ghost use Rattle.mz_math_theory.specs.NotationAnswers.{GroupAlike, GroupsWith, H
 
 use crate::notations::NotationList;
 use mz_base::Hashing;
+use mz_lex::Places;
 use mz_math_theory::{Element, MAX, Notation};
-use mz_math_tokens::Places;
 use std::alloc::{AllocError, Global};
 
 /// Whether it is no constant, or has its precedence in the notations, too.

@@ -1,10 +1,10 @@
 // The delimiters that a statement declares, where it is of its form.
 ghost use Rattle.std.specs.Prelude.{option_map};
-ghost use Rattle.mz_math_tokens.specs.MathTokens.{AreCharacters, AreDelimiters};
+ghost use Rattle.mz_lex.specs.MathTokens.{AreCharacters, AreDelimiters};
 ghost use Rattle.mz_math_theory.specs.NotationAnswers.{AreBoth, IsMade};
 
+use mz_lex::{ByteSet, Delimiters};
 use mz_math_theory::NoteFault;
-use mz_math_tokens::{ByteSet, Delimiters};
 use std::alloc::Global;
 
 /// The delimiters that one string or two declare.

@@ -12,11 +12,11 @@ ghost use Rattle.mz_math_theory.specs.Listed.{slots};
 
 use crate::parameters::each_once;
 use crate::scope::Scope;
+use mz_lex::{Bytes, Delimiters};
 use mz_logic_theory::{Binder, Binders, Env, ResultType};
 use mz_math_theory::{
     Coercion, Element, Elements, Literal, Notation, NoteFault, Tail, level_number,
 };
-use mz_math_tokens::{Bytes, Delimiters};
 use std::alloc::{AllocError, Global};
 
 /// The parts of a `notation` statement.

@@ -1,5 +1,13 @@
-//! The parts of a table of notations: a notation from its statement, names of terms, the variables of a statement,
-//! and whether a notation is clear beside others.
+//! The parts of a table of notations: one notation from its statement, names of terms, and whether a table stays
+//! clear.
+//!
+//! `infix_of`, `prefix_of`, `general_of` and `declared` give what a statement makes, or the rule of form that it
+//! breaks. `is_clear_with_leading` and `is_clear_with_infix` say whether one more notation can be mistaken for
+//! another. A `NotationList` finds a notation by its constant, `TermNames` a term by its name, a [`Scope`] a
+//! statement's variable. All answers are exact, as `mz_math_theory` has them.
+//!
+//! `mz_math_notation` puts these together. They stand apart so that both this and the coercions are proved at one
+//! time. Start with `src/form.rt` and `src/ambiguity.rt`.
 #![tactic(auto)]
 
 mod ambiguity;

@@ -2,12 +2,12 @@
 ghost use Rattle.std.specs.Prelude.{◌≡◌, ◌++◌, ◌∷◌, ◌<◌, ◌+◌, [], ℕ, List, MatchOption, OnOk, OnErr, Contains, length, Some, bytes_eq, if◌then◌else◌};
 ghost use Rattle.mz_math_theory.specs.Clear.{HasConstant, JoinedBy, LedBy};
 ghost use Rattle.mz_math_operators.specs.Headed.{AreFound, AreLevelled, IsHeadedBy, IsNoted, place_at as place_at_level};
-ghost use Rattle.mz_math_tokens.specs.Places.{place_of};
+ghost use Rattle.mz_lex.specs.Places.{place_of};
 ghost use Rattle.mz_math_theory.specs.declared.notation.Notation.{Notation};
 
 use mz_base::Hashing;
+use mz_lex::Places;
 use mz_math_theory::{ElementRef, Notation};
-use mz_math_tokens::Places;
 use std::alloc::{AllocError, Global};
 use std::collections::BTreeMap;
 use std::marker::Model;
@@ -35,7 +35,7 @@ impl Model for NotationList {
     ghost use Rattle.std.specs.Prelude.{List};
     ghost use Rattle.mz_math_theory.specs.declared.notation.Notation.{Notation};
     ghost use Rattle.mz_math_operators.specs.Headed.{AreFound, AreLevelled, IsHeadedBy};
-    ghost use Rattle.mz_math_tokens.specs.Places.{LeadsTo};
+    ghost use Rattle.mz_lex.specs.Places.{LeadsTo};
 
     ghost Value = { List Notation };
 

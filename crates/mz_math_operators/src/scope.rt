@@ -6,8 +6,8 @@ ghost use Rattle.mz_math_theory.specs.Notation.{with_variable};
 ghost use Rattle.mz_math_theory.specs.Kept.{AreVariables};
 
 use mz_base::Hashing;
+use mz_lex::VariableNames;
 use mz_logic_theory::{Binder, Binders};
-use mz_math_tokens::VariableNames;
 use std::alloc::{AllocError, Global};
 use std::marker::Model;
 

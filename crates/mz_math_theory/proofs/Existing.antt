@@ -7,9 +7,9 @@ use Rattle.mz_base.specs.Checks.{AreDecided, AllHold, FailsFirst}
 use Rattle.mz_lex.specs.Kinds.{is_space}
 use Rattle.mz_logic_theory.specs.Tree.{Tree}
 use Rattle.mz_logic_theory.specs.Declaration.{signatures}
-use Rattle.mz_math_tokens.specs.MathTokens.{IsSpaces, IsMathToken, MathTokensFrom, MathTokens, token_texts, token_text}
-use Rattle.mz_math_tokens.specs.declared.tokens.Delimiters.{Delimiters}
-use Rattle.mz_math_tokens.specs.declared.tokens.MathToken.{MathToken}
+use Rattle.mz_lex.specs.MathTokens.{IsSpaces, IsMathToken, MathTokensFrom, MathTokens, token_texts, token_text}
+use Rattle.mz_lex.specs.declared.tokens.Delimiters.{Delimiters}
+use Rattle.mz_lex.specs.declared.tokens.MathToken.{MathToken}
 use Rattle.mz_math_theory.specs.declared.notation.Element.{Element}
 use Rattle.mz_math_theory.specs.declared.notation.Element.TheVariants.{Fixed as fixed, Slot as slot}
 use Rattle.mz_math_theory.specs.declared.notation.Notation.{Notation}
@@ -20,10 +20,10 @@ use Rattle.mz_math_theory.specs.Kept.{IsTable, AreVariables}
 use Rattle.mz_math_theory.specs.Meaning.{Wanted, Coerced, IsClaimed, height}
 use Rattle.mz_math_theory.specs.Coercions.{IsPath, wrapped}
 use Rattle.mz_math_theory.specs.Formula.{Reader, words, most, StandsFor, Means, Misreading, is_known, known_checks, token_checks, formula_checks, IsFormula, Misreads}
-use Rattle.mz_math_tokens.specs.Answers.{EndsAt, IsWhole}
+use Rattle.mz_lex.specs.Answers.{EndsAt, IsWhole}
 use Rattle.mz_math_theory.specs.FormulaAnswers.{settled}
 use Rattle.mz_math_theory.proofs.Readable.{table-readable}
-use Rattle.mz_math_tokens.proofs.Offered.{next-first, whole-first, whole-more, whole-math_token}
+use Rattle.mz_lex.proofs.Offered.{next-first, whole-first, whole-more, whole-math_token}
 use Rattle.mz_math_theory.proofs.Judging.{parts, stands, same}
 use Rattle.mz_math_theory.proofs.Deciding.{found, placed, equal-decided, tree-decided}
 use Rattle.mz_math_theory.proofs.Standing.{path-decided, coerced-decided, claimed-decided}

@@ -9,8 +9,8 @@ use Rattle.mz_logic_theory.specs.Declaration.{Declaration, signatures, sorts}
 use Rattle.mz_logic_theory.specs.Modifiers.{MayBeClaimSort}
 use Rattle.std.specs.Prelude.{IfSome, MatchOption, slice_get}
 use Rattle.mz_logic_theory.specs.declared.binder.Binder.{Binder}
-use Rattle.mz_math_tokens.specs.MathTokens.{MathTokens, token_texts}
-use Rattle.mz_math_tokens.specs.declared.tokens.MathToken.{MathToken}
+use Rattle.mz_lex.specs.MathTokens.{MathTokens, token_texts}
+use Rattle.mz_lex.specs.declared.tokens.MathToken.{MathToken}
 use Rattle.mz_math_theory.specs.declared.coercion.Coercion.{Coercion}
 use Rattle.mz_math_theory.specs.Coercions.{IsPath, OnePath, Reaches, wrapped}
 use Rattle.mz_math_theory.specs.Grammar.{Exp, tree_of}

@@ -7,8 +7,8 @@ use Rattle.mz_logic_theory.specs.Tree.{Tree}
 use Rattle.mz_math_theory.specs.declared.notation.Element.{Element}
 use Rattle.mz_math_theory.specs.declared.notation.Element.TheVariants.{Fixed as fixed, Slot as slot}
 use Rattle.mz_math_theory.specs.declared.notation.Notation.{Notation}
-use Rattle.mz_math_tokens.specs.MathTokens.{token_texts}
-use Rattle.mz_math_tokens.specs.declared.tokens.MathToken.{MathToken}
+use Rattle.mz_lex.specs.MathTokens.{token_texts}
+use Rattle.mz_lex.specs.declared.tokens.MathToken.{MathToken}
 use Rattle.mz_math_theory.specs.Formula.{known_checks}
 use Rattle.mz_math_theory.specs.Grammar.{Item, token, expr, items, operands_at_max, Head, variable, parens, applied, notated, head_items, behind_first, last_level, infix_items, Parse, Parts, headed, joined, end, word, part, tokens_of, part_tokens, Words, IsHead, IsExp, AreParts, Exp, IsKnown}
 use Rattle.mz_math_theory.proofs.Knowing.{known-constant, known-name}

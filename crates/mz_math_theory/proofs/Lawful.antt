@@ -5,9 +5,9 @@ use Rattle.mz_base.proofs.Offered.{fails_first-unique, all_hold-excludes}
 use Rattle.mz_logic_theory.specs.Tree.{Tree}
 use Rattle.mz_logic_theory.specs.Signature.{Signature}
 use Rattle.mz_logic_theory.specs.Declaration.{signatures}
-use Rattle.mz_math_tokens.specs.MathTokens.{token_texts}
-use Rattle.mz_math_tokens.specs.declared.tokens.Delimiters.{Delimiters}
-use Rattle.mz_math_tokens.specs.declared.tokens.MathToken.{MathToken}
+use Rattle.mz_lex.specs.MathTokens.{token_texts}
+use Rattle.mz_lex.specs.declared.tokens.Delimiters.{Delimiters}
+use Rattle.mz_lex.specs.declared.tokens.MathToken.{MathToken}
 use Rattle.mz_math_theory.specs.Notation.{begins_with_slot, with_notation}
 use Rattle.mz_math_theory.specs.declared.notation.Notation.{Notation}
 use Rattle.mz_math_theory.specs.Grammar.{words_of, tree_of}
@@ -17,7 +17,7 @@ use Rattle.mz_math_theory.specs.Formula.{Reader, Means, formula_checks}
 use Rattle.mz_math_theory.specs.NotationAnswers.{IsShaped, IsClearTable}
 use Rattle.mz_math_theory.specs.Laws.{IsNoted, NotationsKeepTables, OneTree, OneTokens, OneMeaning, OneMisreading, OneReading}
 use Rattle.mz_math_theory.proofs.Unique.{one-expression}
-use Rattle.mz_math_tokens.proofs.Offered.{math_tokens-one}
+use Rattle.mz_lex.proofs.Offered.{math_tokens-one}
 use Rattle.mz_math_theory.proofs.OneMeaning.{coerced-one, settled-one, claimed-one}
 use Rattle.mz_math_theory.proofs.Judging.{exp-one}
 use Rattle.mz_math_theory.proofs.Readable.{table-readable}

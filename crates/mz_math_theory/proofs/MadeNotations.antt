@@ -8,9 +8,9 @@ use Rattle.mz_base.specs.Checks.{AllHold, FailsFirst}
 use Rattle.mz_logic_theory.specs.Signature.{Signature}
 use Rattle.mz_logic_theory.specs.declared.binder.Binder.{Binder}
 use Rattle.mz_logic_theory.specs.declared.binder.ResultType.{ResultType}
-use Rattle.mz_math_tokens.specs.MathTokens.{MathTokens, token_text, IsConstant}
-use Rattle.mz_math_tokens.specs.declared.tokens.Delimiters.{Delimiters}
-use Rattle.mz_math_tokens.specs.declared.tokens.MathToken.{MathToken}
+use Rattle.mz_lex.specs.MathTokens.{MathTokens, token_text, IsConstant}
+use Rattle.mz_lex.specs.declared.tokens.Delimiters.{Delimiters}
+use Rattle.mz_lex.specs.declared.tokens.MathToken.{MathToken}
 use Rattle.mz_math_theory.specs.Notation.{level_of, places, infixed, prefixed, Table, with_notation}
 use Rattle.mz_math_theory.specs.declared.notation.Element.{Element}
 use Rattle.mz_math_theory.specs.declared.notation.Element.TheVariants.{Fixed as fixed, Slot as slot}
@@ -22,7 +22,7 @@ use Rattle.mz_math_theory.specs.declared.literal.Literal.TheVariants.{Constant a
 use Rattle.mz_math_theory.specs.declared.literal.Tail.{Tail}
 use Rattle.mz_math_theory.specs.declared.fault.NoteFault.{NoteFault}
 use Rattle.mz_math_theory.specs.NotationAnswers.{IsClearTable}
-use Rattle.mz_math_tokens.proofs.Offered.{math_tokens-one}
+use Rattle.mz_lex.proofs.Offered.{math_tokens-one}
 use Rattle.mz_math_theory.proofs.Tables.{constant-one, infix-one, prefix-one, begins-one}
 use Rattle.mz_math_theory.proofs.Deciding.{equal-decided, true-decided}
 use Rattle.mz_math_theory.proofs.Existing.{some-math_tokens}

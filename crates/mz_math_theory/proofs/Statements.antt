@@ -5,9 +5,9 @@ use Rattle.mz_base.proofs.Offered.{some-decided, Decided, all_hold-or_fails, bot
 use Rattle.mz_base.specs.Checks.{AllHold, FailsFirst}
 use Rattle.mz_logic_theory.specs.Signature.{Signature}
 use Rattle.mz_logic_theory.specs.declared.binder.Binder.{Binder}
-use Rattle.mz_math_tokens.specs.MathTokens.{no_delimiters, MathTokens, token_texts, AreCharacters, AreDelimiters}
-use Rattle.mz_math_tokens.specs.declared.tokens.Delimiters.{Delimiters}
-use Rattle.mz_math_tokens.specs.declared.tokens.MathToken.{MathToken}
+use Rattle.mz_lex.specs.MathTokens.{no_delimiters, MathTokens, token_texts, AreCharacters, AreDelimiters}
+use Rattle.mz_lex.specs.declared.tokens.Delimiters.{Delimiters}
+use Rattle.mz_lex.specs.declared.tokens.MathToken.{MathToken}
 use Rattle.mz_math_theory.specs.Notation.{Table}
 use Rattle.mz_math_theory.specs.declared.coercion.Coercion.{Coercion}
 use Rattle.mz_math_theory.specs.Coercions.{IsPath, OnePath}
@@ -15,7 +15,7 @@ use Rattle.mz_math_theory.specs.Kept.{IsTable}
 use Rattle.mz_math_theory.specs.Forms.{IsCoercion, coercion_checks, delimiter_checks}
 use Rattle.mz_math_theory.specs.declared.fault.NoteFault.{NoteFault}
 use Rattle.mz_math_theory.specs.CoercionAnswers.{MayStart, MayEnd, IsClashAt}
-use Rattle.mz_math_tokens.proofs.Offered.{math_tokens-one}
+use Rattle.mz_lex.proofs.Offered.{math_tokens-one}
 use Rattle.mz_math_theory.proofs.Paths.{stays-one, clash-two, clash-parts, clash-made}
 use Rattle.mz_math_theory.proofs.Deciding.{found, equal-decided, true-decided}
 use Rattle.mz_math_theory.proofs.Standing.{path-decided}

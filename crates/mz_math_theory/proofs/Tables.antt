@@ -6,8 +6,8 @@ use Rattle.std.proofs.lemmas.List.Elements.{Contains-push_cases}
 use Rattle.mz_base.proofs.Offered.{contains_none, same-head, slice_get-push_cases, contains_at}
 use Rattle.mz_base.specs.Identifiers.{is_name}
 use Rattle.mz_logic_theory.specs.Signature.{Signature}
-use Rattle.mz_math_tokens.specs.MathTokens.{token_text, no_delimiters, AreDelimiters, IsConstant}
-use Rattle.mz_math_tokens.specs.declared.tokens.Delimiters.{Delimiters}
+use Rattle.mz_lex.specs.MathTokens.{token_text, no_delimiters, AreDelimiters, IsConstant}
+use Rattle.mz_lex.specs.declared.tokens.Delimiters.{Delimiters}
 use Rattle.mz_math_theory.specs.Notation.{level_of, Element, fixed, slot, slots, Notation, TermName, Coercion, Table, empty_table, begins_with_slot, with_delimiters, with_leading, with_infix, with_notation, with_name, with_coercion, infixed, prefixed}
 use Rattle.mz_math_theory.specs.Clear.{HasConstant, LedBy, JoinedBy, IsClear}
 use Rattle.mz_math_theory.specs.Coercions.{OnePath}
@@ -17,7 +17,7 @@ use Rattle.mz_math_theory.specs.declared.fault.NoteFault.TheVariants as faults
 use Rattle.mz_math_theory.specs.NotationAnswers.{IsShaped, IsAdded, IsMade, IsClearTable}
 use Rattle.mz_math_theory.proofs.Constants.{fixed-same}
 use Rattle.mz_math_theory.proofs.Clearing.{constant-either}
-use Rattle.mz_math_tokens.proofs.Offered.{math_tokens-one}
+use Rattle.mz_lex.proofs.Offered.{math_tokens-one}
 
 -- ---- the empty table
 

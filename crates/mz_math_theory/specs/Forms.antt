@@ -8,8 +8,8 @@ use Rattle.mz_base.specs.Checks.{Checks, demand, ◌>>◌, AllHold, FailsFirst}
 use Rattle.mz_logic_theory.specs.Signature.{Signature}
 use Rattle.mz_logic_theory.specs.declared.binder.Binder.{Binder}
 use Rattle.mz_logic_theory.specs.declared.binder.ResultType.{ResultType}
-use Rattle.mz_math_tokens.specs.MathTokens.{IsConstant, AreDelimiters}
-use Rattle.mz_math_tokens.specs.declared.tokens.Delimiters.{Delimiters}
+use Rattle.mz_lex.specs.MathTokens.{IsConstant, AreDelimiters}
+use Rattle.mz_lex.specs.declared.tokens.Delimiters.{Delimiters}
 use Rattle.mz_math_theory.specs.Notation.{level_of, places, Element, fixed, slot, prefixed, infixed, Notation, Coercion, Table, with_delimiters, with_notation}
 use Rattle.mz_math_theory.specs.Clear.{IsClear}
 use Rattle.mz_math_theory.specs.Coercions.{OnePath}

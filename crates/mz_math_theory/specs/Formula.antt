@@ -8,8 +8,8 @@ use Rattle.mz_logic_theory.specs.Tree.{Tree}
 use Rattle.mz_logic_theory.specs.View.{tree}
 use Rattle.mz_logic_theory.specs.Declaration.{Declaration, signatures}
 use Rattle.mz_math_theory.specs.Notation.{Table, Variables}
-use Rattle.mz_math_tokens.specs.MathTokens.{MathTokens, token_text, token_texts}
-use Rattle.mz_math_tokens.specs.declared.tokens.MathToken.{MathToken}
+use Rattle.mz_lex.specs.MathTokens.{MathTokens, token_text, token_texts}
+use Rattle.mz_lex.specs.declared.tokens.MathToken.{MathToken}
 use Rattle.mz_math_theory.specs.Grammar.{Words, words_of, Exp, IsKnown}
 use Rattle.mz_math_theory.specs.Meaning.{Wanted, Coerced, IsSettled, IsClaimed, height}
 use Rattle.mz_math_theory.specs.declared.wanted.Parsed.{Parsed}

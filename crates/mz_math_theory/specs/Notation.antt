@@ -1,8 +1,8 @@
 -- Notations, names of terms and coercions, and a statement's variables (mm0.md, section on notations).
 use Rattle.std.specs.Prelude.{◌+◌, ◌++◌, ◌==◌, ℕ, List, [], ◌∷◌, Bool, true, false, Option, Some, None, if◌then◌else◌}
 use Rattle.mz_logic_theory.specs.declared.binder.Binder.{Binder}
-use Rattle.mz_math_tokens.specs.MathTokens.{no_delimiters, both}
-use Rattle.mz_math_tokens.specs.declared.tokens.Delimiters.{Delimiters}
+use Rattle.mz_lex.specs.MathTokens.{no_delimiters, both}
+use Rattle.mz_lex.specs.declared.tokens.Delimiters.{Delimiters}
 pub use Rattle.mz_math_theory.specs.declared.notation.Element.{Element}
 pub use Rattle.mz_math_theory.specs.declared.notation.Element.TheVariants.{Fixed as fixed, Slot as slot}
 pub use Rattle.mz_math_theory.specs.declared.notation.Notation.{Notation}

@@ -1,8 +1,8 @@
 -- What the calls within the crate answer.
 use Rattle.std.specs.Prelude.{◌≡◌, ◌≢◌, ⊤, ℕ, List, Contains, length, MatchBool, codes}
 use Rattle.std.proofs.Common.{Result, Ok, Err}
-use Rattle.mz_math_tokens.specs.MathTokens.{AreCharacters}
-use Rattle.mz_math_tokens.specs.declared.tokens.Delimiters.{Delimiters}
+use Rattle.mz_lex.specs.MathTokens.{AreCharacters}
+use Rattle.mz_lex.specs.declared.tokens.Delimiters.{Delimiters}
 use Rattle.mz_math_theory.specs.Notation.{Notation, Element, fixed, begins_with_slot, Table}
 use Rattle.mz_math_theory.specs.Clear.{HasConstant, LedBy, JoinedBy, IsClear}
 use Rattle.mz_math_theory.specs.Forms.{General, NoteFault, EachOnce, Begins}

@@ -1,10 +1,13 @@
-//! Math strings, as definitions: what notations and coercions are, the tree that tokens have by them, and the
-//! expression for which it stands, with the laws of these (mm0.md, sections on math strings, notations and
-//! coercions).
+//! Math strings as definitions: notations, coercions, the tree that tokens have by them, and the expression it stands
+//! for (mm0.md, the sections on math strings, notations and coercions).
 //!
-//! `specs/Notation.antt` says what a table is, `specs/Forms.antt` what the statements add to it, `specs/Kept.antt`
-//! what holds of each table, `specs/Coercions.antt` what a path of coercions is, and `specs/Formula.antt` what a
-//! math string stands for and the first rule that it breaks. Tokens stand in `mz_math_tokens`.
+//! `specs/Notation.antt` says what a table of notations is, `specs/Forms.antt` what each statement adds to it and
+//! which rules it breaks, `specs/Coercions.antt` what a path of coercions is. `specs/Grammar.antt` and
+//! `specs/Meaning.antt` say what a string stands for, and `specs/Formula.antt` which of its rules fails first.
+//!
+//! The laws: a clear table stays clear. A list of tokens has one tree at most. Each string has a meaning or a first
+//! rule that it breaks. That a tree is unique is one of the five proofs that PROOFS goes through. Nothing here reads
+//! a string: the crates `mz_math*` do.
 #![tactic(auto)]
 
 mod built;

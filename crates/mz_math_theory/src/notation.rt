@@ -5,7 +5,7 @@ ghost use Rattle.mz_math_theory.specs.Listed.{AreListed, element, slots as slots
 ghost use Rattle.mz_math_theory.specs.Notation.{begins_with_slot as with_slot, fixed, level_of};
 ghost use Rattle.mz_math_theory.specs.declared.notation.Notation.{Notation};
 
-use mz_math_tokens::Bytes;
+use mz_lex::Bytes;
 use std::alloc::{AllocError, Global};
 use std::marker::Model;
 

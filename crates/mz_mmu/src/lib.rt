@@ -1,7 +1,13 @@
-//! Whole proof texts: a text's statements, each over the names of those before it, or the first of
-//! its bytes, parentheses, forms and names that is wrong; and the laws of this reading.
+//! Whole proof texts read: their statements, each over the names of those before it, or the first thing that is
+//! wrong.
 //!
-//! A statement is what its node declares, with names resolved, or the first form or name that it gets wrong.
+//! `read_text` gives exactly the statements that a text is read as, or exactly the first rule that it breaks: U1, U2,
+//! U16 for the whole text, then U3, U15, U4, U5 statement by statement. Else memory ran out. [`Text`] gives each
+//! statement's name, visibility, declaration, dummies and proof. It keeps the nodes too: by these the type rules find
+//! their places.
+//!
+//! The laws stand in `src/laws.rt`: a text is read in one way or refused in one way. Dependencies ascend. Only
+//! theorems have proofs. Gaps stand in drafts alone. Start with `src/text.rt`, then `src/statements.rt`.
 #![tactic(auto)]
 
 mod laws;

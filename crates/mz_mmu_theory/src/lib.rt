@@ -1,9 +1,16 @@
-//! Proof texts, as definitions: the conversions, proofs and statements that nodes state, what they mean, their type
-//! rules and their weight, with the laws of these.
+//! Proof texts as definitions: statements and proofs, what they mean, their type rules and their weight, with the
+//! laws.
 //!
-//! `specs/Proof.antt` has proofs with names resolved, `specs/Proofs.antt` which nodes state one, `specs/Statements.antt`
-//! statements, `specs/Rules.antt` the type rules of one statement and `specs/TextRules.antt` those of a text, and
-//! `specs/Meaning.antt` that they hold exactly where the statements are legal as stated.
+//! `specs/Expressions.antt`, `specs/Proofs.antt` and `specs/Statements.antt` say which nodes are what, as relations
+//! without an order. `specs/FormOrder.antt` and `specs/StatementOrder.antt` carry the order in which a text is
+//! refused. `specs/Rules.antt` has the type rules U6 to U14, `specs/Weight.antt` the limits of a compiled file.
+//! `specs/Meaning.antt` says what a stated proof means: a derivation in which each let's name stands for its first
+//! part.
+//!
+//! The laws, which `mz_mmu` and `mz_type` prove: the type rules hold exactly where statements are legal as stated, and
+//! each text is well typed or has one first fault. The weight of a text is less than 2^64.
+//!
+//! The compiler's theory and the writers of texts rest on this, and on no reader. Nothing here reads a text.
 #![tactic(auto)]
 
 mod conv;

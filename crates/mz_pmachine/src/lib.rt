@@ -1,7 +1,14 @@
-//! The proof machine of verifiers that compare by identity, as it runs over the nodes of a body.
+//! The proof machine by identity, as it runs: over the nodes of a body, for verifiers that compare so.
 //!
-//! What the machine is, is said in `mz_machine_theory`, over the profile `portable` of `mz_pmachine_theory`;
-//! `specs/OverNodes.antt` says how the running machine stands for the one that is defined there.
+//! `check_portable` says exactly whether a body runs by the profile `portable`, or the first rule that fails and its
+//! place, and counts exactly the commands executed. It lets no gap through. What it accepts `check_body` of
+//! `mz_machine` accepts too: that is a law of `mz_pmachine_theory`.
+//!
+//! It has the modules of `mz_machine` and shares its lemmas, which hold for any profile. Where that compares two ids
+//! of a store, this compares two places in the body. One fact more is kept from command to command: what was made so
+//! far has lower numbers than what comes.
+//!
+//! Start with `specs/OverNodes.antt`, which says what nodes stand for, then `src/body.rt`.
 #![tactic(auto)]
 
 mod arguments;

@@ -1,9 +1,16 @@
-//! The proof machine of verifiers that compare by identity, as a definition.
+//! The proof machine by identity as a definition: what verifiers accept that compare expressions by identity alone.
 //!
-//! `specs/NodeIdentity.antt` has expressions in which each application carries the number of the command that
-//! made it, and the profile `portable`, over which the machine of `mz_machine_theory` accepts only what refers
-//! back to what it made. What runs so runs by the standard machine; and what runs by the table, meets
-//! the further demands (`specs/SharedBuilding.antt`) and makes each application once runs so (`specs/Laws.antt`).
+//! Such a verifier keeps each expression where a command made it, and two are equal only where one command made both.
+//! It accepts less than the standard machine: a dummy meets no saved term, Unfold has all three items, ConvRef is no
+//! command. `specs/NodeIdentity.antt` has these expressions and the profile `portable` for the machine of
+//! `mz_machine_theory`.
+//!
+//! The laws: what runs so runs by the standard machine too (`portable_runs_are_strict_runs`). A body that runs by
+//! `portable_trees` and makes no application twice runs so (`shared_bodies_run_by_identity`). Both are one simulation
+//! (`proofs/Embeds.antt`): forgetting the numbers of expressions, and giving them.
+//!
+//! It says what compiled files need so that other verifiers take them. Nothing here runs. Start with
+//! `specs/NodeIdentity.antt`, then `specs/Laws.antt`.
 #![tactic(auto)]
 
 mod examples;

@@ -1,8 +1,10 @@
-//! A specification and a binary together, as verifiers see them that compare by identity.
+//! The verdict by identity: what verifiers that compare by identity say of a specification and a binary.
 //!
-//! `specs/Portable.antt` says what is accepted so, and what the first refusal is: the verdict of `mz_match`,
-//! where the bodies of the binary run by identity. What is accepted so is accepted by the standard machine
-//! too.
+//! `portable_bytes` is the verdict of `mz_match` with one thing changed: bodies run by identity ([`PortableBodies`]).
+//! Its answers are exact (`specs/Portable.antt`). What it accepts the standard machine accepts too, with the same
+//! numbers, so all that is promised of a yes holds.
+//!
+//! It stands apart so that `verify` has no code of the second machine below it. Start with `src/portable.rt`.
 #![tactic(auto)]
 
 mod bodies;

@@ -13,10 +13,10 @@ use Rattle.mz_logic_theory.specs.Legality.{InRange, AllInRange}
 use Rattle.mz_logic_theory.specs.declared.binder.Binder.{Binder}
 use Rattle.mz_logic_theory.proofs.Offered.{range_of_sort}
 use Rattle.mz_math_theory.specs.declared.coercion.Coercion.{Coercion}
-use Rattle.mz_math_tokens.specs.declared.tokens.Delimiters.{Delimiters}
+use Rattle.mz_lex.specs.declared.tokens.Delimiters.{Delimiters}
 use Rattle.mz_math_theory.specs.declared.wanted.Wanted.{Wanted}
 use Rattle.mz_math_theory.specs.declared.wanted.Wanted.TheVariants.{Provable as provable, Sort as of_sort}
-use Rattle.mz_math_tokens.specs.MathTokens.{MathTokens, token_texts}
+use Rattle.mz_lex.specs.MathTokens.{MathTokens, token_texts}
 use Rattle.mz_math_theory.specs.Grammar.{Words, IsKnown}
 use Rattle.mz_math_theory.specs.Meaning.{Coerced, CoercedAll, IsSettled, IsClaimed}
 use Rattle.mz_math_theory.specs.Formula.{Reader, words, StandsFor, Means, known_checks, token_checks}

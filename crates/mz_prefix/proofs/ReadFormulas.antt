@@ -14,9 +14,9 @@ use Rattle.mz_logic_theory.specs.Sorts.{HasSort}
 use Rattle.mz_logic_theory.specs.Legality.{InRange, AllInRange}
 use Rattle.mz_logic_theory.specs.declared.binder.Binder.{Binder}
 use Rattle.mz_logic_theory.proofs.Offered.{range_of_sort}
-use Rattle.mz_math_tokens.specs.declared.tokens.MathToken.{MathToken}
+use Rattle.mz_lex.specs.declared.tokens.MathToken.{MathToken}
 use Rattle.mz_math_theory.specs.declared.wanted.Wanted.{Wanted}
-use Rattle.mz_math_tokens.specs.MathTokens.{no_delimiters}
+use Rattle.mz_lex.specs.MathTokens.{no_delimiters}
 use Rattle.mz_math_theory.specs.Formula.{words, IsFormula}
 use Rattle.mz_prefix.specs.Lines.{Tokens, math_text}
 use Rattle.mz_prefix.specs.Plain.{is_token_byte, IsToken, AreTokens as AllTokens}

@@ -21,7 +21,7 @@ use Rattle.mz_logic_theory.specs.declared.binder.Binder.{Binder}
 use Rattle.mz_logic_theory.specs.declared.binder.ResultType.{ResultType}
 use Rattle.mz_logic_theory.specs.declared.binder.SortMods.{SortMods}
 use Rattle.mz_logic_theory.proofs.Offered.{sort_by_rules}
-use Rattle.mz_math_tokens.specs.declared.tokens.MathToken.{MathToken}
+use Rattle.mz_lex.specs.declared.tokens.MathToken.{MathToken}
 use Rattle.mz_spec_theory.specs.Statement.{TypeText}
 use Rattle.mz_prefix.specs.Tokens.{lexeme_at, stop}
 use Rattle.mz_prefix.specs.Lines.{PlainBinder, Tokens, math_word, math_text, hyp_words, binders_at, type_at, hyps_at}

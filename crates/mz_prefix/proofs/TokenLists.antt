@@ -7,7 +7,7 @@ use Rattle.std.proofs.lemmas.Bool.{and_parts, and_from, not-true}
 use Rattle.mz_base.proofs.Offered.{contains_none, some-length}
 use Rattle.mz_lex.specs.Kinds.{is_space, is_math_byte, inside_of}
 use Rattle.mz_lex.proofs.Offered.{has-inside, part-at}
-use Rattle.mz_math_tokens.specs.MathTokens.{IsSpaces, IsMathToken, MathTokensFrom, MathTokens, no_delimiters, token_texts}
+use Rattle.mz_lex.specs.MathTokens.{IsSpaces, IsMathToken, MathTokensFrom, MathTokens, no_delimiters, token_texts}
 use Rattle.mz_prefix.specs.Lines.{Tokens, spaced, math_text}
 use Rattle.mz_prefix.specs.Plain.{is_token_byte, IsToken, AreTokens, tokens_at}
 use Rattle.mz_prefix.specs.PrintLaws.{TokensAreMathTokens}

@@ -4,7 +4,7 @@ use Rattle.std.specs.List.{list_all}
 use Rattle.mz_base.specs.Identifiers.{is_name}
 use Rattle.mz_lex.specs.Kinds.{is_space, is_math_byte}
 use Rattle.mz_lex.specs.Lexemes.{Lexeme}
-use Rattle.mz_math_tokens.specs.declared.tokens.MathToken.{MathToken}
+use Rattle.mz_lex.specs.declared.tokens.MathToken.{MathToken}
 use Rattle.mz_prefix.specs.Tokens.{lexemes_at}
 use Rattle.mz_prefix.specs.Lines.{PlainType, PlainBinder, Tokens, Line, sort_line, term_line, assert_line, definition_line, line_words, next_line}
 

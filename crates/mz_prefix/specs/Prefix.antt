@@ -5,7 +5,7 @@ use Rattle.mz_logic_theory.specs.Tree.{Tree, Trees, var, app, none, more}
 use Rattle.mz_logic_theory.specs.Declaration.{sorts}
 use Rattle.mz_logic_theory.specs.Modifiers.{MayBeClaimSort}
 use Rattle.mz_math_theory.specs.Notation.{TermName}
-use Rattle.mz_math_tokens.specs.MathTokens.{no_delimiters}
+use Rattle.mz_lex.specs.MathTokens.{no_delimiters}
 use Rattle.mz_math_theory.specs.Grammar.{Words, IsVariable}
 use Rattle.mz_math_theory.specs.declared.wanted.Wanted.{Wanted}
 use Rattle.mz_math_theory.specs.declared.wanted.Wanted.TheVariants.{Provable as provable, Sort as of_sort}

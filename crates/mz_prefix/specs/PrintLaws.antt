@@ -15,7 +15,7 @@ use Rattle.mz_math_theory.specs.Grammar.{Words, Exp}
 use Rattle.mz_math_theory.specs.declared.wanted.Wanted.{Wanted}
 use Rattle.mz_math_theory.specs.Formula.{Reader, words, IsFormula}
 use Rattle.mz_prefix.specs.Prefix.{tokens_of, IsSpoken, HasNoNotation, IsOfWanted, IsShort}
-use Rattle.mz_math_tokens.specs.MathTokens.{MathTokens, no_delimiters, token_texts}
+use Rattle.mz_lex.specs.MathTokens.{MathTokens, no_delimiters, token_texts}
 
 -- behind other bytes and before a rest, tokens are the next lexemes, and then comes what comes behind them
 abbrev pub WordsAreLexemes : Type 0

@@ -1,7 +1,15 @@
-//! A specification for a proof text: its public statements as they are printed without notations, or the first reason why
-//! there is none.
+//! A specification for a proof text: its public statements in prefix form, without notations; or why there is none.
 //!
-//! What is printed is read back and declares these statements; each text has a specification, or one first reason to have none.
+//! `spec_of` gives exactly `prefix_text` of the public statements, or the first thing that stands against it. That is
+//! a fault of the text, a claim that mentions a local definition, or one that is too long, as the whole may be. What
+//! is printed declares what agrees with the public statements. So what is compiled of them is accepted against it.
+//!
+//! A body that mentions a local definition, or that is too long for a math string, is left out. Variables get names
+//! with one underscore more than any name of the text begins with, so none clashes.
+//!
+//! The laws have three steps. Printed lines are read again (`src/print_laws.rt`). Printed declarations are declared
+//! (`src/read_laws.rt`). The public part of a legal list is legal (`src/public_laws.rt`). Start with
+//! `specs/Wording.antt`.
 #![tactic(auto)]
 
 mod agree_laws;

@@ -1,5 +1,8 @@
-//! Tests of what no run shows: lexemes, nodes, weights, declarations, stores, streams, bodies and the writer of
-//! binaries, each by itself. It has no code of its own.
+//! Tests of what no run of the program shows: lexemes, nodes, stores, streams, bodies and the writer, each by itself.
+//!
+//! Most tests are rows under `tests/`, which the built program answers. What it can't be asked stands here, with
+//! expected values that were written by hand, and that calls succeed where memory is ample. It has no code of its
+//! own.
 #![tactic(auto)]
 
 #[cfg(test)]

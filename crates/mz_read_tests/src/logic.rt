@@ -106,15 +106,15 @@ enum Kind {
 /// A parameter: its sort, whether it is bound, and on which place it depends, if on one.
 type Param = (u32, bool, Option<u32>);
 
-fn expr(alloc: Global, shape: Shape) -> Result<Expr, AllocError> {
+fn expr(rt: &(impl Abort + AllocGlobal), shape: Shape) -> Expr {
     match shape {
-        Shape::Var(x) => Ok(Expr::var(x)),
-        Shape::Alone(t) => Ok(Expr::app(t, Exprs::new(alloc))),
+        Shape::Var(x) => Expr::var(x),
+        Shape::Alone(t) => Expr::app(t, Exprs::new(rt.alloc())),
         Shape::Pair(t, x, y) => {
-            let mut operands = Exprs::new(alloc);
-            operands.push(Expr::var(x))?;
-            operands.push(Expr::var(y))?;
-            Ok(Expr::app(t, operands))
+            let mut operands = Exprs::new(rt.alloc());
+            operands.push(Expr::var(x)).expect(rt, "memory");
+            operands.push(Expr::var(y)).expect(rt, "memory");
+            Expr::app(t, operands)
         }
     }
 }
@@ -128,12 +128,13 @@ fn binder(alloc: Global, param: &Param) -> Result<Binder, AllocError> {
     Ok(Binder { sort, bound, deps })
 }
 
-fn binders(alloc: Global, params: &[Param]) -> Result<Binders, AllocError> {
-    let mut binders = Binders::new(alloc);
+fn binders(rt: &(impl Abort + AllocGlobal), params: &[Param]) -> Binders {
+    let mut binders = Binders::new(rt.alloc());
     for param in params {
-        binders.push(binder(alloc, param)?)?;
+        let binder = binder(rt.alloc(), param).expect(rt, "memory");
+        binders.push(binder).expect(rt, "memory");
     }
-    Ok(binders)
+    binders
 }
 
 fn term(params: Binders, sort: u32, form: TermForm) -> Decl {
@@ -145,10 +146,11 @@ fn term(params: Binders, sort: u32, form: TermForm) -> Decl {
     })
 }
 
-fn defined(alloc: Global, dummies: &[Param], body: Shape) -> Result<TermForm, AllocError> {
-    let dummies = binders(alloc, dummies)?;
-    let body = expr(alloc, body)?;
-    Ok(TermForm::Body { dummies, body })
+fn defined(rt: &(impl Abort + AllocGlobal), dummies: &[Param], body: Shape) -> TermForm {
+    TermForm::Body {
+        dummies: binders(rt, dummies),
+        body: expr(rt, body),
+    }
 }
 
 fn axiom(alloc: Global, params: Binders, conclusion: Expr) -> Decl {
@@ -160,22 +162,22 @@ fn axiom(alloc: Global, params: Binders, conclusion: Expr) -> Decl {
     })
 }
 
-fn declaration(alloc: Global, params: &[Param], kind: Kind) -> Result<Decl, AllocError> {
-    let params = binders(alloc, params)?;
-    Ok(match kind {
+fn declaration(rt: &(impl Abort + AllocGlobal), params: &[Param], kind: Kind) -> Decl {
+    let params = binders(rt, params);
+    match kind {
         Kind::Term(sort) => term(params, sort, TermForm::Plain),
-        Kind::Definition(sort, dummies, body) => term(params, sort, defined(alloc, dummies, body)?),
-        Kind::Axiom(conclusion) => axiom(alloc, params, expr(alloc, conclusion)?),
-    })
+        Kind::Definition(sort, dummies, body) => term(params, sort, defined(rt, dummies, body)),
+        Kind::Axiom(conclusion) => axiom(rt.alloc(), params, expr(rt, conclusion)),
+    }
 }
 
 /// Adds a declaration that is legal.
 fn declare(env: &mut Env, decl: Decl) -> Result<(), AllocError> {
     if check_decl(env, &decl).is_ok() && env.len() < 4_294_967_295 {
-        env.push_decl(decl)
-    } else {
-        Err(AllocError)
+        return env.push_decl(decl);
     }
+    drop(decl);
+    Err(AllocError)
 }
 
 const WFF: u32 = 0;
@@ -225,7 +227,7 @@ fn small_env(rt: &(impl Abort + AllocGlobal)) -> Env {
         declare(&mut env, Decl::Sort(SortMods(*mods))).expect(rt, "a legal sort");
     }
     for params in TERMS {
-        let term = declaration(rt.alloc(), params, Kind::Term(WFF)).expect(rt, "memory");
+        let term = declaration(rt, params, Kind::Term(WFF));
         declare(&mut env, term).expect(rt, "a legal term");
     }
     env
@@ -334,13 +336,27 @@ const FIRST_FAULTS: &[(&[Param], Kind, Option<DeclFault>, &str)] = &[
     ),
 ];
 
+/// Whether what is declared over the parameters has this first fault.
+fn has_first(
+    rt: &(impl Abort + AllocGlobal),
+    env: &Env,
+    params: &[Param],
+    kind: Kind,
+    wanted: Option<DeclFault>,
+) -> bool {
+    let decl = declaration(rt, params, kind);
+    let found = check_decl(env, &decl).err();
+    drop(decl);
+    found == wanted
+}
+
 #[test]
 fn first_faults(rt: HostRuntime) {
     let env = small_env(&rt);
     for (params, kind, wanted, what) in FIRST_FAULTS {
-        let decl = declaration(rt.alloc(), params, *kind).expect(&rt, "memory");
-        expect(&rt, check_decl(&env, &decl).err() == *wanted, what);
+        expect(&rt, has_first(&rt, &env, params, *kind, *wanted), what);
     }
+    drop(env);
 }
 
 #[test]
@@ -352,12 +368,14 @@ fn what_is_added(rt: HostRuntime) {
         env.term(2).is_some() && env.term(3).is_none(),
         "three terms",
     );
-    let e = expr(rt.alloc(), Shape::Pair(EQ, 0, 1)).expect(&rt, "memory");
+    let e = expr(&rt, Shape::Pair(EQ, 0, 1));
     expect(
         &rt,
         is_pair(&e, EQ, 0, 1),
         "what is put together is read back",
     );
+    drop(e);
+    drop(env);
 }
 
 /// Whether the expression is this term over these two variables.

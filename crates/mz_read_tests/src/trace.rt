@@ -70,39 +70,55 @@ fn proof_of(alloc: Global, file: &[u8], theorem: Theorem, at: u32) -> Result<Run
     traced::<Brand>(alloc, Blank::new(1), &mmb, theorem, at)
 }
 
-/// A node as numbers: 0 for a variable, 1 an application, 2 a hypothesis, 3 a let, 4 a citation, 5 a
-/// conversion of a proof, 6 a reflexivity, 7 a turned conversion, 8 a congruence, 9 an unfolding; then
-/// its own numbers in order.
-fn numbers(alloc: Global, node: &RunNode) -> Result<Vec<u32>, Mem> {
-    let mut all = Vec::new(alloc);
-    match node {
-        RunNode::Var(place) => all.extend_from_slice(&[0, *place])?,
-        RunNode::App(term, es) => {
-            all.extend_from_slice(&[1, *term])?;
-            all.extend_from_slice(es)?;
-        }
-        RunNode::Hyp(i) => all.extend_from_slice(&[2, *i])?,
-        RunNode::Let(i) => all.extend_from_slice(&[3, *i])?,
-        RunNode::Use(row, claim, es, proofs) => {
-            all.extend_from_slice(&[4, *row, *claim])?;
-            all.extend_from_slice(es)?;
-            all.extend_from_slice(proofs)?;
-        }
-        RunNode::Conv(claim, conv, proof) => all.extend_from_slice(&[5, *claim, *conv, *proof])?,
-        RunNode::Refl(e) => all.extend_from_slice(&[6, *e])?,
-        RunNode::Sym(conv) => all.extend_from_slice(&[7, *conv])?,
-        RunNode::Cong(term, convs) => {
-            all.extend_from_slice(&[8, *term])?;
-            all.extend_from_slice(convs)?;
-        }
-        RunNode::Unfold(term, body, es, met, conv) => {
-            all.extend_from_slice(&[9, *term, *body])?;
-            all.extend_from_slice(es)?;
-            all.extend_from_slice(met)?;
-            all.push(*conv)?;
-        }
+/// What is behind the numbers, where they are the first of these.
+fn behind<'a>(wanted: Option<&'a [u32]>, first: &[u32]) -> Option<&'a [u32]> {
+    let wanted = wanted?;
+    if wanted.get(..first.len()) == Some(first) {
+        wanted.get(first.len()..)
+    } else {
+        None
     }
-    Ok(all)
+}
+
+/// The same of one number.
+fn after<'a>(wanted: Option<&'a [u32]>, first: u32) -> Option<&'a [u32]> {
+    let wanted = wanted?;
+    if wanted.get(0) == Some(&first) {
+        wanted.get(1..)
+    } else {
+        None
+    }
+}
+
+/// Whether a node is these numbers: 0 for a variable, 1 an application, 2 a hypothesis, 3 a let, 4 a
+/// citation, 5 a conversion of a proof, 6 a reflexivity, 7 a turned conversion, 8 a congruence, 9 an
+/// unfolding; then its own numbers in order.
+fn is_node(node: &RunNode, wanted: &[u32]) -> bool {
+    let wanted = Some(wanted);
+    let left = match node {
+        RunNode::Var(place) => after(after(wanted, 0), *place),
+        RunNode::App(term, es) => behind(after(after(wanted, 1), *term), es),
+        RunNode::Hyp(i) => after(after(wanted, 2), *i),
+        RunNode::Let(i) => after(after(wanted, 3), *i),
+        RunNode::Use(row, claim, es, proofs) => {
+            let operands = after(after(after(wanted, 4), *row), *claim);
+            behind(behind(operands, es), proofs)
+        }
+        RunNode::Conv(claim, conv, proof) => {
+            after(after(after(after(wanted, 5), *claim), *conv), *proof)
+        }
+        RunNode::Refl(e) => after(after(wanted, 6), *e),
+        RunNode::Sym(conv) => after(after(wanted, 7), *conv),
+        RunNode::Cong(term, convs) => behind(after(after(wanted, 8), *term), convs),
+        RunNode::Unfold(term, body, es, met, conv) => {
+            let operands = after(after(after(wanted, 9), *term), *body);
+            after(behind(behind(operands, es), met), *conv)
+        }
+    };
+    match left {
+        Some(left) => left.is_empty(),
+        None => false,
+    }
 }
 
 /// A sort, an axiom that states the first of two parameters, and a theorem that cites it with a dummy for
@@ -274,27 +290,36 @@ fn file_of(alloc: Global, front: &[u8], cut: usize, then: &[u8]) -> Result<Vec<u
     Ok(file)
 }
 
-/// The nodes, each as numbers.
-fn all_numbers(alloc: Global, run: &Run) -> Result<Vec<Vec<u32>>, Mem> {
-    let mut all = Vec::new(alloc);
-    for node in run.nodes().iter() {
-        all.push(numbers(alloc, node)?)?;
+/// Whether the nodes are these numbers, each.
+fn are_nodes(run: &Run, wanted: &[&[u32]]) -> bool {
+    let nodes = run.nodes();
+    for i in 0..nodes.len() {
+        let Some(node) = wanted.get(i) else {
+            return false;
+        };
+        if !is_node(&nodes[i], node) {
+            return false;
+        }
     }
-    Ok(all)
+    nodes.len() == wanted.len()
 }
 
-/// The proofs with names, in order.
-fn all_lets(alloc: Global, run: &Run) -> Result<Vec<u32>, Mem> {
-    let mut all = Vec::new(alloc);
+/// Whether the proofs with names are these, in order.
+fn are_lets(run: &Run, wanted: &[u32]) -> bool {
     'lets: for i in 0..run.let_count() {
-        all.push(run.let_root(i))?;
+        if wanted.get(i as usize) != Some(&run.let_root(i)) {
+            return false;
+        }
     }
-    Ok(all)
+    run.let_count() as usize == wanted.len()
 }
 
-/// The last proof as numbers.
-fn last_numbers(alloc: Global, run: &Run) -> Result<Vec<u32>, Mem> {
-    numbers(alloc, run.node(run.root()))
+/// Whether the last proof is the node with this number.
+fn is_last(run: &Run, nodes: &[&[u32]], root: u32) -> bool {
+    match nodes.get(root as usize) {
+        Some(node) => run.root() == root && is_node(run.node(run.root()), node),
+        None => false,
+    }
 }
 
 #[test]
@@ -302,22 +327,9 @@ fn proofs_of_bodies(rt: HostRuntime) {
     for ((front, cut), then, (theorem, at), nodes, lets, root, dummies) in CASES {
         let file = file_of(rt.alloc(), front, *cut, then).expect(&rt, "memory");
         let run = proof_of(rt.alloc(), &file, *theorem, *at).expect(&rt, "memory");
-        let found = all_numbers(rt.alloc(), &run).expect(&rt, "memory");
-        assert_eq!(rt; found.len(), nodes.len(), "{then:?}");
-        for (i, node) in found.iter().enumerate() {
-            assert!(rt;
-                nodes.get(i) == Some(&node.as_slice()),
-                "node {i} of {then:?}"
-            );
-        }
-        let named = all_lets(rt.alloc(), &run).expect(&rt, "memory");
-        assert!(rt; named.as_slice() == *lets, "lets of {then:?}");
-        assert_eq!(rt; run.root(), *root, "{then:?}");
-        let last = last_numbers(rt.alloc(), &run).expect(&rt, "memory");
-        assert!(rt;
-            nodes.get(*root as usize) == Some(&last.as_slice()),
-            "the last proof of {then:?}"
-        );
+        assert!(rt; are_nodes(&run, nodes), "nodes of {then:?}");
+        assert!(rt; are_lets(&run, lets), "lets of {then:?}");
+        assert!(rt; is_last(&run, nodes, *root), "the last proof of {then:?}");
         assert!(rt; run.dummies() == *dummies, "dummies of {then:?}");
     }
 }

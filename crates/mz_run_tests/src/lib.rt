@@ -1,5 +1,7 @@
-//! Tests of the outside, of calls on it that fail one by one, and of each command with ample memory and with none.
-//! It has no code of its own.
+//! Tests of the outside: calls on it that fail one by one, and each command with ample memory and with none.
+//!
+//! Contracts let a call answer out of memory. That one with ample memory doesn't is no clause, so it is tested here.
+//! So are files and streams that fail. It has no code of its own.
 #![tactic(auto)]
 
 #[cfg(test)]

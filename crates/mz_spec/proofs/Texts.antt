@@ -21,7 +21,7 @@ use Rattle.mz_spec_theory.specs.Declaring.{After}
 use Rattle.mz_spec_theory.specs.Spec.{Stand, SpecMakes, SpecFault, IsGood, Fails}
 use Rattle.mz_spec.specs.Reading.{StandTo}
 use Rattle.mz_base.specs.Checks.{AllHold, FailsFirst}
-use Rattle.mz_math_tokens.specs.declared.tokens.MathToken.{MathToken}
+use Rattle.mz_lex.specs.declared.tokens.MathToken.{MathToken}
 use Rattle.mz_spec_theory.proofs.Offered.{lexemes-long, signs-long, formulas-tokens}
 use Rattle.mz_spec_theory.specs.Formulas.{AreTokens}
 use Rattle.mz_spec_theory.specs.Rules.{statement_checks}

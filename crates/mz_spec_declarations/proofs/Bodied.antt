@@ -8,10 +8,10 @@ use Rattle.mz_logic_theory.specs.Tree.{Tree}
 use Rattle.mz_logic_theory.specs.Declaration.{signatures}
 use Rattle.mz_logic_theory.specs.Variables.{InFV}
 use Rattle.mz_logic_theory.specs.declared.binder.ResultType.{ResultType}
-use Rattle.mz_math_tokens.specs.declared.tokens.MathToken.{MathToken}
+use Rattle.mz_lex.specs.declared.tokens.MathToken.{MathToken}
 use Rattle.mz_math_theory.specs.declared.wanted.Wanted.TheVariants.{Sort as of_sort}
 use Rattle.mz_math_theory.specs.Notation.{Variables}
-use Rattle.mz_math_tokens.specs.MathTokens.{MathTokens}
+use Rattle.mz_lex.specs.MathTokens.{MathTokens}
 use Rattle.mz_math_theory.specs.Kept.{IsTable, AreVariables}
 use Rattle.mz_math_theory.proofs.Offered.{one-meaning}
 use Rattle.mz_spec_theory.specs.Reading.{OnFault}

@@ -4,8 +4,8 @@ use Rattle.mz_base.proofs.Offered.{drop-item, Decides, decides-after, fails-befo
 use Rattle.mz_base.specs.Checks.{Checks, AllHold, FailsFirst}
 use Rattle.mz_logic_theory.specs.Tree.{Tree, Trees, none, followed_by}
 use Rattle.mz_logic_theory.proofs.Offered.{followed_by_assoc, followed_by_none}
-use Rattle.mz_math_tokens.specs.declared.tokens.MathToken.{MathToken}
-use Rattle.mz_math_tokens.specs.MathTokens.{MathTokens}
+use Rattle.mz_lex.specs.declared.tokens.MathToken.{MathToken}
+use Rattle.mz_lex.specs.MathTokens.{MathTokens}
 use Rattle.mz_spec_theory.specs.Reading.{OnFault}
 use Rattle.mz_spec_theory.specs.declared.refusal.Fault.{Fault}
 use Rattle.mz_spec_theory.specs.declared.refusal.Halt.{Halt}

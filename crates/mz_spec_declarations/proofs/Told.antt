@@ -5,12 +5,12 @@ use Rattle.mz_lex.specs.Lexemes.{Lexeme}
 use Rattle.mz_lex.specs.declared.rule.S.{S}
 use Rattle.mz_base.specs.Checks.{Checks, ◌>>◌, retold, AllHold, FailsFirst}
 use Rattle.mz_logic_theory.specs.Tree.{Tree}
-use Rattle.mz_math_tokens.specs.declared.tokens.MathToken.{MathToken}
+use Rattle.mz_lex.specs.declared.tokens.MathToken.{MathToken}
 use Rattle.mz_math_theory.specs.declared.wanted.Wanted.{Wanted}
-use Rattle.mz_math_tokens.specs.MathTokens.{MathTokens, MathTokensFrom, token_texts}
+use Rattle.mz_lex.specs.MathTokens.{MathTokens, MathTokensFrom, token_texts}
 use Rattle.mz_math_theory.specs.Grammar.{Words}
 use Rattle.mz_math_theory.specs.Formula.{Reader, Misreading, words, known_checks, token_checks, formula_checks, IsFormula, Misreads}
-use Rattle.mz_math_tokens.proofs.Offered.{math_tokens-one}
+use Rattle.mz_lex.proofs.Offered.{math_tokens-one}
 use Rattle.mz_spec_theory.specs.SpecCode.{EndsSmall}
 use Rattle.mz_spec_theory.specs.Formulas.{inner, place_of, told}
 

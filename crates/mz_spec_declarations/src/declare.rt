@@ -8,7 +8,7 @@ ghost use Rattle.mz_logic_theory.specs.DeclView.{assertion_of as assertion_of_le
 ghost use Rattle.mz_logic_theory.specs.Legality.{IsLegalDecl};
 ghost use Rattle.mz_logic_theory.specs.View.{tree};
 ghost use Rattle.mz_math_theory.specs.Kept.{AreVariables};
-ghost use Rattle.mz_math_tokens.specs.declared.tokens.MathToken.{MathToken};
+ghost use Rattle.mz_lex.specs.declared.tokens.MathToken.{MathToken};
 ghost use Rattle.mz_spec_rules.specs.Answers.{JudgesOrMem, JudgesStatement};
 ghost use Rattle.mz_spec_variables.specs.Code.{AreGrouped, AreParts, all_of, variable};
 ghost use Rattle.mz_spec_theory.specs.SpecCode.{EndsSmall, stated as stated_lem};

@@ -1,8 +1,13 @@
-//! The statements of a specification that declare: sorts, terms, definitions, axioms and theorems, with their formulas
-//! (mm0.md, sections on sorts, terms, definitions, axioms and theorems).
+//! Statements that declare: sorts, terms, definitions, axioms and theorems of a specification, with their formulas
+//! (mm0.md, the sections on these).
 //!
-//! Each is added to the state that the statements before make, or its first fault is told; the rules are those of
-//! `mz_spec_theory`.
+//! `add_sort`, `add_term`, `add_definition` and `add_assertion` each take the state of the statements before. They
+//! say that all rules of the statement hold and leave the state with it, or give its first fault, exactly as
+//! `mz_spec_theory` has it. Formulas are read by `mz_math` after the rules on names and types (S9, S17, S10, S11, S8,
+//! then S18 of a body).
+//!
+//! A definition's body is gone through once for its free variables, however many there are. Start with
+//! `src/declare.rt`, then `src/formulas.rt`.
 #![tactic(auto)]
 
 mod declare;

@@ -1,1 +1,1 @@
-pub mod CodeProgress
+pub mod Standing

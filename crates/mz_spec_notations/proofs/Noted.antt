@@ -6,8 +6,8 @@ use Rattle.mz_base.specs.Checks.{Checks, nothing, each_in_order, ◌>>◌, retol
 use Rattle.mz_base.proofs.Offered.{fails-before, fails-after, all_hold-both, retold-fails, retold-holds}
 use Rattle.mz_logic_theory.specs.Declaration.{signatures}
 use Rattle.mz_logic_theory.specs.Signature.{Signature}
-use Rattle.mz_math_tokens.specs.declared.tokens.Delimiters.{Delimiters}
-use Rattle.mz_math_tokens.specs.declared.tokens.MathToken.{MathToken}
+use Rattle.mz_lex.specs.declared.tokens.Delimiters.{Delimiters}
+use Rattle.mz_lex.specs.declared.tokens.MathToken.{MathToken}
 use Rattle.mz_math_theory.specs.declared.coercion.Coercion.{Coercion}
 use Rattle.mz_math_theory.specs.declared.notation.Notation.{Notation}
 use Rattle.mz_math_theory.specs.declared.fault.NoteFault.{NoteFault}

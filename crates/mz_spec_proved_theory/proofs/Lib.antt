@@ -4,4 +4,6 @@ pub mod OwnBodies
 pub mod Lists
 pub mod ProvingTheorems
 pub mod Grounded
+pub mod Spelling
+pub mod ByItself
 pub mod Offered

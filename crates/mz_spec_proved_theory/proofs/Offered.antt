@@ -1,4 +1,5 @@
 -- What crates above may use of these proofs; all else is this crate's own, and may change.
+pub use Rattle.mz_spec_proved_theory.proofs.ByItself.{follows-itself}
 pub use Rattle.mz_spec_proved_theory.proofs.Grounded.{needs-axiom}
 pub use Rattle.mz_spec_proved_theory.proofs.Lists.{drop-entry, drop-further, drop-past, kinds-total, leaves-local, leaves-nothing, leaves-public, left-next, left-same, length-declarations, length-env, partner-there, publics-append, publics-local, publics-public, term_rows-append}
 pub use Rattle.mz_spec_proved_theory.proofs.OwnBodies.{own_pairs, paired-own, pairs-own}

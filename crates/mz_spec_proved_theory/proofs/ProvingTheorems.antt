@@ -17,7 +17,7 @@ use Rattle.mz_spec_proved_theory.proofs.Lists.{publics-append, publics-public}
 -- ---- prefixes
 
 -- a prefix of a legal list is legal
-legal-front : (Q : List Declaration → Derivation → Type 0) (env : List Declaration) (xs ys : List Statement) → LegalAfter Q env (xs ++ ys) → LegalAfter Q env xs
+pub legal-front : (Q : List Declaration → Derivation → Type 0) (env : List Declaration) (xs ys : List Statement) → LegalAfter Q env (xs ++ ys) → LegalAfter Q env xs
 legal-front Q env [] ys h = tt
 legal-front Q env (x ∷ xs) ys h = (h.0, legal-front Q (env ++ x.decl ∷ []) xs ys h.1)
 
@@ -32,7 +32,7 @@ Found before ss ds i d = (mid : List Statement) × (s : Statement) × (after : L
     × Agrees (take i ds) (publics_after before mid) × Agrees (take (suc i) ds) (publics_after before (mid ++ s ∷ []))
 
 -- a local statement is nobody's partner
-publics-skips : (before : List Statement) (t : Statement) (xs : List Statement) → t.is_local ≡ true → publics_after before (t ∷ xs) ≡ publics_after (before ++ t ∷ []) xs
+pub publics-skips : (before : List Statement) (t : Statement) (xs : List Statement) → t.is_local ≡ true → publics_after before (t ∷ xs) ≡ publics_after (before ++ t ∷ []) xs
 publics-skips before t xs is = ap (λ (b : Bool). if b then publics_after (before ++ t ∷ []) xs else partner_of before t ∷ publics_after (before ++ t ∷ []) xs) is
 
 found-later : (before : List Statement) (t : Statement) (ts : List Statement) (ds : List Declaration) (i : ℕ) (d : Declaration) → t.is_local ≡ true
@@ -132,12 +132,12 @@ theorem-of-kind (assertion_decl b) is = (b, refl, by b.is_axiom is)
     by false is = refl
 
 -- the statement that is a theorem of the specification, with those before it and after it
-abbrev Standing : List Declaration → List Statement → ℕ → Assertion → Type 0
+abbrev pub Standing : List Declaration → List Statement → ℕ → Assertion → Type 0
 Standing ds ss i a = (before : List Statement) × (proved : Assertion) × (after : List Statement) × (ss ≡ before ++ stated proved ∷ after)
     × AllHold (match_checks (assertion_decl a) (partner_of before (stated proved))) × (proved.is_axiom ≡ false)
     × Agrees (take i ds) (publics before) × Agrees (take (suc i) ds) (publics (before ++ stated proved ∷ []))
 
-standing : (ds : List Declaration) (ss : List Statement) → Agrees ds (publics ss) → (i : ℕ) (a : Assertion) → slice_get ds i ≡ Some (assertion_decl a) → a.is_axiom ≡ false → Standing ds ss i a
+pub standing : (ds : List Declaration) (ss : List Statement) → Agrees ds (publics ss) → (i : ℕ) (a : Assertion) → slice_get ds i ≡ Some (assertion_decl a) → a.is_axiom ≡ false → Standing ds ss i a
 standing ds ss agrees i a at theorem =
     let (before, last, after, front, holds, fewer, more) = found [] ss ds i (assertion_decl a) agrees at in
     let kind : kinds.Theorem ≡ kind_of last.decl = ap (λ (b : Bool). if b then kinds.Axiom else kinds.Theorem) (sym theorem) ∙ holds.1.0 in

@@ -1,7 +1,12 @@
-//! When a specification is proved, as a definition and its laws. Nothing here speaks of binaries.
+//! The promise of a yes: when a specification is proved, as a definition. Nothing here speaks of binaries.
 //!
-//! `specs/Headline.antt` says what is promised where a pair is accepted, `specs/Match.antt` when declarations
-//! agree with the public statements of a list, and `specs/Proved.antt` that each theorem declared is proved.
+//! `specs/Headline.antt` has `Proves`, the promise of a yes: each theorem follows from its hypotheses and the axioms
+//! before it. `specs/Match.antt` says when declarations agree with the public statements of a legal list,
+//! `specs/Proved.antt` what follows for each theorem, `specs/ByItself.antt` what it is to need no such list. Terms are
+//! compared by their public numbers, and bodies up to a one-to-one map of dummies (`specs/AlphaTrees.antt`).
+//!
+//! It stands by itself because a user who reads the promise should need nothing of the file format. Start with
+//! `specs/Headline.antt`.
 #![tactic(auto)]
 
 mod kind;

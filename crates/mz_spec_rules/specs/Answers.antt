@@ -5,7 +5,7 @@ use Rattle.mz_base.specs.Checks.{Checks, AllHold, FailsFirst}
 use Rattle.mz_spec_theory.specs.Reading.{OnFault}
 use Rattle.mz_spec_theory.specs.declared.refusal.Fault.{Fault}
 use Rattle.mz_spec_theory.specs.declared.refusal.Halt.{Halt}
-use Rattle.mz_math_tokens.specs.declared.tokens.MathToken.{MathToken}
+use Rattle.mz_lex.specs.declared.tokens.MathToken.{MathToken}
 use Rattle.mz_spec_theory.specs.Statement.{Statement}
 use Rattle.mz_spec_theory.specs.View.{view}
 use Rattle.mz_spec_theory.specs.State.{State}

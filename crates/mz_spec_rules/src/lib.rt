@@ -1,9 +1,13 @@
-//! What the rules of a statement ask of the statements before: names, types, binders and
-//! precedences (mm0.md, sections on sorts, terms, definitions, axioms and theorems, notations and
-//! coercions).
+//! What the rules ask of the statements before: names, types, binders and precedences; and the state these make.
 //!
-//! The state that the statements before make is kept here; which rules there are, and in which order, is said in
-//! `mz_spec_theory`.
+//! A [`State`] has what the statements so far declare. `check_new`, `check_known`, `State::check_parts` and
+//! `State::check_notation` say exactly whether a statement's names, types and binders are right, or give the first
+//! fault (S4, S5, S6, S19, S7). `level_of` reads a precedence (S15). `State::binders_of` and `State::result_of` give
+//! what the statement declares.
+//!
+//! The rules and their order are defined in `mz_spec_theory`. This crate reads no math string, so it stands beside
+//! `mz_math` and both are proved at one time. Start with `specs/Entries.antt`, then `src/parts.rt` and
+//! `src/rules.rt`.
 #![tactic(auto)]
 
 mod levels;

@@ -174,8 +174,8 @@ impl<'a> State<'a> {
         }
     }
 
-    /// Whether the parameter at this place stands right behind those before it, the last of which is of
-    /// this group.
+    /// Whether the parameter at this place stands right behind those before it, where the last of them does,
+    /// is of this group, and bound or not. Within a group nothing is looked up twice.
     fn is_binder(
         &self,
         index: &Option<NameIndex<'a>>,
@@ -183,17 +183,21 @@ impl<'a> State<'a> {
         place: usize,
         variable: &Variable<'_, 'a>,
         last: Option<usize>,
+        was_bound: bool,
     ) -> bool
         requires kept { IsKept (state self.now) }
         requires index { MatchOption index.now ⊤ (IsIndexOf (map variable_lem params.now)) }
         requires place { place ≤ length params.now }
-        requires last { (g : ℕ) → variable.now.group ≡ Some g → last ≡ Some g → Every (IsBoundAmong (map variable_lem (take place params.now))) (type_text variable.now.ty.now).deps }
+        requires last { (g : ℕ) → variable.now.group ≡ Some g → last ≡ Some g → variable.now.is_bound ≡ was_bound → IsBinder (state self.now) (map variable_lem (take place params.now)) (variable_lem variable.now) }
         ensures { IsTrue result ↔ IsBinder (state self.now) (map variable_lem (take place params.now)) (variable_lem variable.now) }
     {
+        if is_alike(variable, last, was_bound) {
+            return true;
+        }
         if variable.is_bound && (!variable.ty.deps.is_empty() || self.is_strict(variable.ty)) {
             return false;
         }
-        depends_on_those_before(index, params, place, variable, last)
+        depends_on_those_before(index, params, place, variable)
     }
 
     /// Whether each parameter stands right behind those before it.
@@ -204,26 +208,41 @@ impl<'a> State<'a> {
         ensures { IsTrue result ↔ AreBinders (state self.now) [] (map variable_lem params.now) }
     {
         let mut last = None;
+        let mut was_bound = false;
         for (i, variable) in params.iter().enumerate() {
-            if !self.is_binder(index, params, i, variable, last) {
+            if !self.is_binder(index, params, i, variable, last, was_bound) {
                 return false;
             }
             last = variable.group;
+            was_bound = variable.is_bound;
         }
         true
     }
 
-    /// Whether no dummy's sort is strict or free.
+    /// Whether no dummy's sort is strict or free, which is asked once for a group.
     fn are_dummy_sorts(&self, dummies: &[Variable<'_, 'a>]) -> bool
         requires kept { IsKept (state self.now) }
-        ensures { IsTrue result ↔ Every (IsDummySort (state self.now)) (map variable_lem dummies.now) }
+        ensures { AreGrouped dummies.now → IsTrue result ↔ Every (IsDummySort (state self.now)) (map variable_lem dummies.now) }
     {
+        let mut last = None;
         for dummy in dummies {
-            if self.is_strict_or_free(dummy.ty) {
+            if !self.is_dummy_sort(dummy, last) {
                 return false;
             }
+            last = dummy.group;
         }
         true
+    }
+
+    /// Whether the dummy's sort is neither strict nor free, where the last one's isn't, which is of this group.
+    fn is_dummy_sort(&self, dummy: &Variable<'_, 'a>, last: Option<usize>) -> bool
+        requires kept { IsKept (state self.now) }
+        ensures { ((g : ℕ) → dummy.now.group ≡ Some g → last ≡ Some g → IsDummySort (state self.now) (variable_lem dummy.now)) → IsTrue result ↔ IsDummySort (state self.now) (variable_lem dummy.now) }
+    {
+        if dummy.is_of(last) {
+            return true;
+        }
+        !self.is_strict_or_free(dummy.ty)
     }
 
     /// Whether the result's sort isn't pure.
@@ -283,23 +302,24 @@ impl<'a> State<'a> {
     }
 }
 
-/// Whether the variable depends on bound ones before this place alone, where the last of those before it
-/// does, and is of this group. Within a group that is looked up once.
+/// Whether the variable is of this group, and bound if this is true.
+fn is_alike(variable: &Variable<'_, '_>, last: Option<usize>, was_bound: bool) -> bool
+    ensures { IsTrue result → ((g : ℕ) × (variable.now.group ≡ Some g) × (last ≡ Some g)) × (variable.now.is_bound ≡ was_bound) }
+{
+    variable.is_of(last) && variable.is_bound == was_bound
+}
+
+/// Whether the variable depends on bound ones before this place alone.
 fn depends_on_those_before<'a>(
     index: &Option<NameIndex<'a>>,
     params: &[Variable<'_, 'a>],
     place: usize,
     variable: &Variable<'_, 'a>,
-    last: Option<usize>,
 ) -> bool
     requires index { MatchOption index.now ⊤ (IsIndexOf (map variable_lem params.now)) }
     requires place { place ≤ length params.now }
-    requires last { (g : ℕ) → variable.now.group ≡ Some g → last ≡ Some g → Every (IsBoundAmong (map variable_lem (take place params.now))) (type_text variable.now.ty.now).deps }
     ensures { IsTrue result ↔ Every (IsBoundAmong (map variable_lem (take place params.now))) (type_text variable.now.ty.now).deps }
 {
-    if variable.is_of(last) {
-        return true;
-    }
     are_bound_before(index, params, place, &variable.ty.deps)
 }
 

@@ -1,12 +1,12 @@
 // The variables of a statement over what is declared.
-ghost use Rattle.std.specs.Prelude.{◌≡◌, ◌≢◌, ◌⊎◌, ◌+◌, ◌<◌, ◌^◌, ◌++◌, ◌∷◌, ⊤, [], ℕ, List, Option, Contains, IfOk, IsTrue, MatchOption, OnOk, length, map, option_map};
+ghost use Rattle.std.specs.Prelude.{◌≡◌, ◌≢◌, ◌⊎◌, ◌+◌, ◌-◌, ◌<◌, ◌^◌, ◌++◌, ◌∷◌, ⊤, [], ℕ, List, Option, Contains, IfOk, IsTrue, MatchOption, OnOk, length, map, option_map};
 ghost use Rattle.mz_base.specs.Identifiers.{is_name};
 ghost use Rattle.mz_spec_theory.specs.StatementCode.{lexeme, type_text};
 ghost use Rattle.mz_spec_theory.specs.Statement.{TypeText as TypeLem};
 ghost use Rattle.mz_math_theory.specs.Kept.{AreVariables};
 ghost use Rattle.mz_spec_variables.specs.Code.{AreGrouped, AreParts, IsOfTypes, typed, variable as variable_lem};
 ghost use Rattle.mz_spec_rules.specs.Entries.{state};
-ghost use Rattle.mz_spec_rules.specs.LastOf.{IsLastOf};
+ghost use Rattle.mz_spec_rules.specs.LastOf.{IsLastOf, sort_at};
 ghost use Rattle.mz_spec_variables.specs.Index.{IsIndexOf};
 ghost use Rattle.mz_spec_theory.specs.Kept.{IsKept};
 ghost use Rattle.mz_spec_theory.specs.State.{binder_of as binder_of_lem, bytes_of as bytes_of_lem, result_of, scope_of as scope_of_lem, sort_number as sort_number_lem, term_number as term_number_lem, variable_bytes};
@@ -108,7 +108,7 @@ impl<'a> State<'a> {
     }
 
     /// Adds the binder of a variable. Where this is of the group of the last one, they share what they depend
-    /// on.
+    /// on, and its sort's name isn't looked up again.
     fn push_binder(
         &self,
         alloc: Global,
@@ -121,11 +121,11 @@ impl<'a> State<'a> {
         requires few { length (state self.now).sort_names < 2 ^ 32 }
         requires index { MatchOption index.now ⊤ (IsIndexOf (map variable_lem params.now)) }
         requires small { length params.now < 2 ^ 32 }
-        ensures { OnOk result ((types : ℕ → Option TypeLem) → IsOfTypes types (typed variable.now) → IsLastOf types (map variable_lem params.now) group binders.old
+        ensures { OnOk result ((types : ℕ → Option TypeLem) → IsOfTypes types (typed variable.now) → IsLastOf (state self.now) types (map variable_lem params.now) group binders.old
             → binders.new ≡ binders.old ++ binder_of_lem (state self.now) (map variable_lem params.now) (variable_lem variable.now) ∷ []) }
     {
         if variable.is_of(group) {
-            return binders.push_alike(self.sort_number(variable.ty.sort), variable.is_bound);
+            return binders.push_alike(last_sort(binders), variable.is_bound);
         }
         let binder = self.binder_of(alloc, index, params, variable)?;
         binders.push(binder)?;
@@ -177,7 +177,8 @@ impl<'a> State<'a> {
         Ok(())
     }
 
-    /// Adds a variable. Where it is of the group of the last one, they share what they depend on.
+    /// Adds a variable. Where it is of the group of the last one, they share what they depend on, and its
+    /// sort's name isn't looked up again.
     fn push_variable(
         &self,
         alloc: Global,
@@ -194,12 +195,12 @@ impl<'a> State<'a> {
         requires other { variable_bytes (variable_lem variable.now) ≢ [] → Contains scope.old.names (variable_bytes (variable_lem variable.now)) → ⊥ }
         requires room { length scope.old.names < 4294967295 }
         ensures names { OnOk result (scope.new.names ≡ scope.old.names ++ variable_bytes (variable_lem variable.now) ∷ []) }
-        ensures binders { OnOk result ((types : ℕ → Option TypeLem) → IsOfTypes types (typed variable.now) → IsLastOf types (map variable_lem params.now) group scope.old.binders
+        ensures binders { OnOk result ((types : ℕ → Option TypeLem) → IsOfTypes types (typed variable.now) → IsLastOf (state self.now) types (map variable_lem params.now) group scope.old.binders
             → scope.new.binders ≡ scope.old.binders ++ binder_of_lem (state self.now) (map variable_lem params.now) (variable_lem variable.now) ∷ []) }
     {
         let name = bytes_of(variable.name);
         if variable.is_of(group) {
-            let sort = self.sort_number(variable.ty.sort);
+            let sort = last_sort(scope.binders());
             return scope.push_alike(name, sort, variable.is_bound);
         }
         let binder = self.binder_of(alloc, index, params, variable)?;
@@ -225,6 +226,16 @@ impl<'a> State<'a> {
         self.push_variables(alloc, index, &mut scope, &parts.params, &parts.params)?;
         self.push_variables(alloc, index, &mut scope, &parts.params, &parts.dummies)?;
         Ok(scope)
+    }
+}
+
+/// The sort of the last binder; 0 where there is none.
+fn last_sort(binders: &Binders) -> u32
+    ensures { result ≡ sort_at binders.now (length binders.now - 1) }
+{
+    match binders.as_slice().last() {
+        None => 0,
+        Some(binder) => binder.sort,
     }
 }
 

@@ -2,7 +2,7 @@
 use Rattle.std.proofs.Common.{List, [], ℕ}
 use Rattle.mz_base.specs.Checks.{each_in_order, ◌>>◌, AllHold}
 use Rattle.mz_base.proofs.Offered.{all_hold-first, all_hold-rest}
-use Rattle.mz_math_tokens.specs.declared.tokens.MathToken.{MathToken}
+use Rattle.mz_lex.specs.declared.tokens.MathToken.{MathToken}
 use Rattle.mz_spec_theory.specs.Statement.{Statement}
 use Rattle.mz_spec_theory.specs.View.{view, names_of, dummies_of}
 use Rattle.mz_spec_theory.specs.State.{State}

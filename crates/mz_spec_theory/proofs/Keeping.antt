@@ -9,7 +9,7 @@ use Rattle.mz_lex.specs.Lexemes.{Lexeme}
 use Rattle.mz_logic_theory.specs.Declaration.{Declaration, sorts, signatures}
 use Rattle.mz_logic_theory.specs.Legality.{IsLegalDecl}
 use Rattle.mz_logic_theory.proofs.Offered.{legal_push, sorts-append, signatures-append}
-use Rattle.mz_math_tokens.specs.declared.tokens.Delimiters.{Delimiters}
+use Rattle.mz_lex.specs.declared.tokens.Delimiters.{Delimiters}
 use Rattle.mz_math_theory.specs.declared.notation.Element.{Element}
 use Rattle.mz_math_theory.specs.declared.notation.Notation.{Notation}
 use Rattle.mz_math_theory.specs.declared.coercion.Coercion.{Coercion}
@@ -20,7 +20,7 @@ use Rattle.mz_math_theory.specs.Notation.{Table, level_of as math_level, begins_
 use Rattle.mz_math_theory.specs.Clear.{IsClear}
 use Rattle.mz_math_theory.specs.Coercions.{OnePath}
 use Rattle.mz_math_theory.specs.Forms.{IsGeneral, General, IsElement, AreElements, IsCoercion, EachOnce, Begins}
-use Rattle.mz_math_tokens.specs.MathTokens.{IsConstant}
+use Rattle.mz_lex.specs.MathTokens.{IsConstant}
 use Rattle.mz_math_theory.specs.Laws.{IsNoted}
 use Rattle.mz_math_theory.specs.Kept.{IsTable, AreVariables}
 use Rattle.mz_math_theory.proofs.Offered.{notations-keep, empty-is, name-is, coercion-is, delimiters-is, infix-one, prefix-one, general-one}

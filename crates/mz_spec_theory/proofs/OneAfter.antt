@@ -3,12 +3,12 @@ use Rattle.std.proofs.Common.{◌≡◌, ◌∙◌, ℕ, List, [], ◌∷◌, ma
 use Rattle.mz_lex.specs.Lexemes.{Lexeme}
 use Rattle.mz_logic_theory.specs.Tree.{Tree, Trees, followed_by}
 use Rattle.mz_logic_theory.specs.Declaration.{assertion_decl, term_decl, Form, defined}
-use Rattle.mz_math_tokens.specs.declared.tokens.Delimiters.{Delimiters}
-use Rattle.mz_math_tokens.specs.MathTokens.{no_delimiters, token_texts, AreCharacters, AreDelimiters}
+use Rattle.mz_lex.specs.declared.tokens.Delimiters.{Delimiters}
+use Rattle.mz_lex.specs.MathTokens.{no_delimiters, token_texts, AreCharacters, AreDelimiters}
 use Rattle.mz_math_theory.specs.Notation.{with_notation, with_delimiters}
 use Rattle.mz_math_theory.specs.Kept.{AreVariables}
 use Rattle.mz_math_theory.proofs.Offered.{one-meaning}
-use Rattle.mz_math_tokens.proofs.Offered.{math_tokens-one}
+use Rattle.mz_lex.proofs.Offered.{math_tokens-one}
 use Rattle.mz_spec_theory.specs.Statement.{TypeText, Statement, sort_statement, term_statement, assert_statement, definition_statement, operator_statement, coercion_statement, delimiter_statement, notation_statement}
 use Rattle.mz_spec_theory.specs.View.{Variable, Formula, claim, body, Stated, view, stated_of}
 use Rattle.mz_spec_theory.specs.State.{State, with_sort, with_term, with_assertion, with_table, param_binders, dummy_binders, signature_of, scope_of, reader_of}

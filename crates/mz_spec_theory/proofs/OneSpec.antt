@@ -6,7 +6,7 @@ use Rattle.mz_lex.proofs.Offered.{one-lexing}
 use Rattle.mz_logic_theory.specs.Legality.{IsLegalEnv}
 use Rattle.mz_base.specs.Checks.{FailsFirst}
 use Rattle.mz_base.proofs.Offered.{fails_first-unique, all_hold-excludes}
-use Rattle.mz_math_tokens.specs.declared.tokens.MathToken.{MathToken}
+use Rattle.mz_lex.specs.declared.tokens.MathToken.{MathToken}
 use Rattle.mz_spec_theory.specs.declared.refusal.Fault.{Fault}
 use Rattle.mz_spec_theory.specs.Statement.{Statement, Spells}
 use Rattle.mz_spec_theory.specs.Stops.{Stops, StopsBy}

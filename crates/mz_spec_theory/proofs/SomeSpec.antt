@@ -3,18 +3,17 @@ use Rattle.std.proofs.Common.{◌≡◌, ◌⊎◌, ◌++◌, ◌+◌, ◌≤◌
 use Rattle.mz_base.proofs.Offered.{Decided, all_hold-or_fails, all_hold-excludes, all_hold-both, all_hold-first, all_hold-rest, fails-before, fails-after, are_decided-rows, retold-fails}
 use Rattle.mz_lex.specs.declared.token.LexFault.{LexFault}
 use Rattle.mz_lex.specs.Lexemes.{Lexeme, LexesFrom}
-use Rattle.mz_lex.proofs.Offered.{some-lexing}
+use Rattle.mz_lex.proofs.Offered.{some-lexing, math_tokens-one}
 use Rattle.mz_logic_theory.specs.Tree.{Tree, Trees, none, followed_by}
 use Rattle.mz_logic_theory.specs.Declaration.{sort_decl, term_decl, assertion_decl, plain_form, abstract_form, defined, signatures}
 use Rattle.mz_logic_theory.specs.Variables.{InFV}
 use Rattle.mz_base.specs.Checks.{Checks, each_in_order, ◌>>◌, AllHold, FailsFirst, AreDecided}
-use Rattle.mz_math_tokens.specs.declared.tokens.MathToken.{MathToken}
-use Rattle.mz_math_tokens.specs.MathTokens.{MathTokens}
+use Rattle.mz_lex.specs.declared.tokens.MathToken.{MathToken}
+use Rattle.mz_lex.specs.MathTokens.{MathTokens}
 use Rattle.mz_math_theory.specs.Notation.{with_notation, with_coercion, with_delimiters}
 use Rattle.mz_math_theory.specs.Formula.{Misreading, IsFormula, Misreads, formula_checks}
 use Rattle.mz_math_theory.specs.Kept.{AreVariables}
 use Rattle.mz_math_theory.proofs.Offered.{some-reading, one-meaning, one-reading as one-string}
-use Rattle.mz_math_tokens.proofs.Offered.{math_tokens-one}
 use Rattle.mz_spec_theory.specs.declared.refusal.Fault.{Fault}
 use Rattle.mz_spec_theory.specs.Statement.{TypeText, Statement, sort_statement, term_statement, assert_statement, definition_statement, operator_statement, coercion_statement, delimiter_statement, notation_statement, Spells}
 use Rattle.mz_spec_theory.specs.Stops.{Stops}

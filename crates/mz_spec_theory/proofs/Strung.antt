@@ -2,8 +2,8 @@
 use Rattle.std.proofs.Common.{◌≡◌, ◌++◌, ℕ, List, [], ◌∷◌, map, refl, sym, subst}
 use Rattle.mz_base.specs.Checks.{Checks, nothing, ◌>>◌, AllHold, FailsFirst, each_in_order}
 use Rattle.mz_base.proofs.Offered.{all_hold-both}
-use Rattle.mz_math_tokens.specs.declared.tokens.MathToken.{MathToken}
-use Rattle.mz_math_tokens.specs.MathTokens.{MathTokens}
+use Rattle.mz_lex.specs.declared.tokens.MathToken.{MathToken}
+use Rattle.mz_lex.specs.MathTokens.{MathTokens}
 use Rattle.mz_spec_theory.specs.Reading.{OnFault}
 use Rattle.mz_spec_theory.specs.declared.refusal.Fault.{Fault}
 use Rattle.mz_spec_theory.specs.declared.refusal.Halt.{Halt}

@@ -4,11 +4,11 @@ use Rattle.std.specs.Prelude.{slice_index, IsTrue}
 use Rattle.std.proofs.lemmas.Bool.{cases_lt}
 use Rattle.mz_base.proofs.Offered.{contains-decided}
 use Rattle.mz_lex.specs.Kinds.{is_space}
-use Rattle.mz_math_tokens.specs.declared.tokens.Delimiters.{Delimiters}
-use Rattle.mz_math_tokens.specs.declared.tokens.MathToken.{MathToken}
-use Rattle.mz_math_tokens.specs.MathTokens.{IsSpaces, IsMathToken, MathTokensFrom, MathTokens}
-use Rattle.mz_math_tokens.specs.Answers.{EndsAt, IsWhole}
-use Rattle.mz_math_tokens.proofs.Offered.{math_tokens-one, whole-first, whole-more, whole-math_token}
+use Rattle.mz_lex.specs.declared.tokens.Delimiters.{Delimiters}
+use Rattle.mz_lex.specs.declared.tokens.MathToken.{MathToken}
+use Rattle.mz_lex.specs.MathTokens.{IsSpaces, IsMathToken, MathTokensFrom, MathTokens}
+use Rattle.mz_lex.specs.Answers.{EndsAt, IsWhole}
+use Rattle.mz_lex.proofs.Offered.{math_tokens-one, whole-first, whole-more, whole-math_token}
 use Rattle.mz_spec_theory.specs.View.{Formula}
 use Rattle.mz_spec_theory.specs.State.{State}
 use Rattle.mz_spec_theory.specs.Formulas.{AreTokens, inner, math_of}

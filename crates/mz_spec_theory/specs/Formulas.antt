@@ -10,8 +10,8 @@ use Rattle.mz_logic_theory.specs.Tree.{Tree, Trees, none, followed_by}
 pub use Rattle.mz_logic_theory.specs.Tree.{copies}
 use Rattle.mz_logic_theory.specs.Declaration.{signatures}
 use Rattle.mz_logic_theory.specs.Variables.{InFV}
-use Rattle.mz_math_tokens.specs.declared.tokens.MathToken.{MathToken}
-use Rattle.mz_math_tokens.specs.MathTokens.{MathTokens}
+use Rattle.mz_lex.specs.declared.tokens.MathToken.{MathToken}
+use Rattle.mz_lex.specs.MathTokens.{MathTokens}
 use Rattle.mz_math_theory.specs.declared.wanted.Wanted.{Wanted}
 use Rattle.mz_math_theory.specs.declared.wanted.Wanted.TheVariants.{Provable as provable, Sort as of_sort}
 use Rattle.mz_math_theory.specs.Formula.{Misreading, formula_checks, IsFormula}

@@ -7,7 +7,7 @@ use Rattle.mz_base.specs.Checks.{Checks, nothing, demand, each_in_order, â—Œ>>â—
 use Rattle.mz_logic_theory.specs.Declaration.{sorts as sorts_in}
 use Rattle.mz_logic_theory.specs.Modifiers.{IsPure, IsStrict, IsFree}
 use Rattle.mz_logic_theory.specs.declared.binder.SortMods.{SortMods}
-use Rattle.mz_math_tokens.specs.declared.tokens.MathToken.{MathToken}
+use Rattle.mz_lex.specs.declared.tokens.MathToken.{MathToken}
 use Rattle.mz_spec_theory.specs.declared.refusal.Fault.{Fault}
 use Rattle.mz_base.specs.Names.{number_of, IsNew, IsKnown}
 use Rattle.mz_spec_theory.specs.Dependencies.{Every, IsBoundAmong}

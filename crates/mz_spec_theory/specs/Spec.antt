@@ -5,7 +5,7 @@ use Rattle.mz_lex.specs.Lexemes.{Lexeme, LexesFrom, Lexes}
 use Rattle.mz_lex.specs.declared.token.LexFault.{LexFault}
 use Rattle.mz_logic_theory.specs.Declaration.{Declaration}
 use Rattle.mz_base.specs.Checks.{AllHold, FailsFirst}
-use Rattle.mz_math_tokens.specs.declared.tokens.MathToken.{MathToken}
+use Rattle.mz_lex.specs.declared.tokens.MathToken.{MathToken}
 use Rattle.mz_spec_theory.specs.declared.refusal.Fault.{Fault}
 use Rattle.mz_spec_theory.specs.Statement.{Statement, Spells}
 use Rattle.mz_spec_theory.specs.Stops.{Stops}

@@ -1,9 +1,16 @@
-//! Specifications, as definitions: the grammar of statements, their rules, and what a text declares or where it
-//! breaks its first rule, with the laws of these (mm0.md, the grammar, and the sections on all kinds of statements).
+//! Specifications as definitions: the grammar of statements, their rules, and what a text declares (mm0.md, the
+//! grammar, and the sections on all kinds of statements).
 //!
-//! `specs/Statement.antt` is the grammar: each statement as a list of signs. `specs/Stops.antt` says where lexemes
-//! are no statement. `specs/View.antt` says what the rules see of a statement, `specs/Rules.antt` has the rules in
-//! their order, `specs/Declaring.antt` what a good statement declares, and `specs/Spec.antt` what a text does.
+//! `specs/Statement.antt` is the grammar: a function from a statement to the signs that spell it. `specs/View.antt`
+//! says what the rules see of a statement, `specs/Rules.antt` has the rules in order, `specs/Declaring.antt` what a
+//! good one declares. `specs/Spec.antt` puts these together: what a text declares, or its first fault.
+//!
+//! `specs/Progress.antt` is the reader's machine over lexemes. It is shown to be the grammar (`proofs/Adding.antt`,
+//! `proofs/Leading.antt`). A new kind of statement is a constructor, its signs, its rows there, and a case of each
+//! proof.
+//!
+//! The laws: each text is a specification or has one first fault, and what it declares is legal. Nothing here reads a
+//! text: the crates `mz_spec*` do.
 #![tactic(auto)]
 
 mod kind;

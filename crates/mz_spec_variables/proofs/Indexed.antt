@@ -15,7 +15,7 @@ use Rattle.std.proofs.lemmas.Bool.{or_right}
 use Rattle.mz_base.proofs.Offered.{slice_get-map_at, contains_tail, contains_head, contains_cases}
 use Rattle.mz_lex.specs.Lexemes.{Lexeme}
 use Rattle.mz_logic_theory.proofs.Offered.{one_at}
-use Rattle.mz_math_tokens.specs.Places.{place_of}
+use Rattle.mz_lex.specs.Places.{place_of}
 use Rattle.mz_spec_variables.specs.Code.{variable}
 use Rattle.mz_spec_variables.specs.declared.variables.Variable.{Variable as VariableRead}
 use Rattle.mz_spec_variables.specs.Index.{IsNamedAt, IsIndexUpTo, IsIndexOf, found_in, all_found}

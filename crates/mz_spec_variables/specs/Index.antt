@@ -1,7 +1,7 @@
 -- What is kept about the names of variables, so that one is found without going through all.
 use Rattle.std.specs.Prelude.{◌≡◌, ◌<◌, ◌++◌, ℕ, List, [], ◌∷◌, Option, Some, None, length, slice_get, MatchOption}
 use Rattle.mz_lex.specs.Lexemes.{Lexeme}
-use Rattle.mz_math_tokens.specs.Places.{place_of}
+use Rattle.mz_lex.specs.Places.{place_of}
 use Rattle.mz_spec_theory.specs.Dependencies.{IsCalled}
 use Rattle.mz_spec_theory.specs.View.{Variable}
 

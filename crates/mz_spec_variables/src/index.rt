@@ -1,6 +1,6 @@
 // The places of variables by their names.
 ghost use Rattle.std.specs.Prelude.{◌≡◌, List, ℕ, None, Some, [], IfOk, bytes_eq, true, if◌then◌else◌};
-ghost use Rattle.mz_math_tokens.specs.Places.{place_of};
+ghost use Rattle.mz_lex.specs.Places.{place_of};
 
 use indexmap::IndexMap;
 use mz_base::Hashing;

@@ -3,7 +3,7 @@ use Rattle.std.proofs.Common.{◌≡◌, ◌∙◌, ◌⊎◌, ℕ, true, false,
 use Rattle.std.specs.Prelude.{bytes_eq, codes, decimal, if◌then◌else◌}
 use Rattle.std.proofs.lemmas.Fmt.{decimal_injective}
 use Rattle.mz_match_theory.proofs.Offered.{sound-proves}
-use Rattle.mz_sample.specs.Samples.{sample_specification}
+use Rattle.mz_tool.specs.Samples.{sample_specification}
 use Rattle.mz_tool_engine.specs.Run.{Asks, IsProved}
 use Rattle.mz_tool_engine.specs.Said.{Files}
 use Rattle.mz_tool.specs.Requests.{Request, verify, show, compile, assemble, axioms, draft, portable, specify, decompile, sample, said_of}

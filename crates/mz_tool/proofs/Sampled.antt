@@ -3,13 +3,13 @@ use Rattle.std.proofs.Common.{◌≡◌, ◌∙◌, ◌++◌, ℕ, List, [], ◌
 use Rattle.mz_match_theory.specs.Verdict.{Accepts, IsSound, counts_of}
 use Rattle.mz_match_theory.proofs.Offered.{accepted-excludes}
 use Rattle.mz_emit_theory.specs.Compiling.{CompilesTo}
-use Rattle.mz_sample.specs.Samples.{sample_specification, sample_text}
+use Rattle.mz_tool.specs.Samples.{sample_specification, sample_text}
 use Rattle.mz_tool_engine.specs.declared.outcome.Outcome.{Outcome}
 use Rattle.mz_tool_engine.specs.declared.outcome.Outcome.TheVariants as outcomes
 use Rattle.mz_tool_engine.specs.Outcomes.{IfYes, IfNo, OnYes, OnNo, IsAfter}
 use Rattle.mz_tool_verify.specs.Verify.{IsVerified, IsRefuted}
 use Rattle.mz_tool.specs.Compile.{IsCompiledTo, IsNotCompiled}
-use Rattle.mz_sample.specs.Laws.{FitTogether}
+use Rattle.mz_tool.specs.Laws.{FitTogether}
 use Rattle.mz_tool.specs.Sample.{IsUpheld, IsProvedByText, sizes_line, IsSampleUpheld}
 use Rattle.mz_tool.proofs.Compiles.{put-bytes}
 

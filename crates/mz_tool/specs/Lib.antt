@@ -11,3 +11,5 @@ pub mod Decompile
 pub mod Decompiled
 pub mod Sample
 pub mod Requests
+pub mod Samples
+pub mod Laws

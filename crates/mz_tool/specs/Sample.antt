@@ -3,7 +3,7 @@ use Rattle.std.specs.Prelude.{◌≡◌, ◌≤◌, ◌++◌, ℕ, false, List, 
 use Rattle.mz_spec_proved_theory.specs.Headline.{Proves}
 use Rattle.mz_match_theory.specs.Verdict.{IsSound}
 use Rattle.mz_emit_theory.specs.Compiling.{CompilesTo}
-use Rattle.mz_sample.specs.Samples.{sample_specification, sample_text, sample_line}
+use Rattle.mz_tool.specs.Samples.{sample_specification, sample_text, sample_line}
 use Rattle.mz_tool_engine.specs.Said.{Said, OfNone}
 use Rattle.mz_tool_verify.specs.Verify.{IsVerified}
 

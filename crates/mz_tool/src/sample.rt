@@ -1,15 +1,15 @@
 // The command `sample`.
 ghost use Rattle.std.specs.Prelude.{◌≡◌, ◌<◌, ◌^◌, ℕ, List, None, length};
-ghost use Rattle.mz_sample.specs.Samples.{sample_specification, sample_text};
+ghost use Rattle.mz_tool.specs.Samples.{sample_specification, sample_text};
 ghost use Rattle.mz_tool_engine.specs.Outcomes.{IfYes, OnYes, OnNo, IsAfter};
-ghost use Rattle.mz_sample.specs.Laws.{FitTogether};
+ghost use Rattle.mz_tool.specs.Laws.{FitTogether};
 ghost use Rattle.mz_tool.specs.Sample.{IsUpheld, IsProvedByText, IsSampleUpheld};
 
 use crate::compile::compile;
 use crate::size::SampleSize;
+use crate::{sample_line, sample_specification, sample_text, samples_are_accepted};
 use mz_base::Mode;
 use mz_io::{Failed, Sink};
-use mz_sample::{sample_line, sample_specification, sample_text, samples_are_accepted};
 use mz_store::Seed;
 use mz_tool_engine::{Command, Contents, Inputs, Outcome, Output, Put};
 use mz_tool_verify::verify;

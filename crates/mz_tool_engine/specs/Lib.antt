@@ -2,6 +2,7 @@ pub mod Said
 pub mod Run
 pub mod Given
 pub mod Consequences
+pub mod Ran
 pub mod Files
 pub mod Inputs
 pub mod Outcomes

@@ -1,11 +1,7 @@
 // A program, and how any one runs.
-ghost use Rattle.std.specs.Prelude.{◌≡◌, ◌≤◌, ◌++◌, ℕ, List, [], Option, Some, None, length, map, string_bytes, IfSome, IfNone};
-ghost use Rattle.mz_io.specs.Calls.{Call, Since, Hold, taken};
-ghost use Rattle.mz_io.specs.Outside.{HasRoom, Rose};
-ghost use Rattle.mz_tool_engine.specs.Files.{AreThere, BeginsLonger};
-ghost use Rattle.mz_tool_engine.specs.Consequences.{Consequences};
-ghost use Rattle.mz_tool_engine.specs.Given.{Gives, Tells};
-ghost use Rattle.mz_tool_engine.specs.Run.{Asks, EachAsked, IsAnswerOver, IsProved, IsRun, IsSaidOf, longest};
+ghost use Rattle.std.specs.Prelude.{◌≡◌, map, string_bytes, IfSome, IfNone};
+ghost use Rattle.mz_tool_engine.specs.Ran.{Ran};
+ghost use Rattle.mz_tool_engine.specs.Run.{Asks, IsProved, IsSaidOf};
 ghost use Rattle.mz_tool_engine.specs.Said.{Said, Files};
 
 use crate::command::Command;
@@ -53,38 +49,9 @@ pub fn run<'a, P: Program<'a>, F: Folder, O: Sink>(
     folder: &mut F,
     out: &mut O,
 ) -> Status
-    // Over any folder and any sink: all calls that the run makes on them, with what these answered, and what it
-    // answers over the bytes that came.
-    ensures log { (calls : List Call) × (written : List Call) × (F.calls folder.new ≡ F.calls folder.old ++ calls) × (O.calls out.new ≡ O.calls out.old ++ written)
-        × IsRun P.said_of (map string_bytes words.now) result calls written }
-
-    // What follows of them, for whatever files the folder's calls gave. What is accepted is proved.
-    ensures follows { (file : Files) (calls written : List Call) → F.calls folder.new ≡ F.calls folder.old ++ calls → O.calls out.new ≡ O.calls out.old ++ written
-        → Gives file calls → Consequences P.said_of (map string_bytes words.now) file result calls written }
-
-    // A folder that tells its files gave what they held at first, and holds afterwards what was put; a sink that tells
-    // what was written holds what its calls took.
-    ensures files { F.told → Since (F.calls folder.old) (F.calls folder.new) (Tells (F.file folder.old) (F.file folder.new)) }
-    ensures text { O.told → Since (O.calls out.old) (O.calls out.new) (λ written. O.written out.new ≡ O.written out.old ++ taken written) }
-
-    // Each call that failed was counted, and the folder stays as it was where nothing is read or put.
-    ensures read_fault { result ≡ Status.ReadFault → Rose (F.faults folder.old) (F.faults folder.new) }
-    ensures write_fault { result ≡ Status.WriteFault → Rose (F.put_faults folder.old) (F.put_faults folder.new) }
-    ensures out_fault { result ≡ Status.OutFault → Rose (O.faults out.old) (O.faults out.new) }
-    ensures put_faults { EachAsked P.said_of (map string_bytes words.now) (λ said. said.puts ≡ None) → F.put_faults folder.new ≡ F.put_faults folder.old }
-    ensures apart { EachAsked P.said_of (map string_bytes words.now) (λ said. (said.reads ≡ []) × (said.puts ≡ None)) → folder.new ≡ folder.old }
-
-    // Where no coming call is listed to fail, only a missing file, a want of room and a full sink are faults; after a
-    // file that is too long none is looked for.
-    ensures only_missing { F.is_clear folder.old → EachAsked P.said_of (map string_bytes words.now) (λ said. AreThere (F.file folder.old) said.reads)
-        → F.faults folder.new ≡ F.faults folder.old }
-    ensures unread { F.is_clear folder.old → EachAsked P.said_of (map string_bytes words.now) (λ said. BeginsLonger longest (F.file folder.old) said.reads)
-        → F.faults folder.new ≡ F.faults folder.old }
-    ensures only_room { F.is_clear folder.old → EachAsked P.said_of (map string_bytes words.now) (λ said. (name : List ℕ) → said.puts ≡ Some name → HasRoom (F.rooms folder.old) name longest)
-        → F.put_faults folder.new ≡ F.put_faults folder.old }
-    ensures only_full { (file : Files) → Since (F.calls folder.old) (F.calls folder.new) (Gives file) → O.is_clear out.old
-        → EachAsked P.said_of (map string_bytes words.now) (λ said. (put : Option (List ℕ)) (text : List ℕ) → IsAnswerOver file said put text → length text ≤ O.room out.old)
-        → O.faults out.new ≡ O.faults out.old }
+    ensures ran { Ran P.said_of (map string_bytes words.now) result
+        (record { calls = F.calls; told = F.told; file = F.file; faults = F.faults; put_faults = F.put_faults; is_clear = F.is_clear; rooms = F.rooms }) folder.old folder.new
+        (record { calls = O.calls; told = O.told; written = O.written; faults = O.faults; is_clear = O.is_clear; room = O.room }) out.old out.new }
 {
     program.keeps_its_promises();
     match program.read(words) {

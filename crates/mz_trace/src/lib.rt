@@ -1,11 +1,15 @@
-//! The proof that a theorem's body makes, as a text states it, and as numbered nodes.
+//! The proof that a theorem's body makes: as a text states it, and as numbered nodes.
 //!
-//! `specs/OneHoleContexts.antt` has trees with a hole, `specs/Traces.antt` what each command makes beside the machine's state, and
-//! `specs/Examples.antt` worked bodies with their proofs. The laws (`specs/Laws.antt`) are that a body that runs makes one
-//! proof, and that it proves what the row spells.
+//! `specs/Traces.antt` has one clause a command, beside the state of the proof machine. The laws: a body that runs
+//! makes one proof, and it proves what the row spells. Under an unpaid obligation stands what its tree will go into, a
+//! tree with a hole (`specs/OneHoleContexts.antt`), so no hole is filled twice.
 //!
-//! A body is gone through once. Each expression, conversion and proof is a node whose parts are earlier nodes, so that a tree
-//! which the body keeps is there once, and nothing is gone through by its depth. `specs/Nodes.antt` says what nodes stand for.
+//! `trace` gives this proof as nodes over lower nodes, beside those of the parameters at most two for each command.
+//! What a body shares the nodes share, so no exponential tree is written out. It tests no premise again: its caller
+//! knows that the body runs.
+//!
+//! The machine keeps no proof, and `decompile` needs one. Start with `specs/Traces.antt` and `specs/Nodes.antt`, then
+//! `src/run.rt`. Worked bodies with their proofs stand in `specs/Examples.antt`.
 #![tactic(auto)]
 
 mod entry;

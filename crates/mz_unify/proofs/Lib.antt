@@ -3,6 +3,7 @@ pub mod VariableWords
 pub mod OperandWords
 pub mod Parts
 pub mod RowValues
+pub mod UsualCommands
 pub mod UnifyTurns
 pub mod Underway
 mod Through

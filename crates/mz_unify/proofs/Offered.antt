@@ -6,4 +6,5 @@ pub use Rattle.mz_unify.proofs.StoredIds.{are-in-both, are-still-in, is-in-at, i
 pub use Rattle.mz_unify.proofs.Through.{stopped-through, went-through}
 pub use Rattle.mz_unify.proofs.Underway.{IsUnderway, counted-once, counted-within, cut-many, cut-whole, ended-many, ended-whole, goes-on, left-both, left-none, not-end, other-many, other-whole, stopped-many, stopped-not-done, stopped-whole, taken-exactly, taken-fits, taken-there, whole-count, whole-run}
 pub use Rattle.mz_unify.proofs.UnifyTurns.{cut-run, ended-run, other-run, run_left, stopped-run, went-run}
+pub use Rattle.mz_unify.proofs.UsualCommands.{told-0, told-1, told-2}
 pub use Rattle.mz_unify.proofs.VariableWords.{fresh-word, not-bound, other-sort, tells-any-push, tells-none}

@@ -1,6 +1,7 @@
 -- One command over a store: how the code's state stands for the machine's.
-use Rattle.std.specs.Prelude.{◌≡◌, ℕ, ⊤, ◌⊎◌, List, [], ◌∷◌, MatchResult, Result, Ok, Err}
+use Rattle.std.specs.Prelude.{◌≡◌, ℕ, ⊤, ◌⊎◌, List, [], ◌∷◌, MatchResult, Some, Result, Ok, Err}
 use Rattle.mz_cmd.specs.declared.rule.K.{K}
+use Rattle.mz_cmd.specs.Reading.{first_command}
 use Rattle.mz_logic_theory.specs.Tree.{Tree}
 use Rattle.mz_logic_theory.specs.Variables.{InV}
 use Rattle.mz_logic_theory.specs.declared.binder.Binder.{Binder}
@@ -8,8 +9,8 @@ use Rattle.mz_store.specs.Bits.{Tells, bound_vars}
 use Rattle.mz_store.specs.Sharing.{Sharing}
 use Rattle.mz_store.specs.declared.item.Id.{Id}
 use Rattle.mz_store.specs.declared.item.Item.{Item as Kept}
-use Rattle.mz_unify_theory.specs.Streams.{UnifyCommand, u_term, u_term_save, u_ref, u_dummy, u_hyp, u_end}
-use Rattle.mz_unify_theory.specs.UnifyMachine.{UnifyMode as Mode, in_definition, UnifyState}
+use Rattle.mz_unify_theory.specs.Streams.{UnifyCommand, u_term, u_term_save, u_ref, u_dummy, u_hyp, u_end, unify_command}
+use Rattle.mz_unify_theory.specs.UnifyMachine.{UnifyMode as Mode, kind_of, in_definition, UnifyState}
 use Rattle.mz_unify.specs.Stored.{trees_at, stack_at, items_at}
 use Rattle.mz_unify.specs.declared.unified.Unified.{Unified}
 use Rattle.mz_unify.specs.declared.unified.Unified.TheVariants as said
@@ -26,6 +27,11 @@ command_of (Ref i) = u_ref i
 command_of (Dummy s) = u_dummy s
 command_of Hyp = u_hyp
 command_of End = u_end
+
+-- it stands at the front of the bytes, in streams of the mode, and takes so many of them
+abbrev pub IsNext : Mode → List ℕ → Command → ℕ → Type 0
+IsNext mode bytes command len =
+    (code value : ℕ) × (first_command bytes ≡ Ok (record { code = code; value = value; len = len })) × (unify_command (kind_of mode) code value ≡ Some (command_of command))
 
 -- where a rule stops the command, it is one of which this holds; out of memory says nothing
 abbrev pub StopsBy : Stop → (K → Type 0) → Type 0

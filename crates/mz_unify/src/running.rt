@@ -10,7 +10,7 @@ ghost use Rattle.mz_unify.specs.Stored.{mode_of, trees_at, items_at, AreItemsIn,
 ghost use Rattle.mz_unify.specs.Patterns.{AreOperandsFor, IsExact};
 ghost use Rattle.mz_unify.specs.Rows.{TellsFor, state_at};
 
-use crate::command::{Command, decoded};
+use crate::command::{Command, next_at};
 use crate::rows::{kept_apart, step};
 use crate::stop::Stop;
 use crate::unified::{Unified, UnifyMode};
@@ -145,13 +145,14 @@ fn run<L: Ledger>(
     let held = hyps.len();
     let mut at = 0;
     'commands: loop {
-        let Ok(cmd) = cmd_at(stream, at) else {
+        let Some((next, len)) = next_at(mode, stream, at) else {
+            let Ok(other) = cmd_at(stream, at) else {
+                return Unified::stopped(at, Stop::Rule(K::Command));
+            };
+            steps.tick();
             return Unified::stopped(at, Stop::Rule(K::Command));
         };
         steps.tick();
-        let Some(next) = decoded(mode, cmd) else {
-            return Unified::stopped(at, Stop::Rule(K::Command));
-        };
         if let Err(stop) = step(
             store, mode, next, operands, saved, &mut apart, targets, hyps,
         ) {
@@ -161,6 +162,6 @@ fn run<L: Ledger>(
             let taken = (held - hyps.len()) as u32;
             return Unified::Done { taken };
         }
-        at += u32::from(cmd.len);
+        at += len;
     }
 }

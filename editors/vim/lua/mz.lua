@@ -1,4 +1,5 @@
--- The language server in Neovim, and the goal at the cursor in a window of its own (:MzGoal).
+-- The language server in Neovim: what is open behind the lines, what stands at the cursor (K), where it is declared (CTRL-]),
+-- completion (CTRL-X CTRL-O), the goal in a window of its own (:MzGoal), proofs that are looked for and written (:MzFill).
 local mz = { clients = {} }
 
 -- The text of what is to be proved at the cursor goes to `show`.
@@ -30,10 +31,23 @@ function mz.goals()
   follow()
 end
 
+-- What a buffer has when the server knows it.
+local function attached(_, buffer)
+  vim.bo[buffer].omnifunc, vim.bo[buffer].tagfunc = "v:lua.vim.lsp.omnifunc", "v:lua.vim.lsp.tagfunc"
+  if vim.fn.maparg("K", "n") == "" then
+    vim.keymap.set("n", "K", vim.lsp.buf.hover, { buffer = buffer })
+  end
+  local function show()
+    vim.lsp.codelens.refresh()
+  end
+  vim.api.nvim_create_autocmd({ "BufEnter", "InsertLeave", "TextChanged" }, { buffer = buffer, callback = show })
+  show()
+end
+
 -- Starts the server for the present buffer; buffers of one folder share one.
 function mz.start()
   local folder = vim.fn.expand("<afile>:p:h")
-  local config = { name = "mz", cmd = { vim.g.mz or "mz", "serve" }, root_dir = folder }
+  local config = { name = "mz", cmd = { vim.g.mz or "mz", "serve" }, root_dir = folder, on_attach = attached }
   if vim.lsp.start then
     vim.lsp.start(config)
   else -- before 0.8

@@ -10,6 +10,7 @@ augroup mz
   if has("nvim")
     autocmd FileType mm0,mmu lua require("mz").start()
     command! MzGoal lua require("mz").goals()
+    command! MzFill lua vim.lsp.buf.code_action()
   else
     autocmd User lsp_setup call lsp#register_server({"name": "mz", "cmd": {_ -> [get(g:, "mz", "mz"), "serve"]},
           \ "allowlist": ["mm0", "mmu"]})

@@ -10,6 +10,7 @@ sys.dont_write_bytecode = True
 TOP = os.path.dirname(os.path.dirname(os.path.dirname(os.path.dirname(os.path.abspath(__file__)))))
 sys.path.insert(0, os.path.join(TOP, "scripts"))
 
+import worked  # noqa: E402
 from explore.check import dead_links  # noqa: E402
 from explore.development import Development, judged  # noqa: E402
 from explore.lexemes import Unreadable, comment_above  # noqa: E402
@@ -254,8 +255,9 @@ class Pages(unittest.TestCase):
 
     @unittest.skipUnless(HAS_PROGRAM, "mz isn't built")
     def test_accepted_examples(self):
-        with open(os.path.join(TOP, "examples", "README.md"), encoding="utf-8") as file:
-            pairs = re.findall(r"`\./mz verify (\S+) (examples/\S+)` \| `accepted", file.read())
+        examples = [*worked.of_file(), *worked.of_page(os.path.join(worked.FOLDER, "README.md"))]
+        accepted = [it.command for it in examples if it.printed.startswith("accepted")]
+        pairs = [it.split()[2:] for it in accepted if re.match(r"\./mz verify examples/\S+ examples/", it)]
         self.assertGreater(len(pairs), 10)
         for specification, binary in pairs:
             with self.subTest(binary):

@@ -29,16 +29,16 @@ class TestDatabases(unittest.TestCase):
 
     def test_faults(self):
         for text, said in [
-            ("$c a $.\n$( never", "x.mm:2: the comment that begins here has no end"),
-            ("$c a $.\nx $a a", "x.mm:2: the file ends in the statement that begins here"),
-            ("$c a $.\n\n${ x $a a $.", "x.mm:3: the scope that opens here isn't closed"),
-            ("$c a $. $}", "x.mm:1: a scope is closed here, and none is open"),
-            ("$c a $.\n$a a $.", "x.mm:2: a label belongs before this statement"),
-            ("$c a $.\nx $a a $.\nx $a a $.", "x.mm:3: x: a second statement of this label"),
-            ("$c a $. x $p a $.", "x.mm:1: x has no proof"),
-            ("$c a $. $q", "x.mm:1: the keyword $q can't stand here"),
-            ("$c a $. x", "x.mm:1: the file ends in the statement x"),
-            ("<html>\n<body>", "x.mm:1: the file ends in the statement <body>"),
+            ("$c a $.\n$( never", "x.mm:2:1: the comment that begins here has no end"),
+            ("$c a $.\nx $a a", "x.mm:2:3: the file ends in the statement that begins here"),
+            ("$c a $.\n\n${ x $a a $.", "x.mm:3:1: the scope that opens here isn't closed"),
+            ("$c a $. $}", "x.mm:1:9: a scope is closed here, and none is open"),
+            ("$c a $.\n$a a $.", "x.mm:2:1: a label belongs before this statement"),
+            ("$c a $.\nx $a a $.\nx $a a $.", "x.mm:3:3: x: a second statement of this label"),
+            ("$c a $. x $p a $.", "x.mm:1:11: x has no proof"),
+            ("$c a $. $q", "x.mm:1:9: the keyword $q can't stand here"),
+            ("$c a $. x", "x.mm:1:9: the file ends in the statement x"),
+            ("<html>\n<body>", "x.mm:2:1: the file ends in the statement <body>"),
         ]:
             with self.subTest(text), self.assertRaises(Faulty) as found:
                 Database(text, "x.mm")

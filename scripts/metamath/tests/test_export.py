@@ -127,7 +127,7 @@ class TestFiles(Room):
         spec = self.path("fold.mm0")
         with open(self.pair[0], encoding="ascii") as file:
             self.put("fold.mm0", file.read())
-        said = self.mz("export", spec, self.pair[1], spec, status=1)
+        said = self.mz("export", spec, self.pair[1], spec, status=2)
         self.assertEqual(said, f"mz export: {spec} is one of the files that are read\n")
 
     def test_no_file(self):

@@ -89,6 +89,14 @@ class TestImport(Room):
                               stdout=subprocess.PIPE)
         self.assertEqual(made.returncode, 0, made.stdout)
 
+    def test_copies_are_explained_where_they_stand(self):
+        self.put("little.mm", LITTLE + """swap $p |- ( A. x A. y ph -> A. y A. x ph ) $= wph vx vy ax-11 $.
+            one $p |- ( A. x A. x ph -> A. x A. x ph ) $= wph vx vx swap $.""")
+        self.whole("--text")
+        why = "in the database two variables may be one, here bound ones are always different."
+        self.assertIn(f"\n-- swap where y is x: {why}\n(local theorem swap_b00 ", self.read("little.mmu"))
+        self.assertIn(f"\n-- ax-11 where y is x: {why}\n(axiom ax_11_b00 ", self.read("little.mmu"))
+
     def test_progress_is_for_a_terminal(self):
         words = [sys.executable, "-B", os.path.join(TOP, "scripts", "metamath"), "import", self.path("little.mm"), self.room]
         shown, terminal = os.openpty()

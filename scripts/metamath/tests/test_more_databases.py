@@ -1,5 +1,6 @@
 """Tests of import on databases of other shapes, and of how a specification is written for its reader."""
 import os
+import re
 import subprocess
 import sys
 import unittest
@@ -77,7 +78,7 @@ class TestReading(Room):
             thrice $p |- ( ( ( A + 0 ) + C ) + C ) < ( ( ( ( x + x ) + 0 ) + C ) + C ) $=
               cA cc0 caddc co cC caddc co vx cv vx cv caddc co cc0 caddc co cC caddc co cC vx cA cC h two ax-lt $. $}"""
         said, spec = self.one(text, "two", "--theorem", "thrice", "--text")
-        self.assertIn("(local theorem two_plain ", self.read("two.mmu"))
+        self.assertIn("\n-- two without abbreviations, as proofs cite it.\n(local theorem two_plain ", self.read("two.mmu"))
         self.assertIn("(local theorem ax_lt_plain ", self.read("two.mmu"))
         self.assertIn("\ntheorem two {x", spec)
         self.assertIn("2 theorems, 2 lemmas", said)  # two and ax-lt as proofs cite them
@@ -90,10 +91,25 @@ class TestReading(Room):
             made = subprocess.run([program, words[0], *map(self.path, words[1:])], stdout=subprocess.PIPE, text=True, check=False)
             self.assertEqual(made.returncode, 0, made.stdout)
 
-    def test_the_whole_has_brackets(self):
+    def test_operators_of_a_whole_database(self):
+        self.put("one.mm", OPERATIONS + """${ h $e |- A < ( x + x ) $.
+            thrice $p |- ( ( ( A + 0 ) + C ) + C ) < ( ( ( ( x + x ) + 0 ) + C ) + C ) $=
+              cA cc0 caddc co cC caddc co vx cv vx cv caddc co cc0 caddc co cC caddc co cC vx cA cC h two ax-lt $. $}""")
+        said = self.mz("import", self.path("one.mm"), self.room, "--text")
+        self.assertIn("abbreviations: 2, as ", said)
+        self.assertIn("the same as one.mm", said)
+        spec = self.read("one.mm0")
+        self.assertIn("axiom ax_lt (A B C: class): $ A < B $ > $ ( A + C ) < ( B + C ) $;", spec)
+        self.assertIn("theorem thrice {x: setvar} (A C: class x):\n  $ A < ( x + x ) $ > $ ( ( ( A + 0 ) + C ) + C ) < ", spec)
+        self.assertIn("axiom ax_co (A B F: class): $ (. A F B .) = (. B F A .) $;", spec)  # F may be any expression
+        # two is cited, and proofs speak of the database's formulas
+        self.assertEqual(re.findall(r"theorem (\w+_plain) ", self.read("one.mmu")), ["ax_0_plain", "ax_lt_plain", "two_plain"])
+
+    def test_a_constant_that_never_is_an_operator(self):
+        """It is declared as it is: no infix of it, and no level but the highest."""
         self.put("one.mm", OPERATIONS)
-        self.assertIn("the same as one.mm", self.mz("import", self.path("one.mm"), self.room))
-        self.assertIn("$ (: (. A + C .) < (. B + C .) :) $", self.read("one.mm0"))
+        self.mz("import", self.path("one.mm"), self.room)
+        self.assertIn("prefix cc0: $0$ prec max;", self.read("one.mm0"))
 
     def test_headings(self):
         spec = self.one(OPERATIONS, "four")[1]
@@ -117,6 +133,9 @@ class TestReading(Room):
         with open(os.path.join(self.path("pages"), "theorems", "two.html"), encoding="utf-8") as file:
             page = file.read()
         self.assertIn('<b><span title="x">\U0001d465</span></b> +', page.replace(' class=x', ''))
+        # A step has `(. A ( + ) C .)`, which is written `( A + C )` in the database.
+        self.assertRegex(re.sub("<[^>]*>", "", page), r"\( A \+ 0 \)")
+        self.assertNotIn("( + )", re.sub("<[^>]*>", "", page))
         self.assertIn("<p class=about>Twice.</p>", page)
 
 
@@ -139,13 +158,13 @@ class TestMoreDatabases(Room):
         self.put("top.mm", "$c |- wff $.\n$[ part.mm $]\n$}")
         self.put("part.mm", "$v ph $.\nwph $f wff ph $.\n")
         said = self.mz("import", self.path("top.mm"), self.room, status=1)
-        self.assertEqual(said.strip(), f"mz import: {self.path('top.mm')}:3: a scope is closed here, and none is open")
+        self.assertEqual(said.strip(), f"mz import: {self.path('top.mm')}:3:1: a scope is closed here, and none is open")
         self.put("part.mm", "$v ph $.\nwph $f wff $.\n")
         said = self.mz("import", self.path("top.mm"), self.room, status=1)
-        self.assertEqual(said.strip(), f"mz import: {self.path('part.mm')}:2: wph: a typecode and a variable belong here")
+        self.assertEqual(said.strip(), f"mz import: {self.path('part.mm')}:2:5: wph: a typecode and a variable belong here")
         os.unlink(self.path("part.mm"))
         said = self.mz("import", self.path("top.mm"), self.room, status=1)
-        self.assertEqual(said.strip(), f"mz import: {self.path('top.mm')}:2: {self.path('part.mm')} can't be read: "
+        self.assertEqual(said.strip(), f"mz import: {self.path('top.mm')}:2:1: {self.path('part.mm')} can't be read: "
                          "No such file or directory")
 
     def test_an_empty_production(self):

@@ -34,7 +34,7 @@ class TestRealDatabases(Room):
 
     def test_what_has_two_readings(self):
         said = self.mz("import", os.path.join(DATABASES, "miu.mm"), self.path("miu"), status=1)
-        self.assertRegex(said, "miu.mm:[0-9]+: ax isn't translated: the grammar of the database has two readings of it")
+        self.assertRegex(said, "miu.mm:[0-9]+:[0-9]+: ax isn't translated: the grammar of the database has two readings of it")
 
 
 if __name__ == "__main__":

@@ -5,6 +5,7 @@ import unittest
 from metamath import opinion, rounds
 from metamath.pairs import NO, NOTHING, TOO_LONG, YES, Pair, disagreement, metamath_says, pairs
 from metamath.tests.room import EXAMPLES, Room
+from metamath.tests.test_more_databases import OPERATIONS
 
 
 def pair(spec, binary, line):
@@ -63,6 +64,13 @@ class TestRounds(Room):
         names = rounds.Names(self.path("pair"))
         self.assertEqual((names.reached(False), names.reached(True)), ({"df_ss"}, {"biid"}))
         self.assertEqual(rounds.other_axioms(self.path("little.mm"), "sub", self.path("pair")), ["axioms: here alone df_ss, there alone df_sub"])
+
+    @unittest.skipUnless(opinion.is_there(), "metamath isn't installed")
+    def test_a_whole_database_with_operators(self):
+        self.put("operations.mm", OPERATIONS)
+        self.assertEqual(rounds.round_trip(self.path("operations.mm"), self.room).faults, [])
+        with open(self.path("pair.mm0"), encoding="ascii") as file:
+            self.assertIn("( ( A + 0 ) + C ) < ", file.read())
 
     def test_a_round_that_fails(self):
         made = rounds.round_trip(self.path("little.mm"), self.room, "nosuch")

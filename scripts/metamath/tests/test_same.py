@@ -110,6 +110,16 @@ class TestSame(Room):
         asymmetric = LITTLE.replace("bicomi $a |- ( ps <-> ph )", "bicomi $a |- ( ph <-> ps )")
         self.assertIn("wss: no axiom of the database is this definition", self.changed(database=asymmetric))
 
+    def test_a_sign_that_only_export_gives_a_meaning(self):
+        database = LITTLE + "$c := T $. wbe $a wff A := B $. ct $a class T $. df-t $a |- T := RR $."
+        spec = SPECIFICATION + "term wbe (A B: class): wff; infixl wbe: $:=$ prec 50; def ct: class = $ RR $; prefix ct: $T$ prec max;"
+        self.assertEqual(compared(spec, database).faults, ["ct: no axiom of the database is this definition"])
+
+    def test_a_hypothesis_of_another_typecode(self):
+        odd = LITTLE + "${  odd.1 $e wff ( ph -> $.  odd $a |- ps $.  $}"
+        self.assertEqual(compared(SPECIFICATION, odd).faults, [])
+        self.assertEqual(compared(SPECIFICATION + "axiom odd (ps: wff): $ ps $;", odd).faults, ["odd: a hypothesis there isn't of what is proved"])
+
     def test_a_dummy_that_is_not_kept_apart(self):
         self.assertIn("wss: no axiom of the database is this definition", self.changed(database=LITTLE.replace("$d x B $.", "")))
 
@@ -191,7 +201,7 @@ class TestCommand(Room):
         self.assertIn("can't be read: Is a directory\n", self.mz("same", self.room, self.path("little.mm"), status=3))
         self.put("bad.mm0", SPECIFICATION + "axiom what: $ RR RR $;")
         lines = SPECIFICATION.count("\n") + 1
-        self.assertIn(f"bad.mm0, line {lines}: 'RR' can't stand here\n", self.same(spec="bad.mm0", status=1))
+        self.assertIn(f"bad.mm0:{lines}:18: 'RR' can't stand here\n", self.same(spec="bad.mm0", status=1))
         for cut in ("${ $d x ph $.", "$}", "ax-what $a |-", "nonsense $."):
             self.put("bad.mm", LITTLE + cut)
             self.assertRegex(self.same(database="bad.mm", status=1), r"^mz same: \S+ is no Metamath database: behind sub .*\n$")

@@ -11,7 +11,7 @@ class Kept {
   }
 }
 
-const providers = {}, told = {}, warnings = [], commands = {}, panel = { webview: {}, onDidDispose: () => {}, reveal: () => {} };
+const providers = {}, told = {}, warnings = [], informations = [], commands = {}, panel = { webview: {}, onDidDispose: () => {}, reveal: () => {} };
 const register = kind => (languages, provider) => ((providers[kind] = provider), new Kept());
 const listen = kind => call => ((told[kind] = call), new Kept());
 const uri = text => ({ toString: () => text });
@@ -38,7 +38,7 @@ const vscode = {
     registerCodeActionsProvider: register("actions"),
   },
   window: {
-    showWarningMessage: text => warnings.push(text), createWebviewPanel: () => panel, activeTextEditor: editor,
+    showWarningMessage: text => warnings.push(text), showInformationMessage: text => informations.push(text), createWebviewPanel: () => panel, activeTextEditor: editor,
     onDidChangeTextEditorSelection: listen("selected"),
   },
   workspace: {
@@ -50,7 +50,50 @@ const vscode = {
 };
 const load = Module._load;
 Module._load = (name, ...rest) => (name === "vscode" ? vscode : load(name, ...rest));
-const extension = require(path.join(__dirname, "../../../editors/vscode/extension.js"));
+const folder = path.join(__dirname, "../../../editors/vscode");
+const extension = require(path.join(folder, "extension.js"));
+const read = name => JSON.parse(fs.readFileSync(path.join(folder, name), "utf8"));
+
+/** The parts of a line to which a grammar gives names, each with the last part of its name but one. */
+function colours(grammar, line) {
+  const made = [];
+  for (let at = 0; at < line.length; ) {
+    const found = grammar.patterns.map(it => ({ it, hit: match(it.match || it.begin, line, at) })).filter(({ hit }) => hit);
+    if (!found.length) break;
+    const { it, hit } = found.reduce((one, other) => (other.hit.index < one.hit.index ? other : one));
+    const inner = hit.index + hit[0].length, last = it.begin ? match(it.end, line, inner) : hit;
+    const end = last ? last.index + last[0].length : line.length;
+    for (const [part, name] of it.captures ? Object.entries(it.captures).map(([i, { name }]) => [hit[i], name]) : [[line.slice(hit.index, end), it.name]]) {
+      made.push([part, name.split(".").at(-2)]);
+    }
+    at = Math.max(end, at + 1);
+  }
+  return made;
+}
+
+function match(pattern, line, at) {
+  const finder = new RegExp(pattern, "gm");
+  finder.lastIndex = at;
+  return finder.exec(line);
+}
+
+/** What package.json names is there, and the grammars give the parts of a line their names. */
+function described() {
+  const { contributes, activationEvents, main } = read("package.json");
+  const ids = contributes.languages.map(it => it.id);
+  assert.deepStrictEqual(activationEvents, ids.map(it => `onLanguage:${it}`));
+  assert.deepStrictEqual(contributes.grammars.map(it => it.language), ids);
+  assert.deepStrictEqual(contributes.commands.map(it => it.command), Object.keys(commands));
+  assert(fs.existsSync(path.join(folder, main)));
+  contributes.languages.forEach(it => assert.strictEqual(read(it.configuration).comments.lineComment, "--"));
+  const [spec, text] = contributes.grammars.map(it => read(it.path));
+  assert.deepStrictEqual(colours(spec, "axiom gen (p: wff): $ p $ > $ A. x p $; -- all"),
+    [["axiom", "other"], ["$ p $", "math"], ["$ A. x p $", "math"], ["-- all", "double-dash"]]);
+  assert.deepStrictEqual(colours(spec, "theorem t = have k = sorry;"),
+    [["theorem", "other"], ["have", "control"], ["sorry", "control"]]);
+  assert.deepStrictEqual(colours(text, "(theorem t () (:sorry p)) -- p"),
+    [["theorem", "other"], ["t", "function"], [":sorry", "deprecated"], ["-- p", "double-dash"]]);
+}
 
 async function main() {
   const subscriptions = [];
@@ -75,6 +118,8 @@ async function main() {
   const [action] = await providers.actions.provideCodeActions(source, place);
   const { edit } = await providers.actions.resolveCodeAction(action);
   assert.strictEqual(edit.parts[2], "h");
+  assert.match(informations.join(), /^Found: 0 citations tried, all up to depth 0$/);
+  described();
   const steps = await providers.completion.provideCompletionItems(source, editor.selection.active);
   assert.strictEqual(steps.reduce((a, b) => (b.sortText < a.sortText ? b : a)).parts[0], "h");
   told.closed(document);

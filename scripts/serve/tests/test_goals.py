@@ -76,6 +76,18 @@ class OfGoals(Opened):
         self.assertEqual([it["newText"] for it in edits][:1], ["h"], said)
         self.assertEqual(edits[0]["range"], document.range(at, at + 5))
 
+    def test_how_deep_a_question_goes_is_offered_and_replaced_with_it(self):
+        document = self.opened(SOURCE.replace("sorry", "? 4"))
+        at = document.text.index("?")
+        self.assertEqual([(it["data"]["depth"], it["data"]["from"], it["data"]["to"]) for it in self.goals.actions(document, at, at)],
+                         [(depth, at, at + 3) for depth in (2, 3, 4)])
+        self.assertEqual(self.goals.found(document, at, at + 3, 4)[0][0]["range"], document.range(at, at + 3))
+
+    def test_of_theorems_that_are_left_out_the_first_is_offered_on_the_line_before_too(self):
+        document = self.opened("-- all\n", MONOID + LEFT)
+        self.assertEqual([it["title"] for it in self.goals.actions(document, 2, 2)], [f"Look for a proof of left (depth {it})" for it in (2, 3)])
+        self.assertEqual(self.goals.actions(self.opened("-- all\n-- this\n"), 2, 2), [])
+
     def test_a_theorem_that_is_left_out_is_written_where_it_belongs(self):
         document = self.opened("theorem left = mul_eq(h, eq_refl);\n")
         (action, *_), end = self.goals.actions(document, len(document.text), len(document.text)), len(document.text)
@@ -128,10 +140,10 @@ class Completion(Opened):
 
 
 class Fast(Opened):
-    """A development of 3,200 theorems. Measured are 0.07 seconds for a keystroke and less for a hover behind it; the bound is
-    for a machine that is busy."""
+    """A development of 3,200 theorems. A keystroke was measured at 0.04 seconds of processor time, a hover behind it at less; the
+    bound is for a machine that is busy."""
 
-    BOUND = 0.6
+    BOUND, TRIES = 0.2, 3
 
     def test_a_keystroke_and_a_hover(self):
         count = 3200
@@ -140,15 +152,20 @@ class Fast(Opened):
         document = self.opened(proofs, spec)
         self.workspace.examined(document)
         self.answers.hover(document, proofs.index("h1"))
-        document = self.opened(proofs.replace("theorem t1600 = ", "theorem t1600 =  "), spec)
+        judging, hovering = zip(*(self.typed(spec, proofs, " " * i) for i in range(1, self.TRIES + 1)))
+        self.assertLess(min(judging), self.BOUND)
+        self.assertLess(min(hovering), self.BOUND)
+
+    def typed(self, spec, proofs, blanks):
+        """The processor times of the judgement and of a hover, where blanks were typed."""
+        document = self.opened(proofs.replace("theorem t1600 = ", f"theorem t1600 = {blanks}"), spec)
         at, start = document.text.index("theorem t1600 ") + 20, time.process_time()
         _, problems = self.workspace.examined(document)
         judged = time.process_time()
         hover = self.answers.hover(document, at)
         self.assertEqual(problems, [])
         self.assertIn("⊢ c = a", hover["contents"]["value"])
-        self.assertLess(judged - start, self.BOUND)
-        self.assertLess(time.process_time() - judged, self.BOUND)
+        return judged - start, time.process_time() - judged
 
 
 def message(it):

@@ -70,6 +70,8 @@ pub fn first(a: u8) -> u8
 }
 
 impl<'a> Reader<'a> {
+    /// The next.
+    #[tactic(auto)]
     pub(crate) fn next(&self) -> u8 {
         self.at + 2
     }
@@ -82,8 +84,11 @@ impl Iterator for Other {
 }
 """
 
+    def at(self, words):
+        return functions.changed_at(self.SOURCE, "src/read.rt", self.SOURCE.index(words))
+
     def names(self, words):
-        return functions.names_at(self.SOURCE, "src/read.rt", self.SOURCE.index(words))
+        return list(self.at(words).names)
 
     def test_a_function(self):
         self.assertEqual(self.names("a + 1"), ["read::first"])
@@ -94,6 +99,15 @@ impl Iterator for Other {
 
     def test_before_the_first_function_the_module_is_asked_for(self):
         self.assertEqual(self.names("LIMIT"), ["read"])
+
+    def test_the_lines_of_a_function_hold_its_goals(self):
+        first = self.at("a + 1")
+        self.assertEqual([first.holds(it) for it in ("src/read.rt:2", "src/read.rt:3", "src/read.rt:7", "src/read.rt:8", "src/other.rt:5")], [False, True, True, False, False])
+        self.assertTrue(self.at("LIMIT").holds("src/read.rt:1"))
+
+    def test_its_attributes_hold_them_too(self):
+        following = self.at("self.at + 2")
+        self.assertEqual([following.holds(f"src/read.rt:{it}") for it in (9, 10, 11, 14, 15)], [False, True, True, True, False])
 
     def test_modules(self):
         self.assertEqual([functions.module_of(it) for it in ("src/lib.rt", "src/a/b.rt", "src/a/mod.rt")], ["", "a::b", "a"])
@@ -113,8 +127,10 @@ class Answers(unittest.TestCase):
 
 
 class Judging(unittest.TestCase):
-    def judged(self, status, said):
-        return trials.judged(ran(status, said), ["lexer::name_at"])
+    AT = functions.Changed(("lexer::name_at",), "src/lexer.rt", 80, 100)
+
+    def judged(self, status, said, at=AT):
+        return trials.judged(ran(status, said), [at])
 
     def test_outcomes(self):
         for status, said, outcome in (
@@ -135,6 +151,10 @@ class Judging(unittest.TestCase):
     def test_the_goal_is_named(self):
         self.assertEqual(self.judged(1, f"{NAMED}{UNPROVED}only=4 proved=3")[1], "returns (src/lexer.rt:89)")
 
+    def test_a_goal_of_another_function_refuses_nothing(self):
+        other = functions.Changed(("lexer::name_at",), "src/lexer.rt", 20, 40)
+        self.assertIs(self.judged(1, f"{NAMED}{UNPROVED}only=4 proved=3", other)[0], trials.Outcome.NO_GOAL)
+
     def test_all_goals_are_named_those_of_what_is_ensured_first(self):
         said = (NAMED.replace("89:1", "96:5").replace("what the function ensures holds when it returns (`returns`)", "what `at` requires holds at this call (`at-place`)")
                 + NAMED.replace("(`returns`)", "(`returns-clause-log`)") + NAMED.replace("(`returns`)", "(`returns-clause-text`)") + UNPROVED + "only=4 proved=3")
@@ -146,6 +166,15 @@ class Judging(unittest.TestCase):
 
 PROVER = r"""#!/bin/sh
 echo "$@" >>"$FAKE_LOG"
+case "$*" in *"--only b::"*)
+    for name in second third; do
+        if grep -q "$name good" src/b.rt; then echo "fn mz_a::b::$name: proved"; continue; fi
+        echo "note: src/b.rt:$(grep -n "$name wrong" src/b.rt | cut -d: -f1):1: it is not proved that what the function ensures holds when it returns (\`$name\`)"
+        echo "fn mz_a::b::$name: not proved"
+    done
+    echo 'only=2 proved=0'
+    exit 1 ;;
+esac
 case "$*" in *"--only a::first"*) ;; *) echo 'rattle: error: `mz_a` has no function `x`'; exit 2 ;; esac
 if grep -q 'a + 1' src/a.rt; then echo 'fn mz_a::a::first: proved'; echo 'only=1 proved=1'; exit 0; fi
 if grep -q '^pub returns :' proofs/a/first/Answers.antt; then
@@ -202,8 +231,7 @@ class Trials(unittest.TestCase):
         self.assertEqual(status, 0)
         self.assertRegex(lines[0], r"^refused .* mz_a/one: a::first: returns \(src/a.rt:3\); without the answers returns$")
         self.assertRegex(lines[-1], r"^wrong bodies: 1 passed, 0 failed")
-        with open(os.path.join(self.top, "log"), encoding="utf-8") as file:
-            self.assertEqual(len(file.readlines()), 2)
+        self.assertEqual(self.runs(), 2)
 
     def test_a_body_that_is_proved_fails(self):
         self.body("a + 1 + 1", "1 + a + 1")
@@ -211,6 +239,35 @@ class Trials(unittest.TestCase):
         self.assertEqual(status, 1)
         self.assertTrue(lines[0].startswith("PROVED"), lines[0])
         self.assertRegex(lines[-1], r"^wrong bodies: 0 passed, 1 failed")
+
+    def runs(self):
+        with open(os.path.join(self.top, "log"), encoding="utf-8") as file:
+            return len(file.readlines())
+
+    def two(self, new):
+        """Two bodies of two functions: the first is wrong, and the second becomes what is given."""
+        self.write("crates/mz_a/src/b.rt", "fn second() {\n    second good\n}\n\nfn third() {\n    third good\n}\n")
+        self.write("crates/mz_a/wrong/second.edit", "file: src/b.rt\nold: second good\nnew: second wrong\n")
+        self.write("crates/mz_a/wrong/third.edit", f"file: src/b.rt\nold: third good\nnew: {new}\n")
+        return self.run_it()
+
+    def test_two_functions_of_a_crate_are_tried_in_one_run_and_each_has_its_goal(self):
+        status, lines = self.two("third wrong")
+        self.assertEqual((status, self.runs()), (0, 1))
+        self.assertRegex(lines[0], r"^refused .* mz_a/second: b::second: second \(src/b.rt:2\)$")
+        self.assertRegex(lines[1], r"^refused .* mz_a/third: b::third: third \(src/b.rt:6\)$")
+
+    def test_what_such_a_run_does_not_refuse_is_tried_alone(self):
+        status, lines = self.two("third good and more")
+        self.assertEqual((status, self.runs()), (1, 2))
+        self.assertTrue(lines[0].startswith("refused"), lines[0])
+        self.assertTrue(lines[1].startswith("NOT TRIED"), lines[1])
+
+    def test_two_bodies_of_one_function_are_tried_apart(self):
+        self.two("third wrong")
+        self.write("crates/mz_a/wrong/third_too.edit", "file: src/b.rt\nold: third good\nnew: third wrong too\n")
+        os.remove(os.path.join(self.top, "log"))
+        self.assertEqual((self.run_it()[0], self.runs()), (0, 2))
 
     def test_what_does_not_stand_there_is_not_tried(self):
         self.body("b", "c")
@@ -251,7 +308,8 @@ class Checking(unittest.TestCase):
         self.top = tempfile.mkdtemp(prefix="test-edits-")
         self.addCleanup(shutil.rmtree, self.top)
         shutil.copytree(os.path.join(TOP, "scripts", "wrong"), os.path.join(self.top, "scripts", "wrong"), ignore=shutil.ignore_patterns("tests", "__pycache__"))
-        shutil.copy(os.path.join(TOP, "scripts", "check-edits"), os.path.join(self.top, "scripts"))
+        for name in ("check-edits", "running.py"):
+            shutil.copy(os.path.join(TOP, "scripts", name), os.path.join(self.top, "scripts"))
         self.write("crates.txt", "# What this is.\n\n# low: what is lowest\nmz_a:\n")
         self.write("crates/mz_a/src/a.rt", "one two three four\n")
         for word in ("one", "two", "three"):

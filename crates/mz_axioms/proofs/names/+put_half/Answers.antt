@@ -11,9 +11,9 @@ use Rattle.mz_axioms.proofs.names.+put_half.Goals as goal
 pub returns-then-set-eq0 : goal.returns-then-set-eq0
 returns-then-set-eq0 g t c =
     let table = c.args.table.now in
-    let text = axiom_names c.args.spec.now c.args.declared.now (map (number_of table.rows.items) (members (nodes_of table) c.args.size.height c.args.base c.args.set)) in
+    let text = axiom_names c.args.spec.now.text.now c.args.spec.now.declared (map (number_of table.rows.items) (members (nodes_of table) c.args.size.height c.args.base c.args.set)) in
     adds-none tt (g.O.Sink.is_clear c.args.out.now) (g.O.Sink.room c.args.out.now) (g.O.Sink.faults c.args.out.now) (g.O.Sink.calls c.args.out.now) c.args.held.now.items text
-    (ap (axiom_names c.args.spec.now c.args.declared.now) (no-members (nodes_of table) table.rows.items c.args.size.height c.args.base c.args.set c.requires.starts c.if-set-eq0.true))
+    (ap (axiom_names c.args.spec.now.text.now c.args.spec.now.declared) (no-members (nodes_of table) table.rows.items c.args.size.height c.args.base c.args.set c.requires.starts c.if-set-eq0.true))
 
 pub put_word-requires-clause-fits : goal.put_word-requires-clause-fits
 put_word-requires-clause-fits g t c = let power = c.requires.power ∙ ap span c.if-size-eq0.true in let fits = c.requires.fits in omega (arith, power, fits)
@@ -25,8 +25,8 @@ put_word-requires-clause-within g t c =
 pub returns-then-size-eq0 : goal.returns-then-size-eq0
 returns-then-size-eq0 g t c =
     let table = c.args.table.now in
-    adds-text (names_from table c.args.spec.now c.args.declared.now 0 c.args.base c.args.set) (names_from table c.args.spec.now c.args.declared.now c.args.size.height c.args.base c.args.set)
-    (ap (λ k. names_from table c.args.spec.now c.args.declared.now k c.args.base c.args.set) (sym c.if-size-eq0.true)) c.put_word.ensures
+    adds-text (names_from table c.args.spec.now.text.now c.args.spec.now.declared 0 c.args.base c.args.set) (names_from table c.args.spec.now.text.now c.args.spec.now.declared c.args.size.height c.args.base c.args.set)
+    (ap (λ k. names_from table c.args.spec.now.text.now c.args.spec.now.declared k c.args.base c.args.set) (sym c.if-size-eq0.true)) c.put_word.ensures
 
 pub index-node-requires : goal.index-node-requires
 index-node-requires g t c =
@@ -99,8 +99,8 @@ returns-in_err-put_half g t c =
     let some = c.if-size-eq0.false in
     let node = c.index-node.result.now in
     let half = half-span height c.args.size.span some c.requires.power in
-    let spec = c.args.spec.now in
-    let declared = c.args.declared.now in
+    let spec = c.args.spec.now.text.now in
+    let declared = c.args.spec.now.declared in
     let whole = of-halves (nodes_of table) height c.args.set some c.requires.is_set c.args.base (c.args.size.span / 2) node half.0 c.index-node.ensures in
     adds-stops c.from_residual.result c.from_residual.ensures.0 (names_from table spec declared (height - 1) c.args.base node.left) (names_from table spec declared (height - 1) (c.args.base + c.args.size.span / 2) node.right)
     (names_from table spec declared height c.args.base c.args.set)
@@ -114,8 +114,8 @@ returns g t c =
     let some = c.if-size-eq0.false in
     let node = c.index-node.result.now in
     let half = half-span height c.args.size.span some c.requires.power in
-    let spec = c.args.spec.now in
-    let declared = c.args.declared.now in
+    let spec = c.args.spec.now.text.now in
+    let declared = c.args.spec.now.declared in
     let whole = of-halves (nodes_of table) height c.args.set some c.requires.is_set c.args.base (c.args.size.span / 2) node half.0 c.index-node.ensures in
     adds-both (names_from table spec declared (height - 1) c.args.base node.left) (names_from table spec declared (height - 1) (c.args.base + c.args.size.span / 2) node.right)
     (names_from table spec declared height c.args.base c.args.set)

@@ -10,5 +10,5 @@ pub returns : goal.returns
 returns g c =
     let table = c.args.table.now in
     let members = members_of table c.args.set in
-    adds-text (axiom_names c.args.spec.now c.args.declared.now (map (number_of table.rows.items) members)) (axiom_names c.args.spec.now c.args.declared.now (map (number_at (told table)) members))
-    (ap (axiom_names c.args.spec.now c.args.declared.now) (numbers-told (nodes_of table) table.size.height table.rows.items members)) c.put_half.ensures
+    adds-text (axiom_names c.args.spec.now.text.now c.args.spec.now.declared (map (number_of table.rows.items) members)) (axiom_names c.args.spec.now.text.now c.args.spec.now.declared (map (number_at (told table)) members))
+    (ap (axiom_names c.args.spec.now.text.now c.args.spec.now.declared) (numbers-told (nodes_of table) table.size.height table.rows.items members)) c.put_half.ensures

@@ -26,9 +26,9 @@ returns-in_err-put_low g c =
     let f = number_of rows in
     let so_far = c.bits.invariant.some in
     let low = low_bit (c.args.base + c.bits.i) c.bits.rest in
-    let parts = word-parts c.args.spec.now c.args.declared.now rows c.args.base c.bits.rest c.bits.i so_far.0 (map f (bits 64 c.args.base c.args.word)) c.bits-test.true so_far.1 in
-    adds-both (axiom_names c.args.spec.now c.args.declared.now so_far.0) _ _ parts.1 so_far.2
-    (adds-stops c.from_residual.result c.from_residual.ensures.0 (axiom_names c.args.spec.now c.args.declared.now (map f low)) parts.0 _ refl c.in_err-put_low.ensures)
+    let parts = word-parts c.args.spec.now.text.now c.args.spec.now.declared rows c.args.base c.bits.rest c.bits.i so_far.0 (map f (bits 64 c.args.base c.args.word)) c.bits-test.true so_far.1 in
+    adds-both (axiom_names c.args.spec.now.text.now c.args.spec.now.declared so_far.0) _ _ parts.1 so_far.2
+    (adds-stops c.from_residual.result c.from_residual.ensures.0 (axiom_names c.args.spec.now.text.now c.args.spec.now.declared (map f low)) parts.0 _ refl c.in_err-put_low.ensures)
 
 pub bits-preserved : goal.bits-preserved
 bits-preserved g c =
@@ -41,8 +41,8 @@ bits-preserved g c =
       some = (
         next,
         left-next rows c.args.base c.bits.rest c.bits.i so_far.0 next (map f (bits 64 c.args.base c.args.word)) c.bits-test.true refl so_far.1,
-        adds-both {result = Ok tt} (axiom_names c.args.spec.now c.args.declared.now so_far.0) (axiom_names c.args.spec.now c.args.declared.now (map f low)) (axiom_names c.args.spec.now c.args.declared.now next)
-            (names-append c.args.spec.now c.args.declared.now so_far.0 (map f low)) so_far.2 c.in_ok-put_low.ensures,
+        adds-both {result = Ok tt} (axiom_names c.args.spec.now.text.now c.args.spec.now.declared so_far.0) (axiom_names c.args.spec.now.text.now c.args.spec.now.declared (map f low)) (axiom_names c.args.spec.now.text.now c.args.spec.now.declared next)
+            (names-append c.args.spec.now.text.now c.args.spec.now.declared so_far.0 (map f low)) so_far.2 c.in_ok-put_low.ensures,
       );
     }
 
@@ -51,5 +51,5 @@ returns g c =
     let rows = c.args.rows.now.items in
     let so_far = c.bits.invariant.some in
     let last = left-last rows c.args.base c.bits.rest c.bits.i so_far.0 (map (number_of rows) (bits 64 c.args.base c.args.word)) c.bits-test.false so_far.1 in
-    adds-text (axiom_names c.args.spec.now c.args.declared.now so_far.0) (axiom_names c.args.spec.now c.args.declared.now (map (number_of rows) (bits 64 c.args.base c.args.word)))
-    (ap (axiom_names c.args.spec.now c.args.declared.now) last) so_far.2
+    adds-text (axiom_names c.args.spec.now.text.now c.args.spec.now.declared so_far.0) (axiom_names c.args.spec.now.text.now c.args.spec.now.declared (map (number_of rows) (bits 64 c.args.base c.args.word)))
+    (ap (axiom_names c.args.spec.now.text.now c.args.spec.now.declared) last) so_far.2

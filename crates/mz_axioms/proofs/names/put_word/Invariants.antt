@@ -12,5 +12,5 @@ abbrev pub invariant-bits : goal.invariant-bits
 invariant-bits g l = record {
   some : (numbers : List ℕ) × Left l.rows.items l.base l.rest l.i numbers (map (number_of l.rows.items) (bits 64 l.base l.word))
       × Adds {T = Unit {0}} {E = Failed} (Ok tt) (g.O.Sink.is_clear l.fn.out) (g.O.Sink.is_clear l.out) (g.O.Sink.room l.fn.out) (g.O.Sink.room l.out) (g.O.Sink.faults l.fn.out) (g.O.Sink.faults l.out)
-      (g.O.Sink.calls l.fn.out) (g.O.Sink.calls l.out) l.initial.held.items l.held.items (axiom_names l.spec l.declared numbers);
+      (g.O.Sink.calls l.fn.out) (g.O.Sink.calls l.out) l.initial.held.items l.held.items (axiom_names l.spec.text.now l.spec.declared numbers);
 }

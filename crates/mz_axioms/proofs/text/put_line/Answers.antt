@@ -9,40 +9,40 @@ use Rattle.mz_axioms.proofs.text.put_line.Goals as goal
 pub returns-in_err-put : goal.returns-in_err-put
 returns-in_err-put g c =
     let told = support_told c.args.table.now c.args.support in
-    let spec = c.args.spec.now in
-    let declared = c.args.declared.now in
+    let spec = c.args.spec.now.text.now in
+    let declared = c.args.spec.now.declared in
     let name = name_at spec declared c.args.support.theorem in
     adds-stops c.from_residual.result c.from_residual.ensures.0 name (codes ":" ++ (axiom_names spec declared told.axioms ++ codes "\n")) (support_line spec declared told) (line-parts spec declared told)
-    (adds-text c.declared_name.result.now name c.declared_name.ensures c.in_err-put.ensures)
+    (adds-text c.name.result.now name c.name.ensures c.in_err-put.ensures)
 
 pub returns-in_err-put-2 : goal.returns-in_err-put-2
 returns-in_err-put-2 g c =
     let told = support_told c.args.table.now c.args.support in
-    let spec = c.args.spec.now in
-    let declared = c.args.declared.now in
+    let spec = c.args.spec.now.text.now in
+    let declared = c.args.spec.now.declared in
     let name = name_at spec declared c.args.support.theorem in
     let names = axiom_names spec declared told.axioms in
-    adds-both name (codes ":" ++ (names ++ codes "\n")) (support_line spec declared told) (line-parts spec declared told) (adds-text c.declared_name.result.now name c.declared_name.ensures c.in_ok-put.ensures)
+    adds-both name (codes ":" ++ (names ++ codes "\n")) (support_line spec declared told) (line-parts spec declared told) (adds-text c.name.result.now name c.name.ensures c.in_ok-put.ensures)
     (adds-stops c.from_residual-in_err-put-2.result c.from_residual-in_err-put-2.ensures.0 (codes ":") (names ++ codes "\n") (codes ":" ++ (names ++ codes "\n")) refl c.in_err-put-2.ensures)
 
 pub returns-in_err-put_names : goal.returns-in_err-put_names
 returns-in_err-put_names g c =
     let told = support_told c.args.table.now c.args.support in
-    let spec = c.args.spec.now in
-    let declared = c.args.declared.now in
+    let spec = c.args.spec.now.text.now in
+    let declared = c.args.spec.now.declared in
     let name = name_at spec declared c.args.support.theorem in
     let names = axiom_names spec declared told.axioms in
-    adds-both name (codes ":" ++ (names ++ codes "\n")) (support_line spec declared told) (line-parts spec declared told) (adds-text c.declared_name.result.now name c.declared_name.ensures c.in_ok-put.ensures)
+    adds-both name (codes ":" ++ (names ++ codes "\n")) (support_line spec declared told) (line-parts spec declared told) (adds-text c.name.result.now name c.name.ensures c.in_ok-put.ensures)
     (adds-both (codes ":") (names ++ codes "\n") (codes ":" ++ (names ++ codes "\n")) refl c.in_ok-put-2.ensures
     (adds-stops c.from_residual-in_err-put_names.result c.from_residual-in_err-put_names.ensures.0 names (codes "\n") (names ++ codes "\n") refl c.in_err-put_names.ensures))
 
 pub returns : goal.returns
 returns g c =
     let told = support_told c.args.table.now c.args.support in
-    let spec = c.args.spec.now in
-    let declared = c.args.declared.now in
+    let spec = c.args.spec.now.text.now in
+    let declared = c.args.spec.now.declared in
     let name = name_at spec declared c.args.support.theorem in
     let names = axiom_names spec declared told.axioms in
-    adds-both name (codes ":" ++ (names ++ codes "\n")) (support_line spec declared told) (line-parts spec declared told) (adds-text c.declared_name.result.now name c.declared_name.ensures c.in_ok-put.ensures)
+    adds-both name (codes ":" ++ (names ++ codes "\n")) (support_line spec declared told) (line-parts spec declared told) (adds-text c.name.result.now name c.name.ensures c.in_ok-put.ensures)
     (adds-both (codes ":") (names ++ codes "\n") (codes ":" ++ (names ++ codes "\n")) refl c.in_ok-put-2.ensures
     (adds-both names (codes "\n") (names ++ codes "\n") refl c.in_ok-put_names.ensures c.put-3.ensures))

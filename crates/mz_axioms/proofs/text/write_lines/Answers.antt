@@ -16,8 +16,8 @@ supports-init g c = record {
 
 pub supports-preserved : goal.supports-preserved
 supports-preserved g c =
-    let spec = c.args.spec.now in
-    let declared = c.args.declared.now in
+    let spec = c.args.spec.now.text.now in
+    let declared = c.args.spec.now.declared in
     let table = c.args.table.now in
     let supports = c.args.supports.now in
     let i = c.supports.support-index in record {
@@ -27,8 +27,8 @@ supports-preserved g c =
 
 pub returns-in_err-put_line : goal.returns-in_err-put_line
 returns-in_err-put_line g c =
-    let spec = c.args.spec.now in
-    let declared = c.args.declared.now in
+    let spec = c.args.spec.now.text.now in
+    let declared = c.args.spec.now.declared in
     let table = c.args.table.now in
     let supports = c.args.supports.now in
     let i = c.supports.support-index in
@@ -40,8 +40,8 @@ returns-in_err-put_line g c =
 
 pub returns : goal.returns
 returns g c =
-    let spec = c.args.spec.now in
-    let declared = c.args.declared.now in
+    let spec = c.args.spec.now.text.now in
+    let declared = c.args.spec.now.declared in
     let table = c.args.table.now in
     let supports = c.args.supports.now in
     let i = c.supports.support-index in

@@ -5,4 +5,4 @@ use Rattle.mz_decompile_text.proofs.Runs.{rest}
 use Rattle.mz_decompile_text.proofs.source.longest_run.Given as goal
 
 abbrev pub invariant-loop-k : goal.invariant-loop-k
-invariant-loop-k l = max l.run (longest_run (rest l.spec l.declared l.k)) ≡ longest_run (declared_names l.spec l.declared)
+invariant-loop-k l = max l.run (longest_run (rest l.spec.text.now l.spec.declared l.k)) ≡ longest_run (declared_names l.spec.text.now l.spec.declared)

@@ -1,13 +1,18 @@
-use Rattle.mz_match.proofs.GapPlaces.{judged-verdict}
-use Rattle.mz_match_theory.specs.declared.verdict.Verdict.TheVariants as verdicts
-use Rattle.mz_match_theory.proofs.Offered.{verdict-says, refusal-says}
+use Rattle.std.proofs.Common.{Ok, Err}
+use Rattle.mz_match.proofs.Judging.{judged-accepted, judged-refused}
 use Rattle.mz_match.proofs.verify.verify_by.Goals as goal
 
-pub returns-clause-verdict : goal.returns-clause-verdict
-returns-clause-verdict g c = judged-verdict g.B.Bodies.STANDARD c.args.spec.now c.args.bin.now c.judge.result c.judge.new.places.items c.judge.ensures.verdict
+pub returns-in-Ok-clause-verdict : goal.returns-in-Ok-clause-verdict
+returns-in-Ok-clause-verdict g c = (c.in-Ok.ensures.judged.accepts, c.in-Ok.ensures.judged.counts)
 
-pub returns-clause-accepted : goal.returns-clause-accepted
-returns-clause-accepted g c = λ counts accepts. verdict-says g.B.Bodies.STANDARD c.args.spec.now c.args.bin.now c.judge.result (verdicts.Accepted counts) (judged-verdict g.B.Bodies.STANDARD c.args.spec.now c.args.bin.now c.judge.result c.judge.new.places.items c.judge.ensures.verdict) accepts
+pub returns-in-Ok-clause-accepted : goal.returns-in-Ok-clause-accepted
+returns-in-Ok-clause-accepted g c = judged-accepted g.B.Bodies.STANDARD c.args.spec.now c.args.bin.now (Ok c.in-Ok.pair) c.in-Ok.ensures.judged
 
-pub returns-clause-refused : goal.returns-clause-refused
-returns-clause-refused g c = λ verdict first. verdict-says g.B.Bodies.STANDARD c.args.spec.now c.args.bin.now c.judge.result verdict (judged-verdict g.B.Bodies.STANDARD c.args.spec.now c.args.bin.now c.judge.result c.judge.new.places.items c.judge.ensures.verdict) (refusal-says g.B.Bodies.STANDARD c.args.spec.now c.args.bin.now verdict first)
+pub returns-in-Ok-clause-refused : goal.returns-in-Ok-clause-refused
+returns-in-Ok-clause-refused g c = judged-refused g.B.Bodies.STANDARD c.args.spec.now c.args.bin.now (Ok c.in-Ok.pair) c.in-Ok.ensures.judged
+
+pub returns-in-Err-clause-accepted : goal.returns-in-Err-clause-accepted
+returns-in-Err-clause-accepted g c = judged-accepted g.B.Bodies.STANDARD c.args.spec.now c.args.bin.now (Err c.in-Err.verdict) c.in-Err.ensures.judged
+
+pub returns-in-Err-clause-refused : goal.returns-in-Err-clause-refused
+returns-in-Err-clause-refused g c = judged-refused g.B.Bodies.STANDARD c.args.spec.now c.args.bin.now (Err c.in-Err.verdict) c.in-Err.ensures.judged

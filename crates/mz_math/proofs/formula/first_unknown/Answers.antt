@@ -1,7 +1,7 @@
 use Rattle.std.proofs.Common.{◌≡◌, ◌∙◌, ◌+◌, ◌∷◌, List, ap, sym, subst, refl, drop, drop-cons, add-one, inl, get_or}
 use Rattle.std.proofs.lemmas.Bool.{true≢false}
 use Rattle.mz_base.proofs.Offered.{Decides, decides-after}
-use Rattle.mz_math_tokens.specs.declared.tokens.MathToken.{MathToken}
+use Rattle.mz_lex.specs.declared.tokens.MathToken.{MathToken}
 use Rattle.mz_math_theory.specs.Formula.{known_checks, is_known}
 use Rattle.mz_lex.specs.declared.rule.S.TheVariants as rules
 use Rattle.mz_math.proofs.formula.first_unknown.Goals as goal

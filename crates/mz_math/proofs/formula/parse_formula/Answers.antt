@@ -1,15 +1,15 @@
 use Rattle.std.proofs.Common.{◌≡◌, ◌∙◌, ◌≤◌, ℕ, List, ap, sym, subst, length, All}
 use Rattle.mz_logic_theory.specs.View.{tree}
 use Rattle.mz_logic_theory.specs.Declaration.{signatures}
-use Rattle.mz_math_tokens.specs.MathTokens.{MathTokens, token_texts}
-use Rattle.mz_math_tokens.specs.declared.tokens.Delimiters.{Delimiters}
-use Rattle.mz_math_tokens.specs.declared.tokens.MathToken.{MathToken}
+use Rattle.mz_lex.specs.MathTokens.{MathTokens, token_texts}
+use Rattle.mz_lex.specs.declared.tokens.Delimiters.{Delimiters}
+use Rattle.mz_lex.specs.declared.tokens.MathToken.{MathToken}
 use Rattle.mz_math_theory.specs.FormulaAnswers.{IsTreeOfFew}
 use Rattle.mz_math_theory.specs.Grammar.{Words, Exp}
 use Rattle.mz_math_theory.specs.Readable.{IsReadable}
 use Rattle.mz_math_theory.specs.Formula.{Reader, words, most}
 use Rattle.mz_math_theory.specs.declared.syntax.Syntax.TheVariants as syntax
-use Rattle.mz_math_tokens.proofs.Offered.{math_tokens-within}
+use Rattle.mz_lex.proofs.Offered.{math_tokens-within}
 use Rattle.mz_math_theory.proofs.Offered.{table-readable, known-all, read-known}
 use Rattle.mz_math.proofs.formula.parse_formula.Goals as goal
 

@@ -2,7 +2,7 @@ use Rattle.std.proofs.Common.{◌≤◌, Some, sym, subst, refl, length, inl, in
 use Rattle.std.proofs.lemmas.List.{length-map}
 use Rattle.mz_base.specs.Checks.{AllHold}
 use Rattle.mz_lex.specs.declared.rule.S.TheVariants as rules
-use Rattle.mz_math_tokens.specs.MathTokens.{token_text, token_texts}
+use Rattle.mz_lex.specs.MathTokens.{token_text, token_texts}
 use Rattle.mz_math_theory.specs.FormulaAnswers.{IsFirstUnknown}
 use Rattle.mz_math_theory.specs.Grammar.{Exp}
 use Rattle.mz_math_theory.specs.Formula.{words, most, known_checks, IsParsed, breaks}

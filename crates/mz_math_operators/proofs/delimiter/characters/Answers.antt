@@ -1,7 +1,7 @@
 use Rattle.std.proofs.Common.{sym, subst}
-use Rattle.mz_math_tokens.specs.declared.tokens.Delimiters.{Delimiters}
-use Rattle.mz_math_tokens.specs.Answers.{IsNext}
-use Rattle.mz_math_tokens.proofs.Offered.{SoFar, so-far-none, so-far-more, so-far-all, so-far-never}
+use Rattle.mz_lex.specs.declared.tokens.Delimiters.{Delimiters}
+use Rattle.mz_lex.specs.Answers.{IsNext}
+use Rattle.mz_lex.proofs.Offered.{SoFar, so-far-none, so-far-more, so-far-all, so-far-never}
 use Rattle.mz_math_operators.proofs.delimiter.characters.Goals as goal
 
 pub tokens-init : goal.tokens-init

@@ -1,5 +1,5 @@
 use Rattle.std.proofs.Common.{◌-◌, length}
-use Rattle.mz_math_tokens.proofs.Offered.{SoFar}
+use Rattle.mz_lex.proofs.Offered.{SoFar}
 use Rattle.mz_math_operators.proofs.delimiter.characters.Given as goal
 
 abbrev pub decreases-tokens : goal.decreases-tokens

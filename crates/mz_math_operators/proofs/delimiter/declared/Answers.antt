@@ -1,6 +1,6 @@
 use Rattle.std.proofs.Common.{sym, subst}
 use Rattle.std.specs.Prelude.{option_map}
-use Rattle.mz_math_tokens.specs.MathTokens.{AreDelimiters}
+use Rattle.mz_lex.specs.MathTokens.{AreDelimiters}
 use Rattle.mz_math_theory.specs.NotationAnswers.{IsMade}
 use Rattle.mz_math_operators.proofs.delimiter.declared.Goals as goal
 

@@ -1,5 +1,5 @@
-use Rattle.mz_math_tokens.specs.MathTokens.{AreCharacters}
-use Rattle.mz_math_tokens.specs.declared.tokens.Delimiters.{Delimiters}
+use Rattle.mz_lex.specs.MathTokens.{AreCharacters}
+use Rattle.mz_lex.specs.declared.tokens.Delimiters.{Delimiters}
 use Rattle.mz_math_theory.specs.NotationAnswers.{AreBoth}
 use Rattle.mz_math_operators.proofs.Literals.{made-err}
 use Rattle.mz_math_operators.proofs.delimiter.of_both.Goals as goal

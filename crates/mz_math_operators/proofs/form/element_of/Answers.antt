@@ -1,7 +1,7 @@
 use Rattle.std.proofs.Common.{◌∙◌, sym, subst, Contains}
 use Rattle.mz_math_theory.specs.Forms.{IsElement}
 use Rattle.mz_math_theory.specs.declared.literal.Literal.{Literal}
-use Rattle.mz_math_tokens.specs.MathTokens.{IsConstant}
+use Rattle.mz_lex.specs.MathTokens.{IsConstant}
 use Rattle.mz_math_operators.proofs.Literals.{constant-parts, name-parts}
 use Rattle.mz_math_operators.proofs.form.element_of.Goals as goal
 

@@ -1,7 +1,7 @@
 use Rattle.std.proofs.Common.{◌≡◌, ◌∙◌, ◌↔◌, length, false, get_or, replicate, ap, subst}
 use Rattle.std.specs.Prelude.{IsTrue}
 use Rattle.std.proofs.lemmas.List.{length-replicate}
-use Rattle.mz_math_tokens.proofs.Offered.{unmarked}
+use Rattle.mz_lex.proofs.Offered.{unmarked}
 use Rattle.mz_math_theory.specs.Forms.{EachOnce}
 use Rattle.mz_math_operators.proofs.parameters.each_once.Goals as goal
 

@@ -1,7 +1,7 @@
 use Rattle.std.proofs.Common.{◌≡◌, List, map, drop}
 use Rattle.mz_base.proofs.Offered.{Decides}
 use Rattle.mz_logic_theory.specs.Tree.{Trees, followed_by}
-use Rattle.mz_math_tokens.specs.declared.tokens.MathToken.{MathToken}
+use Rattle.mz_lex.specs.declared.tokens.MathToken.{MathToken}
 use Rattle.mz_spec_theory.specs.SpecCode.{EndsSmall, stated}
 use Rattle.mz_spec_rules.specs.Entries.{state}
 use Rattle.mz_spec_theory.specs.Formulas.{AreHyps, AreTokens, strings_checks}

@@ -1,7 +1,7 @@
 use Rattle.std.proofs.Common.{◌≡◌, List, ℕ, Some, sym, subst, refl}
 use Rattle.std.specs.Prelude.{bytes_eq, if◌then◌else◌}
 use Rattle.std.proofs.lemmas.Result.{IfOk-weaker}
-use Rattle.mz_math_tokens.specs.Places.{place_of}
+use Rattle.mz_lex.specs.Places.{place_of}
 use Rattle.mz_spec_theory.specs.Dependencies.{IsCalled}
 use Rattle.mz_spec_variables.proofs.Indexed.{named-step}
 use Rattle.mz_spec_variables.proofs.by_name.add_name.Goals as goal

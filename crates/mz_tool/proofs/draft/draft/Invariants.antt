@@ -1,4 +1,4 @@
 use Rattle.mz_tool.proofs.draft.draft.Given as goal
 
-abbrev pub ghosts-counted_draft : goal.ghosts-counted_draft
-ghosts-counted_draft a = record { name = a.blank.name; parts = a.blank.parts }
+abbrev pub ghosts-judged : goal.ghosts-judged
+ghosts-judged a = record { name = a.blank.name; parts = a.blank.parts }

@@ -1,7 +1,7 @@
 use Rattle.std.proofs.Common.{◌≡◌, ◌∙◌, ℕ, List, None, length, ap}
-use Rattle.mz_sample.specs.Samples.{sample_specification, sample_text, sample_line}
+use Rattle.mz_tool.specs.Samples.{sample_specification, sample_text, sample_line}
 use Rattle.mz_tool_engine.specs.Outcomes.{IfYes, OnYes, OnNo}
-use Rattle.mz_sample.specs.Laws.{FitTogether}
+use Rattle.mz_tool.specs.Laws.{FitTogether}
 use Rattle.mz_tool.specs.Sample.{IsUpheld, IsProvedByText, sizes_line}
 use Rattle.mz_tool.proofs.Sampled.{after-yes, fit-never, still-yes, still-no, at-sample}
 use Rattle.mz_tool.proofs.sample.sample.Goals as goal

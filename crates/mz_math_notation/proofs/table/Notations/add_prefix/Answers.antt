@@ -4,7 +4,7 @@ use Rattle.mz_math_theory.specs.Notation.{Table, with_notation}
 use Rattle.mz_math_theory.specs.declared.notation.Notation.{Notation}
 use Rattle.mz_math_theory.specs.NotationAnswers.{IsMade}
 use Rattle.mz_logic_theory.specs.Declaration.{signatures}
-use Rattle.mz_math_tokens.specs.declared.tokens.Delimiters.{Delimiters}
+use Rattle.mz_lex.specs.declared.tokens.Delimiters.{Delimiters}
 use Rattle.mz_math_theory.specs.Forms.{IsPrefix}
 use Rattle.mz_math_theory.proofs.Offered.{prefix-one, prefix-shaped, form-answer, added-answer, added-ok, added-err}
 use Rattle.mz_math_notation.proofs.table.Notations.add_prefix.Goals as goal

@@ -2,8 +2,8 @@ use Rattle.std.proofs.Common.{◌∙◌, ◌++◌, ◌∷◌, [], ℕ, List, Som
 use Rattle.std.specs.Prelude.{bytes_eq, if◌then◌else◌}
 use Rattle.mz_math_theory.specs.declared.notation.Notation.{Notation}
 use Rattle.mz_math_operators.specs.Headed.{AreFound, AreLevelled, IsHeadedBy}
-use Rattle.mz_math_tokens.specs.Places.{LeadsTo, place_of}
-use Rattle.mz_math_tokens.proofs.Offered.{leads-kept, leads-more}
+use Rattle.mz_lex.specs.Places.{LeadsTo, place_of}
+use Rattle.mz_lex.proofs.Offered.{leads-kept, leads-more}
 use Rattle.mz_math_operators.proofs.Spotting.{headed-one}
 use Rattle.mz_math_operators.proofs.notations.NotationList.push.Goals as goal
 

@@ -14,9 +14,10 @@ returns-then-is_of c = IfOk-weaker c.push_alike.result _ _
     let (g, own, same) = c.is_of.ensures.0 c.if-is_of.true in
     let v = variable c.args.variable.now in
     let bs = c.args.binders.now in
+    let (sort, deps) = as-last types c.args.variable.now is (state c.args.self.now) (map variable c.args.params.now) bs c.args.group last g own same in
     let made : ℕ → List ℕ → Binder = λ sort deps. record { sort = sort; bound = v.is_bound; deps = deps } in
-    pushed ∙ ap (λ sort. bs ++ made sort (deps_at bs (length bs - 1)) ∷ []) c.sort_number.ensures
-    ∙ ap (λ deps. bs ++ made (sort_number (state c.args.self.now) v.type) deps ∷ []) (as-last types c.args.variable.now is (map variable c.args.params.now) bs c.args.group last g own same))
+    pushed ∙ ap (λ sort. bs ++ made sort (deps_at bs (length bs - 1)) ∷ []) (c.last_sort.ensures ∙ sort)
+    ∙ ap (λ deps. bs ++ made (sort_number (state c.args.self.now) v.type) deps ∷ []) deps)
     c.push_alike.ensures.ok
 
 pub returns : goal.returns

@@ -28,7 +28,7 @@ loop-variable-preserved c =
           (c.in_ok-push_binder.ensures types is (c.loop-variable.invariant.last types all)) refl (c.loop-variable.invariant.binders types all);
       last = λ types all.
           let is = every-at typed (IsOfTypes types) xs i x c.loop-variable-test.true c.variable-item.is all in
-          last-more types x is ps c.loop-variable.binders (state c.args.self.now) c.push_binder.new.binders (c.in_ok-push_binder.ensures types is (c.loop-variable.invariant.last types all));
+          last-more types x is (state c.args.self.now) ps c.loop-variable.binders c.push_binder.new.binders (c.in_ok-push_binder.ensures types is (c.loop-variable.invariant.last types all));
     }
 
 pub returns : goal.returns

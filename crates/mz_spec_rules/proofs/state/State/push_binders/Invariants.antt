@@ -11,5 +11,5 @@ abbrev pub invariant-loop-variable : goal.invariant-loop-variable
 invariant-loop-variable l = record {
   binders : (types : ℕ → Option TypeText) → Every (IsOfTypes types) (map typed l.variables)
       → l.binders ++ map (binder_of (state l.self) (map variable l.params)) (map variable (drop l.variable-index l.variables)) ≡ map (binder_of (state l.self) (map variable l.params)) (map variable l.variables);
-  last : (types : ℕ → Option TypeText) → Every (IsOfTypes types) (map typed l.variables) → IsLastOf types (map variable l.params) l.group l.binders;
+  last : (types : ℕ → Option TypeText) → Every (IsOfTypes types) (map typed l.variables) → IsLastOf (state l.self) types (map variable l.params) l.group l.binders;
 }

@@ -6,6 +6,7 @@ use Rattle.mz_logic_theory.specs.Alike.{deps_at}
 use Rattle.mz_logic_theory.specs.declared.binder.Binder.{Binder}
 use Rattle.mz_spec_variables.specs.Code.{variable}
 use Rattle.mz_spec_rules.specs.Entries.{state}
+use Rattle.mz_spec_rules.specs.LastOf.{sort_at}
 use Rattle.mz_spec_theory.specs.State.{sort_number}
 use Rattle.mz_spec_rules.proofs.Grouping.{as-last}
 use Rattle.mz_spec_rules.proofs.state.State.push_variable.Goals as goal
@@ -32,9 +33,11 @@ returns-then-is_of-clause-binders c = IfOk-weaker c.push_alike.result _ _
     let (g, own, same) = c.is_of.ensures.0 c.if-is_of.true in
     let v = variable c.args.variable.now in
     let bs = c.args.scope.now.binders in
+    let (sort, deps) = as-last types c.args.variable.now is (state c.args.self.now) (map variable c.args.params.now) bs c.args.group last g own same in
     let made : ℕ → List ℕ → Binder = λ sort deps. record { sort = sort; bound = v.is_bound; deps = deps } in
-    ap (λ s. s.binders) pushed ∙ ap (λ sort. bs ++ made sort (deps_at bs (length bs - 1)) ∷ []) c.sort_number-sort.ensures
-    ∙ ap (λ deps. bs ++ made (sort_number (state c.args.self.now) v.type) deps ∷ []) (as-last types c.args.variable.now is (map variable c.args.params.now) bs c.args.group last g own same))
+    ap (λ s. s.binders) pushed
+    ∙ ap (λ sort. bs ++ made sort (deps_at bs (length bs - 1)) ∷ []) (c.last_sort-sort.ensures ∙ ap (λ xs. sort_at xs (length xs - 1)) c.binders.ensures.binders ∙ sort)
+    ∙ ap (λ deps. bs ++ made (sort_number (state c.args.self.now) v.type) deps ∷ []) deps)
     c.push_alike.ensures.ok
 
 pub returns-clause-names : goal.returns-clause-names

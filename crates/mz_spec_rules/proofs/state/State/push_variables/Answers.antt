@@ -58,7 +58,7 @@ loop-variable-preserved c =
           (c.in_ok-push_variable.ensures.binders types is (c.loop-variable.invariant.last types all)) refl (c.loop-variable.invariant.binders types all);
       last = λ types all.
           let is = every-at typed (IsOfTypes types) xs i x c.loop-variable-test.true c.variable-item.is all in
-          last-more types x is ps scope.binders (state c.args.self.now) new.binders (c.in_ok-push_variable.ensures.binders types is (c.loop-variable.invariant.last types all));
+          last-more types x is (state c.args.self.now) ps scope.binders new.binders (c.in_ok-push_variable.ensures.binders types is (c.loop-variable.invariant.last types all));
     }
 
 pub returns-clause-binders : goal.returns-clause-binders

@@ -13,5 +13,5 @@ invariant-loop-variable l = record {
   binders : (types : ℕ → Option TypeText) → Every (IsOfTypes types) (map typed l.variables)
       → l.scope.binders ++ map (binder_of (state l.self) (map variable l.params)) (map variable (drop l.variable-index l.variables))
       ≡ l.initial.scope.binders ++ map (binder_of (state l.self) (map variable l.params)) (map variable l.variables);
-  last : (types : ℕ → Option TypeText) → Every (IsOfTypes types) (map typed l.variables) → IsLastOf types (map variable l.params) l.group l.scope.binders;
+  last : (types : ℕ → Option TypeText) → Every (IsOfTypes types) (map typed l.variables) → IsLastOf (state l.self) types (map variable l.params) l.group l.scope.binders;
 }

@@ -1,6 +1,6 @@
 use Rattle.std.proofs.Common.{◌∙◌, ap, refl}
-use Rattle.mz_math_tokens.specs.Places.{place_of}
-use Rattle.mz_math_tokens.proofs.Offered.{look-is}
+use Rattle.mz_lex.specs.Places.{place_of}
+use Rattle.mz_lex.proofs.Offered.{look-is}
 use Rattle.mz_spec_variables.proofs.index.NameIndex.get.Goals as goal
 
 pub returns : goal.returns

@@ -1,7 +1,7 @@
 use Rattle.std.proofs.Common.{◌∙◌, Some, ap, sym, refl}
 use Rattle.std.specs.Prelude.{bytes_eq, if◌then◌else◌}
-use Rattle.mz_math_tokens.specs.Places.{place_of}
-use Rattle.mz_math_tokens.proofs.Offered.{look-is, named, put-is}
+use Rattle.mz_lex.specs.Places.{place_of}
+use Rattle.mz_lex.proofs.Offered.{look-is, named, put-is}
 use Rattle.mz_spec_variables.proofs.Keyed.{was-none}
 use Rattle.mz_spec_variables.proofs.index.NameIndex.insert.Goals as goal
 

@@ -1,2 +1,0 @@
-mod NearMisses
-pub mod WorkedExamples

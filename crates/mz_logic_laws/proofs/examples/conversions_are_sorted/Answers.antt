@@ -1,5 +1,0 @@
-use Rattle.mz_logic_laws.proofs.NearMisses.{no_sort_no_conversion}
-use Rattle.mz_logic_laws.proofs.examples.conversions_are_sorted.Goals as goal
-
-pub returns : goal.returns
-returns c = no_sort_no_conversion

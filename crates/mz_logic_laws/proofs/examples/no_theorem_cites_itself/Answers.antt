@@ -1,5 +1,0 @@
-use Rattle.mz_logic_laws.proofs.NearMisses.{cites_itself}
-use Rattle.mz_logic_laws.proofs.examples.no_theorem_cites_itself.Goals as goal
-
-pub returns : goal.returns
-returns c = cites_itself

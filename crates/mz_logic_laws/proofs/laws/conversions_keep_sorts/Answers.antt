@@ -1,5 +1,0 @@
-use Rattle.mz_logic_theory.proofs.Offered.{conversion_keeps_sort}
-use Rattle.mz_logic_laws.proofs.laws.conversions_keep_sorts.Goals as goal
-
-pub returns : goal.returns
-returns c = conversion_keeps_sort

@@ -1,5 +1,0 @@
-use Rattle.mz_logic_theory.proofs.Offered.{one_sort}
-use Rattle.mz_logic_laws.proofs.laws.sorts_are_unique.Goals as goal
-
-pub returns : goal.returns
-returns c = one_sort

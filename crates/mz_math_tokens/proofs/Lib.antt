@@ -1,5 +1,0 @@
-pub mod Placing
-pub mod Cutting
-pub mod Strings
-pub mod Marking
-pub mod Offered

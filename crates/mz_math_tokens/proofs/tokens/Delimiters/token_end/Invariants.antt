@@ -1,9 +1,0 @@
-use Rattle.std.proofs.Common.{◌-◌, length}
-use Rattle.mz_math_tokens.specs.Answers.{IsWhole}
-use Rattle.mz_math_tokens.proofs.tokens.Delimiters.token_end.Given as goal
-
-abbrev pub decreases-loop-to : goal.decreases-loop-to
-decreases-loop-to l = length l.text - l.to
-
-abbrev pub invariant-loop-to : goal.invariant-loop-to
-invariant-loop-to l = IsWhole l.self l.text l.from l.to

@@ -1,5 +1,0 @@
-use Rattle.mz_math_tokens.proofs.Placing.{AreNoted}
-use Rattle.mz_math_tokens.proofs.variables.note_first.Given as goal
-
-abbrev pub invariant-names : goal.invariant-names
-invariant-names l = AreNoted l.i l.places l.names

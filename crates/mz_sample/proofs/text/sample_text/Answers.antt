@@ -1,7 +1,0 @@
-use Rattle.std.proofs.Common.{arith}
-use Rattle.mz_sample.proofs.Lengths.{text-fits}
-use Rattle.mz_sample.proofs.text.sample_text.Goals as goal
-
-pub returns-clause-short : goal.returns-clause-short
-returns-clause-short c small =
-    text-fits c.loop-k.k c.loop-k.text.items (omega (arith, c.loop-k.auto.k-end, small)) c.loop-k.invariant
