@@ -6,6 +6,7 @@ EXPONENT, EACH, BASE = 1.15, 64, 8_000_000
 # A distinct expression of a few bytes takes a node, its operands and a place in the store's table.
 DISTINCT = 100
 STREAMS = "inherent: a citation, an unfolding and an end run their stream, within the square of the binary's bytes"
+PATHS = "a formula has a path for each two sorts between which it wraps operands, and each is spelled out once"
 JOINED = "a coercion within what is joined already goes over what it could reach; users have 128 sorts at most"
 
 # A shape, a command, the size of the largest file (or three depths), and what is expected.
@@ -17,7 +18,9 @@ ROWS = [
     ("specgrid", "verify", 1_000_000, JOINED),
     ("fangoal", "verify", 2_000_000, IN_PROPORTION),
     ("speccoercebomb", "verify", 4_000_000, IN_PROPORTION),  # its chain and its term alone have 95 KB
+    ("pairpaths", "verify", 400_000, PATHS),
     ("coercebomb", "verify", 1_000_000, IN_PROPORTION),
+    ("coercefresh", "verify", 1_000_000, IN_PROPORTION),
     ("coerceleaves", "verify", 200_000, IN_PROPORTION),
     ("congbomb", "verify", 200_000, IN_PROPORTION),
     ("congbomb", "portable", 200_000, IN_PROPORTION),
@@ -57,6 +60,8 @@ ROWS = [
     ("text:underscores", "spec", 120_000, "inherent: made names are longer than any run of underscores, at each mention"),
     ("text:longhyp", "compile", 250_000, IN_PROPORTION),
     ("text:longhyptwo", "compile", 250_000, IN_PROPORTION),
+    ("text:letnames", "compile", 250_000, IN_PROPORTION),
+    ("text:letsubproofs", "compile", 250_000, IN_PROPORTION),
     ("text:longconcl", "compile", 250_000, IN_PROPORTION),
     ("text:manydeps", "compile", 500_000, IN_PROPORTION),
     ("text:defdeps", "compile", 500_000, IN_PROPORTION),
@@ -78,7 +83,7 @@ def memory_of(shape):
 REFUSED = {
     "longstack": ("binary", "K31"), "congbomb": ("binary", "K31"), "longmath": ("specification", "S17"),
     "specchain": ("match", "M4"), "specpairs": ("match", "M4"), "specgrid": ("match", "M4"), "spectree": ("match", "M4"),
-    "speccoercebomb": ("match", "M4"), "specfan": ("match", "M1"), "specnots": ("match", "M1"), "defregular": ("match", "M1"),
+    "speccoercebomb": ("match", "M4"), "pairpaths": ("match", "M4"), "specfan": ("match", "M1"), "specnots": ("match", "M1"), "defregular": ("match", "M1"),
     "defgroup": ("match", "M1"), "groupnotation": ("match", "M1"),
 }
 

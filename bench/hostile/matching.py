@@ -83,6 +83,27 @@ def coercebomb(size):
 
 
 @shape
+def coercefresh(size):
+    """the formula of coercebomb as two hypotheses of a group, of which the binary makes the second anew: both are compared by numbers,
+    which each step of each path has"""
+    wide = 4000
+    binary, chain, term, parts = chained(wide)
+    made = command(U_TERM_SAVE, term) + command(U_REF, 1) * wide
+    stream = command(U_TERM_SAVE, chain[-1]) + b"".join(command(U_TERM, k) for k in reversed(chain[:-1])) + command(U_REF, 0)
+    stream += (command(U_HYP) + made) * 2
+    body = ref(0) + b"".join(command(TERM, k) for k in chain[:-1]) + command(TERM_SAVE, chain[-1])
+    body += ref(1) * (wide - 1) + command(TERM_SAVE, term) + command(HYP) + ref(2) + command(HYP) + ref(1)
+    done, number = sum(map(len, parts)), 0
+    while done < size:
+        line = "axiom x_%d (a: s0) (_ _: $ t %s$): $ a $;\n" % (number, "a " * wide)
+        parts.append(line)
+        binary.axiom([0], stream, body)
+        done += len(line) + len(stream) + len(body)
+        number += 1
+    return binary, parts
+
+
+@shape
 def coerceleaves(size):
     """a chain of 126 coercions and formulas of 2,000 different variables, each of which needs all of it; the binary makes each
     chain, so that it is much the longer (the size is the specification's)"""

@@ -72,6 +72,21 @@ def speccoercebomb(size):
 
 
 @shape
+def pairpaths(size):
+    """a chain of 126 coercions, and formulas of 4,000 one-byte variables of its 45 first sorts under parameters of its 45 last ones: for
+    each formula 2,025 paths of some 80 terms"""
+    wide, many, length = 4000, 45, 126
+    letters = "abcdefghijklmnopqrstuvwxyzABCDEFGHIJKLMNOPQRS"
+    sorts = ["s%d" % (length - many + (k // many + k) % many) for k in range(wide)]
+    parts = ["delimiter $ %s $;\n" % " ".join(letters), *chain_lines(length), "term ZZ: %s > wff;\n" % " > ".join(sorts)]
+    binders = "".join("(%s: s%d)" % (letter, k) for k, letter in enumerate(letters))
+    formula = "".join(letters[k % many] for k in range(wide))
+    done = sum(map(len, parts))
+    # one formula at least
+    return alone([*parts, *lines_until(max(size, done + 1), lambda k: "axiom x%d %s: $ ZZ %s $;\n" % (k, binders, formula), done)])
+
+
+@shape
 def specnots(size):
     """formulas of 4,000 one-byte prefix signs, one in another"""
     return alone([PRELUDE, *lines_until(size, lambda k: "axiom n%d (a: wff): $%s a$;\n" % (k, "~" * 4000))])

@@ -85,6 +85,30 @@ def text_longhyptwo(size):
 
 
 @text
+def text_letnames(size):
+    """as longhyp, but that each citation has a name of its own for the hypothesis, a let that stands for the one before"""
+    formula = doubled(size // 4)
+    many = max(1, (size - 2 * len(formula)) // len("(:let n00000 n00000 (big (a b) n00000 ))"))
+    parts = []
+    for number, run in enumerate(parted(2 * many)):
+        names = ["n%05d" % k for k in run[::2]]
+        lets = ["(:let %s %s (big (a b) %s " % (name, stated, name) for name, stated in zip(names, ["h", *names])]
+        parts.append(("l%d" % number, "".join(lets), "))" * len(names)))
+    axiom = "(axiom big ((a wff ()) (b wff ())) (%s b) b)" % formula
+    return whole([SORT, IM, axiom, "(theorem t ((a wff ()) (b wff ())) ((h %s) (k b)) b () %s)" % (formula, in_lets(parts, "k"))])
+
+
+@text
+def text_letsubproofs(size):
+    """as longhyp, but that the subproof is a let of a let at each citation"""
+    formula = doubled(size // 4)
+    before = "(big (a b) (:let n (:let m h m) n) "
+    proof = repeated(max(1, (size - 2 * len(formula)) // (len(before) + 1)), before, ")", "k")
+    axiom = "(axiom big ((a wff ()) (b wff ())) (%s b) b)" % formula
+    return whole([SORT, IM, axiom, "(theorem t ((a wff ()) (b wff ())) ((h %s) (k b)) b () %s)" % (formula, proof)])
+
+
+@text
 def text_longconcl(size):
     """an axiom with a conclusion of a third of the bytes, cited again and again (as often as the binary's limit allows)"""
     formula = doubled(size // 3)

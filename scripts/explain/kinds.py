@@ -49,13 +49,18 @@ def told(given, number):
 def meant(command, given, pairs, wrong):
     """The command that takes what is there."""
     found = {kind: path for _, path, kind in pairs}
+    rest = [path for word, path in zip(command.words, given[1:]) if word not in WANTED]
     if len(found) == len(pairs) and all(wanted in found for wanted, _, _ in pairs):
-        rest = [path for word, path in zip(command.words, given[1:]) if word not in WANTED]
         return " ".join(["./mz", command.name, *(found[wanted] for wanted, _, _ in pairs), *rest])
     wanted, path, kind = wrong[0]
     base = os.path.splitext(path)[0]
+    beside = [{"SPEC": f"{base}.mm0", "BIN": path}[it] for it in command.words if it in ("SPEC", "BIN")]
     return {
-        "binary": f"./mz decompile SPEC {path} {base}.mmu" if wanted == "proof text" else f"./mz {command.name} {base}.mm0 {path}",
+        "binary": {
+            "proof text": f"./mz decompile SPEC {path} {base}.mmu",
+            "listing": f"./mz show {path}",
+            "specification": " ".join(["./mz", command.name, *beside, *rest]),
+        }.get(wanted),
         "proof text": f"./mz compile {path} {base}.mmb",
         "proof source": f"./mz prove {path}",
         "specification": f"./mz check {path}",

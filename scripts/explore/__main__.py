@@ -1,12 +1,13 @@
 """Writes pages that show a development: a page a theorem, a definition, a sort, and the specification with links.
 
-    python3 scripts/explore SPEC BIN DIR     of a binary, whose text mz decompile makes
-    python3 scripts/explore SPEC TEXT DIR    of a proof text, which may have open proofs
-    python3 scripts/explore --check DIR      checks that every link of the pages in DIR leads somewhere
+    ./mz explore SPEC BIN DIR     of a binary, whose text mz decompile makes
+    ./mz explore SPEC TEXT DIR    of a proof text, which may have open proofs
+    ./mz explore --check DIR      checks that every link of the pages in DIR leads somewhere
 
 The program mz judges first, and where it says no, no page is written. DIR/index.html is the first page; pages need no server.
 Each formula is read back by the specification's rules before its page is written. The environment's MZ names the program.
 """
+import gc
 import os
 import sys
 
@@ -19,6 +20,7 @@ from explore.development import judged  # noqa: E402
 from explore.lexemes import Unreadable  # noqa: E402
 from explore.program import Refused  # noqa: E402
 from explore.site import Site  # noqa: E402
+from prove.progress import shown  # noqa: E402
 
 
 def check(folder):
@@ -33,7 +35,15 @@ def check(folder):
 
 
 def write(specification, other, folder):
-    counts = Site(judged(specification, other), folder).write()
+    gc.disable()  # what is kept lives long, and processes share what nobody goes through
+    if os.path.exists(folder) and not os.path.isdir(folder):
+        print(f"{folder} is no folder", file=sys.stderr)
+        return 3
+    with shown("the program judges"):
+        development = judged(specification, other)
+    with shown("the specification is read"):
+        site = Site(development, folder)
+    counts = site.write()
     print(f"{counts.pages} pages: {counts.theorems} theorems in {counts.steps} steps; {counts.formulas} formulas, "
           "each read back" + (f"; {counts.kept} pages stay as they were" if counts.kept else ""))
     return 0

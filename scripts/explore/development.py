@@ -1,5 +1,6 @@
 """A development that the program has judged: its specification, its text, its verdict, and what its theorems rest on."""
 import os
+import sys
 import tempfile
 from dataclasses import dataclass, field
 
@@ -79,4 +80,4 @@ def _is_draft(text, binary):
 
 def _axioms(specification, binary):
     lines = run("axioms", specification, binary).splitlines()
-    return {name: axioms.split() for name, _, axioms in (it.partition(":") for it in lines)}
+    return {name: list(map(sys.intern, axioms.split())) for name, _, axioms in (it.partition(":") for it in lines)}

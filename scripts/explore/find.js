@@ -2,6 +2,9 @@
 // index.html#find=WORDS is a page on which these words are looked for.
 "use strict";
 const most = 200;
+// Of each statement its name in small letters, and what it says without blanks and parentheses: pages leave out those that are
+// needless, and a reader may type them.
+let names, texts;
 const box = document.getElementById("find"), found = document.getElementById("found"), count = document.getElementById("count");
 
 function cell(row, text, style) {
@@ -20,15 +23,23 @@ function add([name, kind, page, says]) {
   cell(row, says, "f");
 }
 
+function prepare() {
+  names ??= statements.map(it => it[0]).join("\n").toLowerCase().split("\n");
+  texts ??= statements.map(it => it[3]).join("\n").replace(/[ ()]+/g, "").split("\n");
+}
+
 function find() {
   const words = box.value.trim();
   found.textContent = count.textContent = "";
   if (!words) return;
-  const small = words.toLowerCase(), plain = words.replace(/\s+/g, "");
-  const byName = statements.filter(it => it[0].toLowerCase().includes(small));
-  byName.sort((a, b) => (b[0].toLowerCase() === small) - (a[0].toLowerCase() === small));
-  const named = new Set(byName), said = statements.filter(it => !named.has(it) && it[3].replace(/\s+/g, "").includes(plain));
-  const all = byName.concat(said);
+  const small = words.toLowerCase(), part = words.replace(/[\s()]+/g, "");
+  prepare();
+  const exact = [], named = [], said = [];
+  names.forEach((name, i) => {
+    if (name.includes(small)) (name === small ? exact : named).push(statements[i]);
+    else if (part && texts[i].includes(part)) said.push(statements[i]);
+  });
+  const all = exact.concat(named, said);
   all.slice(0, most).forEach(add);
   count.textContent = all.length > most ? `${all.length} found, the first ${most} shown` : `${all.length} found`;
 }
@@ -42,3 +53,4 @@ function fromAddress() {
 box.addEventListener("input", find);
 window.addEventListener("hashchange", fromAddress);
 fromAddress();
+setTimeout(prepare);

@@ -1,5 +1,6 @@
 """What stays of pages that were written before: those of theorems whose page would be the same. A page stays where all is the
 same that it is made of: its statement and proof, what it rests on, its neighbours, all terms and notations, and these scripts."""
+import contextlib
 import glob
 import hashlib
 import json
@@ -23,17 +24,13 @@ def of_scripts():
 
 
 class Kept:
-    """The pages in a folder: of each its digest, and what of it stands in lists. While pages are written none is known to be
-    whole, so that the list of them is away."""
+    """The pages in a folder, a line each: its digest, and what of it stands in lists. A page that is being written has none, so
+    that what a run has made that was ended stays, too."""
 
     def __init__(self, folder):
-        self.folder, self.path, self.made, self.before = folder, os.path.join(folder, FILE), {}, {}
-        try:
-            with open(self.path, encoding="utf-8") as file:
-                self.before = json.load(file)
-            os.unlink(self.path)
-        except (OSError, ValueError):
-            pass
+        self.folder, path = folder, os.path.join(folder, FILE)
+        self.before = {page: (made_of, *listed) for page, made_of, *listed in lines(path)}
+        self.file = open(path, "w", encoding="utf-8")
 
     def stays(self, page, made_of):
         """Whether a page is there that is made of the same; then what stands behind its end is taken away."""
@@ -50,9 +47,17 @@ class Kept:
             return False
         return True
 
-    def note(self, page, made_of, listed):
-        self.made[page] = made_of, *listed
+    def note(self, page, made_of, *listed):
+        print(json.dumps([page, made_of, *listed], ensure_ascii=False, separators=(",", ":")), file=self.file)
 
     def finish(self):
-        with open(self.path, "w", encoding="utf-8") as file:
-            json.dump(self.made, file, ensure_ascii=False, separators=(",", ":"))
+        self.file.close()
+
+
+def lines(path):
+    """What was noted of pages; of a run that was ended the last line may be none."""
+    with contextlib.suppress(OSError, ValueError), open(path, encoding="utf-8") as file:
+        for line in file:
+            noted = json.loads(line)
+            if isinstance(noted, list):
+                yield noted

@@ -1,4 +1,5 @@
 """A proof as a list of steps, each with what it rests on and what it says."""
+from dataclasses import dataclass
 from typing import NamedTuple
 
 
@@ -7,6 +8,50 @@ class Step(NamedTuple):
     by: object  # the hypothesis's number, the assertion, the definitions that are unfolded, or nothing
     parts: tuple  # the steps that it uses, by number
     says: int  # the expression
+
+
+@dataclass
+class Outline:
+    """What others have to know of a proof: what it cites and unfolds, and whether it has a gap."""
+
+    cited: list
+    unfolded: list
+    has_gap: bool
+
+
+def outline(text, theorem):
+    """The outline of a theorem's proof. No expression is made for it, but where there is a conversion: whether this is a step
+    its expressions say."""
+    hypotheses = {it[0] for it in theorem.node[3]}
+    cited, has_gap, open_ = {}, False, [(theorem.node[6], {})]
+    while open_:
+        node, lets = below_lets(*open_.pop(), hypotheses)
+        if isinstance(node, str):
+            let = lets.get(node)
+            if let and let[2] is None:
+                let[2] = True
+                open_.append(let[:2])
+        elif node[0] == ":conv":
+            proof = Proof(text, theorem)
+            return Outline(proof.cited, proof.unfolded, proof.has_gap)
+        elif node[0] == ":sorry":
+            has_gap = True
+        else:
+            cited.setdefault(text.assertions[node[0]])
+            open_ += [(it, lets) for it in node[2:]]
+    return Outline(list(cited), [], has_gap)
+
+
+def below_lets(node, lets, hypotheses):
+    """The proof below the lets with which a node begins, and what is named there: a name's proof, what is named in that, and
+    its step, once it is needed. Lets of other names are put in where they stand, since no proof names what isn't in its reach."""
+    while not isinstance(node, str) and node[0] == ":let":
+        outer = lets
+        if node[1] in outer or node[1] in hypotheses:
+            lets = dict(outer)
+        lets[node[1]] = [node[2], outer, None]
+        node = node[3]
+    return node, lets
 
 
 class Proof:
@@ -23,7 +68,7 @@ class Proof:
         self.hypotheses = [self.trees.instance(it, given) for it in theorem.hypotheses]
         self.conclusion = self.trees.instance(theorem.conclusion, given)
         words = [it[0] for it in theorem.node[3]]
-        self._named = dict(zip(words, range(len(words))))  # a let's name: its node and what is named there
+        self._named = dict(zip(words, range(len(words))))
         self.last = self._proof(theorem.node[6], {})
 
     @property
@@ -50,11 +95,8 @@ class Proof:
         return number
 
     def _proof(self, node, lets):
-        """The number of the step that a node proves. `lets` has for a name its first part, or its step once it is needed:
-        what isn't named is no step."""
-        while not isinstance(node, str) and node[0] == ":let":
-            lets = {**lets, node[1]: [node[2], lets, None]}
-            node = node[3]
+        """The number of the step that a node proves. What isn't named is no step."""
+        node, lets = below_lets(node, lets, self._named)
         if isinstance(node, str):
             return self._name(node, lets)
         if node[0] == ":sorry":

@@ -5,6 +5,7 @@ import re
 import shutil
 from dataclasses import dataclass, field
 from html import escape
+from typing import NamedTuple, Optional
 
 from . import pages, sources
 from .crew import Crew
@@ -13,7 +14,7 @@ from .kept import END, Kept, digest, of_scripts
 from .names import Names
 from .pages import link
 from .printer import Page, Printer, ReadBack, plain, typeset
-from .proofs import Proof
+from .proofs import Proof, outline
 from .specification import Notation, read_specification
 from .texts import Term, Text
 from .trees import Trees
@@ -30,6 +31,7 @@ class Fate:
 
     axioms: int = 0
     is_gapped: bool = False
+    as_cited: str = ""  # a digest of what the pages of those that cite it are made of
 
 
 @dataclass
@@ -59,19 +61,28 @@ class Prepared:
     """A statement that is to be printed, with what its page needs."""
 
     it: object
-    proof: object
-    trees: object
-    numbers: list
     fate: Fate
     before: object
     behind: object
     made_of: str  # a digest of all that its page is made of; empty where the page is always printed
 
 
+class Listed(NamedTuple):
+    """What is kept of a page: what it is made of, its name, its row in a list, its entry for the search, a link where it has a
+    gap, and how many steps its proof has; an axiom has none."""
+
+    page: str
+    made_of: str
+    name: str
+    row: str
+    found: str
+    gapped: str
+    steps: Optional[int]
+
+
 @dataclass
 class Printed:
-    """What comes of printing a batch besides its pages: of each page what it is made of, and what stands of it in lists: its
-    row, its entry for the search, and a link where it has a gap."""
+    """What comes of printing a batch besides its pages."""
 
     pages: list = field(default_factory=list)
     counts: Counts = field(default_factory=Counts)
@@ -93,7 +104,7 @@ class Site:
         self.parts = sources.cut(self.statements, len(development.specification))
         self.source_page = {id(it): sources.part_name(i) for i, part in enumerate(self.parts) for it in part[2]}
         self.notations = _by_term(self.statements)
-        self.fates, self.axioms, self.uses = {}, [], {}
+        self.fates, self.axioms, self.uses, self.links, self.resting = {}, [], {}, {}, {}
         grammar = [development.specification[it.at : it.end] for it in self.statements if it.space != "assertion"]
         self.grammar = digest(of_scripts(), development.title, development.is_made, grammar, self.names.usual())
         self.printed, self.counts = Printed(), Counts()
@@ -135,7 +146,10 @@ class Site:
         return self.files.of(space, it.name, it.declared is None)
 
     def _to(self, it):
-        return link(f"../{self._file(it)}", it.name)
+        made = self.links.get(it)
+        if made is None:
+            made = self.links[it] = link(f"../{self._file(it)}", it.name)
+        return made
 
     def _navigation(self, up="", before=None, behind=None):
         made = [link(f"{up}index.html", escape(self.development.title)), link(f"{up}spec.html", "Specification")]
@@ -160,6 +174,8 @@ class Site:
             navigation = self._navigation() + (ways if len(self.parts) > 1 else "")
             title = f"Specification · {self.development.title}"
             self._put(sources.part_name(i), pages.page(title, navigation, f"<h1>Specification</h1>\n{body}"))
+        for it in self.statements:
+            it.forget()
 
     def _sorts(self):
         terms = {}
@@ -180,7 +196,8 @@ class Site:
         self.uses[here] = Uses()
         self._file(here)  # which has its name from now on
         if isinstance(here, Term):
-            self._hand_over()  # what stands before doesn't know this term
+            if here.declared is None or here.written != here.name:
+                self._hand_over()  # what stands before doesn't know this name
             self.grammar = digest(self.grammar, here.name, here.kind, here.parameters, here.sort, here.needs, here.written, self._file(here))
             self.read_back.add(here)
             self._put(self._file(here), self._page(here.name, self._term(here), before, behind))
@@ -188,7 +205,6 @@ class Site:
         if behind:
             self._file(behind)
         self.batch.append(self._prepared(here, before, behind))
-        here.node = here.trees = None  # what it says is kept as patterns
         if len(self.batch) == BATCH:
             self._hand_over()
 
@@ -196,6 +212,8 @@ class Site:
         """Has the pages of what is prepared printed."""
         if self.batch:
             self.crew.hand_over(self.batch, self._print)
+            for prepared in self.batch:
+                prepared.it.node = prepared.it.trees = None  # what it says is kept as patterns
             self.batch = []
 
     def _print(self, batch):
@@ -205,8 +223,7 @@ class Site:
         for it in batch:
             page = self._file(it.it)
             if it.made_of and self.kept.stays(page, it.made_of):
-                self.printed.pages.append((page, it.it.name, *self.kept.before[page]))
-                self._count(it.proof)
+                self.printed.pages.append(Listed(page, *self.kept.before[page]))
                 self.printed.counts.kept += 1
             else:
                 self._put(page, self._page(it.it.name, self._assertion(it) + END, it.before, it.behind))
@@ -216,13 +233,15 @@ class Site:
 
     def _take(self, made):
         """Takes what was found while a batch was printed."""
-        for name in ("pages", "steps", "theorems", "formulas", "kept"):
+        for name in ("pages", "formulas", "kept"):
             setattr(self.counts, name, getattr(self.counts, name) + getattr(made.counts, name))
-        for page, name, made_of, row, found, gapped in made.pages:
-            self.kept.note(page, made_of, (row, found, gapped))
-            self.found.append(found)
-            self.gapped += [gapped] if gapped else []
-            self.rows.append((name, row))
+        for it in made.pages:
+            self.kept.note(*it)
+            self.found.append(it.found)
+            self.gapped += [it.gapped] if it.gapped else []
+            self.rows.append((it.name, it.row))
+            self.counts.theorems += it.steps is not None
+            self.counts.steps += it.steps or 0
             if len(self.rows) == ROWS:
                 self._list_part()
 
@@ -237,7 +256,7 @@ class Site:
         if term.body is not None:
             body = self._expression(page, term.body, term.sort, self._term_link)
             shown += f" <span class=soft>is defined as</span> {body}"
-            self._mention(term, trees, [term.body])
+            self._mention(term, trees.terms_of([term.body]))
         sort = " ".join([link(f"../{self.files.of('sort', term.sort, False)}", term.sort), *term.needs])
         written = "".join(f"<p class=f>{escape(it)}</p>\n" for it in self.notations.get(term.declared and term.name, ()))
         declared = term.declared
@@ -252,9 +271,9 @@ class Site:
         self.read_back.check(page.trees, number, made, sort)
         return made
 
-    def _mention(self, it, trees, numbers):
-        for term in trees.terms_of(numbers):
-            if self.uses[term].mentioned[-1:] != [self._to(it)] and term is not it:
+    def _mention(self, it, terms):
+        for term in terms:
+            if term is not it:
                 self.uses[term].mentioned.append(self._to(it))
 
     # Axioms and theorems.
@@ -268,47 +287,50 @@ class Site:
 
     def _prepared(self, it, before, behind):
         """What the page of an assertion needs, and what others have to know of it."""
+        known = outline(self.text, it) if it.node else None
+        self._mention(it, dict.fromkeys(term for pattern in (*it.hypotheses, it.conclusion) for term in pattern if not isinstance(term, int)))
+        fate = self.fates[it] = self._fate(it, known)
+        fate.as_cited = digest(it.name, self._file(it), fate.is_gapped, it.parameters)
+        return Prepared(it, fate, before, behind, self._made_of(it, known, fate, before, behind))
+
+    def _made_of(self, it, known, fate, before, behind):
+        """A digest of all that a theorem's page is made of; an axiom's is always printed."""
+        if known is None:
+            return ""
+        about = it.declared.about if it.declared else None
+        around = [(one.name, self._file(one)) for one in (before, it, behind) if one]
+        cited = [self.fates[one].as_cited for one in known.cited]
+        _, rests = self._rests_on(fate)
+        said = self.text.source[slice(*it.span)]
+        return digest(self.grammar, said, it.parameters, it.names, about, before is None, around, cited, rests, fate.is_gapped)
+
+    def _assertion(self, prepared):
+        it, fate = prepared.it, prepared.fate
         proof = Proof(self.text, it) if it.node else None
         trees = proof.trees if proof else it.trees
         given = list(range(len(it.parameters)))
         numbers = [trees.instance(pattern, given) for pattern in (*it.hypotheses, it.conclusion)]
-        self._mention(it, trees, numbers)
-        fate = self.fates[it] = self._fate(it, proof)
-        return Prepared(it, proof, trees, numbers, fate, before, behind, self._made_of(it, proof, fate, before, behind))
-
-    def _made_of(self, it, proof, fate, before, behind):
-        """A digest of all that a theorem's page is made of; an axiom's is always printed."""
-        if proof is None:
-            return ""
-        declared = it.declared
-        where = (declared.about, self.lines[id(declared)], self.source_page[id(declared)]) if declared else ()
-        around = [(one.name, self._file(one)) for one in (before, it, behind) if one]
-        cited = [(one.name, self._file(one), self.fates[one].is_gapped, one.parameters) for one in proof.cited]
-        rests = [(one.name, self._file(one)) for one in self._axioms(fate)]
-        return digest(self.grammar, it.node, it.parameters, it.names, where, before is None, around, cited, rests, fate.is_gapped)
-
-    def _assertion(self, prepared):
-        it, proof, numbers, fate = prepared.it, prepared.proof, prepared.numbers, prepared.fate
-        page = Page(self.printer, prepared.trees)
+        page = Page(self.printer, trees)
         shown = [self._formula(page, number, self._term_link) for number in numbers]
-        self._list(it, page, numbers, fate, prepared.made_of)
+        self._list(it, page, numbers, prepared, len(proof.steps) if proof else None)
         declared = it.declared
         body = (pages.heading(it.kind, it.name, declared is None) + pages.about(declared.about if declared else "") +
                 pages.variables(it.parameters) + pages.apart(it.parameters) +
-                pages.said(list(zip(it.names, shown)), shown[-1]) + (self._said_at(declared) if declared else ""))
+                pages.said(list(zip(it.names, shown)), shown[-1]))
         if proof:
             body += self._gap_note(proof, fate) + self._steps(it, proof, page) + self._rests(fate, proof)
-        return body + self._symbols(prepared.trees, proof.expressions() if proof else numbers)
+        return body + self._symbols(trees, proof.expressions() if proof else numbers)
 
-    def _list(self, it, page, numbers, fate, made_of):
+    def _list(self, it, page, numbers, prepared, steps):
         """Notes a statement for the list and for the search."""
         shown = [self._formula(page, number) for number in numbers]
         address = self._file(it)
         kind = f"local {it.kind}" if it.declared is None else it.kind
-        row = pages.statement_row(it.kind, it.declared is None, address, it.name, shown[:-1], shown[-1], fate.is_gapped)
+        is_gapped = prepared.fate.is_gapped
+        row = pages.statement_row(it.kind, it.declared is None, address, it.name, shown[:-1], shown[-1], is_gapped)
         words = "; ".join(map(plain, shown[:-1])) + (" ⊢ " if shown[:-1] else "") + plain(shown[-1])
         found = json.dumps([it.name, kind, address, words], ensure_ascii=False, separators=(",", ":"))
-        self.printed.pages.append((address, it.name, made_of, row, found, link(address, it.name) if fate.is_gapped else ""))
+        self.printed.pages.append(Listed(address, prepared.made_of, it.name, row, found, link(address, it.name) if is_gapped else "", steps))
 
     def _list_part(self):
         """Writes a page of the list with what has been noted."""
@@ -319,16 +341,16 @@ class Site:
         table = pages.rows(("Kind", "Name", "Says"), [body])
         self._put(name, pages.page(f"{first} – {last}", self._navigation(), f"<h1>{first} – {last}</h1>\n{table}"))
 
-    def _fate(self, it, proof):
-        if proof is None:
+    def _fate(self, it, known):
+        if known is None:
             self.axioms.append(it)
             return Fate(1 << (len(self.axioms) - 1))
-        fate = Fate(0, proof.has_gap)
-        for other in proof.cited:
+        fate = Fate(0, known.has_gap)
+        for other in known.cited:
             fate.axioms |= self.fates[other].axioms
             fate.is_gapped |= self.fates[other].is_gapped
             self.uses[other].cited.append(self._to(it))
-        for term in proof.unfolded:
+        for term in known.unfolded:
             self.uses[term].unfolded.append(self._to(it))
         self._agree(it, fate)
         return fate
@@ -337,10 +359,18 @@ class Site:
         """Fails where the program says that a theorem rests on something else."""
         if it.declared is None:
             return
-        if self.development.axioms and [other.name for other in self._axioms(fate)] != self.development.axioms[it.name]:
+        if self.development.axioms and self._rests_on(fate)[0] != self.development.axioms[it.name]:
             raise AssertionError(f"mz says that {it.name} rests on {self.development.axioms[it.name]}")
         if fate.is_gapped != (it.name in self.development.gaps):
             raise AssertionError(f"mz says otherwise whether {it.name} rests on a gap")
+
+    def _rests_on(self, fate):
+        """The names of the axioms on which something rests, and a digest of what its page is made of by them."""
+        found = self.resting.get(fate.axioms)
+        if found is None:
+            axioms = list(self._axioms(fate))
+            found = self.resting[fate.axioms] = [it.name for it in axioms], digest(*(self.fates[it].as_cited for it in axioms))
+        return found
 
     def _axioms(self, fate):
         mask = fate.axioms
@@ -357,17 +387,12 @@ class Site:
         return ""
 
     def _steps(self, it, proof, page):
-        self._count(proof)
         by = {"hypothesis": lambda number: f"hypothesis {escape(it.names[number])}",
               "unfolded": lambda terms: "unfolding " + ", ".join(map(self._to, terms)) if terms else "conversion",
               "gap": lambda _: "gap"}
         return pages.steps(([part + 1 for part in step.parts],
                             self._cited(step.by, proof.operands[step], page) if step.kind == "cited" else by[step.kind](step.by),
                             self._formula(page, step.says), step.kind == "gap") for step in proof.steps)
-
-    def _count(self, proof):
-        self.printed.counts.theorems += 1
-        self.printed.counts.steps += len(proof.steps)
 
     def _cited(self, other, operands, page):
         """A link to what a step cites. Over it stands what is put in for its variables."""
@@ -402,8 +427,10 @@ class Site:
     # What is known at the end.
 
     def _tails(self):
+        """What stands below a page, and changes where others change: where its statement is in the specification, and what uses it."""
         for it, uses in self.uses.items():
-            tail = uses.html()
+            place = self._said_at(it.declared) if it.declared and not isinstance(it, Term) else ""
+            tail = place + uses.html()
             if tail:
                 self._put(self._file(it), tail, "a")
 

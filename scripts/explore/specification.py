@@ -40,6 +40,10 @@ class Declaration:
     def space(self):
         return SPACES.get(self.kind)
 
+    def forget(self):
+        """Drops what its page as a text alone needs. In a large specification that is most of what is known of it."""
+        self.marks, self.variables = [], {}
+
 
 @dataclass
 class Sort(Declaration):
@@ -66,6 +70,10 @@ class Assertion(Declaration):
     hypotheses: list = field(default_factory=list)
     conclusion: object = None
     is_local: bool = False
+
+    def forget(self):
+        super().forget()
+        self.hypotheses, self.conclusion = [(name, None) for name, _ in self.hypotheses], None
 
 
 @dataclass

@@ -10,12 +10,19 @@ _PART = re.compile(r"--[^\n]*|[()]|[^\s()]+")
 
 def nodes(text):
     """The top nodes, one after another. A node is an atom or a list of nodes."""
-    stack, here = [], None
+    return (node for node, _, _ in spans(text))
+
+
+def spans(text):
+    """The top nodes, each with the places where it begins and ends."""
+    stack, here, start = [], None, 0
     for found in _PART.finditer(text):
         word = found.group()
         if word == "(":
             if here is not None:
                 stack.append(here)
+            else:
+                start = found.start()
             here = []
         elif word == ")":
             if here is None:
@@ -24,7 +31,7 @@ def nodes(text):
                 stack[-1].append(here)
                 here = stack.pop()
             else:
-                yield here
+                yield here, start, found.end()
                 here = None
         elif here is not None and not word.startswith("--"):
             here.append(word)
@@ -62,6 +69,7 @@ class Assertion:
     trees: object
     declared: object = None
     node: object = None
+    span: tuple = (0, 0)  # where it stands in the text
 
 
 class Scope:
@@ -88,9 +96,11 @@ class Text:
 
     def statements(self):
         """The terms and assertions, in order."""
-        for node in nodes(self.source):
+        for node, start, end in spans(self.source):
             is_local = node[0] == "local"
             made = self._statement(node[1:] if is_local else node, is_local)
+            if isinstance(made, Assertion):
+                made.span = start, end
             if made:
                 yield made
 

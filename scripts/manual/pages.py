@@ -5,7 +5,7 @@ WIDTH = 100
 TITLE = "mz: a verifier for Metamath Zero and a compiler of proof texts, proved right"
 EXAMPLE = "./mz verify examples/double_negation.mm0 examples/double_negation.mmb"
 FIRST = ("The first command that needs the program proves and builds it, for verify and show the verifier alone. On four "
-         "processors that took 19 minutes, and 32 more for the rest; it is reported step by step, and done once.")
+         "processors that took 23 minutes, and 32 more for the rest; it is reported step by step, and done once.")
 
 
 def wrapped(text, before=""):

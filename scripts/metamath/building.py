@@ -5,27 +5,32 @@ makes bound variables one, a copy of what it cites is made in which they are one
 
 Of a proof's steps nothing is looked at but what they conclude. Whether hypotheses fit is said by the verifier."""
 import copy
+import itertools
 import re
 from dataclasses import dataclass
 
 from .expressions import Expressions, Untranslatable
 from .statements import Statement
 
-_NUMBERS = re.compile("[U-Y]*+[A-T]|Z")
+_PARTS = re.compile("[U-Y]*+[A-T]|Z").findall  # the numbers of a compressed proof, and Z, that saves a step
 
 
-class _Letters(dict):
-    """The numbers of a compressed proof, from 1 on; 0 for Z, that saves a step."""
-
-    def __missing__(self, letters):
-        value = 0
-        for it in letters[:-1]:
-            value = value * 5 + ord(it) - ord("T")
-        self[letters] = value = value * 20 + ord(letters[-1]) - ord("A") + 1
-        return value
+def _numbers():
+    """The numbers of compressed proofs, from 1 on."""
+    begun = [""]
+    while True:
+        yield from (it + last for it in begun for last in "ABCDEFGHIJKLMNOPQRST")
+        begun = [it + more for it in begun for more in "UVWXY"]
 
 
-_VALUE = _Letters(Z=0).__getitem__
+_SMALL = list(itertools.islice(_numbers(), 3120))
+
+
+class _Table(dict):
+    """What the numbers of a proof name; None for Z."""
+
+    def __missing__(self, number):
+        raise IndexError
 
 
 @dataclass
@@ -54,6 +59,7 @@ class Building:
         self.steps = []
         self.root = None  # the last step, of a theorem
         self.uses = ()  # how often each step is used
+        self.cited = frozenset()  # the rows of what its proof cites
         self._unfolded = None  # of a definition's axiom the term with its operands, and its body
         self.heads = set()  # of terms that weren't in what is cited
         self._bound = {}  # variables that are bound, by their expressions
@@ -72,14 +78,17 @@ class Building:
         return self
 
     def _count(self):
-        """Counts how often each step is used, from the last one to the first."""
-        steps, uses = self.steps, [0] * len(self.steps)
+        """Counts how often each step is used, from the last one to the first, and notes the rows that they cite."""
+        steps, uses, rows = self.steps, [0] * len(self.steps), set()
         uses[self.root] = 1
         for number in range(self.root, -1, -1):
             if uses[number]:
-                for it in steps[number][3]:
+                _, by, _, parts = steps[number]
+                if by.__class__ is int and by >= 0:
+                    rows.add(by)
+                for it in parts:
                     uses[~it] += 1
-        self.uses = uses
+        self.uses, self.cited = uses, rows
 
     def _state(self):
         it, expressions = self.statement, self.expressions
@@ -223,10 +232,11 @@ class Building:
             items = [ready.get(it) or entry(it) for it in labels]
             self.heads.update([it[0] for it in items if it.__class__ is tuple])
             if letters is None:
-                stack = self._run([], items)
+                stack = self._run({}, iter(()), items)
             else:
-                table = [None, *self._frame(), *items]
-                stack = self._run(table, map(table.__getitem__, map(_VALUE, _NUMBERS.findall(letters))))
+                numbers = itertools.chain(_SMALL, itertools.islice(_numbers(), len(_SMALL), None))
+                table = _Table({"Z": None, **{number: it for it, number in zip([*self._frame(), *items], numbers)}})
+                stack = self._run(table, numbers, map(table.__getitem__, _PARTS(letters)))
         except IndexError:
             raise Untranslatable("its proof takes what isn't there") from None
         if len(stack) != 2 or stack[1] >= 0 or not self._concludes(self.steps[~stack[1]][0]):
@@ -297,9 +307,9 @@ class Building:
             raise Untranslatable(f"its proof names {label}, which stands behind it")
         return whole.entry(number, self)
 
-    def _run(self, table, items):
+    def _run(self, table, numbers, items):
         """Runs a proof: what lies on the stack in the end, above a 0. Where `items` have None, what lies on top is saved in the
-        table."""
+        table under the next one of the numbers."""
         stack, made, steps, proof_of = [0], self.expressions.numbers, self.steps, self._proof_of
         push, pop = stack.append, stack.pop
         for it in items:
@@ -317,37 +327,43 @@ class Building:
                     stack[-size:] = (made[head, stack[a], stack[b], stack[c]],)
                 else:
                     push(made[head, 0, 0, 0])
+            elif it is None:
+                table[next(numbers)] = stack[-1]
             elif it.__class__ is Statement:
                 width = it.width
                 if len(stack) <= width:
                     raise IndexError
-                registers = [0, *stack[-width:]] if width else [0]
-                del stack[len(stack) - width :]
+                if width:
+                    registers = [0, *stack[-width:]]
+                    del stack[-width:]
+                else:
+                    registers = [0]
                 if it.shuffle:
                     registers = [registers[i] for i in it.shuffle]
                 if it.steps is None:
                     says = self.expressions.instance(it.conclusion, registers[1:])
                 else:
+                    add = registers.append
                     for head, a, b, c in it.steps:
-                        registers.append(made[head, registers[a], registers[b], registers[c]])
+                        add(made[head, registers[a], registers[b], registers[c]])
                     says = registers[it.root]
                 known = proof_of.get(says)
                 if known is None:
                     known = proof_of[says] = ~len(steps)
-                    steps.append(self._cited(it, says, registers))
+                    size, row = it.size, it.plain_row
+                    if row is None:
+                        steps.append(self._cited(it, says, registers))
+                    else:
+                        steps.append((says, row, registers[1:size], registers[size : width + 1]))
                 push(known)
-            elif it is None:
-                table.append(stack[-1])
             else:
                 push(it(stack))
         return stack
 
     def _cited(self, it, says, registers):
         """The step that cites a statement."""
-        size, width = len(it.floats) + 1, it.width + 1
-        if it.plain_row is not None:
-            return says, it.plain_row, registers[1:size], registers[size:width]
-        parts = registers[size:width] if it.parts is None else [registers[i] for i in it.parts]
+        size = it.size
+        parts = registers[size : it.width + 1] if it.parts is None else [registers[i] for i in it.parts]
         if it.bound:
             first, partition = [], []
             for at in it.bound:
@@ -364,10 +380,6 @@ class Building:
         if row is None:
             row = self.whole.row(it.number, key)
         return says, row, operands, parts
-
-    def cited(self):
-        """The rows that the proof cites."""
-        return {it[1] for it, uses in zip(self.steps, self.uses) if uses and it[1].__class__ is int and it[1] >= 0}
 
     # Variables of the proof alone
 

@@ -5,8 +5,7 @@ the conditions on variables. The specification is read as `mz explore` reads it,
 translator is used."""
 import itertools
 import re
-from dataclasses import dataclass, field
-from functools import cache
+from functools import cache, cached_property
 from types import SimpleNamespace
 
 from explore.notations import Constant
@@ -20,23 +19,10 @@ class Differs(ValueError):
     """In what a declaration differs from the database."""
 
 
-@dataclass
-class Report:
-    """What was compared. `dropped`: theorems that here lack a `$d` between variables that aren't bound; `written`: terms whose
-    notation has other constants than the database's; `short`: abbreviations, definitions that the database doesn't have."""
-
-    counts: SimpleNamespace = field(default_factory=lambda: SimpleNamespace(terms=0, definitions=0, axioms=0, theorems=0, copies=0))
-    faults: list = field(default_factory=list)
-    dropped: list = field(default_factory=list)
-    written: list = field(default_factory=list)
-    short: list = field(default_factory=list)
-
-
 @cache
 def identifier(label):
     """A label as a name."""
-    made = re.sub(r"[^A-Za-z0-9_]", "_", label)
-    return "_" + made if made[:1].isdigit() else made
+    return re.sub(r"^(?=[0-9])|[^A-Za-z0-9_]", "_", label)
 
 
 @cache
@@ -47,11 +33,10 @@ def is_sort(sort, code):
 
 def replaced(symbols, old, new):
     """Symbols with other ones wherever these stand."""
-    made, at = [], 0
-    while at < len(symbols):
-        is_here = symbols[at : at + len(old)] == old
-        made += new if is_here else [symbols[at]]
-        at += len(old) if is_here else 1
+    made = []
+    while symbols:
+        is_here = symbols[: len(old)] == old
+        made, symbols = made + (new if is_here else symbols[:1]), symbols[len(old) if is_here else 1 :]
     return made
 
 
@@ -70,6 +55,11 @@ def shown(form):
     return [x.text if isinstance(x, Constant) else form.term.parameters[x.index].name for x in form.literals]
 
 
+def kept_apart(statement, name):
+    """The pairs of names that the database keeps apart."""
+    return {frozenset(name[x] for x in pair) for pair in statement.apart if pair <= name.keys()}
+
+
 class Check:
     """Compares specifications with a database. Where `export` made it (`is_own`), its axioms `df-` are definitions without
     further signs, and parameters of terms depend on what the pair's author wanted.
@@ -79,25 +69,25 @@ class Check:
     def __init__(self, database, proved="|-", is_own=False):
         self.database, self.is_own, self.code = database, is_own, database.codes.get
         self.is_proved = (lambda code: code.startswith("|-")) if is_own else (lambda code: code == proved)
-        self.logic, self.syntax, self.sort_of = {}, {}, {}
+        self.logic, self.syntax = {}, {}
         for it in database.statements:
             table = self.logic if self.is_proved(it.code) else self.syntax if it.is_axiom else {}
             table.setdefault(identifier(it.label), []).append(it)
         syntax = [(it, it.symbols[1:]) for found in self.syntax.values() for it in found]
         self.expressions = {it.code for it, _ in syntax}
         self.written = {constants(x for x in symbols if not self.code(x)): it.label for it, symbols in syntax}
-        for it, symbols in syntax if is_own else ():
-            # The sorts of typecodes of bound variables: `nat-of-natvar` is what `export` calls the axiom that connects both.
-            if len(symbols) == 1 and self.code(symbols[0]) and it.label.startswith(f"{it.code}-of-"):
-                self.sort_of[self.code(symbols[0])] = it.code
+        # The sorts of typecodes of bound variables: `nat-of-natvar` is what `export` calls the axiom that connects both.
+        self.sort_of = {self.code(x[0]): it.code for it, x in syntax if is_own and len(x) == 1 and it.label.startswith(f"{it.code}-of-") and self.code(x[0])}
         self._find_definitions()
-        self._relations = None
 
     def run(self, text):
-        """What differs in a specification, and what was compared. Axioms and theorems are compared as they are read, terms when
+        """What differs in a specification, and what was compared: counts; `dropped`: theorems that here lack a `$d` between
+        variables that aren't bound; `written`: terms whose notation has other constants than the database's; `short`:
+        abbreviations, definitions that the database doesn't have. Axioms and theorems are compared as they are read, terms when
         all their notations are known."""
         reader, terms, faults = Reader(text), [], []
-        self.theory, self.report, self._productions = reader.theory, Report(), {}
+        self.report = SimpleNamespace(terms=0, definitions=0, axioms=0, theorems=0, copies=0, dropped=[], written=[], short=[])
+        self.theory, self._productions = reader.theory, {}
         ways = {Sort: self._sort, Assertion: self._assertion, Term: terms.append, Notation: lambda it: None}
         for it, way in itertools.chain(((it, ways[type(it)]) for it in reader.read()), ((it, self._term) for it in terms)):
             self.theory.assertions.clear()  # nothing speaks of one, and they are many
@@ -112,15 +102,14 @@ class Check:
 
     def _find_definitions(self):
         """Axioms `df-` by their skeletons, conversions of `export` apart; and those that stand behind a theorem `..just`."""
-        self.definitions, self.justified, last = {}, [], None
-        for it in self.database.statements:
-            is_definition = it.is_axiom and it.label.startswith("df-") and not it.given
-            if is_definition and (self.is_proved(it.code) or self.is_own and it.code.startswith("defeq-")):
+        self.definitions = {}
+        is_definition = lambda it: it.is_axiom and it.label.startswith("df-") and not it.given
+        for it in filter(is_definition, self.database.statements):
+            if self.is_proved(it.code) or self.is_own and it.code.startswith("defeq-"):
                 self.definitions.setdefault((self.is_proved(it.code), self.skeleton(it.symbols[1:])), []).append(it)
-            if self.is_proved(it.code):
-                if is_definition and last and not last.is_axiom and not last.given and (last.label.endswith("just") or self.is_own):
-                    self.justified.append((it, last))
-                last = it
+        pairs = itertools.pairwise(it for it in self.database.statements if self.is_proved(it.code))
+        serves = lambda it: not it.is_axiom and not it.given and (it.label.endswith("just") or self.is_own)
+        self.justified = [(it, last) for last, it in pairs if is_definition(it) and serves(last)]
 
     def kind(self, symbol):
         """The typecode of a variable, None of a constant; of a bound one that `export` wrote the code of its sort."""
@@ -137,24 +126,19 @@ class Check:
 
     def said(self, statement):
         """All that a statement says, with `$` behind each formula."""
-        given = [x for x in statement.hypotheses if not self._is_typing(*x)]
+        # One that says of a variable what its typecode says already says nothing.
+        given = [x for x in statement.hypotheses if self.is_proved(x[0]) or len(x) != 2 or self.code(x[1]) != x[0]]
         if not all(self.is_proved(x[0]) for x in given):
             raise Differs("a hypothesis there isn't of what is proved")
         return [x for formula in (*given, statement.symbols) for x in (*formula[1:], "$")]
 
-    def _is_typing(self, code, *symbols):
-        """Whether a hypothesis says of a variable what its typecode says already."""
-        return not self.is_proved(code) and len(symbols) == 1 and self.code(symbols[0]) == code
-
     def matched(self, mine, theirs, variables, is_instance=False):
         """The name here of each of their variables, where both say the same; else None. In an instance some are one here. None is
         bound here for which the database has expressions."""
-        name, is_same = {}, len(mine) == len(theirs)
-        for a, b in zip(mine, theirs):
-            if a != b and (a.__class__ is str or name.setdefault(b, a[0]) != a[0]):
-                return None
-        is_same &= is_instance or len(set(name.values())) == len(name)
-        if not is_same or not all(is_sort(variables[a].sort, self.kind(b)) for b, a in name.items()):
+        name, is_one = {}, lambda a, b: a == b or a.__class__ is not str and name.setdefault(b, a[0]) == a[0]
+        if len(mine) != len(theirs) or not all(map(is_one, mine, theirs)) or not is_instance and len({*name.values()}) < len(name):
+            return None
+        if not all(is_sort(variables[a].sort, self.kind(b)) for b, a in name.items()):
             return None
         for b, a in name.items():
             if variables[a].bound and self.code(b) in self.expressions - {*self.sort_of.values()}:
@@ -178,10 +162,10 @@ class Check:
             self.report.short.append(it.name)
             return
         self._look_at_notations(it, forms, items, " ".join(theirs.symbols[1:]))
-        self.report.counts.terms += 1
+        self.report.terms += 1
         if it.kind == "def":
             self._definition(it)
-            self.report.counts.definitions += 1
+            self.report.definitions += 1
         if not self.is_own:
             self._look_at_needs(it)
 
@@ -215,9 +199,8 @@ class Check:
 
     def _is_kind(self, parameter, symbol, is_coercion):
         """A bound parameter needs a typecode that only variables have; of such a code a regular one stands in a coercion."""
-        is_of_variables = self.code(symbol) not in self.expressions
-        fits = is_of_variables if parameter.bound else not is_of_variables or is_coercion or self.is_own
-        return fits and is_sort(parameter.sort, self.kind(symbol))
+        has_more = self.code(symbol) in self.expressions
+        return is_sort(parameter.sort, self.kind(symbol)) and (not has_more if parameter.bound else has_more or is_coercion or self.is_own)
 
     def _look_at_notations(self, term, forms, items, theirs):
         """A notation is to be read as in the database. Its constants may be others than there, but not those of something else."""
@@ -267,25 +250,24 @@ class Check:
         left, body = self.flat((it.name, *(p.name for p in it.parameters))), self.flat(it.body)
         if not it.dummies and self._is_justified(left, body, variables):
             return
-        said = [(False, [*left, ":=", *body])] + [(True, self._between(relation, left, body)) for relation in self.relations()]
+        said = [(False, [*left, ":=", *body])] + [(True, self._between(relation, left, body)) for relation in self.relations]
         for is_proved, mine in said:
             for found in self.definitions.get((is_proved, self.skeleton(mine)), []):
                 name = self.matched(mine, found.symbols[1:], variables)
-                apart, names = (set(), ()) if name is None else (self._apart(found, name), {*name.values()})
+                apart, names = (set(), ()) if name is None else (kept_apart(found, name), {*name.values()})
                 if name is not None and all({d.name, x} in apart for d in it.dummies if d.name in names for x in names if x != d.name):
                     self._note_dropped(it, apart)
                     return
         raise Differs("no axiom of the database is this definition")
 
+    @cached_property
     def relations(self):
         """Syntax of two expressions of one kind that is reflexive and symmetric by the database's own rules, without any `$d`."""
-        if self._relations is None:
-            rules = {}
-            for it in itertools.chain(*self.logic.values()):
-                if len(it.given) < 2 and len(it.text) < LONGEST_RULE and all(self.is_proved(x[0]) for x in it.hypotheses):
-                    rules.setdefault(self.skeleton(self.said(it)), []).append(it)
-            self._relations = [it for found in self.syntax.values() for it in found if self._is_relation(it, rules)]
-        return self._relations
+        rules = {}
+        for it in itertools.chain(*self.logic.values()):
+            if len(it.given) < 2 and len(it.text) < LONGEST_RULE and all(self.is_proved(x[0]) for x in it.hypotheses):
+                rules.setdefault(self.skeleton(self.said(it)), []).append(it)
+        return [it for found in self.syntax.values() for it in found if self._is_relation(it, rules)]
 
     def _is_relation(self, it, rules):
         codes = [self.kind(x) for x in it.symbols[1:] if self.code(x)]
@@ -318,26 +300,22 @@ class Check:
         """A tree in the database's symbols."""
         if isinstance(tree, str):
             return [(tree,)]
-        made = []
-        for it in self.production(tree[0])[0]:
-            made += self.flat(tree[it + 1]) if it.__class__ is int else (it,)
-        return made
+        return [x for it in self.production(tree[0])[0] for x in (self.flat(tree[it + 1]) if it.__class__ is int else (it,))]
 
     # Axioms and theorems
 
     def _assertion(self, it):
         found = self._named(self.logic, it.name)
         instance = None if found else INSTANCE.fullmatch(it.name)
-        fault = Differs("the database has no such statement")
+        faults = [Differs("the database has no such statement")]
         for other in self._named(self.logic, instance[1]) if instance else found:
             try:
                 self._compare(it, other, instance is not None)
-            except Differs as differs:
-                fault = differs
-                continue
-            vars(self.report.counts)["copies" if instance else f"{it.kind}s"] += 1
-            return
-        raise fault
+                vars(self.report)["copies" if instance else f"{it.kind}s"] += 1
+                return
+            except Differs as fault:
+                faults.append(fault)
+        raise faults[-1]
 
     def _compare(self, it, other, is_instance):
         if it.kind == "axiom" and not other.is_axiom:
@@ -346,7 +324,7 @@ class Check:
         name = self.matched(mine, self.said(other), {p.name: p for p in it.parameters}, is_instance)
         if name is None:
             raise Differs("the statement isn't one with variables made one" if is_instance else "the statement differs")
-        apart = self._apart(other, name)
+        apart = kept_apart(other, name)
         if any(len(pair) == 1 for pair in apart):
             raise Differs("variables are one that the database keeps apart")
         # A parameter may depend on a bound variable where no `$d` keeps them apart.
@@ -357,15 +335,9 @@ class Check:
         if self._note_dropped(it, apart) and it.kind == "axiom":
             raise Differs("an axiom whose regular variables the database keeps apart: it says more here")
 
-    @staticmethod
-    def _apart(statement, name):
-        """The pairs of names that the database keeps apart."""
-        return {frozenset(name[x] for x in pair) for pair in statement.apart if pair <= name.keys()}
-
     def _note_dropped(self, it, apart):
         """The pairs that the database keeps apart, and the specification doesn't: neither by what is bound nor by dependencies."""
         pairs = [f"{x.name} {p.name}" for i, p in enumerate(it.parameters) for x in it.parameters[:i] if {p.name, x.name} in apart
                  and not (p.bound and x.bound) and (p.bound == x.bound or x.name in p.needs or p.name in x.needs)]
-        if pairs:
-            self.report.dropped.append((it.name, pairs))
+        self.report.dropped += [(it.name, pairs)] * bool(pairs)
         return pairs

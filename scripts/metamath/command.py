@@ -1,6 +1,7 @@
 """The commands: ./mz import, ./mz export, ./mz same."""
 import os
 import sys
+import threading
 
 from explore.lexemes import Unreadable
 from explore.program import Refused
@@ -17,6 +18,7 @@ mz help COMMAND says what each does."""
 FLAGS = {"import": ("--axioms", "--plain", "--text"), "export": ("--definitions",), "same": ("--exported",)}
 VALUES = {"import": ("--theorem", "--name", "--provable"), "export": ("--text",), "same": ("--provable",)}
 PLACES = {"import": 2, "export": 3, "same": 2}
+STACK = 1 << 30  # bytes; expressions and proofs nest deep, and so do the calls for them
 
 
 def options_of(name, words):
@@ -40,16 +42,28 @@ def options_of(name, words):
     return (arguments, options) if len(arguments) == PLACES[name] else None
 
 
-def started(name, arguments, options):
+def started(name, arguments, options, kept):
     """Runs a command, and gives the exit number."""
     if name == "import":
-        return import_(*arguments, options.pop("--theorem"), options)
+        return import_(*arguments, options.pop("--theorem"), options, kept)
     if name == "export":
         return export(*arguments, options.get("--text"), "--definitions" in options)
     return same(*arguments, options.get("--provable", "|-"), "--exported" in options)
 
 
-def main(words):
+def on_deep_stack(words, kept=None):
+    """Runs a command in a thread of its own, and gives the exit number."""
+    statuses = []
+    sys.setrecursionlimit(1_000_000)
+    threading.stack_size(STACK)
+    runner = threading.Thread(target=lambda: statuses.append(main(words, kept)), daemon=True)
+    runner.start()
+    runner.join()
+    return statuses[0] if statuses else 1
+
+
+def main(words, kept=None):
+    """Runs a command; `kept`: a database and its check, where both were read before."""
     name, *words = words or [""]
     if sys.stdout is None:
         return told(name, "standard output is closed", OUT_FAULT)
@@ -58,7 +72,7 @@ def main(words):
         print(USAGE, file=sys.stderr)
         return 2
     try:
-        status = started(name, *found)
+        status = started(name, *found, kept)
         sys.stdout.flush()
         return status
     except Refused as refused:

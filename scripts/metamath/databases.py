@@ -14,6 +14,7 @@ _PART = re.compile(rf"([^$]*+)(?:\$(?:\(([^$]*+(?:\$(?!\))[^$]*+)*+)\$\)|([{{}}]
 _COMMENTS = re.compile(_COMMENT)
 _INCLUDED = re.compile(rf"{_COMMENT}|\$\[(?P<path>[^$]*)(?P<end>\$\])?")
 _HEADING = re.compile(r"\s*(?P<rule>####|#\*#\*|=-=-|-\.-\.)\S*\s*\n(?P<title>.*?)\n\s*(?P=rule)", re.S)
+_NEW = tuple.__new__  # of a named tuple; faster than its class
 _LEVELS = {"####": 1, "#*#*": 2, "=-=-": 3, "-.-.": 4}
 
 
@@ -188,12 +189,12 @@ class Database:
         code = said[:60].split(None, 1)
         if not code or not (is_axiom or self._parts[at][5]):
             raise self.fault(at, f"{label} has no {'typecode' if not code else 'proof'}")
-        self.assertions.append(Assertion(label, is_axiom, code[0], at, *active, about))
+        self.assertions.append(_NEW(Assertion, (label, is_axiom, code[0], at, *active, about)))
 
     def _essential(self, at, label, active):
         number = len(self.essentials)
         self._named("e", number, at, label)
-        self.essentials.append(Essential(label, at))
+        self.essentials.append(_NEW(Essential, (label, at)))
         return active[0], (active[1], number), active[2]
 
     def _float(self, at, label, active):

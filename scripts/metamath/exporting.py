@@ -71,7 +71,7 @@ class Export:
         self.public = [it for it in declarations if not isinstance(it, Notation)]
         self.text, self.counts = DatabaseText(), Counts()
         self.sorts, self.terms, self.theorems, self._term_of_name = [], {}, {}, {}
-        self.conversions = Conversions(self)
+        self.conversions, self._open = Conversions(self), set()
         self._coercions = {it.name for it in declarations if it.kind == "coercion"}
         self._theorem_names = {it.name for it in self.public if it.space == "assertion"}
         self._sort_of_name = {it.name: i for i, it in enumerate(it for it in self.public if it.space == "sort")}
@@ -88,6 +88,8 @@ class Export:
         make = {"sort": self._sort, "term": self._term, "axiom": self._assertion, "theorem": self._assertion}
         for statement in self.binary.statements():
             make[statement.kind](statement, None if statement.is_local else next(public))
+        for number in sorted(self._open):  # definitions that nothing unfolds, and no theorem says
+            self.definition(number)
         self.counts.terms = len(self.terms)
         return self
 
@@ -206,6 +208,8 @@ class Export:
             term.later = lambda: self._definition(statement, name, names, declared)
             if not self.plain:
                 self.definition(statement.row)
+            elif declared is not None:
+                self._open.add(statement.row)
 
     def _literals(self, name, row, declared):
         """How a term is written: as in its first notation, or by its name before its operands."""
@@ -260,6 +264,7 @@ class Export:
         about = about or ("Axiom." if is_axiom else "Theorem.") if declared else (
             f"A lemma that the specification doesn't have, theorem {statement.row} of the binary.")
         piece = Piece(about, label, formula(said.what), list(zip(titles, map(formula, said.hypotheses))))
+        self._open.discard(defined)
         if is_axiom:
             self.counts.axioms += 1
         else:

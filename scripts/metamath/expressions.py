@@ -120,12 +120,17 @@ def compiled(pattern, arity, size):
             stack.append(it + 1)
             continue
         operands = arity[~it]
-        if operands > NARROW:
+        if operands == 2:
+            last = stack.pop()
+            step = it, stack.pop(), last, 0
+        elif operands > NARROW:
             return None
-        step = key_of(it, tuple(stack[len(stack) - operands :]))
-        del stack[len(stack) - operands :]
-        if step not in known:
-            known[step] = size + 1 + len(steps)
+        else:
+            step = key_of(it, tuple(stack[len(stack) - operands :]))
+            del stack[len(stack) - operands :]
+        register = known.get(step)
+        if register is None:
+            register = known[step] = size + 1 + len(steps)
             steps.append(step)
-        stack.append(known[step])
+        stack.append(register)
     return steps, stack[0]

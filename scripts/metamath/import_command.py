@@ -11,13 +11,13 @@ from .expressions import CitesWhatIsLeftOut
 from .importing import Import, Options
 from .outputs import LONGEST
 from .same_command import same
-from .telling import CANT_READ, CANT_WRITE, Failed, Progress, plural
+from .telling import CANT_READ, CANT_WRITE, WRONG_WORDS, Failed, Progress, plural
 
 SHOWN = 5  # labels of what is left out for one reason
 
 
-def import_(path, folder, theorems, options):
-    """Imports, tells, and gives the exit number."""
+def import_(path, folder, theorems, options, kept=None):
+    """Imports, tells, and gives the exit number. `kept`: the database and its check, where both were read before."""
     gc.disable()  # what isn't needed any more goes at once, so that looking for it is lost time
     show = Progress()
     name, proved = _name(path, theorems, options), "|-"
@@ -28,7 +28,8 @@ def import_(path, folder, theorems, options):
             raise Failed("--provable wants two typecodes, as |-=wff", 2)
         proved = chosen.proved
     _folder(folder)
-    made = _translated(path, theorems, chosen, show)
+    _keep(path, [os.path.join(folder, name + ending) for ending in (".mm0", ".mmb", ".mmu", ".symbols")])
+    made = _translated(kept.database if kept else _read(path, show), theorems, chosen, show)
     with tempfile.TemporaryDirectory(prefix=f".{name}.", dir=folder) as room:
         show.say("writing")
         try:
@@ -48,7 +49,7 @@ def import_(path, folder, theorems, options):
     print(told, verdict, sep="\n")
     show.say("comparing with the database")
     try:
-        return same(os.path.join(folder, name + ".mm0"), path, proved, is_brief=True)
+        return same(os.path.join(folder, name + ".mm0"), path, proved, is_brief=True, check=kept and kept.check)
     finally:
         show.done()
 
@@ -74,12 +75,22 @@ def _folder(folder):
         raise Failed(f"{folder} can't be written: {fault.strerror}", CANT_WRITE) from None
 
 
-def _translated(path, theorems, options, show):
+def _keep(path, places):
+    """Refuses to write over the database."""
+    for it in places:
+        if os.path.exists(it) and os.path.exists(path) and os.path.samefile(it, path):
+            raise Failed(f"{it} is read, and would be written", WRONG_WORDS)
+
+
+def _read(path, show):
     show.say(f"reading {path}")
     try:
-        database = read_database(path)
+        return read_database(path)
     except OSError as fault:
         raise Failed(f"{path} can't be read: {fault.strerror}", CANT_READ) from None
+
+
+def _translated(database, theorems, options, show):
     return Import(database, theorems or None, options).run(show.part)
 
 

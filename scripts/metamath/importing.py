@@ -124,7 +124,7 @@ class Import:
         it.result_needs, it.needs = found.places
         variables, heads = expressions.spread(found.body)
         dummies = [x for x in variables if x not in operands]
-        names, own = Names([*syntax.taken, *(x[2] for x in it.parameters)]), Expressions(syntax.arity)
+        names, own = Names(syntax.taken, *(x[2] for x in it.parameters)), Expressions(syntax.arity)
         dummy_names = [names.take(syntax.base_name(statement.floats[y])) for y in dummies]
         made = {place: own.variable(i) for i, place in enumerate((*operands, *dummies))}
         variables = [Variable(s, b, statement.floats[o], n) for (s, b), o, n in zip(it.kinds, operands, it.needs)]

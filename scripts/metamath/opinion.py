@@ -29,7 +29,8 @@ def faults(path):
     return [it for it in printed.splitlines() if it.startswith("?") or "rror" in it] or ["it didn't verify all proofs"]
 
 
-def axioms(path, label):
-    """The axioms, syntax aside, on which it says that a proof rests."""
-    printed = asked(path, f"show trace_back {label} /axioms /essential")
-    return set(printed.partition("($a statements):")[2].partition("MM>")[0].split()) - {"(None)"}
+def axioms(path, labels):
+    """The axioms, syntax aside, on which it says that each of these proofs rests."""
+    printed = asked(path, *(f"show trace_back {it} /axioms /essential" for it in labels))
+    said = [it.partition("($a statements):")[2] for it in printed.split("MM> show trace_back ")[1:]]
+    return {label: set(it.partition("MM>")[0].split()) - {"(None)"} for label, it in zip(labels, said, strict=True)}

@@ -6,7 +6,7 @@ import os
 import re
 from typing import NamedTuple
 
-_COMMENT = re.compile(r"\$\([^$]*(?:\$(?!\))[^$]*)*(\$\))?")  # one that isn't ended goes to the end of the text
+_COMMENT = re.compile(r"\$\([^$]*+(?:\$(?!\))[^$]*+)*+\$\)")
 _INCLUDED = re.compile(r"\$\[\s+(\S+)\s+\$\]")
 # A label; the mark of a scope, or a keyword and what it says; or, from what is no statement on, everything.
 _STATEMENT = re.compile(r"([^$]*)(?:\$(?:([{}])|([cvdfeap])\s([^$]*)\$(?:=[^$]*\$)?\.)|(.*))", re.S)
@@ -33,8 +33,7 @@ class Statement(NamedTuple):
     @property
     def apart(self):
         """The pairs of variables that a `$d` keeps apart."""
-        groups = [it.split() for it in self.distinct]
-        return {frozenset((a, b)) for group in groups for a in group for b in group if a != b}
+        return {frozenset((a, b)) for it in self.distinct for a in it.split() for b in it.split() if a != b}
 
 
 class Database:
@@ -60,8 +59,7 @@ class Database:
             elif kind == "c":
                 self.constants.update(said.split())
             elif kind == "f":
-                code, variable = said.split()
-                self.codes[variable] = code
+                self.codes.update([said.split()[::-1]])
         if scopes:
             raise ValueError(f"{self._place()} a scope isn't ended")
 
@@ -78,7 +76,7 @@ def read(path):
             return ""
         seen.add(os.path.realpath(path))
         with open(path, encoding="latin-1") as file:
-            text = _COMMENT.sub(lambda it: " " if it[1] else "$", file.read())
+            text = _COMMENT.sub(" ", file.read())
         return _INCLUDED.sub(lambda it: included(os.path.join(os.path.dirname(path), it[1])), text)
 
     return Database(included(path))

@@ -116,7 +116,7 @@ class Output:
             here = open_.pop()
             if here not in needed:
                 needed.add(here)
-                rows = assertions[here].cited()
+                rows = assertions[here].cited
                 self.cited |= rows
                 open_ += rows
         if self.whole.options.notations:

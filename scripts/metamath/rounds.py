@@ -3,25 +3,34 @@
 import has the pair verified and compares it with the database; `mz axioms`, and the definitions that the proof unfolds, are
 compared with the axioms that metamath names; export makes a database again, that metamath verifies and that says what the
 specification says."""
+import gc
 import os
 import random
 import re
-import subprocess
 import sys
 import tempfile
-import time
 from dataclasses import dataclass, field
 
 from explore.program import run
 
 from . import opinion, original
 from .binaries import Binary, Body
-from .checking import identifier
+from .checking import Check, identifier
+from .command import on_deep_stack
+from .databases import read_database
 from .export_command import names_of
 
-PACKAGE = os.path.dirname(os.path.abspath(__file__))
 INSTANCE = re.compile(r"_b(?:\d|_\d+_)+(?:_\d+)?$")
-SECONDS = 3000
+
+
+class Kept:
+    """A database that is read once for many theorems: by the translator, by `same`, and by metamath. Each command is a child
+    of the process that has read it, so that none sees what another one did with it."""
+
+    def __init__(self, path, labels):
+        self.database, self.check = read_database(path), Check(original.read(path))
+        self.axioms = opinion.axioms(path, labels)
+        gc.freeze()
 
 
 @dataclass
@@ -34,40 +43,55 @@ class Round:
 
 
 class Step:
-    """One command of a round, with what it said and cost."""
+    """One command of a round, in a child of this process, with what it said and cost."""
 
-    def __init__(self, made, key, *words):
+    def __init__(self, made, key, *words, kept=None):
         with tempfile.TemporaryFile("w+") as said:
-            child = subprocess.Popen([sys.executable, "-B", PACKAGE, *words], stdout=said, stderr=subprocess.STDOUT, stdin=subprocess.DEVNULL)
-            _, status, usage = os.wait4(child.pid, 0)
-            child.returncode = os.waitstatus_to_exitcode(status)
+            child = os.fork()
+            if not child:
+                self._command(said.fileno(), words, kept)
+            _, status, usage = os.wait4(child, 0)
             said.seek(0)
             self.said = said.read()
         made.costs[key] = usage.ru_utime + usage.ru_stime, usage.ru_maxrss
-        self.is_right = child.returncode == 0
+        self.is_right = status == 0
         if not self.is_right:
             made.faults.append(f"{key}: {self.said.strip()}")
 
+    @staticmethod
+    def _command(said, words, kept):
+        """What the child does; it ends with the exit number of the command."""
+        status = 1
+        try:
+            for it in (1, 2):
+                os.dup2(said, it)
+            sys.stdout, sys.stderr = (open(it, "w", buffering=1, closefd=False) for it in (1, 2))
+            status = on_deep_stack(words, kept)
+            sys.stdout.flush()
+        finally:
+            os._exit(status)
 
-def round_trip(database, folder, label=None, more=()):
-    """One theorem of a database, or all of it, there and back."""
+
+def round_trip(database, folder, label=None, kept=None):
+    """One theorem of a database, or all of it, there and back; `kept`: the database, where it was read before."""
     name = label or os.path.splitext(os.path.basename(database))[0]
     made, place = Round(name), os.path.join(folder, "pair")
     words = ["--theorem", label] if label else []
-    if not Step(made, "import", "import", database, folder, "--name", "pair", "--text", *words, *more).is_right:
+    if not Step(made, "import", "import", database, folder, "--name", "pair", "--text", *words, kept=kept).is_right:
         return made
     if label:
-        made.faults += other_axioms(database, label, place)
+        axioms = kept.axioms if kept else opinion.axioms(database, [label])
+        made.faults += other_axioms(axioms[label], place)
     step = Step(made, "export", "export", f"{place}.mm0", f"{place}.mmb", f"{place}.mm", "--text", f"{place}.mmu", "--definitions")
     if step.is_right and "metamath: all proofs in the database were verified" not in step.said:
         made.faults.append(f"export: {step.said}")
     return made
 
 
-def other_axioms(database, label, place):
-    """How the axioms of a theorem differ from those that metamath names. Where a proof unfolds a definition as the axiom of the
+def other_axioms(named, place):
+    """How the axioms of a theorem differ from those that metamath named. Where a proof unfolds a definition as the axiom of the
     database that gives it, `mz axioms` names, too, on what its reflexive relation rests."""
-    theirs = {identifier(it) for it in opinion.axioms(database, label)}
+    theirs = {identifier(it) for it in named}
     line = run("axioms", f"{place}.mm0", f"{place}.mmb").splitlines()[-1]
     made = Names(place)
     return [*difference("axioms", {bare(it, theirs) for it in made.reached(False)}, theirs),

@@ -10,10 +10,10 @@ from .telling import CANT_READ, Failed, plural, read_text
 SHOWN = 20  # lines of one kind
 
 
-def same(spec, path, proved="|-", is_exported=False, is_brief=False):
+def same(spec, path, proved="|-", is_exported=False, is_brief=False, check=None):
     """Compares, tells, and gives the exit number. What isn't a difference is only counted where it is to be brief."""
-    report = compared(spec, path, proved, is_exported)
-    name, counts = os.path.basename(path), report.counts
+    report = compared(spec, path, proved, is_exported, check)
+    name = os.path.basename(path)
     _list("differs", report.faults)
     if is_brief:
         _count("without a $d of the database", report.dropped)
@@ -26,16 +26,16 @@ def same(spec, path, proved="|-", is_exported=False, is_brief=False):
     if report.faults:
         print(f"not the same as {name}: {plural(len(report.faults), 'statement')} of the specification")
         return 1
-    print(f"the same as {name}: {plural(counts.terms, 'term')}, {plural(counts.definitions, 'definition')}, "
-          f"{plural(counts.axioms, 'axiom')}, {plural(counts.theorems, 'theorem')}, {plural(counts.copies, 'instance')}")
+    print(f"the same as {name}: {plural(report.terms, 'term')}, {plural(report.definitions, 'definition')}, "
+          f"{plural(report.axioms, 'axiom')}, {plural(report.theorems, 'theorem')}, {plural(report.copies, 'instance')}")
     return 0
 
 
-def compared(spec, path, proved="|-", is_exported=False):
-    """What differs, and what was compared."""
+def compared(spec, path, proved="|-", is_exported=False, check=None):
+    """What differs, and what was compared. `check`: of the database, where it was read before."""
     text = read_text(spec)
     try:
-        check = Check(original.read(path), proved, is_exported)
+        check = check or Check(original.read(path), proved, is_exported)
     except OSError as fault:
         raise Failed(f"{fault.filename} can't be read: {fault.strerror}", CANT_READ) from None
     except ValueError as fault:

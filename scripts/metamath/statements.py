@@ -11,7 +11,7 @@ class Statement:
     """A logical assertion. Patterns are formulas as the grammar reads them, over the places of its `$f`."""
 
     __slots__ = ("number", "floats", "sorts", "order", "labels", "essentials", "bound", "regular", "needs", "hypotheses", "syntax",
-                 "conclusion", "rows", "width", "shuffle", "steps", "root", "parts", "plain_row")
+                 "conclusion", "rows", "size", "width", "shuffle", "steps", "root", "parts", "plain_row")
 
     def __init__(self, number, floats, sorts, order):
         self.number, self.floats, self.sorts, self.order = number, floats, sorts, order
@@ -20,12 +20,13 @@ class Statement:
         self.hypotheses, self.conclusion = [], None
         self.syntax = {}  # hypotheses that say of a variable that it is an expression: label and pattern
         self.rows = {}  # the rows of its copies, by which bound variables are one
-        self.width = None
+        self.size = self.width = None
 
     def prepare(self, arity):
         """What a proof that cites it needs. Registers: 0, then what it takes from the stack, variables first; then the results
         of the steps that build its conclusion."""
         size = len(self.floats)
+        self.size = size + 1  # the register behind the variables
         self.width, self.shuffle, self.parts = size + len(self.labels), None, None
         if self.order:
             at = {it: i + 1 for i, it in enumerate(self.order)}

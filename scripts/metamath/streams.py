@@ -64,6 +64,7 @@ class Commands:
         self.terms, self.rows = terms, {}
         self.term, self.term_save = (_Later(lambda head: terms[~head].row, it) for it in (TERM, TERM_SAVE))
         self.theorem, self.theorem_save = (_Later(self.rows.__getitem__, it) for it in (THEOREM, THEOREM_SAVE))
+        self.matched, self.matched_save = (_Later(lambda head: terms[~head].row, it) for it in (U_TERM, U_TERM_SAVE))
 
 
 class Body:
@@ -220,17 +221,18 @@ class Body:
 
     def stream(self, roots):
         """The unify stream of these expressions."""
-        keys, arity, uses, open_ = self.keys, self.arity, {}, list(roots)
+        keys, arity, once, again, open_ = self.keys, self.arity, set(), set(), list(roots)
         while open_:
             it = open_.pop()
-            if it in uses:
-                uses[it] += 1
+            if it in once:
+                again.add(it)
             else:
-                uses[it] = 1
+                once.add(it)
                 key = keys[it]
                 if key.__class__ is tuple:
                     size = arity[~key[0]]
                     open_ += key[1] if size > 3 else key[1 : size + 1]
+        match, match_save = self.commands.matched, self.commands.matched_save
         out, refs, heap = bytearray(), {}, self.count
         for i, root in enumerate(roots):
             if i:
@@ -248,14 +250,14 @@ class Body:
                         continue
                     out += U_DUMMY[self.variables[key].sort]
                 else:
-                    size = arity[~key[0]]
+                    head = key[0]
+                    size = arity[~head]
                     operands = key[1] if size > 3 else key[1 : size + 1]
                     open_ += operands[::-1]
-                    row = self.commands.terms[~key[0]].row
-                    if uses[it] < 2 or not operands or self.has_dummies and self._has_dummy(it):
-                        out += U_TERM[row]
+                    if it not in again or not operands or self.has_dummies and self._has_dummy(it):
+                        out += match[head]
                         continue
-                    out += U_TERM_SAVE[row]
+                    out += match_save[head]
                 refs[it] = U_REF[heap]
                 heap += 1
         return bytes(out + END)

@@ -24,12 +24,14 @@ def identifier(label):
 
 
 class Names:
-    def __init__(self, used=()):
-        self.used = set(used)
+    """Names that are each given once; `taken`, which isn't copied, are others."""
+
+    def __init__(self, taken=(), *others):
+        self.taken, self.used = taken, {*others}
 
     def take(self, wanted):
         name, k = wanted, 2
-        while name in self.used:
+        while name in self.used or name in self.taken:
             name, k = f"{wanted}_{k}", k + 1
         self.used.add(name)
         return name

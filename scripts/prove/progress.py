@@ -1,8 +1,22 @@
 """Says on a terminal how far long work is."""
+import contextlib
 import sys
 import time
 
 PATIENCE = 2.0  # seconds before anything is said
+
+
+@contextlib.contextmanager
+def shown(what):
+    """Shows what is done meanwhile, where nobody knows how much of it there is."""
+    is_terminal = sys.stderr.isatty()
+    if is_terminal:
+        print(f"{what} ..", end="", file=sys.stderr, flush=True)
+    try:
+        yield
+    finally:
+        if is_terminal:
+            print("\r\x1b[K", end="", file=sys.stderr, flush=True)
 
 
 class Progress:

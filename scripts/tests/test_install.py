@@ -34,7 +34,13 @@ class Install(unittest.TestCase):
     def test_an_unproved_answer_is_told_apart(self):
         """What it prints where, its number, and when it is good enough."""
         part = next(it for it in re.split(r"^## ", INSTALL, flags=re.M) if "./mz try verify examples" in it).lower()
-        for word in ("standard output", "standard error", "unproved", "125", "good enough"):
+        for word in ("standard output", "standard error", "unproved", "125", "good enough", "relies on a theorem runs `./mz verify`"):
+            self.assertIn(word, part)
+
+    def test_a_ci_is_told_what_it_believes(self):
+        """What it keeps of a build: by which key, what of it, and who may write it."""
+        part = next(it for it in re.split(r"^## ", INSTALL, flags=re.M) if it.startswith("In a CI"))
+        for word in ("scripts/build/sum", "out/program", "XDG_STATE_HOME", "Whoever can write this cache decides what is answered"):
             self.assertIn(word, part)
 
     def test_each_variable_is_named(self):

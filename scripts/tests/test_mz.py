@@ -149,8 +149,7 @@ class Mz(unittest.TestCase):
             self.assertIn(word, said)
 
     def test_help_of_each_command_builds_nothing(self):
-        calls = [(it.name, "--help") for it in manual.read().commands]
-        for name, word in [*calls, ("verify", "-h")]:
+        for name, word in [(it.name, word) for it in manual.read().commands for word in ("--help", "-h")]:
             status, said, complained = self.at.run(name, word)
             self.assertEqual((status, complained), (0, ""), name)
             self.assertTrue(said.startswith(f"usage: mz {name}"), said)
@@ -161,6 +160,15 @@ class Mz(unittest.TestCase):
             status, said, complained = self.at.run(*words)
             self.assertEqual((status, said, self.at.builds()), (3, "", []), words)
             self.assertTrue(complained.startswith("ReadFault\nmz: "), complained)
+
+    def test_a_call_of_a_script_whose_files_are_not_there_builds_nothing(self):
+        """The scripts are the repository's own. Where a program were asked for, the number would be 125."""
+        asks_none = {**self.at.environment, "MZ_BUILD": "never"}
+        for words in (["explore", "c", "d", "pages"], ["axioms", "--definitions", "c", "d"], ["import", "c", "d"], ["export", "c", "d", "e"], ["same", "c", "d"], ["prove", "c.proofs"],
+                      ["prove", "--at", "1:1", "c.proofs"], ["serve", "--check", "c.mm0"]):
+            ran = subprocess.run([os.path.join(TOP, "mz"), *words], cwd=self.at.room, env=asks_none, stdin=subprocess.DEVNULL, capture_output=True, text=True, check=False)
+            self.assertEqual(ran.returncode, 1 if words[0] in ("prove", "serve") else 3, (words, ran.stderr))
+            self.assertNotIn("Traceback", ran.stderr)
 
     def test_wrong_words_build_nothing(self):
         for words, wanted in ((["verfy", "a", "b"], "the nearest is verify SPEC BIN"), (["verify", "a"], "BIN is missing"), (["verify", "a", "b", "c"], "'c' is one too many"),
@@ -238,7 +246,8 @@ class Mz(unittest.TestCase):
 
     def test_progress(self):
         complained = self.at.run("build")[2]
-        self.assertIn("3 crates", complained)
+        for said in ("3 crates", "From nothing that takes about", "2.5 GB of memory for each", "GB of disk", "./mz try verify SPEC BIN gives an unproved answer"):
+            self.assertIn(said, complained)
         self.assertIn(" 1 of 3,  0:00  mz_base: What mz_base is (3 functions proved); ", complained)
         self.assertIn(" 3 of 3,  0:00  mz_main: What mz_main is (3 functions proved)\n", complained)
 

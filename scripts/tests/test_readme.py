@@ -52,7 +52,7 @@ class Believed(unittest.TestCase):
 
 
 class Said(unittest.TestCase):
-    """What README says of the limits of an answer, of its cost, and of what one writes, whatever the words are."""
+    """What README says of the limits of an answer, of its cost, and of what one writes, whatever the words are; and other pages."""
 
     SAID = {
         "what a binary may bring": r"may bring .*definitions", "what is bounded": r"steps .*are .*bounded",
@@ -61,10 +61,20 @@ class Said(unittest.TestCase):
         "what one writes": r"[Pp]roof source \(`\.proofs`\)",
     }
 
+    ELSEWHERE = {
+        "docs/USING.md": r"exit number is 0, with gaps too, since",  # why `draft` ends so
+        "scripts/manual/commands.txt": r"With gaps, too, it ends with 0: the question is",
+        "docs/FORMAT.md": r"\*\*Binaries of mm0-rs\.\*\* .*\n\n- Accepted: .*\n- Refused: ",
+    }
+
     def test_each(self):
         lines = text_of("README.md").split("\n")
         for what, pattern in self.SAID.items():
             self.assertTrue(any(re.search(pattern, it) for it in lines), what)
+
+    def test_elsewhere(self):
+        for path, pattern in self.ELSEWHERE.items():
+            self.assertRegex(text_of(path), pattern)
 
 
 class FirstBuild(unittest.TestCase):

@@ -17,8 +17,8 @@ use Rattle.mz_logic_theory.specs.declared.word.Word.{Word}
 use Rattle.mz_logic_theory.proofs.Offered.{assertions-append, sorts-append, terms-append}
 use Rattle.mz_layout_tables.specs.Normal.{Row, Written, Parts, no_parts, row_of_term, row_of_thm, file_of}
 use Rattle.mz_layout_tables.specs.Standing.{HasRoom, Fit}
-use Rattle.mz_unify_theory.specs.Streams.{UnifyCommand, u_term, u_term_save, u_ref, u_dummy, u_hyp, u_end}
-use Rattle.mz_unify_theory.specs.Profile.{Profile, plain as standard}
+use Rattle.mz_machine_theory.specs.Streams.{UnifyCommand, u_term, u_term_save, u_ref, u_dummy, u_hyp, u_end}
+use Rattle.mz_machine_theory.specs.Profile.{Profile, plain as standard}
 use Rattle.mz_machine_theory.specs.Lists.{kind_of}
 use Rattle.mz_machine_theory.specs.MachineState.{Kind as BodyKind, is_definition}
 use Rattle.mz_binary_theory.specs.Spelling.{IsKindOf, is_local_code}
@@ -82,16 +82,7 @@ bare proofs.Dummy n plain other = absurd cc
 bare proofs.Thm n plain other = absurd cc
 bare proofs.ThmSave n plain other = absurd cc
 bare proofs.ConvRef n plain other = absurd cc
-bare proofs.Hyp n plain other = plain
-bare proofs.Conv n plain other = plain
-bare proofs.Refl n plain other = plain
-bare proofs.Symm n plain other = plain
-bare proofs.Cong n plain other = plain
-bare proofs.Unfold n plain other = plain
-bare proofs.ConvCut n plain other = plain
-bare proofs.ConvSave n plain other = plain
-bare proofs.Save n plain other = plain
-bare proofs.Sorry n plain other = plain
+bare _ n plain other = plain
 
 body-fit : (P : Profile) (kind : BodyKind) (cs : List (ProofCode × ℕ)) → MayStand P kind cs → ArePlain cs → AreFit proof_has_number cs
 body-fit P kind [] may plain = tt
@@ -324,13 +315,8 @@ module _ (gaps : Bool) (p : Parts) (fit : Fit p) where
         let us : List (UnifyCode × ℕ) = map unify_op text.commands in
         let stream-same : stream ≡ unify_bytes us ++ (0 ∷ []) = text.written ∙ stream-is text.commands text.short in
         definition-stated d ps o us body.body.commands (row ∙ ap (λ (x : List ℕ). Some (row_of_term ps o (Some x))) stream-same) code (body.body.spelled ∙ body-is body.body.commands) (stream-fit text.commands text.short) (body-fit (standard gaps) is_definition body.body.commands body.body.may_stand body.plain) rest
-    form-stated d local signature ps o plain_form abstract_form is _ _ rest = absurd is
-    form-stated d local signature ps o plain_form (defined ys f) is _ _ rest = absurd is
     form-stated d local signature ps o abstract_form plain_form is _ _ rest = absurd is
-    form-stated d local signature ps o abstract_form abstract_form is _ _ rest = absurd is
-    form-stated d local signature ps o abstract_form (defined ys f) is _ _ rest = absurd is
-    form-stated d local signature ps o (defined xs e) plain_form is _ _ rest = absurd is
-    form-stated d local signature ps o (defined xs e) abstract_form is _ _ rest = absurd is
+    form-stated d local signature ps o _ _ is _ _ rest = absurd is
 
     assertion-code : (b : Bool) → MatchBool b (w.code ≡ 0x02) ((w.code ≡ 0x06) ⊎ (w.code ≡ 0x0E)) → (w.code ≡ 0x02) ⊎ ((w.code ≡ 0x06) ⊎ (w.code ≡ 0x0E))
     assertion-code true code = inl code
@@ -343,12 +329,7 @@ module _ (gaps : Bool) (p : Parts) (fit : Fit p) where
         let us : List (UnifyCode × ℕ) = map unify_op it.text.commands in
         let stream-same : it.stream ≡ unify_bytes us ++ (0 ∷ []) = it.text.written ∙ stream-is it.text.commands it.text.short in
         assertion-stated a it.words us it.body.body.commands (it.row ∙ ap (λ (x : List ℕ). Some (row_of_thm it.words x)) stream-same) (assertion-code a'.is_axiom code) (it.body.body.spelled ∙ body-is it.body.body.commands) (stream-fit it.text.commands it.text.short) (body-fit (standard gaps) (kind_of a.is_axiom) it.body.body.commands it.body.body.may_stand it.body.plain) rest
-    declaration-stated local (sort_decl m) (term_decl d') is _ _ rest = absurd is
-    declaration-stated local (sort_decl m) (assertion_decl a') is _ _ rest = absurd is
-    declaration-stated local (term_decl d) (sort_decl m') is _ _ rest = absurd is
-    declaration-stated local (term_decl d) (assertion_decl a') is _ _ rest = absurd is
-    declaration-stated local (assertion_decl a) (sort_decl m') is _ _ rest = absurd is
-    declaration-stated local (assertion_decl a) (term_decl d') is _ _ rest = absurd is
+    declaration-stated local _ _ is _ _ rest = absurd is
 
   -- ---- all of them
 
@@ -371,12 +352,9 @@ module _ (gaps : Bool) (p : Parts) (fit : Fit p) where
       }
   all-stated env (t ∷ ts) (s ∷ ss) (w ∷ ws) q (one, more) before =
       declaration-stated env q w ws before s.is_local t.decl s.decl one.declaration one.code.0 one.code.1 (λ next b. all-stated (env ++ (t.decl ∷ [])) ts ss ws next more b)
-  all-stated env [] [] (w ∷ ws) q is before = absurd is
   all-stated env [] (s ∷ ss) [] q is before = absurd is
-  all-stated env [] (s ∷ ss) (w ∷ ws) q is before = absurd is
   all-stated env (t ∷ ts) [] [] q is before = absurd is
-  all-stated env (t ∷ ts) [] (w ∷ ws) q is before = absurd is
-  all-stated env (t ∷ ts) (s ∷ ss) [] q is before = absurd is
+  all-stated env _ _ _ q is before = absurd is
 
 pub files-normal : (gaps : Bool) (p : Parts) (text made : List Marked) → Fit p → IsWrittenAs gaps p text made → IsNormal (file_of p)
 files-normal gaps p text made fit says =

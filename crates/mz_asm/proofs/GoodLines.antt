@@ -30,12 +30,7 @@ AllGood rows (l ∷ ls) = (IsInRange rows l × TakesRow rows l × HasWord l) × 
 has-word : (bytes : List ℕ) (l : Line) → IsLine bytes l → HasWord l
 has-word bytes (lines.Param w) is = is.0
 has-word bytes (lines.Outcome w) is = is.0
-has-word bytes (lines.Head kind row number) is = tt
-has-word bytes (lines.Unify c v) is = tt
-has-word bytes lines.UnifyEnd is = tt
-has-word bytes (lines.Proof c v) is = tt
-has-word bytes lines.ProofEnd is = tt
-has-word bytes lines.End is = tt
+has-word bytes _ is = tt
 
 pub good-lines : (text : List ℕ) (ls : List Line) (rest : List ℕ) (rows : Rows) → HasLines text ls rest → AreFitting rows ls → AllGood rows ls
 good-lines text [] rest rows h fit = tt

@@ -16,9 +16,8 @@ use Rattle.mz_asm.specs.Progress.{opened, next, next_of, next_from}
 use Rattle.mz_asm.specs.Assembling.{Begins}
 
 pub next-append : (o : Option Want) (a b : List Line) → next_from o (a ++ b) ≡ next_from (next_from o a) b
-next-append None a b = refl
-next-append (Some w) [] b = refl
 next-append (Some w) (l ∷ ls) b = next-append (next w l) ls b
+next-append _ _ b = refl
 
 -- a parameter, where one is left
 step-param : (kind : Kind) (n : ℕ) (p : Word) → next (wants.Words kind (suc n)) (lines.Param p) ≡ Some (wants.Words kind n)

@@ -146,13 +146,10 @@ module _ (m : Made) (ls : List Line) (done : List Statement) (parts : m.parts �
     where
       by-kind : (k : Kind) → is_sort k ≡ false → has_result k ≡ true → ls ++ (lines.Outcome x ∷ []) ≡ all_lines done ++ (lines.Head k row (length m.params) ∷ (map lines.Param m.params ++ (lines.Outcome x ∷ [])))
           → cond (has_streams k) (wants.Unify k) wants.Head ≡ w → Stands (with_line m (lines.Outcome x) w) (ls ++ (lines.Outcome x ∷ []))
-      by-kind kinds.Sort n h whole to = absurd cc
       by-kind kinds.Term n h whole to = subst (λ (v : Want). Stands (with_line m (lines.Outcome x) v) (ls ++ (lines.Outcome x ∷ []))) to (term-whole row x whole)
       by-kind kinds.Definition n h whole to = subst (λ (v : Want). Stands (with_line m (lines.Outcome x) v) (ls ++ (lines.Outcome x ∷ []))) to (done, parts, (row, [], refl, u, b, whole))
       by-kind kinds.LocalDefinition n h whole to = subst (λ (v : Want). Stands (with_line m (lines.Outcome x) v) (ls ++ (lines.Outcome x ∷ []))) to (done, parts, (row, [], refl, u, b, whole))
-      by-kind kinds.Axiom n h whole to = absurd cc
-      by-kind kinds.Theorem n h whole to = absurd cc
-      by-kind kinds.LocalTheorem n h whole to = absurd cc
+      by-kind _ n h whole to = absurd cc
 
       go : (z : Bool) → (left == 0) ≡ z → cond z (Some (cond (has_streams kind) (wants.Unify kind) wants.Head)) None ≡ Some w → Stands (with_line m (lines.Outcome x) w) (ls ++ (lines.Outcome x ∷ []))
       go false at e = absurd cc
@@ -188,20 +185,12 @@ module _ (m : Made) (ls : List Line) (done : List Statement) (parts : m.parts �
       made : (k : Kind) → has_streams k ≡ true → (with_end (wants.Proof k) m).parts ≡ with_statement (parts_of done) (row_of_lines m row us ps k)
       made kinds.Sort h = absurd cc
       made kinds.Term h = absurd cc
-      made kinds.Definition h = rw (parts, u, b) refl
-      made kinds.LocalDefinition h = rw (parts, u, b) refl
-      made kinds.Axiom h = rw (parts, u, b) refl
-      made kinds.Theorem h = rw (parts, u, b) refl
-      made kinds.LocalTheorem h = rw (parts, u, b) refl
+      made _ h = rw (parts, u, b) refl
 
       lined : (k : Kind) → has_streams k ≡ true → all_lines done ++ row_lines k row m (map unify_line us ++ (lines.UnifyEnd ∷ (map proof_line ps ++ (lines.ProofEnd ∷ [])))) ≡ all_lines done ++ statement_lines (row_of_lines m row us ps k)
       lined kinds.Sort h = absurd cc
       lined kinds.Term h = absurd cc
-      lined kinds.Definition h = refl
-      lined kinds.LocalDefinition h = refl
-      lined kinds.Axiom h = refl
-      lined kinds.Theorem h = refl
-      lined kinds.LocalTheorem h = refl
+      lined _ h = refl
 
   proof-lines : (kind : Kind) (row : ℕ) (us : List (UnifyCode × ℕ)) (ps : List (ProofCode × ℕ)) (l : Line) → ls ≡ all_lines done ++ row_lines kind row m (map unify_line us ++ (lines.UnifyEnd ∷ map proof_line ps))
       → ls ++ (l ∷ []) ≡ all_lines done ++ row_lines kind row m (map unify_line us ++ (lines.UnifyEnd ∷ (map proof_line ps ++ (l ∷ []))))

@@ -53,7 +53,6 @@ begun-left kind number = go (is_sort kind)
 next-of-left : (v : Want) (l : Line) (w : Want) → next_of v l ≡ Some w → LeftIs l (left_of v) (left_of w)
 next-of-left wants.Head (lines.Head kind row number) w e = subst (λ (x : Want). left_of x ≤ number) (same_Some (begun kind number) w e) (begun-left kind number)
 next-of-left wants.Head lines.End w e = sym (ap left_of (same_Some wants.Nothing w e))
-next-of-left wants.Head _ w e = absurd cc
 next-of-left (wants.Words kind left) (lines.Param x) w e = go (left == 0) refl e
   where
     go : (z : Bool) → (left == 0) ≡ z → cond z None (Some (wants.Words kind (left - 1))) ≡ Some w → left_of w + 1 ≤ left
@@ -68,25 +67,16 @@ next-of-left (wants.Words kind left) (lines.Outcome x) w e = go (left == 0) (has
     go false b e = absurd cc
     go true true e = sym (ap left_of (same_Some (wants.Unify kind) w e))
     go true false e = sym (ap left_of (same_Some wants.Head w e))
-next-of-left (wants.Words kind left) _ w e = absurd cc
 next-of-left (wants.Unify kind) (lines.Unify c v) w e = sym (ap left_of (same_Some (wants.Unify kind) w e))
 next-of-left (wants.Unify kind) lines.UnifyEnd w e = sym (ap left_of (same_Some (wants.Proof kind) w e))
-next-of-left (wants.Unify kind) _ w e = absurd cc
 next-of-left (wants.Proof kind) (lines.Proof c v) w e = sym (ap left_of (same_Some (wants.Proof kind) w e))
 next-of-left (wants.Proof kind) lines.ProofEnd w e = sym (ap left_of (same_Some wants.Head w e))
-next-of-left (wants.Proof kind) _ w e = absurd cc
-next-of-left wants.Nothing l w e = absurd cc
+next-of-left _ l w e = absurd cc
 
 -- less was there before
 from-none : (l : Line) (left after : ℕ) → LeftIs l 0 after → LeftIs l left after
 from-none (lines.Param x) left after is = absurd (omega (arith, is))
-from-none (lines.Head kind row number) left after is = is
-from-none (lines.Outcome x) left after is = is
-from-none (lines.Unify c v) left after is = is
-from-none lines.UnifyEnd left after is = is
-from-none (lines.Proof c v) left after is = is
-from-none lines.ProofEnd left after is = is
-from-none lines.End left after is = is
+from-none _ left after is = is
 
 next-left : (v : Want) (l : Line) (w : Want) → next v l ≡ Some w → LeftIs l (left_of v) (left_of w)
 next-left wants.Head l w e = next-of-left wants.Head l w e
@@ -113,12 +103,8 @@ end-params _ m = refl
 few-more : (m : Made) (l : Line) (w : Want) → IsInRange m.rows l → LeftIs l (left_of m.want) (left_of w) → length m.params + left_of m.want ≤ 65535 → length (with_line m l w).params + left_of w ≤ 65535
 few-more m (lines.Head kind row number) w range is few = omega (arith, most-few kind number range.1, is)
 few-more m (lines.Param x) w range is few = let long = length-append m.params (x ∷ []) in omega (arith, long, is, few)
-few-more m (lines.Outcome x) w range is few = omega (arith, is, few)
-few-more m (lines.Unify c v) w range is few = omega (arith, is, few)
-few-more m lines.UnifyEnd w range is few = omega (arith, is, few)
-few-more m (lines.Proof c v) w range is few = omega (arith, is, few)
 few-more m lines.ProofEnd w range is few = let same = ap length (end-params m.want m) in omega (arith, same, is, few)
-few-more m lines.End w range is few = omega (arith, is, few)
+few-more m _ w range is few = omega (arith, is, few)
 
 -- ---- rows
 
@@ -127,14 +113,8 @@ end-rows (wants.Proof kind) m = refl
 end-rows _ m = refl
 
 rows-line : (m : Made) (l : Line) (w : Want) → (with_line m l w).rows ≡ rows_after m.rows l
-rows-line m (lines.Head kind row number) w = refl
 rows-line m lines.ProofEnd w = end-rows m.want m
-rows-line m (lines.Param x) w = refl
-rows-line m (lines.Outcome x) w = refl
-rows-line m (lines.Unify c v) w = refl
-rows-line m lines.UnifyEnd w = refl
-rows-line m (lines.Proof c v) w = refl
-rows-line m lines.End w = refl
+rows-line m _ w = refl
 
 pub rows-more : (rows : Rows) (ls : List Line) (l : Line) → rows_of rows (ls ++ (l ∷ [])) ≡ rows_after (rows_of rows ls) l
 rows-more rows [] l = refl
@@ -163,12 +143,7 @@ SortsFit m = (m.rows.sorts ≡ length m.parts.sorts) × (length m.parts.sorts �
 
 head-sorts : (kind : Kind) (m : Made) (row number : ℕ) (w : Want) → HasRoom (is_sort kind) m.rows → SortsFit m → SortsFit (with_line m (lines.Head kind row number) w)
 head-sorts kinds.Sort m row number w room (is, few) = let long = length-append m.parts.sorts (number ∷ []) in (omega (arith, long, is), omega (arith, long, is, room))
-head-sorts kinds.Term m row number w room fit = fit
-head-sorts kinds.Definition m row number w room fit = fit
-head-sorts kinds.LocalDefinition m row number w room fit = fit
-head-sorts kinds.Axiom m row number w room fit = fit
-head-sorts kinds.Theorem m row number w room fit = fit
-head-sorts kinds.LocalTheorem m row number w room fit = fit
+head-sorts _ m row number w room fit = fit
 
 sorts-more : (m : Made) (l : Line) (w : Want) → IsInRange m.rows l → SortsFit m → SortsFit (with_line m l w)
 sorts-more m (lines.Head kind row number) w range fit = head-sorts kind m row number w range.2 fit
@@ -177,11 +152,7 @@ sorts-more m lines.ProofEnd w range (is, few) =
     let same = ap length (end-sorts m.want m) in
     let rows = ap (λ (r : Rows). r.sorts) (end-rows m.want m) in
     (omega (arith, same, is, rows), omega (arith, same, few))
-sorts-more m (lines.Param x) w range fit = fit
-sorts-more m (lines.Unify c v) w range fit = fit
-sorts-more m lines.UnifyEnd w range fit = fit
-sorts-more m (lines.Proof c v) w range fit = fit
-sorts-more m lines.End w range fit = fit
+sorts-more m _ w range fit = fit
 
 -- ---- one line more
 

@@ -129,11 +129,10 @@ numbers-sound : (kind : Kind) (text : List ℕ) (l : Line) → numbers_in kind t
 numbers-sound kind text l e = go (number_in (first_word text)) refl (number_in (other_words text)) refl e
   where
     go : (a : Option ℕ) → number_in (first_word text) ≡ a → (b : Option ℕ) → number_in (other_words text) ≡ b → head_of kind a b ≡ Some l → IsNumbers kind text l
-    go None ea b eb e = absurd cc
-    go (Some row) ea None eb e = absurd cc
     go (Some row) ea (Some number) eb e =
         let is : lines.Head kind row number ≡ l = cc in
         (first_word text, other_words text, row, number, number-sound _ row ea, number-sound _ number eb, split-words text (numeral-some (other_words text) number eb), sym is)
+    go _ ea _ eb e = absurd cc
 
 -- a line that begins with a kind
 head-sound : (o : Option Kind) (front text : List ℕ) (l : Line) → ((k : Kind) → o ≡ Some k → front ≡ kind_name k) → head_in o text ≡ Some l → IsLine (front ++ (32 ∷ text)) l
@@ -309,10 +308,8 @@ line-complete text (lines.Head kind row number) (r, n, first, second, is) = ap l
 line-complete text (lines.Param w) (small, is) = ap line_in is ∙ ap param_of (word-complete w small)
 line-complete text (lines.Outcome w) (small, is) = ap line_in is ∙ ap result_of (word-complete w small)
 line-complete text (lines.Unify code v) (x, value, is) = ap line_in is ∙ unify-complete code x v value
-line-complete text lines.UnifyEnd is = ap line_in is
 line-complete text (lines.Proof code v) (x, value, is) = ap line_in is ∙ proof-complete code x v value
-line-complete text lines.ProofEnd is = ap line_in is
-line-complete text lines.End is = ap line_in is
+line-complete text _ is = ap line_in is
 
 -- bytes are one line at the most
 pub line-unique : (text : List ℕ) (l m : Line) → IsLine text l → IsLine text m → l ≡ m

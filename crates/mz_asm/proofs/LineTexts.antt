@@ -46,8 +46,7 @@ lead d cs e is = go (d == 48) (eq-eqb d 48 is) (length (d ∷ cs) == 1) refl e
   where
     go : (a : Bool) → a ≡ true → (b : Bool) → (length (d ∷ cs) == 1) ≡ b → (not a || b) ≡ true → length (d ∷ cs) ≡ 1
     go true _ true f e = eqb-true _ _ f
-    go true _ false f e = absurd cc
-    go false x b f e = absurd cc
+    go _ x _ f e = absurd cc
 
 lead-digit : (ds : List ℕ) → is_numeral ds ≡ true → get_or ds 0 0 ≡ 48 → length ds ≡ 1
 lead-digit [] e is = absurd cc

@@ -78,23 +78,8 @@ unbroken-decimal : (n : ℕ) → n ≤ 4294967295 → Unbroken (decimal n)
 unbroken-decimal n small = unbroken-digits (decimal n) (decimal_is_IsNumeral n (omega (arith, small))).0.1
 
 digit-mark : (k : ℕ) → no_mark (get_or lower_digits k 0) ≡ true
-digit-mark zero = refl
-digit-mark (suc zero) = refl
-digit-mark (suc (suc zero)) = refl
-digit-mark (suc (suc (suc zero))) = refl
-digit-mark (suc (suc (suc (suc zero)))) = refl
-digit-mark (suc (suc (suc (suc (suc zero))))) = refl
-digit-mark (suc (suc (suc (suc (suc (suc zero)))))) = refl
-digit-mark (suc (suc (suc (suc (suc (suc (suc zero))))))) = refl
-digit-mark (suc (suc (suc (suc (suc (suc (suc (suc zero)))))))) = refl
-digit-mark (suc (suc (suc (suc (suc (suc (suc (suc (suc zero))))))))) = refl
-digit-mark (suc (suc (suc (suc (suc (suc (suc (suc (suc (suc zero)))))))))) = refl
-digit-mark (suc (suc (suc (suc (suc (suc (suc (suc (suc (suc (suc zero))))))))))) = refl
-digit-mark (suc (suc (suc (suc (suc (suc (suc (suc (suc (suc (suc (suc zero)))))))))))) = refl
-digit-mark (suc (suc (suc (suc (suc (suc (suc (suc (suc (suc (suc (suc (suc zero))))))))))))) = refl
-digit-mark (suc (suc (suc (suc (suc (suc (suc (suc (suc (suc (suc (suc (suc (suc zero)))))))))))))) = refl
 digit-mark (suc (suc (suc (suc (suc (suc (suc (suc (suc (suc (suc (suc (suc (suc (suc zero))))))))))))))) = refl
-digit-mark (suc (suc (suc (suc (suc (suc (suc (suc (suc (suc (suc (suc (suc (suc (suc (suc k)))))))))))))))) = refl
+digit-mark _ = refl
 
 unbroken-hex : (xs : List ℕ) → Unbroken (encode_lower xs)
 unfolding encode_with
@@ -103,38 +88,15 @@ unbroken-hex (x ∷ xs) = rw (digit-mark (x / 16), digit-mark (x % 16), unbroken
 
 unbroken-kind : (k : Kind) → Unbroken (kind_name k)
 unbroken-kind kinds.Sort = refl
-unbroken-kind kinds.Term = refl
-unbroken-kind kinds.Definition = refl
-unbroken-kind kinds.LocalDefinition = refl
-unbroken-kind kinds.Axiom = refl
-unbroken-kind kinds.Theorem = refl
-unbroken-kind kinds.LocalTheorem = refl
+unbroken-kind _ = refl
 
 unbroken-unify : (c : UnifyCode) → Unbroken (unify_name c)
 unbroken-unify unifies.Term = refl
-unbroken-unify unifies.TermSave = refl
-unbroken-unify unifies.Ref = refl
-unbroken-unify unifies.Dummy = refl
-unbroken-unify unifies.Hyp = refl
+unbroken-unify _ = refl
 
 unbroken-proof : (c : ProofCode) → Unbroken (proof_name c)
 unbroken-proof proofs.Term = refl
-unbroken-proof proofs.TermSave = refl
-unbroken-proof proofs.Ref = refl
-unbroken-proof proofs.Dummy = refl
-unbroken-proof proofs.Thm = refl
-unbroken-proof proofs.ThmSave = refl
-unbroken-proof proofs.Hyp = refl
-unbroken-proof proofs.Conv = refl
-unbroken-proof proofs.Refl = refl
-unbroken-proof proofs.Symm = refl
-unbroken-proof proofs.Cong = refl
-unbroken-proof proofs.Unfold = refl
-unbroken-proof proofs.ConvCut = refl
-unbroken-proof proofs.ConvRef = refl
-unbroken-proof proofs.ConvSave = refl
-unbroken-proof proofs.Save = refl
-unbroken-proof proofs.Sorry = refl
+unbroken-proof _ = refl
 
 -- ---- lines
 
@@ -199,14 +161,11 @@ plain-value true x v is e = absurd cc
 plain-value false x v is e = is.1
 
 plain-line : (bytes : List ℕ) (l : Line) → IsLine bytes l → IsPlain l
-plain-line bytes (lines.Head kind row number) is = tt
 plain-line bytes (lines.Param w) is = is.0
 plain-line bytes (lines.Outcome w) is = is.0
 plain-line bytes (lines.Unify c v) (x, value, is) = plain-value (unify_has_number c) x v value
-plain-line bytes lines.UnifyEnd is = tt
 plain-line bytes (lines.Proof c v) (x, value, is) = plain-value (proof_has_number c) x v value
-plain-line bytes lines.ProofEnd is = tt
-plain-line bytes lines.End is = tt
+plain-line bytes _ is = tt
 
 pub plain-lines : (text : List ℕ) (ls : List Line) (rest : List ℕ) → HasLines text ls rest → ArePlain ls
 plain-lines text [] rest h = tt

@@ -60,29 +60,11 @@ bare-listed stream byte has is (c ∷ cs) (one, bare) = ((λ no. one (sym (is c.
 
 unify-lists : (c : UnifyCode) → is_listed streams.Unify (unify_byte c) ≡ unify_has_number c
 unify-lists unifies.Term = refl
-unify-lists unifies.TermSave = refl
-unify-lists unifies.Ref = refl
-unify-lists unifies.Dummy = refl
-unify-lists unifies.Hyp = refl
+unify-lists _ = refl
 
 proof-lists : (c : ProofCode) → is_listed streams.Proof (proof_byte c) ≡ proof_has_number c
 proof-lists proofs.Term = refl
-proof-lists proofs.TermSave = refl
-proof-lists proofs.Ref = refl
-proof-lists proofs.Dummy = refl
-proof-lists proofs.Thm = refl
-proof-lists proofs.ThmSave = refl
-proof-lists proofs.Hyp = refl
-proof-lists proofs.Conv = refl
-proof-lists proofs.Refl = refl
-proof-lists proofs.Symm = refl
-proof-lists proofs.Cong = refl
-proof-lists proofs.Unfold = refl
-proof-lists proofs.ConvCut = refl
-proof-lists proofs.ConvRef = refl
-proof-lists proofs.ConvSave = refl
-proof-lists proofs.Save = refl
-proof-lists proofs.Sorry = refl
+proof-lists _ = refl
 
 -- ---- plain lines
 
@@ -112,9 +94,7 @@ bare-of kinds.Sort row mods ps o us qs plain has = absurd cc
 bare-of kinds.Term row mods ps o us qs plain has = absurd cc
 bare-of kinds.Definition row mods ps o us qs plain has = bare-streams us qs (plain-apart (map lines.Param ps) (lines.Outcome o ∷ both_streams us qs) plain.1).1.1
 bare-of kinds.LocalDefinition row mods ps o us qs plain has = bare-streams us qs (plain-apart (map lines.Param ps) (lines.Outcome o ∷ both_streams us qs) plain.1).1.1
-bare-of kinds.Axiom row mods ps o us qs plain has = bare-streams us qs (plain-apart (map lines.Param ps) (both_streams us qs) plain.1).1
-bare-of kinds.Theorem row mods ps o us qs plain has = bare-streams us qs (plain-apart (map lines.Param ps) (both_streams us qs) plain.1).1
-bare-of kinds.LocalTheorem row mods ps o us qs plain has = bare-streams us qs (plain-apart (map lines.Param ps) (both_streams us qs) plain.1).1
+bare-of _ row mods ps o us qs plain has = bare-streams us qs (plain-apart (map lines.Param ps) (both_streams us qs) plain.1).1
 
 -- ---- one statement
 
@@ -206,9 +186,7 @@ module _ (p : Parts) (fit : Fit p) where
   normal-row kinds.Term row mods ps o us qs q number at taken shown e fine seen = plain-normal q ps o shown.unify _ e.terms seen.streams
   normal-row kinds.Definition row mods ps o us qs q number at taken shown e fine seen = definition-normal q ps o us shown.unify _ _ e.terms (seen.unify refl) seen.streams
   normal-row kinds.LocalDefinition row mods ps o us qs q number at taken shown e fine seen = definition-normal q ps o us shown.unify _ true e.terms (seen.unify refl) refl
-  normal-row kinds.Axiom row mods ps o us qs q number at taken shown e fine seen = assertion-normal q ps us shown.unify _ e.thms (seen.unify refl)
-  normal-row kinds.Theorem row mods ps o us qs q number at taken shown e fine seen = assertion-normal q ps us shown.unify _ e.thms (seen.unify refl)
-  normal-row kinds.LocalTheorem row mods ps o us qs q number at taken shown e fine seen = assertion-normal q ps us shown.unify _ e.thms (seen.unify refl)
+  normal-row _ row mods ps o us qs q number at taken shown e fine seen = assertion-normal q ps us shown.unify _ e.thms (seen.unify refl)
 
   short-statement : (q : Parts) (number at : ℕ) (taken : Rows) (s : Statement) (one : IsShown p q number at s) → Extends (with_statement q s) p → Fine taken s → ArePlain (statement_lines s) → Stands (file_of p) at (statement_bytes (written s)) → IsShortStatement (file_of p) (place_at number at q) one.shown
   short-statement q number at taken s one e fine plain there =

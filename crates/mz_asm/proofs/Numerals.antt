@@ -72,12 +72,5 @@ word-complete w small =
     rw (decoded, bytes-same (encode_lower bytes)) (ap (λ (n : ℕ). Some (record { 0 = n })) back)
   where
     bytes-fit : (n : ℕ) → IsBytes (bytes_high_first 8 n)
-    bytes-fit n zero = omega arith
-    bytes-fit n (suc zero) = omega arith
-    bytes-fit n (suc (suc zero)) = omega arith
-    bytes-fit n (suc (suc (suc zero))) = omega arith
-    bytes-fit n (suc (suc (suc (suc zero)))) = omega arith
-    bytes-fit n (suc (suc (suc (suc (suc zero))))) = omega arith
-    bytes-fit n (suc (suc (suc (suc (suc (suc zero)))))) = omega arith
     bytes-fit n (suc (suc (suc (suc (suc (suc (suc zero))))))) = omega arith
-    bytes-fit n (suc (suc (suc (suc (suc (suc (suc (suc i)))))))) = omega arith
+    bytes-fit n _ = omega arith

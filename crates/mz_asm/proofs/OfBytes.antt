@@ -48,10 +48,8 @@ zeros (suc n) = (omega arith, zeros n)
 -- ---- commands
 
 size-small : (a b c : Bool) → cond a 0 (cond b 1 (cond c 2 3)) < 4
-size-small true b c = omega arith
-size-small false true c = omega arith
 size-small false false true = omega arith
-size-small false false false = omega arith
+size-small _ _ _ = omega arith
 
 short-bytes : (code value : ℕ) → code < 64 → AllBytes (shortest code value)
 short-bytes code value small = let size = size-small (value == 0) (nat_lt value 256) (nat_lt value 65536) in (omega (arith, small, size), little (operand_len (shortest_size value)) 0 value)
@@ -62,29 +60,11 @@ commands-bytes byte small (c ∷ cs) = subst AllBytes (sym (append_assoc (shorte
 
 unify-small : (c : UnifyCode) → unify_byte c < 64
 unify-small unifies.Term = omega arith
-unify-small unifies.TermSave = omega arith
-unify-small unifies.Ref = omega arith
-unify-small unifies.Dummy = omega arith
-unify-small unifies.Hyp = omega arith
+unify-small _ = omega arith
 
 proof-small : (c : ProofCode) → proof_byte c < 64
 proof-small proofs.Term = omega arith
-proof-small proofs.TermSave = omega arith
-proof-small proofs.Ref = omega arith
-proof-small proofs.Dummy = omega arith
-proof-small proofs.Thm = omega arith
-proof-small proofs.ThmSave = omega arith
-proof-small proofs.Hyp = omega arith
-proof-small proofs.Conv = omega arith
-proof-small proofs.Refl = omega arith
-proof-small proofs.Symm = omega arith
-proof-small proofs.Cong = omega arith
-proof-small proofs.Unfold = omega arith
-proof-small proofs.ConvCut = omega arith
-proof-small proofs.ConvRef = omega arith
-proof-small proofs.ConvSave = omega arith
-proof-small proofs.Save = omega arith
-proof-small proofs.Sorry = omega arith
+proof-small _ = omega arith
 
 -- ---- parts
 

@@ -15,14 +15,13 @@ st k row mods ps o us qs = record { kind = k; row = row; mods = mods; params = p
 
 split-params : (ps qs : List Word) (x y : List Line) → length ps ≡ length qs → map lines.Param ps ++ x ≡ map lines.Param qs ++ y → (ps ≡ qs) × (x ≡ y)
 split-params [] [] x y n e = (refl, e)
-split-params [] (q ∷ qs) x y n e = absurd (omega (arith, n))
-split-params (p ∷ ps) [] x y n e = absurd (omega (arith, n))
 split-params (p ∷ ps) (q ∷ qs) x y n e =
     let first : p ≡ q = cc in
     let others : map lines.Param ps ++ x ≡ map lines.Param qs ++ y = cc in
     let rest = split-params ps qs x y (omega (arith, n)) others in
     let tails : ps ≡ qs = rest.0 in
     (cc, rest.1)
+split-params _ _ x y n e = absurd (omega (arith, n))
 
 split-unify : (us vs : List (UnifyCode × ℕ)) (x y : List Line) → map unify_line us ++ (lines.UnifyEnd ∷ x) ≡ map unify_line vs ++ (lines.UnifyEnd ∷ y) → (us ≡ vs) × (x ≡ y)
 split-unify [] [] x y e = (refl, cc)
@@ -111,9 +110,8 @@ module _ (row row' mods mods' : ℕ) (ps ps' : List Word) (o o' : Word) (us us' 
 
 same-kind : (s t : Statement) (x y : List Line) (a b : Bool) → lines_of a s ++ x ≡ lines_of b t ++ y → t.kind ≡ s.kind
 same-kind s t x y true true e = sym cc
-same-kind s t x y true false e = sym cc
 same-kind s t x y false true e = sym cc
-same-kind s t x y false false e = sym cc
+same-kind s t x y _ _ e = sym cc
 
 same-statement : (s t : Statement) (x y : List Line) → statement_lines s ++ x ≡ statement_lines t ++ y → ((p : Parts) → with_statement p s ≡ with_statement p t) × (x ≡ y)
 same-statement s t x y e =

@@ -44,10 +44,8 @@ AreFit has [] = ⊤
 AreFit has (c ∷ cs) = (c.1 ≤ 4294967295) × (has c.0 ≡ false → c.1 ≡ 0) × AreFit has cs
 
 widest : (size : ℕ) → 256 ^ operand_len size ≤ 4294967296
-widest zero = omega arith
-widest (suc zero) = omega arith
 widest (suc (suc zero)) = omega arith
-widest (suc (suc (suc n))) = omega arith
+widest _ = omega arith
 
 operand-small : (bytes : List ℕ) (c : Cmd) → AreBytes bytes → first_command bytes ≡ Ok c → c.value ≤ 4294967295
 operand-small [] c fits e = absurd cc
@@ -60,13 +58,12 @@ operand-small (head ∷ rest) c fits e = go (ltb (length rest) n) (is_known (hea
     made = record { code = head % 64; value = little_number n rest; len = n + 1 }
 
     go : (cut known : Bool) → cond cut (Err Cut) (cond known (Ok made) (Err Unknown)) ≡ Ok c → c.value ≤ 4294967295
-    go true known is = absurd cc
-    go false false is = absurd cc
     go false true is =
         let same : made ≡ c = cc in
         let low = little_from-lt 0 n rest (λ i. fits (suc i)) in
         let most = widest (head / 64) in
         subst (λ (d : Cmd). d.value ≤ 4294967295) same (omega (arith, low, most))
+    go _ _ is = absurd cc
 
 module _ {C : Type 0} (stream : Stream) (byte : C → ℕ) (code : ℕ → Option C) (has : C → Bool) (belongs-is : (n : ℕ) → belongs stream n ≡ is_some (code n)) (back : (n : ℕ) (k : C) → code n ≡ Some k → byte k ≡ n) (listed : (n : ℕ) (k : C) → code n ≡ Some k → is_listed stream n ≡ has k) (bytes : List ℕ) where
   not-none : (n : ℕ) → IsTrue (belongs stream n) → code n ≡ None → ⊥
@@ -128,10 +125,9 @@ proof-fit bytes = ops-fit streams.Proof proof_byte proof_code proof_has_number (
 
 -- a prefix of bytes is bytes
 pub bytes-cut : (n : ℕ) (xs : List ℕ) → AreBytes xs → (i : ℕ) → get_or (take n xs) i 0 < 256
-bytes-cut zero xs fits i = omega arith
-bytes-cut (suc n) [] fits i = omega arith
 bytes-cut (suc n) (x ∷ xs) fits zero = fits 0
 bytes-cut (suc n) (x ∷ xs) fits (suc i) = bytes-cut n xs (λ j. fits (suc j)) i
+bytes-cut _ _ fits i = omega arith
 
 -- ---- lines
 

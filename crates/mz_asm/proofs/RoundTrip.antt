@@ -44,9 +44,7 @@ from-listing text file is short listing =
 
 pub answers-listed : (text : List ℕ) (answer : Assembled) → IsAssembly text answer → IsListedBack text answer
 answers-listed text (answers.Bytes bytes) of = (normal text bytes.items of, listed text bytes.items of)
-answers-listed text (answers.Refused line rule) of = tt
-answers-listed text (answers.Limit count) of = tt
-answers-listed text answers.Mem of = tt
+answers-listed text _ of = tt
 
 pub answers-back : (text file : List ℕ) (answer : Assembled) → IsBinaryOf text file → IsAssembly text answer → GivesBack file answer
 answers-back text file (answers.Bytes bytes) (ss, says, is, short) (ts, others, same, few) = same ∙ ap file_of (one-listing text ts ss others says) ∙ sym is

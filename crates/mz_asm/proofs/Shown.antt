@@ -1,8 +1,9 @@
 -- The binary of a text is listed with the text.
 use Rattle.std.proofs.Common.{◌≡◌, ◌≤◌, ◌<◌, ◌+◌, ◌-◌, ◌^◌, inl, ℕ, true, false, cond, List, [], ◌∷◌, ◌++◌, length, map, take, drop, slice_get, codes, Some, None, Ok, refl, sym, ap, subst, ◌∙◌, arith, append_assoc, append-nil, length-append}
-use Rattle.std.specs.Prelude.{IsTrue, All}
+use Rattle.std.specs.Prelude.{Bool, IsTrue, All}
 use Rattle.std.proofs.lemmas.List.Elements.{All-nil, All-cons, All-append}
 use Rattle.mz_base.specs.Checks.{AllHold}
+use Rattle.mz_cmd.specs.declared.code.StatementCode.{StatementCode}
 use Rattle.mz_cmd.specs.declared.code.StatementCode.TheVariants as codes_of
 use Rattle.mz_cmd.specs.declared.code.ProofCode.{ProofCode}
 use Rattle.mz_cmd.specs.declared.code.ProofCode.TheVariants as proofs
@@ -16,7 +17,7 @@ use Rattle.mz_logic_theory.specs.declared.binder.SortMods.{SortMods}
 use Rattle.mz_layout_tables.specs.Normal.{Row, Written, Parts, no_parts, row_of_term, row_of_thm, file_of, file_length}
 use Rattle.mz_layout_tables.specs.Standing.{Stands, HasRoom, HaveRoom, Fit, AreListed, body_place, next_place}
 use Rattle.mz_layout_tables.specs.Tables.{TermRow, ThmRow, list_at, term_row as term_row_of, thm_row as thm_row_of}
-use Rattle.mz_layout_tables.specs.Heads.{body_bytes}
+use Rattle.mz_layout_tables.specs.Heads.{body_bytes, kind_checks, suits_checks}
 use Rattle.mz_layout_tables.proofs.Offered.{layout-holds, all-listed, counts-said, mods-read, term-read, thm-read, term-stream, thm-stream}
 use Rattle.mz_show.specs.declared.place.Place.{Place}
 use Rattle.mz_show.specs.declared.stream.Stream.TheVariants as streams
@@ -32,7 +33,8 @@ use Rattle.mz_asm.specs.declared.line.Line.TheVariants as lines
 use Rattle.mz_asm.specs.declared.rows.Rows.{Rows}
 use Rattle.mz_asm.specs.Rows.{no_rows, taken}
 use Rattle.mz_asm.specs.Assembling.{Says}
-use Rattle.mz_asm.specs.Statements.{Statement, has_streams, code_of, unify_line, proof_line, statement_lines, all_lines, listing_lines, unify_bytes, proof_bytes, written, with_statement, parts_from, parts_of}
+use Rattle.mz_asm.specs.Lines.{kind_name}
+use Rattle.mz_asm.specs.Statements.{Statement, has_result, has_streams, code_of, unify_line, proof_line, statement_lines, all_lines, listing_lines, unify_bytes, proof_bytes, written, with_statement, parts_from, parts_of}
 use Rattle.mz_asm.proofs.GoodLines.{AllGood, Fine, fine-statement, good-lines}
 use Rattle.mz_asm.proofs.LineTexts.{line_text, text-spelled}
 use Rattle.mz_asm.proofs.OneText.{st, both_streams}
@@ -42,81 +44,27 @@ use Rattle.mz_asm.proofs.Runs.{AreShort, cmd_of, run_of, longest, run-ends, run-
 
 unify-here : (c : UnifyCode) → IsTrue (belongs streams.Unify (unify_byte c))
 unify-here unifies.Term = refl
-unify-here unifies.TermSave = refl
-unify-here unifies.Ref = refl
-unify-here unifies.Dummy = refl
-unify-here unifies.Hyp = refl
+unify-here _ = refl
 
 unify-known : (c : UnifyCode) → is_known (unify_byte c) ≡ true
 unify-known unifies.Term = refl
-unify-known unifies.TermSave = refl
-unify-known unifies.Ref = refl
-unify-known unifies.Dummy = refl
-unify-known unifies.Hyp = refl
+unify-known _ = refl
 
 unify-text : (c : UnifyCode) (v : ℕ) → line_text (lines.Unify c v) ≡ command_line streams.Unify (cmd_of unify_byte (c, v))
 unify-text unifies.Term v = refl
-unify-text unifies.TermSave v = refl
-unify-text unifies.Ref v = refl
-unify-text unifies.Dummy v = refl
-unify-text unifies.Hyp v = refl
+unify-text _ v = refl
 
 proof-here : (c : ProofCode) → IsTrue (belongs streams.Proof (proof_byte c))
 proof-here proofs.Term = refl
-proof-here proofs.TermSave = refl
-proof-here proofs.Ref = refl
-proof-here proofs.Dummy = refl
-proof-here proofs.Thm = refl
-proof-here proofs.ThmSave = refl
-proof-here proofs.Hyp = refl
-proof-here proofs.Conv = refl
-proof-here proofs.Refl = refl
-proof-here proofs.Symm = refl
-proof-here proofs.Cong = refl
-proof-here proofs.Unfold = refl
-proof-here proofs.ConvCut = refl
-proof-here proofs.ConvRef = refl
-proof-here proofs.ConvSave = refl
-proof-here proofs.Save = refl
-proof-here proofs.Sorry = refl
+proof-here _ = refl
 
 proof-known : (c : ProofCode) → is_known (proof_byte c) ≡ true
 proof-known proofs.Term = refl
-proof-known proofs.TermSave = refl
-proof-known proofs.Ref = refl
-proof-known proofs.Dummy = refl
-proof-known proofs.Thm = refl
-proof-known proofs.ThmSave = refl
-proof-known proofs.Hyp = refl
-proof-known proofs.Conv = refl
-proof-known proofs.Refl = refl
-proof-known proofs.Symm = refl
-proof-known proofs.Cong = refl
-proof-known proofs.Unfold = refl
-proof-known proofs.ConvCut = refl
-proof-known proofs.ConvRef = refl
-proof-known proofs.ConvSave = refl
-proof-known proofs.Save = refl
-proof-known proofs.Sorry = refl
+proof-known _ = refl
 
 proof-text : (c : ProofCode) (v : ℕ) → line_text (lines.Proof c v) ≡ command_line streams.Proof (cmd_of proof_byte (c, v))
 proof-text proofs.Term v = refl
-proof-text proofs.TermSave v = refl
-proof-text proofs.Ref v = refl
-proof-text proofs.Dummy v = refl
-proof-text proofs.Thm v = refl
-proof-text proofs.ThmSave v = refl
-proof-text proofs.Hyp v = refl
-proof-text proofs.Conv v = refl
-proof-text proofs.Refl v = refl
-proof-text proofs.Symm v = refl
-proof-text proofs.Cong v = refl
-proof-text proofs.Unfold v = refl
-proof-text proofs.ConvCut v = refl
-proof-text proofs.ConvRef v = refl
-proof-text proofs.ConvSave v = refl
-proof-text proofs.Save v = refl
-proof-text proofs.Sorry v = refl
+proof-text _ v = refl
 
 -- ---- texts of lines
 
@@ -167,12 +115,10 @@ earlier xs all y (a, is) = (y ∷ a, is ∙ append_assoc xs (y ∷ []) a)
 
 extends-before : (k : Kind) (q p : Parts) (row mods : ℕ) (ps : List Word) (o : Word) (us : List (UnifyCode × ℕ)) (qs : List (ProofCode × ℕ)) → Extends (with_statement q (st k row mods ps o us qs)) p → Extends q p
 extends-before kinds.Sort q p row mods ps o us qs e = record { sorts = earlier q.sorts p.sorts _ e.sorts; terms = e.terms; thms = e.thms }
-extends-before kinds.Term q p row mods ps o us qs e = record { sorts = e.sorts; terms = earlier q.terms p.terms _ e.terms; thms = e.thms }
-extends-before kinds.Definition q p row mods ps o us qs e = record { sorts = e.sorts; terms = earlier q.terms p.terms _ e.terms; thms = e.thms }
-extends-before kinds.LocalDefinition q p row mods ps o us qs e = record { sorts = e.sorts; terms = earlier q.terms p.terms _ e.terms; thms = e.thms }
 extends-before kinds.Axiom q p row mods ps o us qs e = record { sorts = e.sorts; terms = e.terms; thms = earlier q.thms p.thms _ e.thms }
 extends-before kinds.Theorem q p row mods ps o us qs e = record { sorts = e.sorts; terms = e.terms; thms = earlier q.thms p.thms _ e.thms }
 extends-before kinds.LocalTheorem q p row mods ps o us qs e = record { sorts = e.sorts; terms = e.terms; thms = earlier q.thms p.thms _ e.thms }
+extends-before _ q p row mods ps o us qs e = record { sorts = e.sorts; terms = earlier q.terms p.terms _ e.terms; thms = e.thms }
 
 pub extends-all : (q : Parts) (ss : List Statement) → Extends q (parts_from q ss)
 extends-all q [] = record { sorts = ([], sym (append-nil q.sorts)); terms = ([], sym (append-nil q.terms)); thms = ([], sym (append-nil q.thms)) }
@@ -272,163 +218,37 @@ module _ (p : Parts) (fit : Fit p) (q : Parts) (number at row mods : ℕ) (ps : 
         goes = ap (λ (n : ℕ). record { number = number + 1; at = next; rows = record { sorts = length q.sorts; terms = n; thms = length q.thms } }) (one-more q.terms (row_of_term ps o None));
       }
 
-  axiom-shown : Extends (with_statement q (st kinds.Axiom row mods ps o us qs)) p → row ≡ length q.thms → AreShort us → AreShort qs
-      → statement_at (file_of p) at ≡ Ok (Head 0x02 (body_place at (written (st kinds.Axiom row mods ps o us qs))) (next_place at (written (st kinds.Axiom row mods ps o us qs))))
-      → Stands (file_of p) (body_place at (written (st kinds.Axiom row mods ps o us qs))) (proof_bytes qs ++ (0 ∷ [])) → IsShown p q number at (st kinds.Axiom row mods ps o us qs)
-  axiom-shown e is short-u short-q head stands =
-      let w : Written = written (st kinds.Axiom row mods ps o us qs) in
-      let body : ℕ = body_place at w in
-      let next : ℕ = next_place at w in
-      let i : ℕ = length q.thms in
-      let stream : List ℕ = unify_bytes us ++ (0 ∷ []) in
-      let many = (counts-said p fit.short).thms in
-      let inside = below q.thms e.thms.0 p.thms (row_of_thm ps stream) e.thms.1 in
-      let found : slice_get p.thms i ≡ Some (row_of_thm ps stream) = ap (λ (l : List Row). slice_get l i) e.thms.1 ∙ slice-at q.thms e.thms.0 (row_of_thm ps stream) in
-      let read = thm-read p fit i ps stream found in
-      let there : Stands (file_of p) (thm_row_of (file_of p) i).stream_at stream = subst (λ (r : ThmRow). Stands (file_of p) r.stream_at stream) (sym read) (thm-stream p fit i ps stream found) in
-      let from : ℕ = (thm_row_of (file_of p) i).stream_at in
-      let cut = stands-cut (file_of p) body (proof_bytes qs ++ (0 ∷ [])) next refl stands in
-      let s-text : List ℕ = stream_text streams.Unify (map (cmd_of unify_byte) us) ++ stream_text streams.Proof (map (cmd_of proof_byte) qs) in
-      let it : Shown = record { head = record { code = codes_of.Axiom; at = at; body = body; next = next }; unify = run_of unify_byte from us; proof = run_of proof_byte body qs } in
-      let here : StandsThere (file_of p) (place_at number at q) it = record {
-        head = record { stands = head; at_is = refl };
-        unify = longest streams.Unify unify_byte unify-here unify-known refl (file_of p) us from short-u there;
-        proof = longest streams.Proof proof_byte proof-here proof-known refl (take next (file_of p)) qs body short-q cut;
-      } in
-      record {
-        shown = it;
-        stands = here;
-        seen = record { code = refl; body = refl; next = refl; streams = refl; stream = λ _. there; unify = λ _. refl; proof = λ _. refl };
-        right = statement-holds (file_of p) (place_at number at q) it here (omega (arith, many, inside), tt) (
-          run-ends streams.Unify unify_byte unify-here unify-known refl (file_of p) us from there,
-          (
-            run-ends streams.Proof proof_byte proof-here proof-known refl (take next (file_of p)) qs body cut,
-            (
-              run-leads streams.Proof proof_byte proof-here proof-known refl (take next (file_of p)) qs body next cut refl,
-              tt,
-            ),
-          ),
-        );
-        text =
-            ap (λ (r : ThmRow). ((numbered (numbered (codes "axiom") i) (length r.params) ++ codes "\n") ++ texts param_line r.params) ++ s-text) read
-            ∙ append_assoc (numbered (numbered (codes "axiom") i) (length ps) ++ codes "\n") (texts param_line ps) s-text
-            ∙ ap (λ z. (numbered (numbered (codes "axiom") i) (length ps) ++ codes "\n") ++ z) (ap (λ z. texts param_line ps ++ z) (sym (streams-text us qs)) ∙ sym (words-text ps (both_streams us qs)))
-            ∙ ap (λ (r : ℕ). (numbered (numbered (codes "axiom") r) (length ps) ++ codes "\n") ++ texts line_text (map lines.Param ps ++ both_streams us qs)) (sym is);
-        goes = ap (λ (n : ℕ). record { number = number + 1; at = next; rows = record { sorts = length q.sorts; terms = length q.terms; thms = n } }) (one-more q.thms (row_of_thm ps stream));
-      }
+  -- what stands in a statement with both streams, and what is seen of it
+  abbrev stream_here : List ℕ
+  stream_here = unify_bytes us ++ (0 ∷ [])
 
-  theorem-shown : Extends (with_statement q (st kinds.Theorem row mods ps o us qs)) p → row ≡ length q.thms → AreShort us → AreShort qs
-      → statement_at (file_of p) at ≡ Ok (Head 0x06 (body_place at (written (st kinds.Theorem row mods ps o us qs))) (next_place at (written (st kinds.Theorem row mods ps o us qs))))
-      → Stands (file_of p) (body_place at (written (st kinds.Theorem row mods ps o us qs))) (proof_bytes qs ++ (0 ∷ [])) → IsShown p q number at (st kinds.Theorem row mods ps o us qs)
-  theorem-shown e is short-u short-q head stands =
-      let w : Written = written (st kinds.Theorem row mods ps o us qs) in
-      let body : ℕ = body_place at w in
-      let next : ℕ = next_place at w in
-      let i : ℕ = length q.thms in
-      let stream : List ℕ = unify_bytes us ++ (0 ∷ []) in
-      let many = (counts-said p fit.short).thms in
-      let inside = below q.thms e.thms.0 p.thms (row_of_thm ps stream) e.thms.1 in
-      let found : slice_get p.thms i ≡ Some (row_of_thm ps stream) = ap (λ (l : List Row). slice_get l i) e.thms.1 ∙ slice-at q.thms e.thms.0 (row_of_thm ps stream) in
-      let read = thm-read p fit i ps stream found in
-      let there : Stands (file_of p) (thm_row_of (file_of p) i).stream_at stream = subst (λ (r : ThmRow). Stands (file_of p) r.stream_at stream) (sym read) (thm-stream p fit i ps stream found) in
-      let from : ℕ = (thm_row_of (file_of p) i).stream_at in
-      let cut = stands-cut (file_of p) body (proof_bytes qs ++ (0 ∷ [])) next refl stands in
-      let s-text : List ℕ = stream_text streams.Unify (map (cmd_of unify_byte) us) ++ stream_text streams.Proof (map (cmd_of proof_byte) qs) in
-      let it : Shown = record { head = record { code = codes_of.Theorem; at = at; body = body; next = next }; unify = run_of unify_byte from us; proof = run_of proof_byte body qs } in
-      let here : StandsThere (file_of p) (place_at number at q) it = record {
-        head = record { stands = head; at_is = refl };
-        unify = longest streams.Unify unify_byte unify-here unify-known refl (file_of p) us from short-u there;
-        proof = longest streams.Proof proof_byte proof-here proof-known refl (take next (file_of p)) qs body short-q cut;
-      } in
-      record {
-        shown = it;
-        stands = here;
-        seen = record { code = refl; body = refl; next = refl; streams = refl; stream = λ _. there; unify = λ _. refl; proof = λ _. refl };
-        right = statement-holds (file_of p) (place_at number at q) it here (omega (arith, many, inside), tt) (
-          run-ends streams.Unify unify_byte unify-here unify-known refl (file_of p) us from there,
-          (
-            run-ends streams.Proof proof_byte proof-here proof-known refl (take next (file_of p)) qs body cut,
-            (
-              run-leads streams.Proof proof_byte proof-here proof-known refl (take next (file_of p)) qs body next cut refl,
-              tt,
-            ),
-          ),
-        );
-        text =
-            ap (λ (r : ThmRow). ((numbered (numbered (codes "theorem") i) (length r.params) ++ codes "\n") ++ texts param_line r.params) ++ s-text) read
-            ∙ append_assoc (numbered (numbered (codes "theorem") i) (length ps) ++ codes "\n") (texts param_line ps) s-text
-            ∙ ap (λ z. (numbered (numbered (codes "theorem") i) (length ps) ++ codes "\n") ++ z) (ap (λ z. texts param_line ps ++ z) (sym (streams-text us qs)) ∙ sym (words-text ps (both_streams us qs)))
-            ∙ ap (λ (r : ℕ). (numbered (numbered (codes "theorem") r) (length ps) ++ codes "\n") ++ texts line_text (map lines.Param ps ++ both_streams us qs)) (sym is);
-        goes = ap (λ (n : ℕ). record { number = number + 1; at = next; rows = record { sorts = length q.sorts; terms = length q.terms; thms = n } }) (one-more q.thms (row_of_thm ps stream));
-      }
+  abbrev body_here : List ℕ
+  body_here = proof_bytes qs ++ (0 ∷ [])
 
-  local-theorem-shown : Extends (with_statement q (st kinds.LocalTheorem row mods ps o us qs)) p → row ≡ length q.thms → AreShort us → AreShort qs
-      → statement_at (file_of p) at ≡ Ok (Head 0x0E (body_place at (written (st kinds.LocalTheorem row mods ps o us qs))) (next_place at (written (st kinds.LocalTheorem row mods ps o us qs))))
-      → Stands (file_of p) (body_place at (written (st kinds.LocalTheorem row mods ps o us qs))) (proof_bytes qs ++ (0 ∷ [])) → IsShown p q number at (st kinds.LocalTheorem row mods ps o us qs)
-  local-theorem-shown e is short-u short-q head stands =
-      let w : Written = written (st kinds.LocalTheorem row mods ps o us qs) in
-      let body : ℕ = body_place at w in
-      let next : ℕ = next_place at w in
-      let i : ℕ = length q.thms in
-      let stream : List ℕ = unify_bytes us ++ (0 ∷ []) in
-      let many = (counts-said p fit.short).thms in
-      let inside = below q.thms e.thms.0 p.thms (row_of_thm ps stream) e.thms.1 in
-      let found : slice_get p.thms i ≡ Some (row_of_thm ps stream) = ap (λ (l : List Row). slice_get l i) e.thms.1 ∙ slice-at q.thms e.thms.0 (row_of_thm ps stream) in
-      let read = thm-read p fit i ps stream found in
-      let there : Stands (file_of p) (thm_row_of (file_of p) i).stream_at stream = subst (λ (r : ThmRow). Stands (file_of p) r.stream_at stream) (sym read) (thm-stream p fit i ps stream found) in
-      let from : ℕ = (thm_row_of (file_of p) i).stream_at in
-      let cut = stands-cut (file_of p) body (proof_bytes qs ++ (0 ∷ [])) next refl stands in
-      let s-text : List ℕ = stream_text streams.Unify (map (cmd_of unify_byte) us) ++ stream_text streams.Proof (map (cmd_of proof_byte) qs) in
-      let it : Shown = record { head = record { code = codes_of.LocalTheorem; at = at; body = body; next = next }; unify = run_of unify_byte from us; proof = run_of proof_byte body qs } in
-      let here : StandsThere (file_of p) (place_at number at q) it = record {
-        head = record { stands = head; at_is = refl };
-        unify = longest streams.Unify unify_byte unify-here unify-known refl (file_of p) us from short-u there;
-        proof = longest streams.Proof proof_byte proof-here proof-known refl (take next (file_of p)) qs body short-q cut;
-      } in
-      record {
-        shown = it;
-        stands = here;
-        seen = record { code = refl; body = refl; next = refl; streams = refl; stream = λ _. there; unify = λ _. refl; proof = λ _. refl };
-        right = statement-holds (file_of p) (place_at number at q) it here (omega (arith, many, inside), tt) (
-          run-ends streams.Unify unify_byte unify-here unify-known refl (file_of p) us from there,
-          (
-            run-ends streams.Proof proof_byte proof-here proof-known refl (take next (file_of p)) qs body cut,
-            (
-              run-leads streams.Proof proof_byte proof-here proof-known refl (take next (file_of p)) qs body next cut refl,
-              tt,
-            ),
-          ),
-        );
-        text =
-            ap (λ (r : ThmRow). ((numbered (numbered (codes "local theorem") i) (length r.params) ++ codes "\n") ++ texts param_line r.params) ++ s-text) read
-            ∙ append_assoc (numbered (numbered (codes "local theorem") i) (length ps) ++ codes "\n") (texts param_line ps) s-text
-            ∙ ap (λ z. (numbered (numbered (codes "local theorem") i) (length ps) ++ codes "\n") ++ z) (ap (λ z. texts param_line ps ++ z) (sym (streams-text us qs)) ∙ sym (words-text ps (both_streams us qs)))
-            ∙ ap (λ (r : ℕ). (numbered (numbered (codes "local theorem") r) (length ps) ++ codes "\n") ++ texts line_text (map lines.Param ps ++ both_streams us qs)) (sym is);
-        goes = ap (λ (n : ℕ). record { number = number + 1; at = next; rows = record { sorts = length q.sorts; terms = length q.terms; thms = n } }) (one-more q.thms (row_of_thm ps stream));
-      }
+  abbrev place_here : Place
+  place_here = place_at number at q
 
-  definition-shown : Extends (with_statement q (st kinds.Definition row mods ps o us qs)) p → row ≡ length q.terms → AreShort us → AreShort qs
-      → statement_at (file_of p) at ≡ Ok (Head 0x05 (body_place at (written (st kinds.Definition row mods ps o us qs))) (next_place at (written (st kinds.Definition row mods ps o us qs))))
-      → Stands (file_of p) (body_place at (written (st kinds.Definition row mods ps o us qs))) (proof_bytes qs ++ (0 ∷ [])) → IsShown p q number at (st kinds.Definition row mods ps o us qs)
-  definition-shown e is short-u short-q head stands =
-      let w : Written = written (st kinds.Definition row mods ps o us qs) in
+  abbrev texts_here : List ℕ
+  texts_here = stream_text streams.Unify (map (cmd_of unify_byte) us) ++ stream_text streams.Proof (map (cmd_of proof_byte) qs)
+
+  abbrev seen_here : StatementCode → Written → Shown
+  seen_here code w = record { head = record { code = code; at = at; body = body_place at w; next = next_place at w }; unify = run_of unify_byte (unify_at (file_of p) place_here code) us; proof = run_of proof_byte (body_place at w) qs }
+
+  streams-shown : (k : Kind) → has_streams k ≡ true → shown_streams (file_of p) place_here (code_of k) ≡ true → AreShort us → AreShort qs
+      → statement_at (file_of p) at ≡ Ok (Head (written (st k row mods ps o us qs)).code (body_place at (written (st k row mods ps o us qs))) (next_place at (written (st k row mods ps o us qs))))
+      → Stands (file_of p) (body_place at (written (st k row mods ps o us qs))) body_here → Stands (file_of p) (unify_at (file_of p) place_here (code_of k)) stream_here
+      → AllHold (kind_checks (file_of p) place_here.rows at (Some (code_of k))) → statement_text (file_of p) place_here (seen_here (code_of k) (written (st k row mods ps o us qs))) ≡ texts line_text (statement_lines (st k row mods ps o us qs))
+      → after place_here (seen_here (code_of k) (written (st k row mods ps o us qs))) ≡ place_at (number + 1) (next_place at (written (st k row mods ps o us qs))) (with_statement q (st k row mods ps o us qs)) → IsShown p q number at (st k row mods ps o us qs)
+  streams-shown kinds.Sort both has short-u short-q head stands there room text goes = absurd cc
+  streams-shown kinds.Term both has short-u short-q head stands there room text goes = absurd cc
+  streams-shown k both has short-u short-q head stands there room text goes =
+      let w : Written = written (st k row mods ps o us qs) in
       let body : ℕ = body_place at w in
       let next : ℕ = next_place at w in
-      let t : ℕ = length q.terms in
-      let stream : List ℕ = unify_bytes us ++ (0 ∷ []) in
-      let many = (counts-said p fit.short).terms in
-      let inside = below q.terms e.terms.0 p.terms (row_of_term ps o (Some stream)) e.terms.1 in
-      let found : slice_get p.terms t ≡ Some (row_of_term ps o (Some stream)) = ap (λ (l : List Row). slice_get l t) e.terms.1 ∙ slice-at q.terms e.terms.0 (row_of_term ps o (Some stream)) in
-      let read = term-read p fit t ps o (Some stream) found in
-      let there : Stands (file_of p) (term_row_of (file_of p) t).stream_at stream = subst (λ (r : TermRow). Stands (file_of p) r.stream_at stream) (sym read) (term-stream p fit t ps o stream found) in
-      let from : ℕ = (term_row_of (file_of p) t).stream_at in
-      let cut = stands-cut (file_of p) body (proof_bytes qs ++ (0 ∷ [])) next refl stands in
-      let pl : Place = place_at number at q in
-      let has : (term_row_of (file_of p) t).words.has_body ≡ true = ap (λ (r : TermRow). r.words.has_body) read in
-      let s-text : List ℕ = stream_text streams.Unify (map (cmd_of unify_byte) us) ++ stream_text streams.Proof (map (cmd_of proof_byte) qs) in
-      let h : List ℕ = numbered (numbered (codes "def") t) (length ps) ++ codes "\n" in
-      let it : Shown = record { head = record { code = codes_of.Term; at = at; body = body; next = next }; unify = run_of unify_byte from us; proof = run_of proof_byte body qs } in
-      let here : StandsThere (file_of p) (place_at number at q) it = record {
+      let from : ℕ = unify_at (file_of p) place_here (code_of k) in
+      let cut = stands-cut (file_of p) body body_here next refl stands in
+      let it : Shown = seen_here (code_of k) w in
+      let here : StandsThere (file_of p) place_here it = record {
         head = record { stands = head; at_is = refl };
         unify = longest streams.Unify unify_byte unify-here unify-known refl (file_of p) us from short-u there;
         proof = longest streams.Proof proof_byte proof-here proof-known refl (take next (file_of p)) qs body short-q cut;
@@ -437,7 +257,7 @@ module _ (p : Parts) (fit : Fit p) (q : Parts) (number at row mods : ℕ) (ps : 
         shown = it;
         stands = here;
         seen = record { code = refl; body = refl; next = refl; streams = has; stream = λ _. there; unify = λ _. refl; proof = λ _. refl };
-        right = statement-holds (file_of p) (place_at number at q) it here (omega (arith, many, inside), (tt, tt)) (subst (λ b. AllHold (part_checks b (file_of p) pl it)) (sym has) (
+        right = statement-holds (file_of p) place_here it here room (subst (λ b. AllHold (part_checks b (file_of p) place_here it)) (sym has) (
           run-ends streams.Unify unify_byte unify-here unify-known refl (file_of p) us from there,
           (
             run-ends streams.Proof proof_byte proof-here proof-known refl (take next (file_of p)) qs body cut,
@@ -447,61 +267,70 @@ module _ (p : Parts) (fit : Fit p) (q : Parts) (number at row mods : ℕ) (ps : 
             ),
           ),
         ));
-        text =
-            ap (λ (r : TermRow). ((numbered (numbered (cond r.words.has_body (codes "def") (codes "term")) t) (length r.words.params) ++ codes "\n") ++ (texts param_line r.words.params ++ result_line r.words.result)) ++ streams_text r.words.has_body it) read
-            ∙ row-parts h (texts param_line ps) (result_line o) s-text
-            ∙ ap (λ z. h ++ z) (ap (λ z. texts param_line ps ++ (result_line o ++ z)) (sym (streams-text us qs)) ∙ sym (words-text ps (lines.Outcome o ∷ both_streams us qs)))
-            ∙ ap (λ (r : ℕ). (numbered (numbered (codes "def") r) (length ps) ++ codes "\n") ++ texts line_text (map lines.Param ps ++ (lines.Outcome o ∷ both_streams us qs))) (sym is);
-        goes = ap (λ (n : ℕ). record { number = number + 1; at = next; rows = record { sorts = length q.sorts; terms = n; thms = length q.thms } }) (one-more q.terms (row_of_term ps o (Some stream)));
+        text = text;
+        goes = goes;
       }
 
-  local-definition-shown : Extends (with_statement q (st kinds.LocalDefinition row mods ps o us qs)) p → row ≡ length q.terms → AreShort us → AreShort qs
-      → statement_at (file_of p) at ≡ Ok (Head 0x0D (body_place at (written (st kinds.LocalDefinition row mods ps o us qs))) (next_place at (written (st kinds.LocalDefinition row mods ps o us qs))))
-      → Stands (file_of p) (body_place at (written (st kinds.LocalDefinition row mods ps o us qs))) (proof_bytes qs ++ (0 ∷ [])) → IsShown p q number at (st kinds.LocalDefinition row mods ps o us qs)
-  local-definition-shown e is short-u short-q head stands =
-      let w : Written = written (st kinds.LocalDefinition row mods ps o us qs) in
-      let body : ℕ = body_place at w in
-      let next : ℕ = next_place at w in
+  assertion-shown : (k : Kind) → has_result k ≡ false → has_streams k ≡ true → Extends (with_statement q (st k row mods ps o us qs)) p → row ≡ length q.thms → AreShort us → AreShort qs
+      → statement_at (file_of p) at ≡ Ok (Head (written (st k row mods ps o us qs)).code (body_place at (written (st k row mods ps o us qs))) (next_place at (written (st k row mods ps o us qs))))
+      → Stands (file_of p) (body_place at (written (st k row mods ps o us qs))) body_here → IsShown p q number at (st k row mods ps o us qs)
+  assertion-shown kinds.Sort bare both e is short-u short-q head stands = absurd cc
+  assertion-shown kinds.Term bare both e is short-u short-q head stands = absurd cc
+  assertion-shown kinds.Definition bare both e is short-u short-q head stands = absurd cc
+  assertion-shown kinds.LocalDefinition bare both e is short-u short-q head stands = absurd cc
+  assertion-shown k bare both e is short-u short-q head stands =
+      let i : ℕ = length q.thms in
+      let many = (counts-said p fit.short).thms in
+      let inside = below q.thms e.thms.0 p.thms (row_of_thm ps stream_here) e.thms.1 in
+      let found : slice_get p.thms i ≡ Some (row_of_thm ps stream_here) = ap (λ (l : List Row). slice_get l i) e.thms.1 ∙ slice-at q.thms e.thms.0 (row_of_thm ps stream_here) in
+      let read = thm-read p fit i ps stream_here found in
+      let there : Stands (file_of p) (thm_row_of (file_of p) i).stream_at stream_here = subst (λ (r : ThmRow). Stands (file_of p) r.stream_at stream_here) (sym read) (thm-stream p fit i ps stream_here found) in
+      let h : List ℕ = numbered (numbered (kind_name k) i) (length ps) ++ codes "\n" in
+      streams-shown k both refl short-u short-q head stands there (omega (arith, many, inside), tt)
+      (ap (λ (r : ThmRow). ((numbered (numbered (kind_name k) i) (length r.params) ++ codes "\n") ++ texts param_line r.params) ++ texts_here) read
+      ∙ append_assoc h (texts param_line ps) texts_here
+      ∙ ap (λ z. h ++ z) (ap (λ z. texts param_line ps ++ z) (sym (streams-text us qs)) ∙ sym (words-text ps (both_streams us qs)))
+      ∙ ap (λ (r : ℕ). (numbered (numbered (kind_name k) r) (length ps) ++ codes "\n") ++ texts line_text (map lines.Param ps ++ both_streams us qs)) (sym is))
+      (ap (λ (n : ℕ). record { number = number + 1; at = next_place at (written (st k row mods ps o us qs)); rows = record { sorts = length q.sorts; terms = length q.terms; thms = n } }) (one-more q.thms (row_of_thm ps stream_here)))
+
+  -- a definition's name and streams go by its row, a local one's by its code
+  abbrev named_by : Kind → Bool → List ℕ
+  named_by kinds.Definition b = cond b (codes "def") (codes "term")
+  named_by k b = kind_name k
+
+  abbrev streamed_by : Kind → Bool → Bool
+  streamed_by kinds.Definition b = b
+  streamed_by _ b = true
+
+  suits : (k : Kind) → (term_row_of (file_of p) (length q.terms)).words.has_body ≡ true → AllHold (suits_checks (file_of p) place_here.rows at (code_of k))
+  suits kinds.LocalDefinition has = (has, tt)
+  suits kinds.Definition has = (tt, tt)
+  suits kinds.Term has = (tt, tt)
+  suits _ has = tt
+
+  definition-shown : (k : Kind) → has_result k ≡ true → has_streams k ≡ true → Extends (with_statement q (st k row mods ps o us qs)) p → row ≡ length q.terms → AreShort us → AreShort qs
+      → statement_at (file_of p) at ≡ Ok (Head (written (st k row mods ps o us qs)).code (body_place at (written (st k row mods ps o us qs))) (next_place at (written (st k row mods ps o us qs))))
+      → Stands (file_of p) (body_place at (written (st k row mods ps o us qs))) body_here → IsShown p q number at (st k row mods ps o us qs)
+  definition-shown kinds.Sort result both e is short-u short-q head stands = absurd cc
+  definition-shown kinds.Term result both e is short-u short-q head stands = absurd cc
+  definition-shown kinds.Axiom result both e is short-u short-q head stands = absurd cc
+  definition-shown kinds.Theorem result both e is short-u short-q head stands = absurd cc
+  definition-shown kinds.LocalTheorem result both e is short-u short-q head stands = absurd cc
+  definition-shown k result both e is short-u short-q head stands =
       let t : ℕ = length q.terms in
-      let stream : List ℕ = unify_bytes us ++ (0 ∷ []) in
       let many = (counts-said p fit.short).terms in
-      let inside = below q.terms e.terms.0 p.terms (row_of_term ps o (Some stream)) e.terms.1 in
-      let found : slice_get p.terms t ≡ Some (row_of_term ps o (Some stream)) = ap (λ (l : List Row). slice_get l t) e.terms.1 ∙ slice-at q.terms e.terms.0 (row_of_term ps o (Some stream)) in
-      let read = term-read p fit t ps o (Some stream) found in
-      let there : Stands (file_of p) (term_row_of (file_of p) t).stream_at stream = subst (λ (r : TermRow). Stands (file_of p) r.stream_at stream) (sym read) (term-stream p fit t ps o stream found) in
-      let from : ℕ = (term_row_of (file_of p) t).stream_at in
-      let cut = stands-cut (file_of p) body (proof_bytes qs ++ (0 ∷ [])) next refl stands in
-      let pl : Place = place_at number at q in
+      let inside = below q.terms e.terms.0 p.terms (row_of_term ps o (Some stream_here)) e.terms.1 in
+      let found : slice_get p.terms t ≡ Some (row_of_term ps o (Some stream_here)) = ap (λ (l : List Row). slice_get l t) e.terms.1 ∙ slice-at q.terms e.terms.0 (row_of_term ps o (Some stream_here)) in
+      let read = term-read p fit t ps o (Some stream_here) found in
+      let there : Stands (file_of p) (term_row_of (file_of p) t).stream_at stream_here = subst (λ (r : TermRow). Stands (file_of p) r.stream_at stream_here) (sym read) (term-stream p fit t ps o stream_here found) in
       let has : (term_row_of (file_of p) t).words.has_body ≡ true = ap (λ (r : TermRow). r.words.has_body) read in
-      let s-text : List ℕ = stream_text streams.Unify (map (cmd_of unify_byte) us) ++ stream_text streams.Proof (map (cmd_of proof_byte) qs) in
-      let h : List ℕ = numbered (numbered (codes "local def") t) (length ps) ++ codes "\n" in
-      let it : Shown = record { head = record { code = codes_of.LocalDefinition; at = at; body = body; next = next }; unify = run_of unify_byte from us; proof = run_of proof_byte body qs } in
-      let here : StandsThere (file_of p) (place_at number at q) it = record {
-        head = record { stands = head; at_is = refl };
-        unify = longest streams.Unify unify_byte unify-here unify-known refl (file_of p) us from short-u there;
-        proof = longest streams.Proof proof_byte proof-here proof-known refl (take next (file_of p)) qs body short-q cut;
-      } in
-      record {
-        shown = it;
-        stands = here;
-        seen = record { code = refl; body = refl; next = refl; streams = refl; stream = λ _. there; unify = λ _. refl; proof = λ _. refl };
-        right = statement-holds (file_of p) (place_at number at q) it here (omega (arith, many, inside), (has, tt)) (
-          run-ends streams.Unify unify_byte unify-here unify-known refl (file_of p) us from there,
-          (
-            run-ends streams.Proof proof_byte proof-here proof-known refl (take next (file_of p)) qs body cut,
-            (
-              run-leads streams.Proof proof_byte proof-here proof-known refl (take next (file_of p)) qs body next cut refl,
-              tt,
-            ),
-          ),
-        );
-        text =
-            ap (λ (r : TermRow). ((numbered (numbered (codes "local def") t) (length r.words.params) ++ codes "\n") ++ (texts param_line r.words.params ++ result_line r.words.result)) ++ streams_text true it) read
-            ∙ row-parts h (texts param_line ps) (result_line o) s-text
-            ∙ ap (λ z. h ++ z) (ap (λ z. texts param_line ps ++ (result_line o ++ z)) (sym (streams-text us qs)) ∙ sym (words-text ps (lines.Outcome o ∷ both_streams us qs)))
-            ∙ ap (λ (r : ℕ). (numbered (numbered (codes "local def") r) (length ps) ++ codes "\n") ++ texts line_text (map lines.Param ps ++ (lines.Outcome o ∷ both_streams us qs))) (sym is);
-        goes = ap (λ (n : ℕ). record { number = number + 1; at = next; rows = record { sorts = length q.sorts; terms = n; thms = length q.thms } }) (one-more q.terms (row_of_term ps o (Some stream)));
-      }
+      let h : List ℕ = numbered (numbered (kind_name k) t) (length ps) ++ codes "\n" in
+      streams-shown k both (ap (λ (r : TermRow). streamed_by k r.words.has_body) read) short-u short-q head stands there (omega (arith, many, inside), suits k has)
+      (ap (λ (r : TermRow). ((numbered (numbered (named_by k r.words.has_body) t) (length r.words.params) ++ codes "\n") ++ (texts param_line r.words.params ++ result_line r.words.result)) ++ streams_text (streamed_by k r.words.has_body) (seen_here (code_of k) (written (st k row mods ps o us qs)))) read
+      ∙ row-parts h (texts param_line ps) (result_line o) texts_here
+      ∙ ap (λ z. h ++ z) (ap (λ z. texts param_line ps ++ (result_line o ++ z)) (sym (streams-text us qs)) ∙ sym (words-text ps (lines.Outcome o ∷ both_streams us qs)))
+      ∙ ap (λ (r : ℕ). (numbered (numbered (kind_name k) r) (length ps) ++ codes "\n") ++ texts line_text (map lines.Param ps ++ (lines.Outcome o ∷ both_streams us qs))) (sym is))
+      (ap (λ (n : ℕ). record { number = number + 1; at = next_place at (written (st k row mods ps o us qs)); rows = record { sorts = length q.sorts; terms = n; thms = length q.thms } }) (one-more q.terms (row_of_term ps o (Some stream_here))))
 
 -- each statement is listed at its place
 pub is-shown : (p : Parts) (fit : Fit p) (q : Parts) (number at : ℕ) (rows : Rows) (k : Kind) (row mods : ℕ) (ps : List Word) (o : Word) (us : List (UnifyCode × ℕ)) (qs : List (ProofCode × ℕ))
@@ -510,11 +339,9 @@ pub is-shown : (p : Parts) (fit : Fit p) (q : Parts) (number at : ℕ) (rows : R
     → Stands (file_of p) (body_place at (written (st k row mods ps o us qs))) (written (st k row mods ps o us qs)).body → IsShown p q number at (st k row mods ps o us qs)
 is-shown p fit q number at rows kinds.Sort row mods ps o us qs e r fine head stands = sort-shown p fit q number at row mods ps o us qs e (fine.row ∙ ap (λ (x : Rows). x.sorts) r) head
 is-shown p fit q number at rows kinds.Term row mods ps o us qs e r fine head stands = term-shown p fit q number at row mods ps o us qs e (fine.row ∙ ap (λ (x : Rows). x.terms) r) head
-is-shown p fit q number at rows kinds.Definition row mods ps o us qs e r fine head stands = definition-shown p fit q number at row mods ps o us qs e (fine.row ∙ ap (λ (x : Rows). x.terms) r) (fine.unify refl) (fine.proof refl) head stands
-is-shown p fit q number at rows kinds.LocalDefinition row mods ps o us qs e r fine head stands = local-definition-shown p fit q number at row mods ps o us qs e (fine.row ∙ ap (λ (x : Rows). x.terms) r) (fine.unify refl) (fine.proof refl) head stands
-is-shown p fit q number at rows kinds.Axiom row mods ps o us qs e r fine head stands = axiom-shown p fit q number at row mods ps o us qs e (fine.row ∙ ap (λ (x : Rows). x.thms) r) (fine.unify refl) (fine.proof refl) head stands
-is-shown p fit q number at rows kinds.Theorem row mods ps o us qs e r fine head stands = theorem-shown p fit q number at row mods ps o us qs e (fine.row ∙ ap (λ (x : Rows). x.thms) r) (fine.unify refl) (fine.proof refl) head stands
-is-shown p fit q number at rows kinds.LocalTheorem row mods ps o us qs e r fine head stands = local-theorem-shown p fit q number at row mods ps o us qs e (fine.row ∙ ap (λ (x : Rows). x.thms) r) (fine.unify refl) (fine.proof refl) head stands
+is-shown p fit q number at rows kinds.Definition row mods ps o us qs e r fine head stands = definition-shown p fit q number at row mods ps o us qs kinds.Definition refl refl e (fine.row ∙ ap (λ (x : Rows). x.terms) r) (fine.unify refl) (fine.proof refl) head stands
+is-shown p fit q number at rows kinds.LocalDefinition row mods ps o us qs e r fine head stands = definition-shown p fit q number at row mods ps o us qs kinds.LocalDefinition refl refl e (fine.row ∙ ap (λ (x : Rows). x.terms) r) (fine.unify refl) (fine.proof refl) head stands
+is-shown p fit q number at rows k row mods ps o us qs e r fine head stands = assertion-shown p fit q number at row mods ps o us qs k refl refl e (fine.row ∙ ap (λ (x : Rows). x.thms) r) (fine.unify refl) (fine.proof refl) head stands
 
 -- ---- all of them
 
@@ -523,21 +350,14 @@ counts q = record { sorts = length q.sorts; terms = length q.terms; thms = lengt
 
 counts-more : (q : Parts) (k : Kind) (row mods : ℕ) (ps : List Word) (o : Word) (us : List (UnifyCode × ℕ)) (qs : List (ProofCode × ℕ)) → taken (counts q) k ≡ counts (with_statement q (st k row mods ps o us qs))
 counts-more q kinds.Sort row mods ps o us qs = ap (λ (n : ℕ). record (counts q) { sorts = n }) (one-more q.sorts mods)
-counts-more q kinds.Term row mods ps o us qs = ap (λ (n : ℕ). record (counts q) { terms = n }) (one-more q.terms _)
-counts-more q kinds.Definition row mods ps o us qs = ap (λ (n : ℕ). record (counts q) { terms = n }) (one-more q.terms _)
-counts-more q kinds.LocalDefinition row mods ps o us qs = ap (λ (n : ℕ). record (counts q) { terms = n }) (one-more q.terms _)
 counts-more q kinds.Axiom row mods ps o us qs = ap (λ (n : ℕ). record (counts q) { thms = n }) (one-more q.thms _)
 counts-more q kinds.Theorem row mods ps o us qs = ap (λ (n : ℕ). record (counts q) { thms = n }) (one-more q.thms _)
 counts-more q kinds.LocalTheorem row mods ps o us qs = ap (λ (n : ℕ). record (counts q) { thms = n }) (one-more q.thms _)
+counts-more q _ row mods ps o us qs = ap (λ (n : ℕ). record (counts q) { terms = n }) (one-more q.terms _)
 
 statements-more : (q : Parts) (k : Kind) (row mods : ℕ) (ps : List Word) (o : Word) (us : List (UnifyCode × ℕ)) (qs : List (ProofCode × ℕ)) → (with_statement q (st k row mods ps o us qs)).statements ≡ q.statements ++ (written (st k row mods ps o us qs) ∷ [])
 statements-more q kinds.Sort row mods ps o us qs = refl
-statements-more q kinds.Term row mods ps o us qs = refl
-statements-more q kinds.Definition row mods ps o us qs = refl
-statements-more q kinds.LocalDefinition row mods ps o us qs = refl
-statements-more q kinds.Axiom row mods ps o us qs = refl
-statements-more q kinds.Theorem row mods ps o us qs = refl
-statements-more q kinds.LocalTheorem row mods ps o us qs = refl
+statements-more q _ row mods ps o us qs = refl
 
 pub statements-from : (q : Parts) (ss : List Statement) → (parts_from q ss).statements ≡ q.statements ++ map written ss
 statements-from q [] = sym (append-nil q.statements)
@@ -572,21 +392,14 @@ codes-more q w room is = all-more-rows (λ (s : Written). IsTrue (begins_stateme
 
 room-more : (q : Parts) (rows : Rows) (k : Kind) (row mods : ℕ) (ps : List Word) (o : Word) (us : List (UnifyCode × ℕ)) (qs : List (ProofCode × ℕ)) → HaveRoom q → Fine rows (st k row mods ps o us qs) → HaveRoom (with_statement q (st k row mods ps o us qs))
 room-more q rows kinds.Sort row mods ps o us qs room fine = let small = fine.mods refl in record { mods = all-more-rows (λ (m : ℕ). m < 16) q.sorts mods room.mods (omega (arith, small)); terms = room.terms; thms = room.thms; codes = codes-more q _ room refl }
-room-more q rows kinds.Term row mods ps o us qs room fine = record { mods = room.mods; terms = all-more-rows (HasRoom 1) q.terms _ room.terms (term-room ps o _ (fine.few refl) (fine.words refl) (fine.outcome refl) refl refl); thms = room.thms; codes = codes-more q _ room refl }
-room-more q rows kinds.Definition row mods ps o us qs room fine = record { mods = room.mods; terms = all-more-rows (HasRoom 1) q.terms _ room.terms (term-room ps o _ (fine.few refl) (fine.words refl) (fine.outcome refl) refl refl); thms = room.thms; codes = codes-more q _ room refl }
-room-more q rows kinds.LocalDefinition row mods ps o us qs room fine = record { mods = room.mods; terms = all-more-rows (HasRoom 1) q.terms _ room.terms (term-room ps o _ (fine.few refl) (fine.words refl) (fine.outcome refl) refl refl); thms = room.thms; codes = codes-more q _ room refl }
 room-more q rows kinds.Axiom row mods ps o us qs room fine = record { mods = room.mods; terms = room.terms; thms = all-more-rows (HasRoom 0) q.thms _ room.thms (thm-room ps _ (fine.few refl) (fine.words refl)); codes = codes-more q _ room refl }
 room-more q rows kinds.Theorem row mods ps o us qs room fine = record { mods = room.mods; terms = room.terms; thms = all-more-rows (HasRoom 0) q.thms _ room.thms (thm-room ps _ (fine.few refl) (fine.words refl)); codes = codes-more q _ room refl }
 room-more q rows kinds.LocalTheorem row mods ps o us qs room fine = record { mods = room.mods; terms = room.terms; thms = all-more-rows (HasRoom 0) q.thms _ room.thms (thm-room ps _ (fine.few refl) (fine.words refl)); codes = codes-more q _ room refl }
+room-more q rows _ row mods ps o us qs room fine = record { mods = room.mods; terms = all-more-rows (HasRoom 1) q.terms _ room.terms (term-room ps o _ (fine.few refl) (fine.words refl) (fine.outcome refl) refl refl); thms = room.thms; codes = codes-more q _ room refl }
 
 few-sorts : (q : Parts) (rows : Rows) (k : Kind) (row mods : ℕ) (ps : List Word) (o : Word) (us : List (UnifyCode × ℕ)) (qs : List (ProofCode × ℕ)) → rows ≡ counts q → length q.sorts ≤ 128 → Fine rows (st k row mods ps o us qs) → length (with_statement q (st k row mods ps o us qs)).sorts ≤ 128
 few-sorts q rows kinds.Sort row mods ps o us qs r few fine = let many = one-more q.sorts mods in let room = fine.room in let same = ap (λ (x : Rows). x.sorts) r in omega (arith, many, room, same)
-few-sorts q rows kinds.Term row mods ps o us qs r few fine = few
-few-sorts q rows kinds.Definition row mods ps o us qs r few fine = few
-few-sorts q rows kinds.LocalDefinition row mods ps o us qs r few fine = few
-few-sorts q rows kinds.Axiom row mods ps o us qs r few fine = few
-few-sorts q rows kinds.Theorem row mods ps o us qs r few fine = few
-few-sorts q rows kinds.LocalTheorem row mods ps o us qs r few fine = few
+few-sorts q rows _ row mods ps o us qs r few fine = few
 
 pub rows-go-on : (q : Parts) (s : Statement) (rows : Rows) → rows ≡ counts q → taken rows s.kind ≡ counts (with_statement q s)
 rows-go-on q s rows r = ap (λ (x : Rows). taken x s.kind) r ∙ counts-more q s.kind s.row s.mods s.params s.outcome s.unify s.proof

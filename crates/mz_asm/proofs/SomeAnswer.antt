@@ -30,36 +30,23 @@ room-decided false rows = inl tt
 
 range-decided : (rows : Rows) (l : Line) → Decided (IsInRange rows l)
 range-decided rows (lines.Head kind row number) = three-decided (at_most-decided row 4294967295) (at_most-decided number (most_of kind)) (room-decided (is_sort kind) rows)
-range-decided rows (lines.Param w) = inl tt
-range-decided rows (lines.Outcome w) = inl tt
 range-decided rows (lines.Unify code value) = at_most-decided value 4294967295
-range-decided rows lines.UnifyEnd = inl tt
 range-decided rows (lines.Proof code value) = at_most-decided value 4294967295
-range-decided rows lines.ProofEnd = inl tt
-range-decided rows lines.End = inl tt
+range-decided rows _ = inl tt
 
 same-decided : (n m : ℕ) → Decided (m ≡ n)
 same-decided n m = elim (true-decided (eqb m n)) [ inl e ↦ inl (eqb-true m n e) | inr other ↦ inr (λ is. other (eq-eqb m n is)) ]
 
 row-decided : (rows : Rows) (l : Line) → Decided (TakesRow rows l)
 row-decided rows (lines.Head kind row number) = same-decided (next_row rows kind) row
-row-decided rows (lines.Param w) = inl tt
-row-decided rows (lines.Outcome w) = inl tt
-row-decided rows (lines.Unify code value) = inl tt
-row-decided rows lines.UnifyEnd = inl tt
-row-decided rows (lines.Proof code value) = inl tt
-row-decided rows lines.ProofEnd = inl tt
-row-decided rows lines.End = inl tt
+row-decided rows _ = inl tt
 
 numbers-decided : (rows : Rows) (l : Line) → AreDecided (number_checks rows l)
 numbers-decided rows l = (range-decided rows l, λ _. (row-decided rows l, λ _. tt))
 
 want-decided : (want : Want) → Decided (want ≡ wants.Nothing)
-want-decided wants.Head = inr (λ e. absurd cc)
-want-decided (wants.Words kind left) = inr (λ e. absurd cc)
-want-decided (wants.Unify kind) = inr (λ e. absurd cc)
-want-decided (wants.Proof kind) = inr (λ e. absurd cc)
 want-decided wants.Nothing = inl refl
+want-decided _ = inr (λ e. absurd cc)
 
 -- ---- the lines of a text, one after another
 
@@ -98,13 +85,12 @@ mark-within (x ∷ xs) = go (x == 10) (mark-within xs)
     go false le = omega (arith, le)
 
 reads : (fuel : ℕ) (text : List ℕ) (m : Made) (rest : List ℕ) (line : ℕ) → HasRead text m rest line → length rest ≤ fuel → HasEnd text
-reads zero text m [] line read few = at-end text m line read
 reads zero text m (c ∷ cs) line read few = absurd (omega (arith, few))
-reads (suc fuel) text m [] line read few = at-end text m line read
 reads (suc fuel) text m (c ∷ cs) line read few = elim (cases_lt (newline_at (c ∷ cs)) (length (c ∷ cs))) [
   | inl inside ↦ at-line text m (c ∷ cs) line read inside (λ new added. reads fuel text new (behind_line (c ∷ cs)) (line + 1) (goes-on text m (c ∷ cs) line new read inside added) (let left = length-drop (newline_at (c ∷ cs) + 1) (c ∷ cs) in omega (arith, left, few)))
   | inr past ↦ (let most = mark-within (c ∷ cs) in inr (line, rules.Form, no-newline text m (c ∷ cs) line read (omega arith) (omega (arith, past, most))))
 ]
+reads _ text m [] line read few = at-end text m line read
 
 has-end : (text : List ℕ) → HasEnd text
 has-end text = reads (length text) text nothing_made text 1 (read-nothing text) (omega arith)

@@ -7,7 +7,7 @@ use Rattle.mz_base.proofs.Offered.{take-short}
 use Rattle.mz_cmd.specs.declared.command.Cmd.{Cmd}
 use Rattle.mz_cmd.specs.declared.command.CmdFault.{CmdFault}
 use Rattle.mz_cmd.specs.Reading.{first_command}
-use Rattle.mz_unify_theory.proofs.Offered.{command-long, cmd-is}
+use Rattle.mz_machine_theory.proofs.Offered.{command-long, cmd-is}
 use Rattle.mz_machine_theory.specs.Sound.{IsCitation, CitesWithin}
 use Rattle.mz_layout_tables.specs.Heads.{body_bytes}
 use Rattle.mz_axioms.specs.Commands.{StandThere, length_of, IsCiting, IsCitedIn}

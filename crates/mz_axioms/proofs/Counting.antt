@@ -24,9 +24,8 @@ below-two (suc zero) lt some = refl
 below-two (suc (suc r)) lt some = absurd (omega (arith, lt))
 
 low-of : (base r : ℕ) → r < 2 → length (if r == 1 then base ∷ [] else []) ≡ r
-low-of base zero lt = refl
-low-of base (suc zero) lt = refl
 low-of base (suc (suc r)) lt = absurd (omega (arith, lt))
+low-of base _ lt = refl
 
 low-long : (base word : ℕ) → length (low_bit base word) ≡ word % 2
 low-long base word = low-of base (word % 2) (omega arith)

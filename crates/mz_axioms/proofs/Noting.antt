@@ -3,7 +3,7 @@ use Rattle.std.proofs.Common.{◌≡◌, ◌∙◌, ◌≤◌, ◌<◌, ◌+◌,
 use Rattle.std.specs.Prelude.{◌↔◌, All, Contains, MatchBool, IfSome, flat_map, if◌then◌else◌}
 use Rattle.std.proofs.lemmas.List.{map_push, map-append, length-map}
 use Rattle.std.proofs.lemmas.List.Elements.{All-contains, All-head, All-tail, All-push, All-weaker, All-nil, All-cons, All-append, Contains-append_left, Contains-get_or, Contains-push, Contains-push_cases}
-use Rattle.std.proofs.lemmas.Option.{slice_get-get_or, slice_get_within}
+use Rattle.std.proofs.lemmas.Option.{slice_get-get_or}
 use Rattle.mz_logic_theory.proofs.Offered.{one_at}
 use Rattle.mz_base.proofs.Offered.{contains_at, slice_get-map_at, slice_get-map_back}
 use Rattle.mz_cmd.specs.declared.code.StatementCode.{StatementCode}
@@ -115,21 +115,17 @@ one-more old new row n pushed is = (let e : length new ≡ length (old ++ row �
 
 -- a row is left for an axiom or a theorem
 pub room-for : (file : List ℕ) (rows : Rows) (publics many span : ℕ) (code : StatementCode) → many ≡ rows.thms → thm_count file ≤ span → next_row rows code < row_count file code → IfSome (place_by publics code) (λ place. many < span)
-room-for file rows publics many span codes.Sort is enough lt = tt
-room-for file rows publics many span codes.Term is enough lt = tt
-room-for file rows publics many span codes.LocalDefinition is enough lt = tt
 room-for file rows publics many span codes.Axiom is enough lt = omega (arith, is, enough, lt)
 room-for file rows publics many span codes.Theorem is enough lt = omega (arith, is, enough, lt)
 room-for file rows publics many span codes.LocalTheorem is enough lt = omega (arith, is, enough, lt)
+room-for file rows publics many span _ is enough lt = tt
 
 -- and is counted
 pub rows-counted : (rows : Rows) (publics : ℕ) (code : StatementCode) (bytes : List ℕ) (old new : List RowTold) → length old ≡ rows.thms → IsNoted (place_by publics code) bytes old new → length new ≡ (rows_after rows code).thms
-rows-counted rows publics codes.Sort bytes old new is noted = ap (λ (rs : List RowTold). length rs) noted ∙ is
-rows-counted rows publics codes.Term bytes old new is noted = ap (λ (rs : List RowTold). length rs) noted ∙ is
-rows-counted rows publics codes.LocalDefinition bytes old new is noted = ap (λ (rs : List RowTold). length rs) noted ∙ is
 rows-counted rows publics codes.Axiom bytes old new is (row, pushed, _) = one-more old new row rows.thms pushed is
 rows-counted rows publics codes.Theorem bytes old new is (row, pushed, _) = one-more old new row rows.thms pushed is
 rows-counted rows publics codes.LocalTheorem bytes old new is (row, pushed, _) = one-more old new row rows.thms pushed is
+rows-counted rows publics _ bytes old new is noted = ap (λ (rs : List RowTold). length rs) noted ∙ is
 
 -- ---- the lists
 

@@ -71,9 +71,8 @@ places-many k [] = refl
 places-many k (s ∷ ss) = one-more k s.is_local s.decl (places_from (past_public k s.is_local) ss) (declarations ss) (places-many (past_public k s.is_local) ss)
   where
     one-more : (k : ℕ) (l : Bool) (d : Declaration) (xs : List Place) (ds : List Declaration) → length xs ≡ length (assertions ds) → length (place_there k l d ++ xs) ≡ length (assertions (d ∷ ds))
-    one-more k l (sort_decl _) xs ds e = e
-    one-more k l (term_decl _) xs ds e = e
     one-more k l (assertion_decl _) xs ds e = ap (λ n. suc n) e
+    one-more k l _ xs ds e = e
 
 -- the statement of a place
 pub record IsPlaceOf (k : ℕ) (ss : List Statement) (T : ℕ) (p : Place) : Type 0 where
@@ -108,13 +107,10 @@ place-of k (s ∷ ss) T p at = go s.decl refl T at (λ U on. place-of (past_publ
       where
         count : (d : Declaration) (ds : List Declaration) → length (assertions (d ∷ ds)) ≡ length (assertions (d ∷ [])) + length (assertions ds)
         count (sort_decl _) ds = omega arith
-        count (term_decl _) ds = omega arith
-        count (assertion_decl _) ds = omega arith
+        count _ ds = omega arith
 
     go : (d : Declaration) → s.decl ≡ d → (V : ℕ) → slice_get (place_there k s.is_local d ++ places_from (past_public k s.is_local) ss) V ≡ Some p
         → ((U : ℕ) → slice_get (places_from (past_public k s.is_local) ss) U ≡ Some p → IsPlaceOf (past_public k s.is_local) ss U p) → IsPlaceOf k (s ∷ ss) V p
-    go (sort_decl m) is V here on = later V V (let e : length (assertions (s.decl ∷ [])) ≡ 0 = ap (λ (d : Declaration). length (assertions (d ∷ []))) is in omega (arith, e)) (on V here)
-    go (term_decl t) is V here on = later V V (let e : length (assertions (s.decl ∷ [])) ≡ 0 = ap (λ (d : Declaration). length (assertions (d ∷ []))) is in omega (arith, e)) (on V here)
     go (assertion_decl a) is (suc V) here on = later V (suc V) (let e : length (assertions (s.decl ∷ [])) ≡ 1 = ap (λ (d : Declaration). length (assertions (d ∷ []))) is in omega (arith, e)) (on V here)
     go (assertion_decl a) is zero here on =
         let same : record { number = k; is_axiom = a.is_axiom; is_local = s.is_local } ≡ p = one_at refl here in
@@ -130,6 +126,7 @@ place-of k (s ∷ ss) T p at = go s.decl refl T at (λ U on. place-of (past_publ
           axiom_is = sym (ap (λ (q : Place). q.is_axiom) same);
           local_is = sym (ap (λ (q : Place). q.is_local) same);
         }
+    go _ is V here on = later V V (let e : length (assertions (s.decl ∷ [])) ≡ 0 = ap (λ (d : Declaration). length (assertions (d ∷ []))) is in omega (arith, e)) (on V here)
 
 -- numbers grow past a public statement
 low-number : (k : ℕ) (ss : List Statement) (T : ℕ) (p : Place) → slice_get (places_from k ss) T ≡ Some p → k ≤ p.number
@@ -144,8 +141,6 @@ numbers-grow k (s ∷ ss) T U p q at-p at-q lt public_ = go s.decl T U at-p at-q
 
     go : (d : Declaration) (V W : ℕ) → slice_get (place_there k s.is_local d ++ Rest) V ≡ Some p → slice_get (place_there k s.is_local d ++ Rest) W ≡ Some q → V < W
         → ((V W : ℕ) → slice_get Rest V ≡ Some p → slice_get Rest W ≡ Some q → V < W → p.number < q.number) → p.number < q.number
-    go (sort_decl _) V W a b l on = on V W a b l
-    go (term_decl _) V W a b l on = on V W a b l
     go (assertion_decl c) V zero a b l on = absurd (omega (arith, l))
     go (assertion_decl c) (suc V) (suc W) a b l on = on V W a b (omega (arith, l))
     go (assertion_decl c) zero (suc W) a b l on =
@@ -155,6 +150,7 @@ numbers-grow k (s ∷ ss) T U p q at-p at-q lt public_ = go s.decl T U at-p at-q
         let past : past_public k s.is_local ≡ k + 1 = ap (past_public k) local in
         let low = low-number (past_public k s.is_local) ss W q b in
         omega (arith, number, past, low)
+    go _ V W a b l on = on V W a b l
 
 -- ---- the declaration of a public statement
 
@@ -182,15 +178,10 @@ listed_numbers ps = flat_map listed_number ps
 
 not-theorem : (f : Form) → kinds.Theorem ≡ kind_of_form f → ⊥
 not-theorem plain_form is = cc
-not-theorem abstract_form is = cc
-not-theorem (defined ds e) is = cc
+not-theorem _ is = cc
 
 -- two declarations of one kind are both theorems, or none is
 same-numbers : (k : ℕ) (d e : Declaration) → kind_of d ≡ kind_of e → theorem_number k d ≡ theorem_number k e
-same-numbers k (sort_decl _) (sort_decl _) is = refl
-same-numbers k (sort_decl _) (term_decl _) is = refl
-same-numbers k (term_decl _) (sort_decl _) is = refl
-same-numbers k (term_decl _) (term_decl _) is = refl
 same-numbers k (sort_decl _) (assertion_decl b) is = go b.is_axiom is
   where
     go : (y : Bool) → kinds.Sort ≡ (if y then kinds.Axiom else kinds.Theorem) → [] ≡ (if y then [] else k ∷ [])
@@ -218,28 +209,27 @@ same-numbers k (assertion_decl a) (assertion_decl b) is = go a.is_axiom b.is_axi
     go true false is = absurd cc
     go false true is = absurd cc
     go false false is = refl
+same-numbers k _ _ is = refl
 
 listed-append : (xs ys : List Place) → listed_numbers (xs ++ ys) ≡ listed_numbers xs ++ listed_numbers ys
 listed-append [] ys = refl
 listed-append (x ∷ xs) ys = ap (λ zs. listed_number x ++ zs) (listed-append xs ys) ∙ sym (append_assoc (listed_number x) (listed_numbers xs) (listed_numbers ys))
 
 of-public : (k : ℕ) (d : Declaration) → listed_numbers (place_there k false d) ≡ theorem_number k d
-of-public k (sort_decl _) = refl
-of-public k (term_decl _) = refl
 of-public k (assertion_decl a) = go a.is_axiom
   where
     go : (x : Bool) → (if not x && not false then k ∷ [] else []) ++ [] ≡ (if x then [] else k ∷ [])
     go true = refl
     go false = refl
+of-public k _ = refl
 
 of-local : (k : ℕ) (d : Declaration) → listed_numbers (place_there k true d) ≡ []
-of-local k (sort_decl _) = refl
-of-local k (term_decl _) = refl
 of-local k (assertion_decl a) = go a.is_axiom
   where
     go : (x : Bool) → (if not x && not true then k ∷ [] else []) ++ [] ≡ []
     go true = refl
     go false = refl
+of-local k _ = refl
 
 -- the public theorems of statements that agree with declarations have the numbers of the declared theorems
 pub theorems-listed : (k : ℕ) (before ss : List Statement) (ds : List Declaration) → Agrees ds (publics_after before ss) → listed_numbers (places_from k ss) ≡ theorems_from k ds

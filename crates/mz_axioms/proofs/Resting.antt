@@ -39,21 +39,19 @@ module _ (file : List ℕ) where
 
       one : (d' : Declaration) → length (body_of file at d') ≡ length (assertions (d' ∷ []))
       one (sort_decl _) = refl
-      one (term_decl _) = refl
-      one (assertion_decl _) = refl
+      one _ = refl
 
   -- the bodies are of the kinds of the statements' assertions
   kind-behind : (at : ℕ) (d : Declaration) (ds : List Declaration) (tail : List AssertionBody) (a : Assertion)
       → ((U : ℕ) → slice_get (assertions ds) U ≡ Some a → IsKind tail a.is_axiom U)
       → (U : ℕ) → slice_get (assertions (d ∷ ds)) U ≡ Some a → IsKind (body_of file at d ++ tail) a.is_axiom U
-  kind-behind at (sort_decl _) ds tail a later U is = later U is
-  kind-behind at (term_decl _) ds tail a later U is = later U is
   kind-behind at (assertion_decl b) ds tail a later zero is = record {
     body = record { is_axiom = b.is_axiom; bytes = body_there file (statement_at file at) };
     there = refl;
     is = ap (λ (x : Assertion). x.is_axiom) (one_at refl is);
   }
   kind-behind at (assertion_decl b) ds tail a later (suc U) is = let r = later U is in record { body = r.body; there = r.there; is = r.is }
+  kind-behind at _ ds tail a later U is = later U is
 
   kinds-from : (at : ℕ) (ss : List Statement) (a : Assertion) (U : ℕ) → slice_get (assertions (declarations ss)) U ≡ Some a → IsKind (bodies_from file at ss) a.is_axiom U
   kinds-from at [] a U is = absurd (none-some _ is)
@@ -91,8 +89,6 @@ module _ (file : List ℕ) where
             ∙ ap (λ n. (done ++ body_of file from s.decl) ++ bodies_from file n ss) (ap place_after good.spelled.stands)
 
         by-decl : (d : Declaration) → s.decl ≡ d → IsProvedIfTheorem (by_number (Cites bodies)) env d
-        by-decl (sort_decl _) is = tt
-        by-decl (term_decl _) is = tt
         by-decl (assertion_decl a) is = λ is_theorem.
             let body : AssertionBody = record { is_axiom = a.is_axiom; bytes = body_there file (statement_at file from) } in
             let tail : List AssertionBody = bodies_from file (place_after (statement_at file from)) ss in
@@ -100,6 +96,7 @@ module _ (file : List ℕ) where
             let there : slice_get bodies (length (assertions env)) ≡ Some body = ap (λ rs. slice_get rs (length (assertions env))) here ∙ at-seam done body tail (length (assertions env)) many in
             by-body env a (body_bytes file good.spelled.body next) body there (ap (body_there file) good.spelled.stands)
             (cite-as-bodies strict_standard file before env from s next good.spelled.code good.spelled.body a prefix good good.spelled.stands is is_theorem)
+        by-decl _ is = tt
 
 are-supports : (file : List ℕ) (ss : List Statement) → AreSupports (declarations ss) (Cites (bodies_of file ss)) (InSupport (bodies_of file ss))
 are-supports file ss = record {

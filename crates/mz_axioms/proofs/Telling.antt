@@ -143,9 +143,8 @@ module _ (file : List ℕ) where
   bodies-many at (s ∷ ss) = one-more at s.decl (bodies_from file (place_after (statement_at file at)) ss) (declarations ss) (bodies-many (place_after (statement_at file at)) ss)
     where
       one-more : (at : ℕ) (d : Declaration) (xs : List AssertionBody) (ds : List Declaration) → length xs ≡ length (assertions ds) → length (body_of file at d ++ xs) ≡ length (assertions (d ∷ ds))
-      one-more at (sort_decl _) xs ds e = e
-      one-more at (term_decl _) xs ds e = e
       one-more at (assertion_decl a) xs ds e = ap (λ n. suc n) e
+      one-more at _ xs ds e = e
 
   bodies-more : (env : List Declaration) (from : ℕ) (ss : List Statement) (env' : List Declaration) (to : ℕ) (s : Statement) → GoodTo strict_standard file env from ss env' to
       → bodies_from file from (ss ++ s ∷ []) ≡ bodies_from file from ss ++ body_of file to s.decl
@@ -184,10 +183,7 @@ module _ (file : List ℕ) where
           → (map (λ (r : RowTold). r.place) new ≡ places_from 0 ss ++ place_there (publics_past 0 ss) local d)
           × ((U : ℕ) (row : RowTold) → slice_get new U ≡ Some row → Tells (bodies_of file ss ++ body_of file at d) U row)
       go (sort_decl m) None place noted = same (sort_decl m) refl refl noted
-      go (sort_decl m) (Some p) place noted = absurd cc
       go (term_decl m) None place noted = same (term_decl m) refl refl noted
-      go (term_decl m) (Some p) place noted = absurd cc
-      go (assertion_decl a) None place noted = absurd cc
       go (assertion_decl a) (Some p) place (row, pushed, is) =
           let p-is : p ≡ record { number = publics_past 0 ss; is_axiom = a.is_axiom; is_local = local } = (let e : p ∷ [] ≡ record { number = publics_past 0 ss; is_axiom = a.is_axiom; is_local = local } ∷ [] = place in cc) in
           let body : AssertionBody = record { is_axiom = a.is_axiom; bytes = body_there file (statement_at file at) } in (
@@ -195,6 +191,7 @@ module _ (file : List ℕ) where
                 ∙ ap (λ (q : Place). places_from 0 ss ++ q ∷ []) (is.place_is ∙ p-is),
             λ U r has. each-more (bodies_of file ss) old (rows-many ss old t) t.each body p row (ap (λ (q : Place). q.is_axiom) p-is) is U r (subst (λ (rs : List RowTold). slice_get rs U ≡ Some r) pushed has),
           )
+      go _ _ place noted = absurd cc
 
   -- ---- how far the list has been gone over
 

@@ -7,10 +7,10 @@ use Rattle.mz_machine_theory.specs.MachineState.{State, Heading}
 use Rattle.mz_machine.specs.BodyAnswers.{IsBodyRun as IsRunOverTrees}
 use Rattle.mz_machine.specs.declared.body.BodyChecked.{BodyChecked}
 use Rattle.mz_machine.specs.declared.body.BodyChecked.TheVariants.{Good, Refused, Mem}
-use Rattle.mz_binary_theory.specs.declared.standard.Standard.TheVariants.{Published}
+use Rattle.mz_binary_theory.specs.Standards.{published}
 use Rattle.mz_binary.specs.BodyRuns.{IsBodyRun}
 
-pub by-trees : (mode : Mode) (h : Heading) (bytes : List ℕ) (r : Result (State Tree) (ℕ × K)) (b : BodyChecked) → IsRunOverTrees h bytes r b → IsBodyRun (Published mode) bytes r b
+pub by-trees : (mode : Mode) (h : Heading) (bytes : List ℕ) (r : Result (State Tree) (ℕ × K)) (b : BodyChecked) → IsRunOverTrees h bytes r b → IsBodyRun (published mode) bytes r b
 by-trees mode h bytes r (Good end) (last, is, counts, gap) = (last, is, λ lets. gap)
 by-trees mode h bytes r (Refused at rule) is = is
 by-trees mode h bytes r Mem is = tt

@@ -8,7 +8,7 @@ use Rattle.mz_cmd.specs.declared.code.ProofCode.{ProofCode}
 use Rattle.mz_cmd.specs.declared.code.ProofCode.TheVariants as code
 use Rattle.mz_cmd.specs.Codes.{proof_code}
 use Rattle.mz_cmd.specs.Reading.{first_command}
-use Rattle.mz_unify_theory.proofs.Offered.{command-long, drop-less}
+use Rattle.mz_machine_theory.proofs.Offered.{command-long, drop-less}
 use Rattle.mz_machine_theory.specs.Sound.{IsCitation, CitesWithin}
 use Rattle.mz_binary_theory.specs.Gapped.{CitesMarked, IsMarked, is_citing, mark_in, cites_mark}
 

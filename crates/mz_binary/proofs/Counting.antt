@@ -8,13 +8,13 @@ use Rattle.mz_layout_tables.specs.Layout.{Layout, layout_checks}
 use Rattle.mz_machine_theory.specs.FileRows.{Taken, nothing_taken}
 use Rattle.mz_machine_theory.proofs.Offered.{times-grow, add-times}
 use Rattle.mz_machine_env.specs.Before.{taken_before}
-use Rattle.mz_binary_theory.specs.FileRun.{Passing, test_layout, steps_after, file_steps, list_ends, stands_alone, Onward, ended, onward, find_at, run_place, found_steps, follow_steps, list_steps}
+use Rattle.mz_binary_theory.specs.FileRun.{Passing, test_layout, steps_after, file_steps, Onward, ended, onward, run_place, follow_steps, list_steps}
 use Rattle.mz_binary.specs.Progress.{Progress, next_steps, steps_left}
 use Rattle.mz_binary.specs.declared.checker.Next.{Next}
 use Rattle.mz_binary.specs.declared.checker.Next.TheVariants as next
 use Rattle.mz_binary.specs.Judging.{IfTold}
 use Rattle.mz_binary_theory.proofs.Offered.{layout-judged, bound-never-ends}
-use Rattle.mz_binary_theory.specs.declared.standard.Standard.{Standard}
+use Rattle.mz_binary_theory.specs.Standards.{Standard}
 
 -- of any answer, and so of one that is reported
 pub if-told : {B : Type 0} (r : Next B) (P : Type 0) → P → IfTold r P

@@ -10,7 +10,7 @@ use Rattle.mz_layout_tables.specs.RowWords.{param_checks, word_checks}
 use Rattle.mz_machine_env.specs.Before.{HasRightWords, HasRightParams}
 use Rattle.mz_binary_theory.specs.Chains.{GoodTo}
 use Rattle.mz_binary_theory.proofs.Offered.{sorts-many, terms-many, assertions-many, HasSorts, sorts-more, HasRightRow, right-row}
-use Rattle.mz_binary_theory.specs.declared.standard.Standard.{Standard}
+use Rattle.mz_binary_theory.specs.Standards.{Standard}
 
 -- each row's words are right where some of these sorts are declared
 pub record WereRight (file : List ℕ) (many_sorts many_terms many_thms : ℕ) : Type 0 where

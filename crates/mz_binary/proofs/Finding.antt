@@ -17,7 +17,7 @@ use Rattle.mz_layout_tables.specs.Heads as heads
 use Rattle.mz_layout_tables.specs.declared.head.Head.{Head}
 use Rattle.mz_layout_tables.specs.declared.rows_so_far.Rows.{Rows}
 use Rattle.mz_layout_tables.specs.Tables.{sort_count, term_row, thm_row}
-use Rattle.mz_unify_theory.specs.Steps.{◌>>◌ as ◌then◌}
+use Rattle.mz_machine_theory.specs.Steps.{◌>>◌ as ◌then◌}
 use Rattle.mz_machine_theory.specs.MachineState.{Heading}
 use Rattle.mz_machine_theory.specs.Lists.{definition_of, assertion_of}
 use Rattle.mz_machine_theory.specs.FileRows.{Taken, term_of_file, thm_of_file}

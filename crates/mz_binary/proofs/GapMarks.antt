@@ -20,7 +20,7 @@ use Rattle.mz_binary_theory.specs.Chains.{GoodTo}
 use Rattle.mz_binary_theory.specs.Gapped.{AssertionBody, body_there, body_of, bodies_of, IsGapped, GappedIn, IsMarked, AreMarks, CitesMarked}
 use Rattle.mz_binary.specs.Progress.{is_theorem_kind, is_assertion_kind, marks_past}
 use Rattle.mz_binary_theory.specs.Spelling.{IsKindOf}
-use Rattle.mz_binary_theory.specs.declared.standard.Standard.{Standard}
+use Rattle.mz_binary_theory.specs.Standards.{Standard}
 
 -- ---- what a kind says of the body
 

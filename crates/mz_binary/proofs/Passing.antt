@@ -9,13 +9,13 @@ use Rattle.mz_cmd.specs.declared.rule.Refusal.{Refusal}
 use Rattle.mz_cmd.specs.declared.statement.StmtAt.TheVariants as there
 use Rattle.mz_cmd.specs.Codes.{statement_byte}
 use Rattle.mz_cmd.specs.StatementList.{statement_at}
+use Rattle.mz_logic_theory.specs.Tree.{Tree}
 use Rattle.mz_logic_theory.specs.Declaration.{Declaration, sort_decl, term_decl, assertion_decl, sorts, assertions}
 use Rattle.mz_logic_theory.specs.LegalLists.{Statement}
 use Rattle.mz_layout_tables.specs.Tables.{list_at, mods_of, sort_count, term_count, thm_count}
 use Rattle.mz_layout_tables.specs.Layout.{IsBinary}
-use Rattle.mz_unify_theory.specs.Steps.{◌>>=◌}
+use Rattle.mz_machine_theory.specs.Steps.{◌>>=◌}
 use Rattle.mz_machine_theory.specs.MachineState.{Heading, Kind, State}
-use Rattle.mz_machine_theory.specs.Bodies.{body_run, body_steps}
 use Rattle.mz_machine_theory.specs.Headings.{heading_by, kind_at}
 use Rattle.mz_machine_env.specs.Before.{tables_before, taken_before}
 use Rattle.mz_binary.specs.declared.statement.Found.TheVariants as seen
@@ -35,8 +35,7 @@ use Rattle.mz_binary.specs.Judging.{Passes}
 use Rattle.mz_binary_theory.proofs.Offered.{code-of, head-at, IsHeadAt, chain-more, place-judged, ends-there, FollowedBy, followed, well-chain, at-head, no-assertion}
 use Rattle.mz_binary.proofs.GapMarks.{kind-tells, NewMark, new-mark}
 use Rattle.mz_binary.proofs.TakenSoFar.{taken}
-use Rattle.mz_binary_theory.specs.declared.standard.Standard.{Standard}
-use Rattle.mz_binary_theory.specs.Standards.{lets_gaps, profile_of}
+use Rattle.mz_binary_theory.specs.Standards.{Standard, lets_gaps, run_by}
 
 -- ---- kinds
 
@@ -146,20 +145,20 @@ module _ (standard : Standard) (file : List ℕ) (rows : Rows) (at : ℕ) (head 
   abbrev on : Onward
   on = onward (after_kind file (taken_before file rows) head.code) head.next
 
-  abbrev run : Result (State (profile_of standard).T) (ℕ × K)
-  run = body_run (profile_of standard) (tables_before file rows) (heading_by file row kind) head.body (body_bytes file head.body head.next)
+  abbrev run : Result (State Tree) (ℕ × K)
+  run = run_by standard (tables_before file rows) (heading_by file row kind) head.body (body_bytes file head.body head.next)
 
   run-is : run_place standard file (taken_before file rows) at ≡ if_runs run on
   run-is =
-      subst (λ (n : ℕ). run_place standard file (taken_before file rows) at ≡ if_runs (body_run (profile_of standard) (tables_before file rows) (heading_by file n kind) head.body (body_bytes file head.body head.next)) on) (sym row-is)
-      (subst (λ (k : Kind). run_place standard file (taken_before file rows) at ≡ if_runs (body_run (profile_of standard) (tables_before file rows) (heading_by file (next_row rows head.code) k) head.body (body_bytes file head.body head.next)) on) (sym kind-is)
+      subst (λ (n : ℕ). run_place standard file (taken_before file rows) at ≡ if_runs (run_by standard (tables_before file rows) (heading_by file n kind) head.body (body_bytes file head.body head.next)) on) (sym row-is)
+      (subst (λ (k : Kind). run_place standard file (taken_before file rows) at ≡ if_runs (run_by standard (tables_before file rows) (heading_by file (next_row rows head.code) k) head.body (body_bytes file head.body head.next)) on) (sym kind-is)
       (run-of standard file (taken_before file rows) at (found_of file rows (seen.WithBody head)) there))
 
-  pub body-runs : (last : State (profile_of standard).T) → run ≡ Ok last → run_place standard file (taken_before file rows) at ≡ Ok on
-  body-runs last is = run-is ∙ ap (λ (r : Result (State (profile_of standard).T) (ℕ × K)). if_runs r on) is
+  pub body-runs : (last : State Tree) → run ≡ Ok last → run_place standard file (taken_before file rows) at ≡ Ok on
+  body-runs last is = run-is ∙ ap (λ (r : Result (State Tree) (ℕ × K)). if_runs r on) is
 
   abbrev counted : ℕ → Kind → ℕ
-  counted r k = body_steps (profile_of standard) (tables_before file rows) (heading_by file r k) head.body (body_bytes file head.body head.next)
+  counted r k = standard.steps (tables_before file rows) (heading_by file r k) head.body (body_bytes file head.body head.next)
 
   steps-there : found_steps standard file (taken_before file rows) (find_at file (taken_before file rows) at) ≡ counted row kind
   steps-there = ap (found_steps standard file (taken_before file rows)) there ∙ ap (λ (r : ℕ). counted r (kind_at (kind_byte head.code))) (sym row-is) ∙ ap (counted row) (sym kind-is)
@@ -168,7 +167,7 @@ module _ (standard : Standard) (file : List ℕ) (rows : Rows) (at : ℕ) (head 
   body-counts old new is = is ∙ ap (λ (n : ℕ). old + n) (sym steps-there)
 
   pub body-stops : (f : ℕ × K) → run ≡ Err f → run_place standard file (taken_before file rows) at ≡ Err f
-  body-stops f is = run-is ∙ ap (λ (r : Result (State (profile_of standard).T) (ℕ × K)). if_runs r on) is
+  body-stops f is = run-is ∙ ap (λ (r : Result (State Tree) (ℕ × K)). if_runs r on) is
 
 -- ---- what stops the checker
 

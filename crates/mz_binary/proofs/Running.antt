@@ -6,7 +6,7 @@ use Rattle.mz_cmd.specs.declared.code.StatementCode.TheVariants as codes
 use Rattle.mz_cmd.specs.declared.rule.K.{K}
 use Rattle.mz_cmd.specs.declared.rule.K.TheVariants as rules
 use Rattle.mz_layout_tables.specs.Tables.{TermRow, term_row, thm_row, list_at}
-use Rattle.mz_unify_theory.specs.Steps.{◌>>◌ as ◌then◌}
+use Rattle.mz_machine_theory.specs.Steps.{◌>>◌ as ◌then◌}
 use Rattle.mz_machine_theory.specs.MachineState.{Heading}
 use Rattle.mz_layout_tables.specs.RowWords.{param_checks, word_checks}
 use Rattle.mz_machine_theory.specs.FileRows.{Taken, thm_of_file}

@@ -5,8 +5,7 @@ use Rattle.mz_machine_theory.specs.MachineState.{State}
 use Rattle.mz_machine_theory.specs.Sound.{HasGap}
 use Rattle.mz_machine.specs.declared.body.BodyChecked.{BodyChecked}
 use Rattle.mz_machine.specs.declared.body.BodyChecked.TheVariants as bodies
-use Rattle.mz_binary_theory.specs.declared.standard.Standard.{Standard}
-use Rattle.mz_binary_theory.specs.Standards.{lets_gaps}
+use Rattle.mz_binary_theory.specs.Standards.{Standard, lets_gaps}
 
 -- The answer is what the run of these bytes comes to, and where gaps are let through it says whether they leave one.
 -- Out of memory says nothing.

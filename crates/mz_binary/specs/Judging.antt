@@ -15,9 +15,8 @@ use Rattle.mz_binary_theory.specs.FileRun.{RunsBody}
 use Rattle.mz_binary_theory.specs.Chains.{IsGoodStatement, GoodTo}
 use Rattle.mz_binary_theory.specs.Good.{Good, FailsAfter, BinaryFault}
 use Rattle.mz_binary_theory.specs.Gapped.{GappedIn, AreFreeUnlessGapped}
-use Rattle.mz_binary.specs.Progress.{Progress, HasPassed, CountsRows, Tells, next_steps, steps_left, most_left}
-use Rattle.mz_binary_theory.specs.declared.standard.Standard.{Standard}
-use Rattle.mz_binary_theory.specs.Standards.{lets_gaps}
+use Rattle.mz_binary.specs.Progress.{Progress, HasPassed, CountsRows, Tells, next_steps, steps_left, most_left, under}
+use Rattle.mz_binary_theory.specs.Standards.{Standard, lets_gaps}
 
 -- the next statement is good, it is what is reported, and the checker has passed it; in a draft it is reported where it is a gapped
 -- theorem
@@ -34,7 +33,7 @@ pub record Passes (p : Progress) (ss : List Statement) (env : List Declaration) 
 
 -- after good statements, which declare env, what comes next; out of memory only where a body runs
 abbrev pub IsNext : {B : Type 0} → Progress → List Statement → List Declaration → Next B → Type 0
-IsNext p ss env (next.Statement after told) = Passes p ss env after told
+IsNext p ss env (next.Statement after told) = Passes p ss env (under p.standard after) told
 IsNext p ss env (next.End rows) = Good p.standard p.file ss × CountsRows rows env
 IsNext p ss env (next.Refused refusal) = FailsAfter p.standard p.file ss env p.at refusal
 IsNext p ss env next.Mem = RunsBody p.file (taken_by env) p.at
@@ -48,14 +47,14 @@ IfTold next.Mem P = ⊤
 
 -- what is left after it of the commands executed in the list
 abbrev pub IsLeft : {B : Type 0} → Progress → Next B → Type 0
-IsLeft p (next.Statement after told) = steps_left p ≡ next_steps p + steps_left after
+IsLeft p (next.Statement after told) = steps_left p ≡ next_steps p + steps_left (under p.standard after)
 IsLeft p (next.End rows) = steps_left p ≡ next_steps p
 IsLeft p (next.Refused refusal) = steps_left p ≡ next_steps p
 IsLeft p next.Mem = ⊤
 
 -- the most that may be counted, out of memory or not: where the list goes on, what may be counted after is kept
 abbrev pub IsMost : {B : Type 0} → Progress → (old new : ℕ) → Next B → Type 0
-IsMost p old new (next.Statement after told) = new + most_left after ≤ old + most_left p
+IsMost p old new (next.Statement after told) = new + most_left (under p.standard after) ≤ old + most_left p
 IsMost p old new (next.End rows) = new ≤ old + most_left p
 IsMost p old new (next.Refused refusal) = new ≤ old + most_left p
 IsMost p old new next.Mem = new ≤ old + most_left p

@@ -20,8 +20,7 @@ use Rattle.mz_binary.specs.declared.statement.Found.TheVariants as seen
 use Rattle.mz_machine_theory.specs.Sound.{HasGap}
 use Rattle.mz_binary_theory.specs.Chains.{GoodTo, IsListEnd}
 use Rattle.mz_binary_theory.specs.Gapped.{AreMarks, CitesMarked}
-use Rattle.mz_binary_theory.specs.declared.standard.Standard.{Standard}
-use Rattle.mz_binary_theory.specs.Standards.{lets_gaps}
+use Rattle.mz_binary_theory.specs.Standards.{Standard, lets_gaps}
 
 -- what env declares has taken these rows
 pub record CountsRows (rows : Rows) (env : List Declaration) : Type 0 where
@@ -86,8 +85,16 @@ StandsAt file at (seen.WithBody head) = IsHeadAt file at head
 
 -- ---- how far the checker has come
 
--- to what bodies are held, the file, the place of the next statement, how many stand before it, the rows that these
--- have taken, and in a draft the flags of the gapped theorems
+-- the file, the place of the next statement, how many stand before it, the rows that these have taken, and in a draft
+-- the flags of the gapped theorems
+pub record Place : Type 0 where
+  pub file : List ℕ
+  pub at : ℕ
+  pub passed : ℕ
+  pub rows : Rows
+  pub marks : List Bool
+
+-- and to what bodies are held
 pub record Progress : Type 0 where
   pub standard : Standard
   pub file : List ℕ
@@ -95,6 +102,9 @@ pub record Progress : Type 0 where
   pub passed : ℕ
   pub rows : Rows
   pub marks : List Bool
+
+abbrev pub under : Standard → Place → Progress
+under standard p = record { standard = standard; file = p.file; at = p.at; passed = p.passed; rows = p.rows; marks = p.marks }
 
 -- these are the statements before, all good, and they declare env
 pub record HasPassed (p : Progress) (ss : List Statement) (env : List Declaration) : Type 0 where

@@ -2,7 +2,7 @@
 ghost use Rattle.std.specs.Prelude.{◌≡◌, ◌≤◌, ◌<◌, ◌+◌, ◌*◌, ◌^◌, List, [], length};
 ghost use Rattle.mz_layout_tables.specs.Layout.{Layout};
 ghost use Rattle.mz_binary_theory.specs.FileRun.{file_steps};
-ghost use Rattle.mz_binary.specs.Progress.{HasPassed, most_left, steps_left};
+ghost use Rattle.mz_binary.specs.Progress.{HasPassed, most_left, steps_left, under};
 ghost use Rattle.mz_binary.specs.Judging.{IfJudged, IsChecked};
 
 use crate::bodies::Bodies;
@@ -46,10 +46,10 @@ pub fn check_all<B: Bodies, L: Ledger>(
 /// Checks the list of statements from its first one on.
 fn check_list<B: Bodies, L: Ledger>(first: Checker<B>, steps: &mut Steps<L>) -> Checked
     requires layout { Layout first.file }
-    requires nothing { HasPassed first [] [] }
-    ensures checked { IsChecked first.entry.standard first.entry.file result }
-    ensures steps { IfJudged result (steps.new ≡ steps.old + steps_left first.entry) }
-    ensures bound { steps.new ≤ steps.old + most_left first.entry }
+    requires nothing { HasPassed (under B.STANDARD first) [] [] }
+    ensures checked { IsChecked B.STANDARD first.entry.file result }
+    ensures steps { IfJudged result (steps.new ≡ steps.old + steps_left (under B.STANDARD first.entry)) }
+    ensures bound { steps.new ≤ steps.old + most_left (under B.STANDARD first.entry) }
 {
     let mut checker = first;
     'statements: loop {

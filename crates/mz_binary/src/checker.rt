@@ -8,7 +8,7 @@ ghost use Rattle.mz_machine_theory.specs.Headings.{kind_at};
 ghost use Rattle.mz_machine_theory.specs.Sound.{HasGap};
 ghost use Rattle.mz_layout_tables.specs.Heads.{IsHead, body_bytes};
 ghost use Rattle.mz_binary_theory.specs.FileRun.{after_kind, file_steps, find_at, onward, run_place, RunsBody};
-ghost use Rattle.mz_binary.specs.Progress.{HasPassed, RestsOnGap, found_of, is_assertion_kind, is_theorem_kind, kind_byte, marks_past, next_steps, steps_left, most_left};
+ghost use Rattle.mz_binary.specs.Progress.{HasPassed, RestsOnGap, found_of, is_assertion_kind, is_theorem_kind, kind_byte, marks_past, next_steps, steps_left, most_left, under};
 ghost use Rattle.mz_binary.specs.Remembering.{AreRight};
 ghost use Rattle.mz_binary.specs.Judging.{IfTold, IsLeft, IsMost, IsNext};
 ghost use Rattle.mz_binary_theory.specs.Standards.{lets_gaps};
@@ -17,7 +17,7 @@ use crate::bodies::Bodies;
 use crate::gaps::cites_marked;
 use crate::statement::{Found, found_at, is_local};
 use crate::words::RightWords;
-use mz_binary_theory::{Standard, Statement};
+use mz_binary_theory::Statement;
 use mz_cmd::{Mem, Refusal, StatementCode, Steps};
 use mz_layout_tables::{Fault, Head, Mmb, Rows};
 use mz_machine::BodyChecked;
@@ -42,12 +42,12 @@ pub struct Checker<'a, B: Bodies> {
 }
 
 impl<'a, B: Bodies> Model for Checker<'a, B> {
-    ghost use Rattle.mz_binary.specs.Progress.{Progress, IsReached};
+    ghost use Rattle.mz_binary.specs.Progress.{Place, IsReached};
     ghost use Rattle.mz_binary.specs.Remembering.{AreRight};
 
-    ghost Value = { Progress };
+    ghost Value = { Place };
 
-    ghost view = { λ c. record { standard = B.STANDARD; file = c.mmb.now; at = c.at; passed = c.passed; rows = c.rows; marks = c.gapped.items } };
+    ghost view = { λ c. record { file = c.mmb.now; at = c.at; passed = c.passed; rows = c.rows; marks = c.gapped.items } };
 
     ghost invariant = { λ c. IsReached (record { standard = B.STANDARD; file = c.mmb.now; at = c.at; passed = c.passed; rows = c.rows; marks = c.gapped.items }) × AreRight c.mmb.now c.right × B.suits c.bodies c.mmb.now };
 }
@@ -70,9 +70,8 @@ impl<'a, B: Bodies> Checker<'a, B> {
     /// flagged. The bodies' terms are numbered with the seed.
     pub fn new(alloc: Global, seed: Seed, mmb: &'a Mmb<'a>) -> Checker<'a, B>
         ensures file { result.file ≡ mmb.now }
-        ensures standard { result.standard ≡ B.STANDARD }
-        ensures nothing { HasPassed result [] [] }
-        ensures steps { steps_left result ≡ file_steps B.STANDARD mmb.now }
+        ensures nothing { HasPassed (under B.STANDARD result) [] [] }
+        ensures steps { steps_left (under B.STANDARD result) ≡ file_steps B.STANDARD mmb.now }
     {
         let at = mmb.proof_at();
         let rows = Rows {
@@ -94,10 +93,10 @@ impl<'a, B: Bodies> Checker<'a, B> {
 
     /// Checks the next statement, or that the list ends right.
     pub fn check_next<L: Ledger>(self, steps: &mut Steps<L>) -> Next<'a, B>
-        ensures next { (ss : List Declared) (env : List Declaration) → HasPassed self.entry ss env → IsNext self.entry ss env result }
-        ensures steps { IfTold result (steps.new ≡ steps.old + next_steps self.entry) }
-        ensures most { IsMost self.entry steps.old steps.new result }
-        ensures left { IsLeft self.entry result }
+        ensures next { (ss : List Declared) (env : List Declaration) → HasPassed (under B.STANDARD self.entry) ss env → IsNext (under B.STANDARD self.entry) ss env result }
+        ensures steps { IfTold result (steps.new ≡ steps.old + next_steps (under B.STANDARD self.entry)) }
+        ensures most { IsMost (under B.STANDARD self.entry) steps.old steps.new result }
+        ensures left { IsLeft (under B.STANDARD self.entry) result }
     {
         let mut right = self.right;
         match found_at(self.mmb, self.rows, self.at, &mut right) {
@@ -119,16 +118,16 @@ impl<'a, B: Bodies> Checker<'a, B> {
         requires head { IsHead self.file head }
         requires at { head.at ≡ self.at }
         requires body { find_at self.file (taken_before self.file self.rows) self.at ≡ Ok (found_of self.file self.rows (Found.WithBody head)) }
-        ensures next { (ss : List Declared) (env : List Declaration) → HasPassed self.entry ss env → IsNext self.entry ss env result }
-        ensures steps { IfTold result (steps.new ≡ steps.old + next_steps self.entry) }
-        ensures most { IsMost self.entry steps.old steps.new result }
-        ensures left { IsLeft self.entry result }
+        ensures next { (ss : List Declared) (env : List Declaration) → HasPassed (under B.STANDARD self.entry) ss env → IsNext (under B.STANDARD self.entry) ss env result }
+        ensures steps { IfTold result (steps.new ≡ steps.old + next_steps (under B.STANDARD self.entry)) }
+        ensures most { IsMost (under B.STANDARD self.entry) steps.old steps.new result }
+        ensures left { IsLeft (under B.STANDARD self.entry) result }
     {
         let (alloc, mmb, rows) = (self.alloc, self.mmb, self.rows);
         let kind = body_kind(head.code);
         let row = rows.next(head.code);
         let body = (head.body, head.next);
-        // Lent as a local: were it lent as a field, all of the checker would be put into memory for the call.
+        // Borrowed as a local: were it borrowed as a field, all of the checker would be put into memory for the call.
         let mut bodies = self.bodies;
         let checked = bodies.check_body(alloc, mmb, kind, row, rows, body, steps);
         let after = Checker { bodies, ..self };
@@ -146,11 +145,11 @@ impl<'a, B: Bodies> Checker<'a, B> {
     /// that rests on one.
     fn rests_on_gap(&self, head: Head, sorry: bool) -> bool
         requires head { IsHead self.now.file head }
-        requires sorry { lets_gaps self.now.standard ≡ true → (sorry ≡ true) ↔ HasGap (body_bytes self.now.file head.body head.next) }
-        ensures { (result ≡ true) ↔ RestsOnGap self.now head }
+        requires sorry { lets_gaps B.STANDARD ≡ true → (sorry ≡ true) ↔ HasGap (body_bytes self.now.file head.body head.next) }
+        ensures { (result ≡ true) ↔ RestsOnGap (under B.STANDARD self.now) head }
     {
         let marks = self.gapped.as_slice();
-        if !B::STANDARD.allows_gaps() || !is_theorem(head.code) {
+        if !B::allows_gaps() || !is_theorem(head.code) {
             return false;
         }
         let bytes = &self.mmb.file()[head.body as usize..head.next as usize];
@@ -162,12 +161,12 @@ impl<'a, B: Bodies> Checker<'a, B> {
         requires right { AreRight self.file right }
         requires head { IsHead self.file head }
         requires at { head.at ≡ self.at }
-        requires runs { run_place self.standard self.file (taken_before self.file self.rows) self.at ≡ Ok (onward (after_kind self.file (taken_before self.file self.rows) head.code) head.next) }
-        requires gap { (gap ≡ true) ↔ RestsOnGap self head }
+        requires runs { run_place B.STANDARD self.file (taken_before self.file self.rows) self.at ≡ Ok (onward (after_kind self.file (taken_before self.file self.rows) head.code) head.next) }
+        requires gap { (gap ≡ true) ↔ RestsOnGap (under B.STANDARD self) head }
         requires body { is_assertion_kind head.code ≡ true → RunsBody self.file (taken_before self.file self.rows) self.at }
-        ensures next { (ss : List Declared) (env : List Declaration) → HasPassed self.entry ss env → IsNext self.entry ss env result }
-        ensures left { IsLeft self.entry result }
-        ensures most { (old new : ℕ) → new ≤ old + (head.next - head.body) * (length self.entry.file + 1) → IsMost self.entry old new result }
+        ensures next { (ss : List Declared) (env : List Declaration) → HasPassed (under B.STANDARD self.entry) ss env → IsNext (under B.STANDARD self.entry) ss env result }
+        ensures left { IsLeft (under B.STANDARD self.entry) result }
+        ensures most { (old new : ℕ) → new ≤ old + (head.next - head.body) * (length self.entry.file + 1) → IsMost (under B.STANDARD self.entry) old new result }
     {
         let told = Statement {
             number: self.passed + 1,
@@ -185,7 +184,7 @@ impl<'a, B: Bodies> Checker<'a, B> {
             bodies,
             ..
         } = self;
-        let Ok(()) = mark(B::STANDARD, head.code, gap, &mut gapped) else {
+        let Ok(()) = mark(B::allows_gaps(), head.code, gap, &mut gapped) else {
             return Next::Mem;
         };
         let after = Checker {
@@ -203,10 +202,10 @@ impl<'a, B: Bodies> Checker<'a, B> {
 
     /// The rule that fails at the next statement.
     fn refused(self, fault: Fault) -> Next<'a, B>
-        requires { run_place self.standard self.file (taken_before self.file self.rows) self.at ≡ Err fault }
-        ensures next { (ss : List Declared) (env : List Declaration) → HasPassed self.entry ss env → IsNext self.entry ss env result }
-        ensures left { IsLeft self.entry result }
-        ensures most { (old new : ℕ) → new ≤ old + most_left self.entry → IsMost self.entry old new result }
+        requires { run_place B.STANDARD self.file (taken_before self.file self.rows) self.at ≡ Err fault }
+        ensures next { (ss : List Declared) (env : List Declaration) → HasPassed (under B.STANDARD self.entry) ss env → IsNext (under B.STANDARD self.entry) ss env result }
+        ensures left { IsLeft (under B.STANDARD self.entry) result }
+        ensures most { (old new : ℕ) → new ≤ old + most_left (under B.STANDARD self.entry) → IsMost (under B.STANDARD self.entry) old new result }
     {
         let (at, rule) = fault;
         Next::Refused(Refusal {
@@ -217,17 +216,12 @@ impl<'a, B: Bodies> Checker<'a, B> {
     }
 }
 
-/// In a draft an axiom or theorem gets its flag.
-fn mark(
-    standard: Standard,
-    code: StatementCode,
-    gap: bool,
-    marks: &mut Vec<bool>,
-) -> Result<(), Mem>
-    ensures ok { OnOk result (marks.new.items ≡ marks_past (lets_gaps standard) code gap marks.old.items) }
+/// Where gaps are let through an axiom or theorem gets its flag.
+fn mark(gaps: bool, code: StatementCode, gap: bool, marks: &mut Vec<bool>) -> Result<(), Mem>
+    ensures ok { OnOk result (marks.new.items ≡ marks_past gaps code gap marks.old.items) }
     ensures err { OnErr result (is_assertion_kind code ≡ true) }
 {
-    if standard.allows_gaps() && is_assertion(code) {
+    if gaps && is_assertion(code) {
         marks.push(gap)?;
     }
     Ok(())

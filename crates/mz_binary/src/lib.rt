@@ -5,7 +5,7 @@
 //! are exact. Of a finished file out of memory comes only where a body is to run.
 //!
 //! Who runs bodies is a parameter, the trait [`Bodies`], which names the standard it holds them to. Here are
-//! [`StrictBodies`] and [`DraftBodies`]; `mz_portable` brings the one by identity. So all is proved once, and
+//! [`StrictBodies`] and [`DraftBodies`]; `mz_tool` brings the one by identity. So all is proved once, and
 //! `verify` stands on no other machine. Words of rows that were right last aren't gone through again
 //! (`src/words.rt`).
 //!

@@ -1,29 +1,33 @@
--- What is good by identity is good by the standard machine.
-use Rattle.std.proofs.Common.{◌≡◌, ℕ, Bool, true, false, List, [], refl}
+-- What runs by a standard runs on the standard machine.
+use Rattle.std.proofs.Common.{◌≡◌, ℕ, Bool, true, false, List, [], Result, Ok, Err, refl}
 use Rattle.std.specs.Prelude.{⊤}
+use Rattle.mz_base.specs.Checks.{AllHold}
+use Rattle.mz_cmd.specs.declared.rule.K.{K}
 use Rattle.mz_logic_theory.specs.Declaration.{Declaration}
 use Rattle.mz_logic_theory.specs.LegalLists.{Statement}
 use Rattle.mz_layout_tables.specs.Tables.{list_at}
-use Rattle.mz_unify_theory.specs.Profile.{plain}
-use Rattle.mz_machine_theory.specs.Bodies.{Runs}
+use Rattle.mz_machine_theory.specs.Profile.{plain}
+use Rattle.mz_machine_theory.specs.Steps.{◌>>◌}
+use Rattle.mz_machine_theory.specs.Bodies.{Runs, body_run, checks_of}
 use Rattle.mz_machine_theory.specs.MachineState.{RowsBefore, is_theorem, Heading}
-use Rattle.mz_pmachine_theory.proofs.Offered.{bodies-strict}
-use Rattle.mz_binary_theory.specs.declared.standard.Standard.{Standard}
-use Rattle.mz_binary_theory.specs.declared.standard.Standard.TheVariants.{Published, Portable}
-use Rattle.mz_binary_theory.specs.Standards.{profile_of, lets_gaps, strict_standard, by_table}
+use Rattle.mz_machine_theory.proofs.Offered.{bodies-checked}
+use Rattle.mz_binary_theory.specs.Standards.{Standard, checks_by, lets_gaps, published, by_table}
 use Rattle.mz_binary_theory.specs.Chains.{IsGoodStatement}
-use Rattle.mz_binary_theory.specs.WholeLaws.{PortableFilesAreGood}
+use Rattle.mz_binary_theory.specs.WholeLaws.{GoodFilesAreGoodByTable}
 use Rattle.mz_binary_theory.proofs.ChainLaws.{chain-weaker}
 use Rattle.mz_binary_theory.proofs.OtherStandard.{statement-by, end-by}
 
-pub runs-by-table : (standard : Standard) (tables : RowsBefore) (h : Heading) (at : ℕ) (bytes : List ℕ) → Runs (profile_of standard) tables h at bytes → Runs (plain (lets_gaps standard)) tables h at bytes
-runs-by-table (Published mode) tables h at bytes runs = runs
-runs-by-table Portable tables h at bytes runs = bodies-strict tables h at bytes runs
+pub runs-by-table : (standard : Standard) (tables : RowsBefore) (h : Heading) (at : ℕ) (bytes : List ℕ) → AllHold (checks_by standard tables h at bytes) → Runs (plain (lets_gaps standard)) tables h at bytes
+runs-by-table standard tables h at bytes = go (standard.first tables h at bytes)
+  where
+    go : (r : Result (Unit {0}) (ℕ × K)) → AllHold (checks_of (r >> body_run (plain (lets_gaps standard)) tables h at bytes)) → Runs (plain (lets_gaps standard)) tables h at bytes
+    go (Ok x) all = (bodies-checked (plain (lets_gaps standard)) tables h at bytes).0.0 all
+    go (Err f) all = absurd all.0
 
 -- the standard machine with gaps, or without
-pub runs-with : (gaps : Bool) (tables : RowsBefore) (h : Heading) (at : ℕ) (bytes : List ℕ) → Runs (plain gaps) tables h at bytes → Runs (profile_of (by_table gaps)) tables h at bytes
-runs-with false tables h at bytes runs = runs
-runs-with true tables h at bytes runs = runs
+pub holds-with : (gaps : Bool) (tables : RowsBefore) (h : Heading) (at : ℕ) (bytes : List ℕ) → Runs (plain gaps) tables h at bytes → AllHold (checks_by (by_table gaps) tables h at bytes)
+holds-with false tables h at bytes runs = (bodies-checked (plain false) tables h at bytes).0.1 runs
+holds-with true tables h at bytes runs = (bodies-checked (plain true) tables h at bytes).0.1 runs
 
 pub lets-with : (gaps : Bool) → lets_gaps (by_table gaps) ≡ gaps
 lets-with false = refl
@@ -32,17 +36,18 @@ lets-with true = refl
 abbrev any : List ℕ → Type 0
 any bytes = ⊤
 
-runs : (tables : RowsBefore) (h : Heading) (at : ℕ) (bytes : List ℕ) → (h.kind ≡ is_theorem → ⊤) → Runs (profile_of Portable) tables h at bytes → Runs (profile_of strict_standard) tables h at bytes
-runs tables h at bytes fine ran = bodies-strict tables h at bytes ran
+module _ (standard : Standard) (file : List ℕ) where
+  holds : (tables : RowsBefore) (h : Heading) (at : ℕ) (bytes : List ℕ) → (h.kind ≡ is_theorem → ⊤) → AllHold (checks_by standard tables h at bytes) → AllHold (checks_by (published standard.mode) tables h at bytes)
+  holds tables h at bytes fine all = (bodies-checked (plain (lets_gaps standard)) tables h at bytes).0.1 (runs-by-table standard tables h at bytes all)
 
-statement-by-table : (file : List ℕ) (env : List Declaration) (at : ℕ) (s : Statement) (next : ℕ) → IsGoodStatement Portable file env at s next → IsGoodStatement strict_standard file env at s next
-statement-by-table file env at s next good = statement-by Portable strict_standard any runs file env at s next good (λ proving. tt)
+  statement-by-table : (env : List Declaration) (at : ℕ) (s : Statement) (next : ℕ) → IsGoodStatement standard file env at s next → IsGoodStatement (published standard.mode) file env at s next
+  statement-by-table env at s next good = statement-by standard (published standard.mode) any holds file env at s next good (λ proving. tt)
 
-pub good-by-table : PortableFilesAreGood
-good-by-table file ss good = record {
+pub good-by-table : GoodFilesAreGoodByTable
+good-by-table standard file ss good = record {
   layout = good.layout;
   env = good.env;
   to = good.to;
-  statements = chain-weaker (IsGoodStatement Portable file) (IsGoodStatement strict_standard file) (statement-by-table file) [] (list_at file) ss good.env good.to good.statements;
-  ends = end-by Portable strict_standard any runs file good.env good.to good.ends;
+  statements = chain-weaker (IsGoodStatement standard file) (IsGoodStatement (published standard.mode) file) (statement-by-table standard file) [] (list_at file) ss good.env good.to good.statements;
+  ends = end-by standard (published standard.mode) any (holds standard file) file good.env good.to good.ends;
 }

@@ -1,5 +1,5 @@
 -- One declaration more.
-use Rattle.std.proofs.Common.{◌≡◌, ◌+◌, ◌∙◌, List, [], ◌++◌, length, ap, length-append}
+use Rattle.std.proofs.Common.{◌≡◌, ◌+◌, ◌∙◌, List, ◌++◌, length, ap, length-append}
 use Rattle.mz_logic_theory.specs.Declaration.{Declaration, sorts, terms, assertions}
 use Rattle.mz_logic_theory.proofs.Offered.{sorts-append, terms-append, assertions-append}
 

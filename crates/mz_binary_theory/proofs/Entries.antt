@@ -11,20 +11,15 @@ use Rattle.mz_logic_theory.specs.declared.binder.SortMods.{SortMods}
 use Rattle.mz_logic_theory.specs.declared.word.Word.{Word}
 use Rattle.mz_logic_theory.proofs.Offered.{words_say_results}
 use Rattle.mz_layout_tables.specs.Tables.{TermRow, mods_of, term_row, thm_row}
-use Rattle.mz_machine_theory.specs.MachineState.{RowsBefore, Heading}
-use Rattle.mz_machine_theory.specs.Bodies.{Runs, body_checks}
 use Rattle.mz_machine_theory.specs.Sound.{AreRowParams, IsRowResult}
 use Rattle.mz_machine_theory.specs.Lists.{Body, Entry, a_sort, a_term, an_assertion, definition_of, assertion_of, BodyIsGood, IsGoodEntry}
 use Rattle.mz_layout_tables.specs.RowWords.{AreParamWords, IsResultWord, param_checks, word_checks}
 use Rattle.mz_layout_tables.specs.Heads.{body_bytes}
 use Rattle.mz_machine_theory.specs.FileRows.{Taken, stream_of, term_of_file, thm_of_file, rows_taken}
 use Rattle.mz_binary_theory.specs.Checking.{term_body_checks, term_checks, thm_checks, kind_checks}
-use Rattle.mz_machine_theory.proofs.Offered.{bodies-checked}
 use Rattle.mz_layout_tables.proofs.Offered.{params-right, result-right, right-words, term-params-right}
-use Rattle.mz_binary_theory.specs.declared.standard.Standard.{Standard}
-use Rattle.mz_binary_theory.specs.Standards.{lets_gaps, profile_of}
+use Rattle.mz_binary_theory.specs.Standards.{Standard, checks_by, lets_gaps}
 use Rattle.mz_binary_theory.proofs.ByTable.{runs-by-table}
-use Rattle.mz_unify_theory.specs.Profile.{plain}
 
 -- the body of a statement
 abbrev pub body_of : List ℕ → ℕ → ℕ → Body
@@ -55,13 +50,10 @@ module _ (ss : List SortMods) (row : TermRow) (all : AllHold (word_checks ss row
 
 -- ---- bodies
 
-runs-of : (standard : Standard) (tables : RowsBefore) (h : Heading) (at : ℕ) (bytes : List ℕ) → AllHold (body_checks (profile_of standard) tables h at bytes) → Runs (plain (lets_gaps standard)) tables h at bytes
-runs-of standard tables h at bytes all = runs-by-table standard tables h at bytes ((bodies-checked (profile_of standard) tables h at bytes).0.0 all)
-
 module _ (standard : Standard) (file : List ℕ) (taken : Taken) (at body next : ℕ) where
   body-good : (is_local b : Bool) (stream : List ℕ) → AllHold (term_body_checks standard file taken at body next (cond b (Some stream) None)) → MatchBool is_local (b ≡ true) ⊤
       → BodyIsGood (lets_gaps standard) (rows_taken file taken) is_local (term_of_file file taken.terms) (body_of file body next) (cond b (Some stream) None)
-  body-good is_local true stream all mark = runs-of standard (rows_taken file taken) (definition_of (term_of_file file taken.terms) stream) body (body_bytes file body next) all
+  body-good is_local true stream all mark = runs-by-table standard (rows_taken file taken) (definition_of (term_of_file file taken.terms) stream) body (body_bytes file body next) all
   body-good true false stream all mark = absurd (let bad : false ≡ true = mark in cc)
   body-good false false stream all mark = refl
 
@@ -76,9 +68,9 @@ module _ (standard : Standard) (file : List ℕ) (taken : Taken) (at body next :
       → IsGoodEntry (lets_gaps standard) (rows_taken file taken) (an_assertion is_local without_proof (thm_of_file file taken.thms) (body_of file body next))
   thm-good is_local without_proof mark all =
       let row = thm_row file taken.thms in
-      let run : Checks (ℕ × K) = body_checks (profile_of standard) (rows_taken file taken) (assertion_of without_proof (thm_of_file file taken.thms)) body (body_bytes file body next) in
+      let run : Checks (ℕ × K) = checks_by standard (rows_taken file taken) (assertion_of without_proof (thm_of_file file taken.thms)) body (body_bytes file body next) in
       let words = all_hold-first (param_checks taken.sorts row.words_at row.params) run all in
-      (mark, row-params taken.sorts row.params (params-right taken.sorts row.words_at row.params words), runs-of standard (rows_taken file taken) (assertion_of without_proof (thm_of_file file taken.thms)) body (body_bytes file body next) (all_hold-rest (param_checks taken.sorts row.words_at row.params) run all))
+      (mark, row-params taken.sorts row.params (params-right taken.sorts row.words_at row.params words), runs-by-table standard (rows_taken file taken) (assertion_of without_proof (thm_of_file file taken.thms)) body (body_bytes file body next) (all_hold-rest (param_checks taken.sorts row.words_at row.params) run all))
 
   pub entry-good : (k : StatementCode) → AllHold (kind_checks standard file taken at body next (Some k)) → IsGoodEntry (lets_gaps standard) (rows_taken file taken) (entry_of file taken body next k)
   entry-good codes.Sort all = tt

@@ -14,20 +14,22 @@ use Rattle.mz_cmd.specs.Codes.{statement_code}
 use Rattle.mz_cmd.specs.StatementList.{statement_at}
 use Rattle.mz_layout_tables.specs.Tables.{TermRow, list_at, term_row, thm_row}
 use Rattle.mz_layout_tables.specs.Heads.{body_bytes}
-use Rattle.mz_unify_theory.specs.Steps.{◌>>=◌, ◌>>◌ as ◌then◌}
-use Rattle.mz_unify_theory.specs.Spells.{SpelledTerm, SpelledThm}
+use Rattle.mz_machine_theory.specs.Steps.{◌>>=◌, ◌>>◌ as ◌then◌}
+use Rattle.mz_machine_theory.specs.Spells.{SpelledTerm, SpelledThm}
 use Rattle.mz_machine_theory.specs.MachineState.{Heading}
-use Rattle.mz_machine_theory.specs.Bodies.{body_run, body_steps, body_start}
 use Rattle.mz_machine_theory.specs.Laws.{StreamsWithin}
 use Rattle.mz_machine_theory.specs.Lists.{assertion_of}
 use Rattle.mz_machine_theory.proofs.Offered.{steps-le, times-grow, add-times}
 use Rattle.mz_machine_theory.specs.FileRows.{Taken, nothing_taken, stream_of, term_of_file, thm_of_file, rows_taken}
 use Rattle.mz_binary_theory.specs.Checking.{counts}
 use Rattle.mz_binary_theory.specs.FileRun.{Passing, test, test_params, test_words, is_empty_body, with_sort, with_term, with_thm, all_taken, test_row, Found, list_ends, stands_alone, has_body, onward, if_runs, run_found, find_empty, find_term_body, find_term_parts, find_thm_parts, find_parts, find_kind, find_of, find_at, test_layout, found_steps, follow_steps, list_steps, steps_after}
-use Rattle.mz_binary_theory.specs.WholeLaws.{StepsOfAFile}
+use Rattle.mz_binary_theory.specs.WholeLaws.{StepsAreFew, StepsOfAFile}
 use Rattle.mz_binary_theory.proofs.Heads.{head-at}
-use Rattle.mz_binary_theory.specs.declared.standard.Standard.{Standard}
-use Rattle.mz_binary_theory.specs.Standards.{profile_of}
+use Rattle.mz_binary_theory.specs.Standards.{Standard, published, run_by}
+use Rattle.mz_base.specs.declared.mode.Mode.{Mode}
+use Rattle.mz_base.specs.Gaps.{gaps_of}
+use Rattle.mz_machine_theory.specs.Profile.{Profile, plain}
+use Rattle.mz_machine_theory.specs.Bodies.{body_start}
 
 -- ---- streams lie within the file
 
@@ -103,7 +105,7 @@ module _ (file : List ℕ) (body next : ℕ) where
 abbrev Steps : Standard → List ℕ → Taken → (Taken → ℕ → ℕ) → Result Found (ℕ × K) → ℕ
 Steps standard file taken rest r = found_steps standard file taken r + follow_steps (r >>= run_found standard file taken) rest
 
-module _ (standard : Standard) (file : List ℕ) (taken : Taken) (rest : Taken → ℕ → ℕ)
+module _ (standard : Standard) (few : StepsAreFew standard) (file : List ℕ) (taken : Taken) (rest : Taken → ℕ → ℕ)
     (rest-le : (after : Taken) (to : ℕ) → to ≤ length file → rest after to ≤ (length file - to) * (length file + 1)) where
   abbrev n : ℕ
   n = length file
@@ -125,11 +127,11 @@ module _ (standard : Standard) (file : List ℕ) (taken : Taken) (rest : Taken �
       two-parts at body next 0 (rest after to) p q l (omega arith) (subst (λ (z : ℕ). rest after to ≤ (n - z) * (n + 1)) w (rest-le after to (omega (arith, w))))
   found-le at body next (Ok (has_body after to h place bytes)) p q l (to-is, bytes-are, own) =
       let long : length bytes ≤ next - body = omega (arith, ap length bytes-are, length-take (next - body) (drop body file)) in
-      let run : body_steps (profile_of standard) (rows_taken file taken) h place bytes ≤ length bytes * (n + 1) =
-      steps-le (profile_of standard) (rows_taken file taken) h n (streams-within file taken h own) (length bytes) (length bytes) place bytes (body_start (profile_of standard) h) (omega arith) in
-      let within : body_steps (profile_of standard) (rows_taken file taken) h place bytes ≤ (next - body) * (n + 1) = omega (arith, run, times-grow (length bytes) (next - body) (n + 1) long) in
-      two-parts at body next (body_steps (profile_of standard) (rows_taken file taken) h place bytes) _ p q l within
-      (if-le (body_run (profile_of standard) (rows_taken file taken) h place bytes) after to _ (subst (λ (z : ℕ). rest after to ≤ (n - z) * (n + 1)) to-is (rest-le after to (omega (arith, to-is)))))
+      let run : standard.steps (rows_taken file taken) h place bytes ≤ length bytes * (n + 1) =
+      few (rows_taken file taken) h n (streams-within file taken h own) place bytes in
+      let within : standard.steps (rows_taken file taken) h place bytes ≤ (next - body) * (n + 1) = omega (arith, run, times-grow (length bytes) (next - body) (n + 1) long) in
+      two-parts at body next (standard.steps (rows_taken file taken) h place bytes) _ p q l within
+      (if-le (run_by standard (rows_taken file taken) h place bytes) after to _ (subst (λ (z : ℕ). rest after to ≤ (n - z) * (n + 1)) to-is (rest-le after to (omega (arith, to-is)))))
 
   by-place : (at : ℕ) (there : Result StmtAt StmtFault) → statement_at file at ≡ there → Steps standard file taken rest (find_of file taken at there) ≤ (n - at) * (n + 1)
   by-place at (Err f) is = omega arith
@@ -148,17 +150,22 @@ module _ (standard : Standard) (file : List ℕ) (taken : Taken) (rest : Taken �
 
 -- ---- the list, and the file
 
-list-le : (standard : Standard) (file : List ℕ) (bound : ℕ) (taken : Taken) (at : ℕ) → list_steps standard file bound taken at ≤ (length file - at) * (length file + 1)
+list-le : (standard : Standard) → StepsAreFew standard → (file : List ℕ) (bound : ℕ) (taken : Taken) (at : ℕ) → list_steps standard file bound taken at ≤ (length file - at) * (length file + 1)
 unfolding list_steps
-list-le standard file zero taken at = omega arith
-list-le standard file (suc bound) taken at = place-le standard file taken (λ after next. list_steps standard file bound after next) (λ after to le. list-le standard file bound after to) at
+list-le standard few file zero taken at = omega arith
+list-le standard few file (suc bound) taken at = place-le standard few file taken (λ after next. list_steps standard file bound after next) (λ after to le. list-le standard few file bound after to) at
+
+pub steps-by-table : (mode : Mode) → StepsAreFew (published mode)
+steps-by-table mode tables h n within at bytes =
+    let machine : Profile = plain (gaps_of mode) in
+    steps-le machine tables h n within (length bytes) (length bytes) at bytes (body_start machine h) (omega arith)
 
 pub steps-of-file : StepsOfAFile
-steps-of-file standard file = go (test_layout file)
+steps-of-file standard few file = go (test_layout file)
   where
     go : (r : Passing) → steps_after r (list_steps standard file (length file + 1) nothing_taken (list_at file)) ≤ length file * length file + length file
     go (Err f) = omega arith
     go (Ok x) =
         let one : length file + 1 ≡ suc (length file) = omega arith in
         let square : length file * (length file + 1) ≡ length file * length file + length file = ap (λ (z : ℕ). length file * z) one ∙ mul-suc (length file) (length file) in
-        omega (arith, list-le standard file (length file + 1) nothing_taken (list_at file), times-grow (length file - list_at file) (length file) (length file + 1) (omega arith), square)
+        omega (arith, list-le standard few file (length file + 1) nothing_taken (list_at file), times-grow (length file - list_at file) (length file) (length file + 1) (omega arith), square)

@@ -17,9 +17,9 @@ use Rattle.mz_layout_tables.specs.Tables.{list_at, thm_row}
 use Rattle.mz_layout_tables.specs.Heads.{body_bytes}
 use Rattle.mz_layout_tables.specs.Heads as heads
 use Rattle.mz_layout_tables.specs.RowWords.{param_checks}
-use Rattle.mz_unify_theory.specs.Profile.{plain, strict}
+use Rattle.mz_machine_theory.specs.Profile.{plain, strict}
 use Rattle.mz_machine_theory.specs.MachineState.{RowsBefore, is_theorem, Heading}
-use Rattle.mz_machine_theory.specs.Bodies.{Runs, body_checks}
+use Rattle.mz_machine_theory.specs.Bodies.{body_checks}
 use Rattle.mz_machine_theory.specs.FileRows.{Taken, taken_by, thm_of_file, rows_taken}
 use Rattle.mz_machine_theory.specs.Lists.{assertion_of}
 use Rattle.mz_machine_theory.specs.Sound.{HasGap}
@@ -29,7 +29,7 @@ use Rattle.mz_binary_theory.specs.Checking.{counts, thm_checks, parts_of, checks
 use Rattle.mz_binary_theory.specs.Chains.{IsGoodStatement, GoodTo}
 use Rattle.mz_binary_theory.specs.Gapped.{AssertionBody, body_there, place_after, body_of, bodies_from, bodies_of, IsTheoremBody, IsGapped, leaves_gap, rests_on}
 use Rattle.mz_binary_theory.specs.DraftLaws.{FinishedDraftsAreGood}
-use Rattle.mz_binary_theory.specs.Standards.{strict_standard, draft_standard}
+use Rattle.mz_binary_theory.specs.Standards.{checks_by, strict_standard, draft_standard}
 use Rattle.mz_binary_theory.proofs.ChainLaws.{chain-weaker}
 use Rattle.mz_binary_theory.proofs.GaplessBodies.{run-same, runs-free}
 use Rattle.mz_binary_theory.proofs.OtherStandard.{IsProving, statement-by, end-by}
@@ -50,11 +50,15 @@ free bytes = HasGap bytes → ⊥
 abbrev any : List ℕ → Type 0
 any bytes = ⊤
 
-without : (tables : RowsBefore) (h : Heading) (at : ℕ) (bytes : List ℕ) → (h.kind ≡ is_theorem → free bytes) → Runs (plain true) tables h at bytes → Runs strict tables h at bytes
-without tables h at bytes fine (last, e) = (last, sym (run-same tables h true at bytes (λ gap is. fine is gap)) ∙ e)
+without : (tables : RowsBefore) (h : Heading) (at : ℕ) (bytes : List ℕ) → (h.kind ≡ is_theorem → free bytes) → AllHold (checks_by draft_standard tables h at bytes) → AllHold (checks_by strict_standard tables h at bytes)
+without tables h at bytes fine all =
+    let (last, e) = (bodies-checked (plain true) tables h at bytes).0.0 all in
+    (bodies-checked strict tables h at bytes).0.1 (last, sym (run-same tables h true at bytes (λ gap is. fine is gap)) ∙ e)
 
-with-gaps : (tables : RowsBefore) (h : Heading) (at : ℕ) (bytes : List ℕ) → (h.kind ≡ is_theorem → any bytes) → Runs strict tables h at bytes → Runs (plain true) tables h at bytes
-with-gaps tables h at bytes fine (last, e) = (last, run-same tables h true at bytes (λ gap is. runs-free tables h at bytes (last, e) gap) ∙ e)
+with-gaps : (tables : RowsBefore) (h : Heading) (at : ℕ) (bytes : List ℕ) → (h.kind ≡ is_theorem → any bytes) → AllHold (checks_by strict_standard tables h at bytes) → AllHold (checks_by draft_standard tables h at bytes)
+with-gaps tables h at bytes fine all =
+    let (last, e) = (bodies-checked strict tables h at bytes).0.0 all in
+    (bodies-checked (plain true) tables h at bytes).0.1 (last, run-same tables h true at bytes (λ gap is. runs-free tables h at bytes (last, e) gap) ∙ e)
 
 -- ---- codes and kinds
 

@@ -25,8 +25,7 @@ use Rattle.mz_binary_theory.specs.Spelling.{IsKindOf, is_local_code, SpellsRow, 
 use Rattle.mz_binary_theory.specs.Checking.{kind_checks}
 use Rattle.mz_binary_theory.specs.FileRun.{with_sort, with_term, with_thm, after_kind}
 use Rattle.mz_binary_theory.proofs.Entries.{body_of, entry_of, entry-good}
-use Rattle.mz_binary_theory.specs.declared.standard.Standard.{Standard}
-use Rattle.mz_binary_theory.specs.Standards.{lets_gaps}
+use Rattle.mz_binary_theory.specs.Standards.{Standard, lets_gaps}
 
 -- ---- the rows taken after a statement
 

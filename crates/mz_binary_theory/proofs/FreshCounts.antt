@@ -7,7 +7,7 @@ use Rattle.mz_logic_theory.specs.Conversions.{AreFresh}
 use Rattle.mz_logic_theory.specs.Words.{binders_from, word_bound}
 use Rattle.mz_logic_theory.specs.declared.binder.Binder.{Binder}
 use Rattle.mz_logic_theory.specs.declared.word.Word.{Word}
-use Rattle.mz_unify_theory.specs.Spells.{trees_of}
+use Rattle.mz_machine_theory.specs.Spells.{trees_of}
 use Rattle.mz_machine_theory.specs.Premises.{bound_count}
 use Rattle.mz_layout_tables.specs.RowWords.{bound_count as bound_words}
 

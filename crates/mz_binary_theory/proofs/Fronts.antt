@@ -13,7 +13,7 @@ use Rattle.mz_layout_tables.specs.Layout.{Layout, layout_checks}
 use Rattle.mz_layout_tables.specs.Tables.{list_at}
 use Rattle.mz_machine_theory.specs.MachineState.{Declares}
 use Rattle.mz_machine_theory.specs.FileRows.{Taken, nothing_taken, taken_by, rows_taken}
-use Rattle.mz_binary_theory.specs.declared.standard.Standard.{Standard}
+use Rattle.mz_binary_theory.specs.Standards.{Standard}
 use Rattle.mz_binary_theory.specs.Checking.{place_checks}
 use Rattle.mz_binary_theory.specs.Chains.{IsGoodStatement, GoodTo}
 use Rattle.mz_binary_theory.specs.FileRun.{Passing, Onward, ended, onward, after_kind, test_layout, run_place, find_at, found_steps, follow_steps, list_steps, steps_after, steps_through, file_steps}

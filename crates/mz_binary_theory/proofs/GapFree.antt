@@ -16,8 +16,7 @@ use Rattle.mz_binary_theory.specs.WholeLaws.{UngappedAreFree}
 use Rattle.mz_binary_theory.proofs.ChainLaws.{chain-declares}
 use Rattle.mz_binary_theory.proofs.GappedBodies.{get-last, bodies-append, bodies-many}
 use Rattle.mz_binary_theory.proofs.LegalChains.{cite-as-bodies}
-use Rattle.mz_binary_theory.specs.declared.standard.Standard.{Standard}
-use Rattle.mz_binary_theory.specs.Standards.{lets_gaps}
+use Rattle.mz_binary_theory.specs.Standards.{Standard, lets_gaps}
 
 module _ (standard : Standard) (file : List ℕ) where
   -- a list up to a statement, and the statement

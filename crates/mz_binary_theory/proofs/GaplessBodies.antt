@@ -10,15 +10,14 @@ use Rattle.mz_cmd.specs.declared.code.ProofCode.TheVariants as code
 use Rattle.mz_cmd.specs.Codes.{proof_code}
 use Rattle.mz_cmd.specs.Reading.{first_command}
 use Rattle.mz_logic_theory.specs.Tree.{Tree}
-use Rattle.mz_unify_theory.specs.Steps.{◌>>=◌, ◌>>◌, need, at_place, Turn, over, goes_on, follow}
-use Rattle.mz_unify_theory.specs.Profile.{plain, strict, expr}
-use Rattle.mz_unify_theory.specs.UnifyMachine.{is_empty}
-use Rattle.mz_unify_theory.proofs.Offered.{follow-same, from_bind, from_need, place-ok}
+use Rattle.mz_machine_theory.specs.Steps.{◌>>=◌, ◌>>◌, need, at_place, Turn, over, goes_on, follow}
+use Rattle.mz_machine_theory.specs.Profile.{plain, strict, expr}
+use Rattle.mz_machine_theory.specs.UnifyMachine.{is_empty}
+use Rattle.mz_machine_theory.proofs.Offered.{follow-same, from_bind, from_need, place-ok, command-plain, end-plain, from_follow, own-plain, row-plain}
 use Rattle.mz_machine_theory.specs.MachineState.{RowsBefore, State, Kind, is_axiom, is_theorem, is_definition, Heading}
 use Rattle.mz_machine_theory.specs.ProofMachine.{proof_step, proof_end}
 use Rattle.mz_machine_theory.specs.Bodies.{BodyCommand, ends, proves, stands_in, if_allowed, body_command, body_turn, body_turn_by, body_from, body_run, body_start, Runs}
 use Rattle.mz_machine_theory.specs.Sound.{GapsWithin, HasGap}
-use Rattle.mz_machine_theory.proofs.Offered.{command-plain, end-plain, from_follow, own-plain, row-plain}
 
 module _ (tables : RowsBefore) (h : Heading) where
   -- a turn that goes on does so past its command

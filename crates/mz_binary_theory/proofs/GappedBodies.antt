@@ -10,7 +10,7 @@ use Rattle.mz_logic_theory.proofs.Offered.{one_at, assertions-append}
 use Rattle.mz_machine_theory.specs.Sound.{HasGap}
 use Rattle.mz_binary_theory.specs.Chains.{GoodTo}
 use Rattle.mz_binary_theory.specs.Gapped.{AssertionBody, place_after, body_of, bodies_from, IsTheoremBody, IsGapped, leaves_gap, rests_on, IsMarked, AreMarks, CitesMarked}
-use Rattle.mz_binary_theory.specs.declared.standard.Standard.{Standard}
+use Rattle.mz_binary_theory.specs.Standards.{Standard}
 
 -- ---- places of a list
 

@@ -9,13 +9,13 @@ use Rattle.mz_cmd.specs.declared.statement.StmtAt.TheVariants.{End, Head}
 use Rattle.mz_cmd.specs.declared.statement.StmtFault.{StmtFault}
 use Rattle.mz_cmd.specs.Codes.{statement_code}
 use Rattle.mz_cmd.specs.StatementList.{statement_at}
-use Rattle.mz_unify_theory.specs.Steps.{◌>>=◌, ◌>>◌ as ◌then◌}
+use Rattle.mz_machine_theory.specs.Steps.{◌>>=◌, ◌>>◌ as ◌then◌}
 use Rattle.mz_machine_theory.specs.FileRows.{Taken, term_of_file}
 use Rattle.mz_layout_tables.specs.Heads.{body_bytes}
 use Rattle.mz_layout_tables.specs.Tables.{term_row, thm_row}
 use Rattle.mz_binary_theory.specs.Checking.{counts}
 use Rattle.mz_binary_theory.specs.FileRun.{Passing, test, test_params, test_words, is_empty_body, Found, list_ends, stands_alone, has_body, Onward, ended, onward, if_runs, run_found, run_place, find_empty, find_term_body, find_term_parts, find_thm_parts, find_parts, test_row, find_kind, find_of, find_at, with_sort, with_term, with_thm, after_kind}
-use Rattle.mz_binary_theory.specs.declared.standard.Standard.{Standard}
+use Rattle.mz_binary_theory.specs.Standards.{Standard}
 
 abbrev found : Found → Result Found (ℕ × K)
 found f = Ok f

@@ -22,8 +22,7 @@ use Rattle.mz_binary_theory.specs.Good.{Good}
 use Rattle.mz_binary_theory.proofs.SpellingLaws.{one-spelled}
 use Rattle.mz_binary_theory.specs.WholeLaws.{TheoremsCiteAsTheirBodies}
 use Rattle.mz_binary_theory.proofs.Following.{ProvedAs, followed}
-use Rattle.mz_binary_theory.specs.declared.standard.Standard.{Standard}
-use Rattle.mz_binary_theory.specs.Standards.{lets_gaps}
+use Rattle.mz_binary_theory.specs.Standards.{Standard, lets_gaps}
 
 module _ (standard : Standard) (file : List ℕ) where
   -- a good statement is legal and proved by its body, and the rows declare it too

@@ -7,7 +7,7 @@ use Rattle.mz_binary_theory.specs.FileRun.{Onward, ended, onward, run_place, fin
 use Rattle.mz_binary_theory.specs.WholeLaws.{BoundNeverEndsAList}
 use Rattle.mz_binary_theory.proofs.Heads.{head-at}
 use Rattle.mz_binary_theory.proofs.Inverting.{goes-there}
-use Rattle.mz_binary_theory.specs.declared.standard.Standard.{Standard}
+use Rattle.mz_binary_theory.specs.Standards.{Standard}
 
 same-list : (n : ℕ) (taken : Taken) (r : Result Onward (ℕ × K)) (f g : Taken → ℕ → Result Taken Refusal)
     → ((after : Taken) (next : ℕ) → r ≡ Ok (onward after next) → f after next ≡ g after next) → follow_list n taken r f ≡ follow_list n taken r g

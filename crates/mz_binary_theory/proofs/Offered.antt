@@ -1,5 +1,5 @@
 -- What crates above may use of these proofs; all else is this crate's own, and may change.
-pub use Rattle.mz_binary_theory.proofs.ByTable.{good-by-table, lets-with, runs-by-table, runs-with}
+pub use Rattle.mz_binary_theory.proofs.ByTable.{good-by-table, holds-with, lets-with, runs-by-table}
 pub use Rattle.mz_binary_theory.proofs.ChainLaws.{chain-declares, chain-more}
 pub use Rattle.mz_binary_theory.proofs.Declared.{assertions-many, sorts-many, terms-many}
 pub use Rattle.mz_binary_theory.proofs.Entries.{body_of, entry-good}

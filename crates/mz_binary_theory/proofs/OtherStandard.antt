@@ -17,13 +17,10 @@ use Rattle.mz_layout_tables.specs.Tables.{term_row, thm_row}
 use Rattle.mz_layout_tables.specs.Heads.{body_bytes}
 use Rattle.mz_layout_tables.specs.Heads as heads
 use Rattle.mz_layout_tables.specs.RowWords.{param_checks, word_checks}
-use Rattle.mz_machine_theory.specs.Bodies.{Runs, body_checks}
 use Rattle.mz_machine_theory.specs.FileRows.{Taken, taken_by, term_of_file, thm_of_file, rows_taken}
 use Rattle.mz_machine_theory.specs.Lists.{definition_of, assertion_of}
 use Rattle.mz_machine_theory.specs.MachineState.{RowsBefore, is_axiom, is_theorem, is_definition, Heading}
-use Rattle.mz_machine_theory.proofs.Offered.{bodies-checked}
-use Rattle.mz_binary_theory.specs.declared.standard.Standard.{Standard}
-use Rattle.mz_binary_theory.specs.Standards.{profile_of}
+use Rattle.mz_binary_theory.specs.Standards.{Standard, checks_by}
 use Rattle.mz_binary_theory.specs.Checking.{counts, term_body_checks, term_checks, thm_checks, parts_of, rest_checks, checks_of}
 use Rattle.mz_binary_theory.specs.Chains.{IsGoodStatement, EndsAt}
 
@@ -43,12 +40,9 @@ no-proof-of-definition e = cc
 no-proof-of-axiom : is_axiom ≡ is_theorem → ⊥
 no-proof-of-axiom e = cc
 
--- a body that runs by A runs by B, a theorem's where Fine is so of its bytes
+-- what is asked of a body by A holds by B, of a theorem's where Fine is so of its bytes
 module _ (A B : Standard) (Fine : List ℕ → Type 0)
-    (runs : (tables : RowsBefore) (h : Heading) (at : ℕ) (bytes : List ℕ) → (h.kind ≡ is_theorem → Fine bytes) → Runs (profile_of A) tables h at bytes → Runs (profile_of B) tables h at bytes) where
-  body : (tables : RowsBefore) (h : Heading) (at : ℕ) (bytes : List ℕ) → (h.kind ≡ is_theorem → Fine bytes) → AllHold (body_checks (profile_of A) tables h at bytes) → AllHold (body_checks (profile_of B) tables h at bytes)
-  body tables h at bytes fine all = (bodies-checked (profile_of B) tables h at bytes).0.1 (runs tables h at bytes fine ((bodies-checked (profile_of A) tables h at bytes).0.0 all))
-
+    (body : (tables : RowsBefore) (h : Heading) (at : ℕ) (bytes : List ℕ) → (h.kind ≡ is_theorem → Fine bytes) → AllHold (checks_by A tables h at bytes) → AllHold (checks_by B tables h at bytes)) where
   module _ (file : List ℕ) (taken : Taken) (at from next : ℕ) where
     term-body : (o : Option (List ℕ)) → AllHold (term_body_checks A file taken at from next o) → AllHold (term_body_checks B file taken at from next o)
     term-body None all = all
@@ -68,8 +62,8 @@ module _ (A B : Standard) (Fine : List ℕ → Type 0)
         let h : Heading = assertion_of without_proof (thm_of_file file taken.thms) in
         let tables : RowsBefore = rows_taken file taken in
         let bytes : List ℕ = body_bytes file from next in
-        let run : Checks (ℕ × K) = body_checks (profile_of A) tables h from bytes in
-        all_hold-both words (body_checks (profile_of B) tables h from bytes) (all_hold-first words run all) (body tables h from bytes fine (all_hold-rest words run all))
+        let run : Checks (ℕ × K) = checks_by A tables h from bytes in
+        all_hold-both words (checks_by B tables h from bytes) (all_hold-first words run all) (body tables h from bytes fine (all_hold-rest words run all))
 
     parts : (o : Option StatementCode) → (IsProving o → Fine (body_bytes file from next)) → AllHold (parts_of A file taken at from next o) → AllHold (parts_of B file taken at from next o)
     parts None fine all = all

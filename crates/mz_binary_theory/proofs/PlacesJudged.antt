@@ -9,7 +9,7 @@ use Rattle.std.proofs.lemmas.Slice.Eq.{bytes_eq-Decides}
 use Rattle.mz_base.specs.Checks.{Checks, demand, ◌>>◌, each_in_order, AllHold, FailsFirst, Judges}
 use Rattle.mz_base.proofs.Offered.{fails-before, fails-after, all_hold-both, judges-after, Decides, decides-whole}
 use Rattle.mz_cmd.specs.declared.rule.K.{K}
-use Rattle.mz_unify_theory.specs.Steps.{◌>>=◌, ◌>>◌ as ◌then◌}
+use Rattle.mz_machine_theory.specs.Steps.{◌>>=◌, ◌>>◌ as ◌then◌}
 use Rattle.mz_cmd.specs.declared.rule.K.TheVariants.{Header, Table}
 use Rattle.mz_cmd.specs.declared.rule.K.TheVariants as rules
 use Rattle.mz_cmd.specs.declared.code.StatementCode.{StatementCode}
@@ -28,17 +28,15 @@ use Rattle.mz_layout_tables.specs.Layout.{HoldsRecords, HoldsWords, header_check
 use Rattle.mz_logic_theory.specs.Words.{word_bound, word_sort, word_deps}
 use Rattle.mz_logic_theory.specs.declared.binder.SortMods.{SortMods}
 use Rattle.mz_logic_theory.specs.declared.word.Word.{Word}
-use Rattle.mz_unify_theory.specs.Tests.{has_bit}
-use Rattle.mz_unify_theory.proofs.Offered.{bit-set, bit-not-set}
-use Rattle.mz_machine_theory.specs.Bodies.{body_run, body_checks}
+use Rattle.mz_machine_theory.specs.Tests.{has_bit}
+use Rattle.mz_machine_theory.proofs.Offered.{bit-set, bit-not-set}
 use Rattle.mz_machine_theory.specs.Bodies as bodies
 use Rattle.mz_machine_theory.specs.Lists.{definition_of, assertion_of}
 use Rattle.mz_machine_theory.specs.FileRows.{Taken, term_of_file, thm_of_file, rows_taken}
 use Rattle.mz_binary_theory.specs.Checking.{counts, term_body_checks, term_checks, thm_checks, part_checks, kind_checks, checks_of, place_checks}
 use Rattle.mz_layout_tables.specs.RowWords.{bound_count, IsParamWord, IsParamAt, IsResultWord, param_check, param_checks, word_checks}
 use Rattle.mz_binary_theory.specs.FileRun.{Passing, with_sort, with_term, test, test_each, holds_records, test_header, test_tables, test_rows, test_layout, may_be, is_param_word, is_param_at, test_params, is_result_word, test_words, Found, list_ends, stands_alone, has_body, is_empty_body, find_empty, find_term_body, find_term_parts, find_thm_parts, find_parts, suits_row, test_row, find_kind, all_taken, find_of, find_at, Onward, onward, if_runs, run_found, run_place}
-use Rattle.mz_binary_theory.specs.declared.standard.Standard.{Standard}
-use Rattle.mz_binary_theory.specs.Standards.{profile_of}
+use Rattle.mz_binary_theory.specs.Standards.{Standard, checks_by, run_by}
 
 -- ---- tests, one after another
 
@@ -191,7 +189,7 @@ abbrev pub JudgesFound : Standard → List ℕ → Taken → Result Found (ℕ �
 JudgesFound standard file taken (Err r) cs = FailsFirst cs r
 JudgesFound standard file taken (Ok list_ends) cs = AllHold cs
 JudgesFound standard file taken (Ok (stands_alone after next)) cs = AllHold cs
-JudgesFound standard file taken (Ok (has_body after next h body bytes)) cs = Decides (body_checks (profile_of standard) (rows_taken file taken) h body bytes) cs
+JudgesFound standard file taken (Ok (has_body after next h body bytes)) cs = Decides (checks_by standard (rows_taken file taken) h body bytes) cs
 
 module _ (standard : Standard) (file : List ℕ) (taken : Taken) where
   found-after : (bs cs : Checks (ℕ × K)) (y : Result Found (ℕ × K)) → AllHold bs → JudgesFound standard file taken y cs → JudgesFound standard file taken y (bs >> cs)
@@ -218,7 +216,7 @@ module _ (standard : Standard) (file : List ℕ) (taken : Taken) where
 
   term-body-found : (at body next : ℕ) (o : Option (List ℕ)) → JudgesFound standard file taken (find_term_body file taken at body next o) (term_body_checks standard file taken at body next o)
   term-body-found at body next None = empty-found (with_term taken) at body next
-  term-body-found at body next (Some stream) = decides-whole (body_checks (profile_of standard) (rows_taken file taken) (definition_of (term_of_file file taken.terms) stream) body (body_bytes file body next))
+  term-body-found at body next (Some stream) = decides-whole (checks_by standard (rows_taken file taken) (definition_of (term_of_file file taken.terms) stream) body (body_bytes file body next))
 
   term-found : (at body next : ℕ) → JudgesFound standard file taken (find_term_parts file taken at body next) (term_checks standard file taken at body next)
   term-found at body next =
@@ -229,7 +227,7 @@ module _ (standard : Standard) (file : List ℕ) (taken : Taken) where
   thm-found body next without_proof =
       let row = thm_row file taken.thms in
       found-then _ _ (param_checks taken.sorts row.words_at row.params) _ (params-judged taken.sorts row.words_at row.params) λ _.
-      decides-whole (body_checks (profile_of standard) (rows_taken file taken) (assertion_of without_proof (thm_of_file file taken.thms)) body (body_bytes file body next))
+      decides-whole (checks_by standard (rows_taken file taken) (assertion_of without_proof (thm_of_file file taken.thms)) body (body_bytes file body next))
 
   part-found : (at body next : ℕ) (code : StatementCode) → JudgesFound standard file taken (find_parts file taken at body next code) (part_checks standard file taken at body next code)
   part-found at body next codes.Sort = empty-found (with_sort file taken) at body next
@@ -264,7 +262,7 @@ module _ (standard : Standard) (file : List ℕ) (taken : Taken) where
   found-judged (Err r) cs j = j
   found-judged (Ok list_ends) cs j = j
   found-judged (Ok (stands_alone after next)) cs j = j
-  found-judged (Ok (has_body after next h body bytes)) cs j = body-judged (body_run (profile_of standard) (rows_taken file taken) h body bytes) (onward after next) cs j
+  found-judged (Ok (has_body after next h body bytes)) cs j = body-judged (run_by standard (rows_taken file taken) h body bytes) (onward after next) cs j
 
   pub place-judged : (at : ℕ) → Judges (run_place standard file taken at) (place_checks standard file taken at)
   place-judged at = found-judged (find_at file taken at) (place_checks standard file taken at) (place-found at)

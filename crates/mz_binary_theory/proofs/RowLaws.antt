@@ -17,8 +17,7 @@ use Rattle.mz_logic_theory.specs.declared.binder.Binder.{Binder}
 use Rattle.mz_logic_theory.specs.declared.binder.SortMods.{SortMods}
 use Rattle.mz_layout_tables.specs.Tables.{TermRow, tables_of, sort_count, term_row, thm_row}
 use Rattle.mz_layout_tables.proofs.Offered.{code-is, length-sorts, slice_get-sorts, params-right, result-right, term-params-right}
-use Rattle.mz_unify_theory.specs.Spells.{SpellsForm}
-use Rattle.mz_machine_theory.specs.Bodies.{body_checks}
+use Rattle.mz_machine_theory.specs.Spells.{SpellsForm}
 use Rattle.mz_machine_theory.specs.Lists.{assertion_of}
 use Rattle.mz_layout_tables.specs.Heads.{body_bytes}
 use Rattle.mz_machine_theory.specs.FileRows.{taken_by, rows_taken, term_of_file, thm_of_file}
@@ -27,8 +26,7 @@ use Rattle.mz_binary_theory.specs.Spelling.{IsKindOf, SpellsRow}
 use Rattle.mz_binary_theory.specs.Checking.{term_body_checks, term_checks, thm_checks, kind_checks, checks_of}
 use Rattle.mz_binary_theory.specs.Chains.{IsGoodStatement}
 use Rattle.mz_binary_theory.specs.Laws.{HasRow, GoodStatementsHaveRows}
-use Rattle.mz_binary_theory.specs.declared.standard.Standard.{Standard}
-use Rattle.mz_binary_theory.specs.Standards.{profile_of}
+use Rattle.mz_binary_theory.specs.Standards.{Standard, checks_by}
 
 same-mods : {m n : SortMods} → Some m ≡ Some n → m ≡ n
 same-mods e = cc
@@ -70,7 +68,7 @@ module _ (standard : Standard) (file : List ℕ) (env : List Declaration) (at bo
   thm-right : (w : Bool) → AllHold (thm_checks standard file (taken_by env) body next w) → AllHold (param_checks (sorts env) (thm_row file (length (assertions env))).words_at (thm_row file (length (assertions env))).params)
   thm-right w all =
       let row = thm_row file (length (assertions env)) in
-      let run : Checks (ℕ × K) = body_checks (profile_of standard) (rows_taken file (taken_by env)) (assertion_of w (thm_of_file file (length (assertions env)))) body (body_bytes file body next) in
+      let run : Checks (ℕ × K) = checks_by standard (rows_taken file (taken_by env)) (assertion_of w (thm_of_file file (length (assertions env)))) body (body_bytes file body next) in
       all_hold-first (param_checks (sorts env) row.words_at row.params) run all
 
   by-kind : (k : StatementCode) (d : Declaration) → IsKindOf (statement_byte k) d → AllHold (kind_checks standard file (taken_by env) at body next (Some k)) → HasRightRow file env d

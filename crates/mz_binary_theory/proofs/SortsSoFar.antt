@@ -10,7 +10,7 @@ use Rattle.mz_layout_tables.specs.Tables.{tables_of}
 use Rattle.mz_layout_tables.specs.RowWords.{first_sorts}
 use Rattle.mz_binary_theory.specs.Spelling.{SpellsRow}
 use Rattle.mz_binary_theory.specs.Chains.{GoodTo}
-use Rattle.mz_binary_theory.specs.declared.standard.Standard.{Standard}
+use Rattle.mz_binary_theory.specs.Standards.{Standard}
 
 abbrev pub HasSorts : List ℕ → List Declaration → Type 0
 HasSorts file env = sorts env ≡ first_sorts file (length (sorts env))

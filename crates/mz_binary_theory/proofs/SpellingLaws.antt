@@ -4,12 +4,11 @@ use Rattle.std.specs.Prelude.{MatchBool}
 use Rattle.mz_cmd.specs.declared.statement.StmtAt.TheVariants.{Head}
 use Rattle.mz_logic_theory.specs.Declaration.{Declaration, sort_decl, term_decl, assertion_decl, terms, signatures, assertions}
 use Rattle.mz_logic_theory.specs.LegalLists.{Statement}
-use Rattle.mz_unify_theory.proofs.Offered.{one-assertion, one-term}
+use Rattle.mz_machine_theory.proofs.Offered.{one-assertion, one-term, same-statement}
 use Rattle.mz_machine_theory.specs.FileRows.{term_of_file, thm_of_file}
-use Rattle.mz_machine_theory.proofs.Offered.{same-statement}
 use Rattle.mz_binary_theory.specs.Spelling.{IsSpelled, IsKindOf, SpellsRow, is_local_code}
 use Rattle.mz_binary_theory.specs.Chains.{IsGoodStatement}
-use Rattle.mz_binary_theory.specs.declared.standard.Standard.{Standard}
+use Rattle.mz_binary_theory.specs.Standards.{Standard}
 
 -- the codes of an axiom and of a theorem
 abbrev AssertionCode : ℕ → Bool → Type 0

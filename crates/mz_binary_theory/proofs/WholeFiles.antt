@@ -32,7 +32,7 @@ use Rattle.mz_binary_theory.proofs.SpellingLaws.{one-spelled, one-good}
 use Rattle.mz_binary_theory.proofs.PlacesJudged.{layout-judged, place-judged}
 use Rattle.mz_binary_theory.proofs.Following.{followed}
 use Rattle.mz_binary_theory.proofs.Inverting.{ends-there, goes-there}
-use Rattle.mz_binary_theory.specs.declared.standard.Standard.{Standard}
+use Rattle.mz_binary_theory.specs.Standards.{Standard}
 
 -- ---- one list
 

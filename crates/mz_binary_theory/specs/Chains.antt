@@ -8,7 +8,7 @@ use Rattle.mz_logic_theory.specs.LegalLists.{Statement}
 use Rattle.mz_layout_tables.specs.Tables.{list_at}
 use Rattle.mz_binary_theory.specs.Spelling.{IsSpelled}
 use Rattle.mz_binary_theory.specs.Checking.{list_checks}
-use Rattle.mz_binary_theory.specs.declared.standard.Standard.{Standard}
+use Rattle.mz_binary_theory.specs.Standards.{Standard}
 
 -- the statements lead from a place to another, and env grows by what each declares; Step says of each that it stands
 -- at its place after what was declared, and where the next one does

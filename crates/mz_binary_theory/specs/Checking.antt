@@ -15,12 +15,10 @@ use Rattle.mz_layout_tables.specs.Heads.{body_bytes, empty_checks, head_checks}
 use Rattle.mz_layout_tables.specs.Heads as heads
 use Rattle.mz_layout_tables.specs.Tables.{term_row, thm_row}
 use Rattle.mz_layout_tables.specs.declared.rows_so_far.Rows.{Rows}
-use Rattle.mz_machine_theory.specs.Bodies.{body_checks}
 use Rattle.mz_machine_theory.specs.Lists.{definition_of, assertion_of}
 use Rattle.mz_layout_tables.specs.RowWords.{param_checks, word_checks}
 use Rattle.mz_machine_theory.specs.FileRows.{Taken, taken_by, term_of_file, thm_of_file, rows_taken}
-use Rattle.mz_binary_theory.specs.declared.standard.Standard.{Standard}
-use Rattle.mz_binary_theory.specs.Standards.{profile_of}
+use Rattle.mz_binary_theory.specs.Standards.{Standard, checks_by}
 
 -- how many rows are taken
 abbrev pub counts : Taken → Rows
@@ -32,7 +30,7 @@ counts taken = record { sorts = length taken.sorts; terms = taken.terms; thms = 
 abbrev pub term_body_checks : Standard → List ℕ → Taken → ℕ → ℕ → ℕ → Option (List ℕ) → Checks (ℕ × K)
 term_body_checks standard file taken at body next None = empty_checks file at body next
 term_body_checks standard file taken at body next (Some stream) =
-    body_checks (profile_of standard) (rows_taken file taken) (definition_of (term_of_file file taken.terms) stream) body (body_bytes file body next)
+    checks_by standard (rows_taken file taken) (definition_of (term_of_file file taken.terms) stream) body (body_bytes file body next)
 
 abbrev pub term_checks : Standard → List ℕ → Taken → ℕ → ℕ → ℕ → Checks (ℕ × K)
 term_checks standard file taken at body next =
@@ -43,7 +41,7 @@ term_checks standard file taken at body next =
 abbrev pub thm_checks : Standard → List ℕ → Taken → ℕ → ℕ → Bool → Checks (ℕ × K)
 thm_checks standard file taken body next without_proof =
     param_checks taken.sorts (thm_row file taken.thms).words_at (thm_row file taken.thms).params
-    >> body_checks (profile_of standard) (rows_taken file taken) (assertion_of without_proof (thm_of_file file taken.thms)) body (body_bytes file body next)
+    >> checks_by standard (rows_taken file taken) (assertion_of without_proof (thm_of_file file taken.thms)) body (body_bytes file body next)
 
 -- of the statement that takes the next row of its kind
 abbrev pub part_checks : Standard → List ℕ → Taken → ℕ → ℕ → ℕ → StatementCode → Checks (ℕ × K)

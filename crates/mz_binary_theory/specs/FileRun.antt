@@ -19,16 +19,14 @@ use Rattle.mz_layout_tables.specs.Numbers.{byte_at}
 use Rattle.mz_layout_tables.specs.Heads.{body_bytes, next_row, row_count, rule_of}
 use Rattle.mz_layout_tables.specs.declared.rows_so_far.Rows.{Rows}
 use Rattle.mz_layout_tables.specs.Tables.{TermRow, sort_count, term_count, thm_count, terms_at, thms_at, list_at, term_record, thm_record, param_count, words_at, mods_of, term_row, thm_row}
-use Rattle.mz_unify_theory.specs.Steps.{◌>>=◌, ◌>>◌}
-use Rattle.mz_unify_theory.specs.Tests.{has_bit}
+use Rattle.mz_machine_theory.specs.Steps.{◌>>=◌, ◌>>◌}
+use Rattle.mz_machine_theory.specs.Tests.{has_bit}
 use Rattle.mz_machine_theory.specs.MachineState.{Heading}
-use Rattle.mz_machine_theory.specs.Bodies.{body_run, body_steps}
 use Rattle.mz_machine_theory.specs.Lists.{definition_of, assertion_of}
 use Rattle.mz_layout_tables.specs.RowWords.{bound_count}
 use Rattle.mz_machine_theory.specs.FileRows.{Taken, nothing_taken, term_of_file, thm_of_file, rows_taken}
 use Rattle.mz_binary_theory.specs.Checking.{counts}
-use Rattle.mz_binary_theory.specs.declared.standard.Standard.{Standard}
-use Rattle.mz_binary_theory.specs.Standards.{profile_of}
+use Rattle.mz_binary_theory.specs.Standards.{Standard, run_by}
 
 -- what passes, or the place and the rule that fails
 abbrev pub Passing : Type 0
@@ -211,7 +209,7 @@ if_runs (Err r) o = Err r
 abbrev pub run_found : Standard → List ℕ → Taken → Found → Result Onward (ℕ × K)
 run_found standard file taken list_ends = Ok ended
 run_found standard file taken (stands_alone after next) = Ok (onward after next)
-run_found standard file taken (has_body after next h body bytes) = if_runs (body_run (profile_of standard) (rows_taken file taken) h body bytes) (onward after next)
+run_found standard file taken (has_body after next h body bytes) = if_runs (run_by standard (rows_taken file taken) h body bytes) (onward after next)
 
 -- what stands at a place, its body run
 abbrev pub run_place : Standard → List ℕ → Taken → ℕ → Result Onward (ℕ × K)
@@ -246,7 +244,7 @@ abbrev pub found_steps : Standard → List ℕ → Taken → Result Found (ℕ �
 found_steps standard file taken (Err r) = 0
 found_steps standard file taken (Ok list_ends) = 0
 found_steps standard file taken (Ok (stands_alone after next)) = 0
-found_steps standard file taken (Ok (has_body after next h body bytes)) = body_steps (profile_of standard) (rows_taken file taken) h body bytes
+found_steps standard file taken (Ok (has_body after next h body bytes)) = standard.steps (rows_taken file taken) h body bytes
 
 abbrev pub follow_steps : Result Onward (ℕ × K) → (Taken → ℕ → ℕ) → ℕ
 follow_steps (Err r) rest = 0

@@ -9,8 +9,7 @@ use Rattle.mz_layout_tables.specs.Tables.{list_at}
 use Rattle.mz_layout_tables.specs.Layout.{Layout, layout_checks}
 use Rattle.mz_binary_theory.specs.Checking.{list_checks}
 use Rattle.mz_binary_theory.specs.Chains.{GoodTo, EndsAt}
-use Rattle.mz_binary_theory.specs.declared.standard.Standard.{Standard}
-use Rattle.mz_binary_theory.specs.Standards.{strict_standard}
+use Rattle.mz_binary_theory.specs.Standards.{Standard, strict_standard}
 
 -- header and tables are in order, and these are the statements, all good, of the whole list
 pub record Good (standard : Standard) (file : List ℕ) (ss : List Statement) : Type 0 where

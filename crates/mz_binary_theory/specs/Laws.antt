@@ -7,7 +7,7 @@ use Rattle.mz_logic_theory.specs.declared.binder.SortMods.{SortMods}
 use Rattle.mz_layout_tables.specs.Tables.{TermRow, ThmRow, sort_count, term_count, thm_count, mods_of, term_row, thm_row}
 use Rattle.mz_layout_tables.specs.RowWords.{IsResultWord, AreParamWords}
 use Rattle.mz_binary_theory.specs.Chains.{IsGoodStatement}
-use Rattle.mz_binary_theory.specs.declared.standard.Standard.{Standard}
+use Rattle.mz_binary_theory.specs.Standards.{Standard}
 
 -- The row says the term, by words that are right over these sorts: its parameters, its result, and whether it has a
 -- body. The body is what its stream spells.

@@ -6,7 +6,7 @@ use Rattle.mz_cmd.specs.StatementList.{statement_at}
 use Rattle.mz_logic_theory.specs.Declaration.{Declaration, sort_decl, term_decl, assertion_decl, sorts, terms, signatures, assertions}
 use Rattle.mz_logic_theory.specs.LegalLists.{Statement}
 use Rattle.mz_layout_tables.specs.Tables.{tables_of, term_count, thm_count}
-use Rattle.mz_unify_theory.specs.Spells.{SpellsTerm, SpellsThm}
+use Rattle.mz_machine_theory.specs.Spells.{SpellsTerm, SpellsThm}
 use Rattle.mz_machine_theory.specs.FileRows.{term_of_file, thm_of_file}
 
 -- ---- kinds

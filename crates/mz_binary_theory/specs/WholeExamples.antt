@@ -5,7 +5,6 @@ use Rattle.mz_cmd.specs.declared.rule.K.{K}
 use Rattle.mz_cmd.specs.declared.rule.K.TheVariants as k
 use Rattle.mz_cmd.specs.declared.rule.Refusal.{Refusal}
 use Rattle.mz_machine_theory.specs.WorkedRuns.{with_byte}
-use Rattle.mz_binary_theory.specs.declared.standard.Standard.TheVariants.{Portable}
 use Rattle.mz_binary_theory.specs.Standards.{strict_standard, draft_standard}
 use Rattle.mz_binary_theory.specs.FileRun.{run_file, file_steps}
 use Rattle.mz_binary_theory.specs.Files.{with_bytes, without, one, empty, imp, gen, fold, saved, dummy, bound_inside}
@@ -22,19 +21,6 @@ first_fault file = fault_of (run_file strict_standard file)
 
 abbrev pub first_fault_of_draft : List ℕ → Option Refusal
 first_fault_of_draft file = fault_of (run_file draft_standard file)
-
-abbrev pub first_fault_by_identity : List ℕ → Option Refusal
-first_fault_by_identity file = fault_of (run_file Portable file)
-
--- files that are good by identity; and some that are good by the standard machine alone, for they make twice what is asked
--- to be the same
-abbrev pub ByIdentity : Type 0
-ByIdentity =
-    (first_fault_by_identity one ≡ None)
-    × (first_fault_by_identity (with_byte 104 0x01 gen) ≡ None)
-    × (first_fault_by_identity imp ≡ refused 5 234 k.UnifyReference)
-    × (first_fault_by_identity fold ≡ refused 4 156 k.Unfold)
-    × (first_fault_by_identity saved ≡ refused 4 163 k.Unfold)
 
 -- a gap is refused, and let through in a draft
 abbrev pub Gaps : Type 0

@@ -14,17 +14,17 @@ use Rattle.mz_binary_theory.specs.Chains.{Statements, IsGoodStatement, GoodTo}
 use Rattle.mz_binary_theory.specs.Good.{Good, BinaryFault}
 use Rattle.mz_binary_theory.specs.Gapped.{AreFreeUnlessGapped}
 use Rattle.mz_binary_theory.specs.FileRun.{run_list, run_file, list_steps, file_steps}
-use Rattle.mz_binary_theory.specs.declared.standard.Standard.{Standard}
-use Rattle.mz_binary_theory.specs.declared.standard.Standard.TheVariants.{Portable}
-use Rattle.mz_binary_theory.specs.Standards.{lets_gaps, strict_standard}
+use Rattle.mz_binary_theory.specs.Standards.{Standard, lets_gaps, published, strict_standard}
+use Rattle.mz_machine_theory.specs.MachineState.{RowsBefore, Heading}
+use Rattle.mz_machine_theory.specs.Laws.{StreamsWithin}
 
 -- the statements of a good file are a legal list, a draft where gaps are let through
 abbrev pub GoodFilesAreLegal : Type 0
 GoodFilesAreLegal = (standard : Standard) (file : List ℕ) (ss : List Statement) → Good standard file ss → LegalBy (allowed_with (lets_gaps standard)) ss
 
--- what is good by identity is good by the standard machine
-abbrev pub PortableFilesAreGood : Type 0
-PortableFilesAreGood = (file : List ℕ) (ss : List Statement) → Good Portable file ss → Good strict_standard file ss
+-- what is good by any standard is good by the standard machine
+abbrev pub GoodFilesAreGoodByTable : Type 0
+GoodFilesAreGoodByTable = (standard : Standard) (file : List ℕ) (ss : List Statement) → Good standard file ss → Good (published standard.mode) file ss
 
 -- without gaps each theorem has a derivation from axioms alone over the statements before it
 abbrev pub GoodFilesAreClosed : Type 0
@@ -63,9 +63,13 @@ RunsAreExact = (standard : Standard) (file : List ℕ)
     → (((taken : Taken) × (run_file standard file ≡ Ok taken)) ↔ ((ss : List Statement) × Good standard file ss))
     × ((refusal : Refusal) → (run_file standard file ≡ Err refusal) ↔ BinaryFault standard file refusal)
 
--- a file of n bytes executes at most n * n + n commands
+-- each command of a body executes itself and at most one unify command a byte of a stream
+abbrev pub StepsAreFew : Standard → Type 0
+StepsAreFew standard = (tables : RowsBefore) (h : Heading) (n : ℕ) → StreamsWithin tables h n → (at : ℕ) (bytes : List ℕ) → standard.steps tables h at bytes ≤ length bytes * (n + 1)
+
+-- so a file of n bytes executes at most n * n + n commands
 abbrev pub StepsOfAFile : Type 0
-StepsOfAFile = (standard : Standard) (file : List ℕ) → file_steps standard file ≤ length file * length file + length file
+StepsOfAFile = (standard : Standard) → StepsAreFew standard → (file : List ℕ) → file_steps standard file ≤ length file * length file + length file
 
 -- a bound that is more than the bytes left never ends the list, nor the count of the commands executed
 abbrev pub BoundNeverEndsAList : Type 0

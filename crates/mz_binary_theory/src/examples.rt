@@ -1,5 +1,5 @@
 // Worked files, computed.
-ghost use Rattle.mz_binary_theory.specs.WholeExamples.{AcceptedFiles, BodiesChanged, ByIdentity, CutFiles, Gaps, HeadersChanged, RowsChanged, StepsOfFiles};
+ghost use Rattle.mz_binary_theory.specs.WholeExamples.{AcceptedFiles, BodiesChanged, CutFiles, Gaps, HeadersChanged, RowsChanged, StepsOfFiles};
 
 /// Files whose verdict is known from outside: accepted, or the statement, the place and the rule of the
 /// first fault; and how many commands are executed.
@@ -10,6 +10,5 @@ pub fn worked_files()
     ensures rows { RowsChanged }
     ensures bodies { BodiesChanged }
     ensures gaps { Gaps }
-    ensures by_identity { ByIdentity }
     ensures steps { StepsOfFiles }
 {}

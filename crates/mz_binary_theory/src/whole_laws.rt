@@ -1,10 +1,12 @@
 // Laws of whole files, of all kinds of statements.
-ghost use Rattle.mz_binary_theory.specs.WholeLaws.{BoundNeverEndsAList, GoodFilesAreClosed, GoodFilesAreLegal, GoodFilesSpell, GoodOrFault, NotBoth, OneFault, OneListOfStatements, PortableFilesAreGood, RunsAreExact, StepsOfAFile, TheoremsCiteAsTheirBodies, UngappedAreFree};
+ghost use Rattle.mz_base.specs.declared.mode.Mode.{Mode};
+ghost use Rattle.mz_binary_theory.specs.Standards.{published};
+ghost use Rattle.mz_binary_theory.specs.WholeLaws.{BoundNeverEndsAList, GoodFilesAreClosed, GoodFilesAreGoodByTable, GoodFilesAreLegal, GoodFilesSpell, GoodOrFault, NotBoth, OneFault, OneListOfStatements, RunsAreExact, StepsAreFew, StepsOfAFile, TheoremsCiteAsTheirBodies, UngappedAreFree};
 
-/// What is good by identity is good by the standard machine. The statements of a good file are a legal
+/// What is good by any standard is good by the standard machine. The statements of a good file are a legal
 /// list, with derivations from axioms alone; and a theorem's derivation cites what its body cites.
 pub fn whole_files_are_legal()
-    ensures portable { PortableFilesAreGood }
+    ensures by_table { GoodFilesAreGoodByTable }
     ensures legal { GoodFilesAreLegal }
     ensures closed { GoodFilesAreClosed }
     ensures citations { TheoremsCiteAsTheirBodies }
@@ -26,6 +28,7 @@ pub fn whole_files_have_one_outcome()
 
 /// The commands executed in a whole file are bounded, and no bound of the definition ends the list.
 pub fn steps_of_files_are_bounded()
+    ensures few { (mode : Mode) → StepsAreFew (published mode) }
     ensures steps { StepsOfAFile }
     ensures bound { BoundNeverEndsAList }
 {}

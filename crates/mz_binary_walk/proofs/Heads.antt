@@ -1,7 +1,6 @@
 -- The head of a statement that comes next.
 use Rattle.std.proofs.Common.{◌≡◌, ◌∙◌, ◌≤◌, ◌+◌, ◌<◌, ℕ, Bool, true, false, List, Some, Result, Ok, sym, ap, subst, arith}
 use Rattle.mz_cmd.specs.declared.code.StatementCode.{StatementCode}
-use Rattle.mz_cmd.specs.declared.code.StatementCode.TheVariants as codes
 use Rattle.mz_cmd.specs.declared.statement.StmtAt.{StmtAt}
 use Rattle.mz_cmd.specs.declared.statement.StmtAt.TheVariants as stands
 use Rattle.mz_cmd.specs.declared.statement.StmtFault.{StmtFault}

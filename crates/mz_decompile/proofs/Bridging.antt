@@ -20,7 +20,7 @@ use Rattle.mz_logic_theory.specs.declared.binder.SortMods.{SortMods}
 use Rattle.mz_logic_theory.proofs.Offered.{length-binders, length-signatures, slice_get-rows}
 use Rattle.mz_layout_tables.specs.Tables.{list_at, term_count, thm_count, term_row, thm_row, tables_of}
 use Rattle.mz_layout_tables.proofs.Offered.{length-sorts}
-use Rattle.mz_unify_theory.specs.Profile.{strict}
+use Rattle.mz_machine_theory.specs.Profile.{strict}
 use Rattle.mz_machine_theory.specs.Bodies.{Runs}
 use Rattle.mz_layout_tables.specs.Heads.{IsHeadAt, body_bytes, rows_after}
 use Rattle.mz_layout_tables.specs.declared.head.Head.{Head}

@@ -18,18 +18,17 @@ use Rattle.mz_logic_theory.specs.LegalLists.{AreDummies}
 use Rattle.mz_logic_theory.specs.declared.binder.Binder.{Binder}
 use Rattle.mz_logic_theory.specs.declared.binder.SortMods.{SortMods}
 use Rattle.mz_mmu_theory.specs.Proof.{Proof}
-use Rattle.mz_unify_theory.specs.Steps.{◌>>◌, need, at_place, Turn, over, goes_on}
-use Rattle.mz_unify_theory.specs.Streams.{of_definition}
-use Rattle.mz_unify_theory.specs.Spells.{trees_of, dummy_of, variables_from, SpellsForm}
-use Rattle.mz_unify_theory.specs.Profile.{strict, tree_parts, Item, expr, proof, obligation, conversion}
-use Rattle.mz_unify_theory.specs.UnifyMachine.{in_definition, is_empty}
-use Rattle.mz_unify_theory.proofs.Offered.{from_bind, from_need, from_want, taken, taken-is, place-ok, place_from, renamed, definition-spelled, unfolding-is, one-text, length-params}
+use Rattle.mz_machine_theory.specs.Steps.{◌>>◌, need, at_place, Turn, over, goes_on}
+use Rattle.mz_machine_theory.specs.Streams.{of_definition}
+use Rattle.mz_machine_theory.specs.Spells.{trees_of, dummy_of, variables_from, SpellsForm}
+use Rattle.mz_machine_theory.specs.Profile.{strict, tree_parts, Item, expr, proof, obligation, conversion}
+use Rattle.mz_machine_theory.specs.UnifyMachine.{in_definition, is_empty}
+use Rattle.mz_machine_theory.proofs.Offered.{from_bind, from_need, from_want, taken, taken-is, place-ok, place_from, renamed, definition-spelled, unfolding-is, one-text, length-params, body-fact, end-ran, own-run, last-expr, from_follow}
 use Rattle.mz_machine_theory.specs.MachineState.{RowsBefore, signatures_in, State, Kind, is_definition, Heading, Declares}
 use Rattle.mz_machine_theory.specs.FreeVars.{free_within}
 use Rattle.mz_machine_theory.specs.Premises.{bound_count, pop, pop_expr, pop_proof, pop_obligation, pop_conversion, is_conversion, is_obligation, may_be_dummy_sort}
 use Rattle.mz_machine_theory.specs.ProofMachine.{ends_with, matched_by, built, cited, referred, same_term, unfolding_of, has_provable_sort, proof_step, proof_end, last_item, ending, own_stream}
 use Rattle.mz_machine_theory.specs.Bodies.{BodyCommand, ends, proves, body_command, body_turn, body_turn_by, body_from, body_start, Runs}
-use Rattle.mz_machine_theory.proofs.Offered.{body-fact, end-ran, own-run, last-expr, from_follow}
 use Rattle.mz_machine.proofs.Offered.{count-after}
 use Rattle.mz_trace.specs.Traces.{Trace, traced, trace_turn, trace_command, trace_from, trace_start, Made}
 use Rattle.mz_binary_theory.proofs.Offered.{Among, fresh-fewer}

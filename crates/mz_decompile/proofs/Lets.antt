@@ -12,14 +12,13 @@ use Rattle.mz_logic_theory.specs.Conversions.{Conversion, Conversions, refl_conv
 use Rattle.mz_logic_theory.specs.declared.binder.Binder.{Binder}
 use Rattle.mz_mmu_theory.specs.Proof.{Proof, Proofs, by_hyp, by_name, by_citation, by_conv, by_let, by_gap, no_proofs, more_proofs}
 use Rattle.mz_mmu_theory.specs.Gaps.{LeavesOnly, AllLeaveOnly}
-use Rattle.mz_unify_theory.specs.Steps.{Turn, over, goes_on}
-use Rattle.mz_unify_theory.specs.Profile.{strict, tree_parts}
-use Rattle.mz_unify_theory.proofs.Offered.{from_bind, from_want, taken, taken-is}
+use Rattle.mz_machine_theory.specs.Steps.{Turn, over, goes_on}
+use Rattle.mz_machine_theory.specs.Profile.{strict, tree_parts}
+use Rattle.mz_machine_theory.proofs.Offered.{from_bind, from_want, taken, taken-is, from_follow}
 use Rattle.mz_machine_theory.specs.MachineState.{RowsBefore, State, Heading}
 use Rattle.mz_machine_theory.specs.Premises.{pop_expr, pop_proof, pop_obligation, pop_sides}
 use Rattle.mz_machine_theory.specs.ProofMachine.{citation, matched_by, unfolding_of, proof_step}
 use Rattle.mz_machine_theory.specs.Bodies.{BodyCommand, ends, proves, body_command}
-use Rattle.mz_machine_theory.proofs.Offered.{from_follow}
 use Rattle.mz_trace.specs.OneHoleContexts.{Part, expression, proved, owed, converted, for_proof, for_turned, for_operand, for_unfolded, for_cut, then_conv, paid, by_operands, proofs_above}
 use Rattle.mz_trace.specs.Traces.{Trace, stacked, kept, named, saved, referred, conversion_saved, to_convert, below_sides, cited, traced, trace_turn, trace_command, trace_from, trace_start, under_lets, Made}
 use Rattle.mz_decompile_text.specs.Phrasable.{SeesLets, AllSeeLets}

@@ -5,7 +5,7 @@ use Rattle.std.specs.Prelude.{◌==◌, ◌/◌, ◌%◌, codes, if◌then◌els
 use Rattle.mz_base.proofs.Offered.{drop-item}
 use Rattle.mz_logic_theory.specs.declared.word.Word.{Word}
 use Rattle.mz_logic_theory.specs.Words.{word_bound, word_deps, word_sort, places_set, binder_of, binders_from}
-use Rattle.mz_unify_theory.specs.Spells.{dummy_of}
+use Rattle.mz_machine_theory.specs.Spells.{dummy_of}
 use Rattle.mz_decompile_text.specs.Phrases.{Phrase, Phrases, a_word, no_phrases, one_more}
 use Rattle.mz_decompile_text.specs.Phrasing.{Vocabulary, list_of, followed_by, word_list, variable_names, binder, binders, marked_parts}
 use Rattle.mz_decompile_text.specs.ByNumber.{phrase_at, phrases_at}

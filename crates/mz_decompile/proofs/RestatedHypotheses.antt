@@ -10,8 +10,8 @@ use Rattle.mz_cmd.specs.Reading.{first_command}
 use Rattle.mz_logic_theory.specs.Tree.{Tree, Trees, var, app, none, more, listed}
 use Rattle.mz_logic_theory.specs.Signature.{Signature}
 use Rattle.mz_logic_theory.specs.Declaration.{Assertion}
-use Rattle.mz_unify_theory.specs.Streams.{StreamKind, of_assertion, UnifyCommand, StreamIs}
-use Rattle.mz_unify_theory.specs.Spells.{Marks, marked, at_first, Spells, SpellsAll, SpellsHyps, SpelledThm, SpellsThm}
+use Rattle.mz_machine_theory.specs.Streams.{StreamKind, of_assertion, UnifyCommand, StreamIs}
+use Rattle.mz_machine_theory.specs.Spells.{Marks, marked, at_first, Spells, SpellsAll, SpellsHyps, SpelledThm, SpellsThm}
 
 -- ---- a command takes a byte at least, and stands within the bytes
 

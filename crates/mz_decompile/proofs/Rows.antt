@@ -20,7 +20,7 @@ use Rattle.mz_logic_theory.proofs.Offered.{length-binders}
 use Rattle.mz_layout_tables.specs.Numbers.{number_at}
 use Rattle.mz_layout_tables.specs.Tables.{param_count, params_of, term_record, thm_record, term_row, thm_row}
 use Rattle.mz_layout_tables.proofs.Offered.{length-params, right-words}
-use Rattle.mz_unify_theory.specs.Spells.{SpellsForm}
+use Rattle.mz_machine_theory.specs.Spells.{SpellsForm}
 use Rattle.mz_machine_theory.specs.MachineState.{Heading, Declares}
 use Rattle.mz_machine_theory.specs.Premises.{bound_count}
 use Rattle.mz_layout_tables.specs.RowWords.{AreParamWords}

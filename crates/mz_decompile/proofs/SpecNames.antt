@@ -7,7 +7,7 @@ use Rattle.mz_lex.specs.Lexemes.{Lexeme, IsNext, LexesFrom}
 use Rattle.mz_lex.specs.declared.token.LexFault.{LexFault}
 use Rattle.mz_logic_theory.specs.Declaration.{Declaration}
 use Rattle.mz_math_theory.specs.Notation.{Table}
-use Rattle.mz_spec_theory.specs.Statement.{Statement, sort_statement, term_statement, assert_statement, definition_statement, operator_statement, coercion_statement, delimiter_statement, notation_statement, Spells, Sign, keyword, symbol, name, name_or_blank, formula, number, only_if, IsSign, AreSigns, end_signs, modifier_signs, statement_signs}
+use Rattle.mz_spec_theory.specs.Statement.{SpecStatement, sort_statement, term_statement, assert_statement, definition_statement, operator_statement, coercion_statement, delimiter_statement, notation_statement, Spells, Sign, keyword, symbol, name, name_or_blank, formula, number, only_if, IsSign, AreSigns, end_signs, modifier_signs, statement_signs}
 use Rattle.mz_spec_theory.specs.Reading.{place_of_first}
 use Rattle.mz_spec_theory.specs.declared.spec.NameSpan.{NameSpan}
 use Rattle.mz_base.specs.Names.{IsNew}
@@ -112,7 +112,7 @@ module _ (text : List ℕ) where
   in-space : (σ : State) (d e : Declaration) (w : List ℕ) → d ≡ e → IsOther w (seen_in (seen σ) e) → IsOther w (seen_in (seen σ) d)
   in-space σ d e w is other = subst (λ (x : Declaration). IsOther w (seen_in (seen σ) x)) (sym is) other
 
-  step : (σ ρ : State) (place : ℕ) (s : Statement) (ls : List Lexeme) → Every IsHere ls → Spells s ls → IsGood σ place s → After σ place s ρ → Adds σ ρ ⊎ Stays σ ρ
+  step : (σ ρ : State) (place : ℕ) (s : SpecStatement) (ls : List Lexeme) → Every IsHere ls → Spells s ls → IsGood σ place s → After σ place s ρ → Adds σ ρ ⊎ Stays σ ρ
   step σ ρ place (sort_statement m n) ls here spells (tokens, cut, good) (d, is, same) =
       let named = sort-here (modifier_signs m) n (signs-here (statement_signs (sort_statement m n)) ls spells here) in
       let new = new-other σ.sort_names n.text (good-new σ place (sort_statement m n) tokens good).0 in
@@ -166,7 +166,7 @@ module _ (text : List ℕ) where
     new = subst (λ (x : Seen). AreNew x f.decls (map span_name f.spans)) a.seen_is f.new;
   }
 
-  stand-further : (σ τ : State) (ss : List Statement) (ls rest : List Lexeme) → Every IsHere ls → Stand σ ss ls τ rest → Further σ τ
+  stand-further : (σ τ : State) (ss : List SpecStatement) (ls rest : List Lexeme) → Every IsHere ls → Stand σ ss ls τ rest → Further σ τ
   stand-further σ τ [] ls rest here (same, _) = record {
     decls = [];
     spans = [];

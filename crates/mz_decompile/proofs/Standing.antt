@@ -10,7 +10,7 @@ use Rattle.mz_logic_theory.specs.Declaration.{Term, Assertion, Declaration, sort
 use Rattle.mz_logic_theory.specs.declared.binder.Binder.{Binder}
 use Rattle.mz_logic_theory.specs.declared.binder.SortMods.{SortMods}
 use Rattle.mz_layout_tables.specs.Tables.{tables_of, term_count, thm_count}
-use Rattle.mz_unify_theory.specs.Spells.{SpellsTerm, SpellsThm}
+use Rattle.mz_machine_theory.specs.Spells.{SpellsTerm, SpellsThm}
 use Rattle.mz_machine_theory.specs.FileRows.{term_of_file, thm_of_file}
 use Rattle.mz_layout_tables.specs.declared.head.Head.{Head}
 use Rattle.mz_layout_tables.specs.declared.rows_so_far.Rows.{Rows}

@@ -9,7 +9,7 @@ use Rattle.mz_logic_theory.specs.declared.binder.Binder.{Binder}
 use Rattle.mz_logic_theory.specs.Words.{binders_of, result_of}
 use Rattle.mz_logic_theory.proofs.Offered.{length-binders}
 use Rattle.mz_layout_tables.specs.Tables.{term_row, thm_row}
-use Rattle.mz_unify_theory.specs.Spells.{SpellsTerm, SpellsThm, SpellsForm, dummy_of}
+use Rattle.mz_machine_theory.specs.Spells.{SpellsTerm, SpellsThm, SpellsForm, dummy_of}
 use Rattle.mz_machine_theory.specs.FileRows.{term_of_file, thm_of_file}
 use Rattle.mz_mmu_theory.specs.Proof.{Proof}
 use Rattle.mz_mmu_theory.specs.Weight.{proof_weight, stated_weight}

@@ -12,8 +12,8 @@ use Rattle.mz_logic_theory.specs.LegalLists.{Statement}
 use Rattle.mz_logic_theory.specs.declared.binder.Binder.{Binder}
 use Rattle.mz_mmu_theory.specs.Proof.{Proof}
 use Rattle.mz_trace.specs.Traces.{under_lets, Made}
-use Rattle.mz_unify_theory.specs.Profile.{strict}
-use Rattle.mz_unify_theory.specs.Spells.{SpellsThm}
+use Rattle.mz_machine_theory.specs.Profile.{strict}
+use Rattle.mz_machine_theory.specs.Spells.{SpellsThm}
 use Rattle.mz_machine_theory.specs.MachineState.{Heading, Declares}
 use Rattle.mz_machine_theory.specs.Bodies.{Runs}
 use Rattle.mz_machine_theory.specs.Sound.{AreRowParams, thm_row}

@@ -4,8 +4,8 @@ use Rattle.mz_cmd.specs.Codes.{statement_byte}
 use Rattle.mz_logic_theory.specs.Signature.{Signature}
 use Rattle.mz_logic_theory.specs.Declaration.{Term, Assertion, Declaration, sort_decl, term_decl, assertion_decl, sorts, terms, signatures, assertions}
 use Rattle.mz_logic_theory.specs.declared.binder.Binder.{Binder}
-use Rattle.mz_unify_theory.specs.Profile.{strict}
-use Rattle.mz_unify_theory.specs.Spells.{SpellsTerm, SpellsThm, dummy_of}
+use Rattle.mz_machine_theory.specs.Profile.{strict}
+use Rattle.mz_machine_theory.specs.Spells.{SpellsTerm, SpellsThm, dummy_of}
 use Rattle.mz_machine_theory.specs.Bodies.{Runs}
 use Rattle.mz_layout_tables.specs.Heads.{body_bytes}
 use Rattle.mz_machine_theory.specs.FileRows.{term_of_file, thm_of_file}

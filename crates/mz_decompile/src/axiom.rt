@@ -4,7 +4,7 @@ ghost use Rattle.mz_logic_theory.specs.Declaration.{Assertion};
 ghost use Rattle.mz_logic_theory.specs.Signature.{Signature};
 ghost use Rattle.mz_logic_theory.specs.Words.{binders_of};
 ghost use Rattle.mz_layout_tables.specs.Tables.{thm_count, thm_row};
-ghost use Rattle.mz_unify_theory.specs.Spells.{SpellsThm};
+ghost use Rattle.mz_machine_theory.specs.Spells.{SpellsThm};
 ghost use Rattle.mz_machine_theory.specs.FileRows.{thm_of_file};
 ghost use Rattle.mz_decompile_text.specs.Phrases.{a_word, a_list};
 ghost use Rattle.mz_decompile_text.specs.Phrasing.{binders};

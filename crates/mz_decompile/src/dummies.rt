@@ -1,6 +1,6 @@
 //! Dummies.
 ghost use Rattle.std.specs.Prelude.{◌≡◌, ◌<◌, ◌≤◌, ◌+◌, ◌∷◌, [], OnOk, length, map};
-ghost use Rattle.mz_unify_theory.specs.Spells.{dummy_of};
+ghost use Rattle.mz_machine_theory.specs.Spells.{dummy_of};
 ghost use Rattle.mz_decompile_text.specs.Phrases.{a_list};
 ghost use Rattle.mz_decompile_text.specs.Phrasing.{binder, binders};
 ghost use Rattle.mz_decompile_text.specs.Naming.{vocabulary_by};

@@ -4,7 +4,7 @@ ghost use Rattle.mz_logic_theory.specs.Declaration.{Assertion, Declaration};
 ghost use Rattle.mz_logic_theory.specs.Signature.{Signature};
 ghost use Rattle.mz_logic_theory.specs.declared.binder.Binder.{Binder};
 ghost use Rattle.mz_layout_tables.specs.Tables.{thm_count};
-ghost use Rattle.mz_unify_theory.specs.Spells.{SpellsThm};
+ghost use Rattle.mz_machine_theory.specs.Spells.{SpellsThm};
 ghost use Rattle.mz_machine_theory.specs.FileRows.{thm_of_file};
 ghost use Rattle.mz_mmu_theory.specs.Proof.{Proof};
 ghost use Rattle.mz_decompile_text.specs.Naming.{vocabulary_by};

@@ -9,9 +9,9 @@ use Rattle.mz_cmd.specs.Codes.{unify_code}
 use Rattle.mz_cmd.specs.Reading.{first_command}
 use Rattle.mz_logic_theory.specs.Tree.{Tree, Trees, var, app}
 use Rattle.mz_logic_theory.specs.Signature.{Signature}
-use Rattle.mz_unify_theory.specs.Streams.{StreamKind, of_assertion, of_definition, UnifyCommand, u_term, u_term_save, u_ref, u_dummy, u_hyp, u_end, unify_command, command_in, IsEnd, StreamIs}
-use Rattle.mz_unify_theory.proofs.Offered.{command-long, cmd-is, ref-is, dummy-is, term-is, save-is}
-use Rattle.mz_unify_theory.specs.Spells.{Marks, marked, with_dummy, HasOperands, Spells, SpellsAll}
+use Rattle.mz_machine_theory.specs.Streams.{StreamKind, of_assertion, of_definition, UnifyCommand, u_term, u_term_save, u_ref, u_dummy, u_hyp, u_end, unify_command, command_in, IsEnd, StreamIs}
+use Rattle.mz_machine_theory.proofs.Offered.{command-long, cmd-is, ref-is, dummy-is, term-is, save-is}
+use Rattle.mz_machine_theory.specs.Spells.{Marks, marked, with_dummy, HasOperands, Spells, SpellsAll}
 
 -- ---- bytes
 

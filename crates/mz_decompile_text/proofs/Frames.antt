@@ -7,9 +7,9 @@ use Rattle.mz_base.proofs.Offered.{slice_get-last, slice_get-append, slice_get-p
 use Rattle.mz_logic_theory.specs.Tree.{Tree, Trees, var, none, more, listed, size, trees_size}
 use Rattle.mz_logic_theory.specs.Signature.{Signature}
 use Rattle.mz_logic_theory.specs.declared.binder.Binder.{Binder}
-use Rattle.mz_unify_theory.specs.Streams.{UnifyCommand}
-use Rattle.mz_unify_theory.specs.Spells.{Marks, trees_of, variables_from}
-use Rattle.mz_unify_theory.proofs.Offered.{length-params}
+use Rattle.mz_machine_theory.specs.Streams.{UnifyCommand}
+use Rattle.mz_machine_theory.specs.Spells.{Marks, trees_of, variables_from}
+use Rattle.mz_machine_theory.proofs.Offered.{length-params}
 use Rattle.mz_decompile_text.specs.Phrases.{Phrase}
 use Rattle.mz_decompile_text.specs.Phrasing.{Vocabulary, expression}
 use Rattle.mz_decompile_text.specs.ByNumber.{Grows}

@@ -8,7 +8,7 @@ use Rattle.std.proofs.lemmas.Option.{get_or_from_slice_get, slice_get_within, sa
 use Rattle.mz_base.proofs.Offered.{slice_get-last, slice_get-append}
 use Rattle.mz_logic_theory.specs.Tree.{Tree, app, var}
 use Rattle.mz_logic_theory.specs.declared.binder.Binder.{Binder}
-use Rattle.mz_unify_theory.specs.Spells.{trees_of, variables_from}
+use Rattle.mz_machine_theory.specs.Spells.{trees_of, variables_from}
 use Rattle.mz_decompile_text.specs.Phrases.{Phrase, Phrases, a_list, a_word, one_more}
 use Rattle.mz_decompile_text.specs.Phrasing.{Vocabulary, expression, expressions}
 use Rattle.mz_decompile_text.specs.ByNumber.{phrases_at, Grows}

@@ -8,8 +8,8 @@ use Rattle.mz_logic_theory.specs.Tree.{Tree, Trees, var, app, none, more, listed
 use Rattle.mz_logic_theory.specs.declared.binder.Binder.{Binder}
 use Rattle.mz_cmd.specs.declared.code.UnifyCode.{UnifyCode}
 use Rattle.mz_cmd.specs.declared.code.UnifyCode.TheVariants as codes
-use Rattle.mz_unify_theory.specs.Streams.{StreamKind, UnifyCommand, StreamIs, command_in, u_dummy, u_hyp, u_ref, u_term, u_term_save}
-use Rattle.mz_unify_theory.specs.Spells.{HasOperands, Marks, Spells, SpellsAll, SpellsHyps, dummy_of, marked, trees_of, with_dummy}
+use Rattle.mz_machine_theory.specs.Streams.{StreamKind, UnifyCommand, StreamIs, command_in, u_dummy, u_hyp, u_ref, u_term, u_term_save}
+use Rattle.mz_machine_theory.specs.Spells.{HasOperands, Marks, Spells, SpellsAll, SpellsHyps, dummy_of, marked, trees_of, with_dummy}
 use Rattle.mz_decompile_text.specs.Phrases.{Phrase, a_word}
 use Rattle.mz_decompile_text.specs.Phrasing.{Vocabulary, expression}
 use Rattle.mz_decompile_text.specs.ByNumber.{Grows}

@@ -6,8 +6,8 @@ use Rattle.mz_logic_theory.specs.Signature.{Signature}
 use Rattle.mz_logic_theory.specs.Declaration.{Form, plain_form, abstract_form, defined, Term}
 use Rattle.mz_logic_theory.specs.declared.binder.Binder.{Binder}
 use Rattle.mz_layout_tables.specs.Tables.{term_row, thm_row}
-use Rattle.mz_unify_theory.specs.Spells.{Marks, SpellsForm, SpellsTerm, Text}
-use Rattle.mz_unify_theory.specs.Streams.{StreamKind, UnifyCommand, of_definition}
+use Rattle.mz_machine_theory.specs.Spells.{Marks, SpellsForm, SpellsTerm, Text}
+use Rattle.mz_machine_theory.specs.Streams.{StreamKind, UnifyCommand, of_definition}
 use Rattle.mz_machine_theory.specs.FileRows.{term_of_file}
 use Rattle.mz_decompile_text.specs.Frames.{Target}
 use Rattle.mz_decompile_text.specs.Reading.{Over}

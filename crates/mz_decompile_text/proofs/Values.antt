@@ -5,7 +5,7 @@ use Rattle.std.proofs.lemmas.Option.{get_or_from_slice_get, slice_get_within}
 use Rattle.mz_logic_theory.specs.Tree.{Trees, app, none, more, size, trees_size}
 use Rattle.mz_logic_theory.specs.Declaration.{Declaration}
 use Rattle.mz_mmu_theory.specs.Weight.{conv_weight, convs_weight, proof_weight, proofs_weight}
-use Rattle.mz_unify_theory.specs.Spells.{trees_of}
+use Rattle.mz_machine_theory.specs.Spells.{trees_of}
 use Rattle.mz_machine_theory.specs.MachineState.{RowsBefore}
 use Rattle.mz_decompile_text.specs.Phrases.{Phrase, Phrases, a_word, a_list, no_phrases, one_more}
 use Rattle.mz_decompile_text.specs.Phrasing.{Vocabulary, list_of, expression, expressions, conversion, conversions, proof, proofs, variable_names}

@@ -2,8 +2,8 @@
 use Rattle.std.specs.Prelude.{◌≡◌, ◌⊎◌, ◌+◌, ⊤, ℕ, suc, List, [], ◌∷◌, ◌++◌, length, map, Option, Some, None, slice_get}
 use Rattle.mz_logic_theory.specs.Tree.{Tree, Trees, app, more, listed}
 use Rattle.mz_logic_theory.specs.Signature.{Signature}
-use Rattle.mz_unify_theory.specs.Streams.{UnifyCommand}
-use Rattle.mz_unify_theory.specs.Spells.{Marks, SpellsAll}
+use Rattle.mz_machine_theory.specs.Streams.{UnifyCommand}
+use Rattle.mz_machine_theory.specs.Spells.{Marks, SpellsAll}
 use Rattle.mz_decompile_text.specs.Phrases.{Phrase, a_word}
 use Rattle.mz_decompile_text.specs.Phrasing.{Vocabulary, expression}
 use Rattle.mz_decompile_text.specs.declared.reading.Open.{Open}

@@ -2,8 +2,8 @@
 use Rattle.std.specs.Prelude.{◌≡◌, ◌+◌, ℕ, suc, List, [], ◌∷◌, ◌++◌, length, map, Option, Some, None, slice_set}
 use Rattle.mz_logic_theory.specs.Tree.{Tree}
 use Rattle.mz_logic_theory.specs.Signature.{Signature}
-use Rattle.mz_unify_theory.specs.Streams.{StreamKind, UnifyCommand, StreamIs}
-use Rattle.mz_unify_theory.specs.Spells.{Marks, Spells, SpellsHyps, dummy_of}
+use Rattle.mz_machine_theory.specs.Streams.{StreamKind, UnifyCommand, StreamIs}
+use Rattle.mz_machine_theory.specs.Spells.{Marks, Spells, SpellsHyps, dummy_of}
 use Rattle.mz_decompile_text.specs.Phrases.{Phrase}
 use Rattle.mz_decompile_text.specs.Phrasing.{Vocabulary, expression}
 use Rattle.mz_decompile_text.specs.Rows.{AreArities}

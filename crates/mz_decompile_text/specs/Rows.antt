@@ -5,7 +5,7 @@ use Rattle.mz_logic_theory.specs.Declaration.{Assertion}
 use Rattle.mz_logic_theory.specs.Tree.{Tree}
 use Rattle.mz_logic_theory.specs.declared.binder.Binder.{Binder}
 use Rattle.mz_layout_tables.specs.Tables.{term_count, term_row}
-use Rattle.mz_unify_theory.specs.Spells.{dummy_of}
+use Rattle.mz_machine_theory.specs.Spells.{dummy_of}
 use Rattle.mz_decompile_text.specs.Phrases.{Phrase}
 use Rattle.mz_decompile_text.specs.Phrasing.{Vocabulary, expression, expressions}
 use Rattle.mz_decompile_text.specs.ByNumber.{phrase_at, phrases_at}

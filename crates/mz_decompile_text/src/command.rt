@@ -1,6 +1,6 @@
 //! The commands of a stream, read from the front.
 ghost use Rattle.std.specs.Prelude.{◌≡◌, ◌≤◌, ◌<◌, [], ◌∷◌, List, MatchOption, Some, drop, length};
-ghost use Rattle.mz_unify_theory.specs.Streams.{StreamKind, StreamIs, UnifyCommand, command_in};
+ghost use Rattle.mz_machine_theory.specs.Streams.{StreamKind, StreamIs, UnifyCommand, command_in};
 
 use mz_cmd::{UnifyCode, cmd_at};
 

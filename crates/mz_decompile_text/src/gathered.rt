@@ -1,7 +1,7 @@
 //! Phrases of expressions, pushed.
 ghost use Rattle.std.specs.Prelude.{◌≡◌, ◌<◌, ◌≤◌, ◌∷◌, All, IfOk, List, Some, drop, length, map, slice_get, ℕ};
 ghost use Rattle.mz_logic_theory.specs.Tree.{Tree, app, var};
-ghost use Rattle.mz_unify_theory.specs.Spells.{trees_of};
+ghost use Rattle.mz_machine_theory.specs.Spells.{trees_of};
 ghost use Rattle.mz_decompile_text.specs.Phrases.{a_word};
 ghost use Rattle.mz_decompile_text.specs.Phrasing.{Vocabulary, expression};
 ghost use Rattle.mz_decompile_text.specs.Naming.{vocabulary_by};

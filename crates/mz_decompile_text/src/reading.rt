@@ -2,8 +2,8 @@
 ghost use Rattle.std.specs.Prelude.{◌≡◌, ◌<◌, ◌+◌, ◌*◌, ◌↔◌, ◌∷◌, [], ◌++◌, ℕ, IfOk, IsTrue, List, MatchBool, OnOk, Some, length, map, reverse, slice_get};
 ghost use Rattle.mz_logic_theory.specs.Tree.{Tree};
 ghost use Rattle.mz_logic_theory.specs.declared.binder.Binder.{Binder};
-ghost use Rattle.mz_unify_theory.specs.Spells.{Marks, Spells, SpellsHyps, at_first};
-ghost use Rattle.mz_unify_theory.specs.Streams.{UnifyCommand, StreamIs, StreamKind, u_dummy, u_ref, u_term, u_term_save};
+ghost use Rattle.mz_machine_theory.specs.Spells.{Marks, Spells, SpellsHyps, at_first};
+ghost use Rattle.mz_machine_theory.specs.Streams.{UnifyCommand, StreamIs, StreamKind, u_dummy, u_ref, u_term, u_term_save};
 ghost use Rattle.mz_decompile_text.specs.Naming.{vocabulary_by};
 ghost use Rattle.mz_decompile_text.specs.Phrasing.{Vocabulary, expression};
 ghost use Rattle.mz_decompile_text.specs.Phrases.{Phrase};

@@ -5,7 +5,7 @@ ghost use Rattle.mz_logic_theory.specs.Signature.{Signature};
 ghost use Rattle.mz_logic_theory.specs.Declaration.{Assertion, Term, defined};
 ghost use Rattle.mz_logic_theory.specs.declared.binder.Binder.{Binder};
 ghost use Rattle.mz_layout_tables.specs.Tables.{term_count, term_row, thm_count};
-ghost use Rattle.mz_unify_theory.specs.Spells.{SpellsTerm, SpellsThm};
+ghost use Rattle.mz_machine_theory.specs.Spells.{SpellsTerm, SpellsThm};
 ghost use Rattle.mz_machine_theory.specs.FileRows.{term_of_file, thm_of_file};
 ghost use Rattle.mz_decompile_text.specs.Naming.{vocabulary_by};
 ghost use Rattle.mz_decompile_text.specs.ByNumber.{Grows};

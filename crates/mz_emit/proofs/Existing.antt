@@ -55,9 +55,8 @@ definition_begins true = refl
 definition_begins false = refl
 
 assertion_begins : (x b : Bool) → IsTrue (begins_statement (assertion_code x b))
-assertion_begins true b = refl
 assertion_begins false true = refl
-assertion_begins false false = refl
+assertion_begins _ _ = refl
 
 -- ---- rows
 

@@ -40,10 +40,9 @@ there_at env (s ∷ ss) (suc i) h below =
     (there_at (env ++ s.decl ∷ []) ss i h.1 (omega arith))
 
 legal_front : (gaps : Bool) (env : List Declaration) (ss : List Statement) (i : ℕ) → LegalAsStatedAfter gaps env ss → LegalEnvAfter env (declared (take i ss))
-legal_front gaps env [] zero h = tt
-legal_front gaps env [] (suc i) h = tt
-legal_front gaps env (s ∷ ss) zero h = tt
 legal_front gaps env (s ∷ ss) (suc i) h = (h.0.0, legal_front gaps (env ++ s.decl ∷ []) ss i h.1)
+legal_front gaps env [] zero h = tt
+legal_front gaps env _ _ h = tt
 
 few_at : (l : Limit) (amount : Statement → ℕ) (most : ℕ) (ss : List Statement) (i : ℕ) → AllHold (each_within l amount most ss) → i < length ss
     → amount (statement_at ss i) ≤ most

@@ -14,9 +14,8 @@ use Rattle.mz_emit_theory.specs.Gapped.{proof_of, proofs_of, IsTheoremOf, IsGapp
 
 pub uses_more : (ss : List Statement) (ws : List Written) (s : Statement) (w : Written) → SayTheirUses ss ws → StatementUses s.decl s.proof w.body → SayTheirUses (ss ++ s ∷ []) (ws ++ w ∷ [])
 uses_more [] [] s w all one = (one, tt)
-uses_more [] (x ∷ ws) s w all one = absurd all
-uses_more (t ∷ ss) [] s w all one = absurd all
 uses_more (t ∷ ss) (x ∷ ws) s w (first, all) one = (first, uses_more ss ws s w all one)
+uses_more _ _ s w all one = absurd all
 
 -- ---- a theorem's body has its proof, and its proof a body
 

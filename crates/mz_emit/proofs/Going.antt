@@ -17,7 +17,7 @@ use Rattle.mz_store.specs.Bits.{Tells, bound_vars}
 use Rattle.mz_store.specs.Sharing.{AreIn, Sharing, IsIn, IsOver, DependsOn, head_of as head_term, operands_of, tree_of, trees_of}
 use Rattle.mz_store.specs.declared.item.Id.{Id}
 use Rattle.mz_emit_theory.specs.SymbolicState.{from_to}
-use Rattle.mz_unify_theory.specs.Streams.{UnifyCommand, u_ref, u_dummy, u_hyp}
+use Rattle.mz_machine_theory.specs.Streams.{UnifyCommand, u_ref, u_dummy, u_hyp}
 use Rattle.mz_emit_theory.specs.StreamWriting.{Writing, Written, are_met, head_of, headed, marked_if, meeting, place_in, referred, unify_bytes, write, write_all, write_hyps, and_then}
 use Rattle.mz_emit_theory.specs.InReach.{InReach, AllInReach}
 use Rattle.mz_emit_bodies.specs.Places.{place_of}

@@ -16,9 +16,8 @@ use Rattle.mz_emit.specs.Going.{IsMarked, IsStatement}
 
 slice_last : (xs : List Tree) (y : Tree) (n : ℕ) → n ≡ length xs → slice_get (xs ++ y ∷ []) n ≡ Some y
 slice_last [] y zero is = refl
-slice_last [] y (suc n) is = absurd (omega (arith, is))
-slice_last (x ∷ xs) y zero is = absurd (omega (arith, is))
 slice_last (x ∷ xs) y (suc n) is = slice_last xs y n (omega (arith, is))
+slice_last _ y _ is = absurd (omega (arith, is))
 
 module _ (params dummies : List Binder) (s : Sharing) (st : IsStatement params dummies s) (places : List (Option ℕ)) (len met : ℕ) (w : Writing) (m : IsMarked params s places len met w) where
   -- an expression's place by its number is the first place of its tree

@@ -58,9 +58,8 @@ plain_is abstract_form concrete e = absurd concrete
 plain_is (defined ds b) concrete e = absurd (let n : more b none ≡ none = e in cc)
 
 pub defined_is : (f : Form) (b : Tree) → body_of f ≡ more b none → f ≡ defined (dummies_of f) b
-defined_is plain_form b e = absurd (let n : none ≡ more b none = e in cc)
-defined_is abstract_form b e = absurd (let n : none ≡ more b none = e in cc)
 defined_is (defined ds c) b e = ap (defined ds) (let n : more c none ≡ more b none = e in cc)
+defined_is _ b e = absurd (let n : none ≡ more b none = e in cc)
 
 module _ (gaps : Bool) (b : List Statement) (s : Statement) (follows : MayFollow gaps b s) where
   pub proved_by : StatedProofsAreSound → (a : Assertion) → s.decl ≡ assertion_decl a → (q : Option Proof) → s.proof ≡ q

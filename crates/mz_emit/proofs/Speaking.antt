@@ -14,9 +14,9 @@ use Rattle.mz_logic_theory.proofs.Offered.{extends_append, each_from_all, keep_s
 use Rattle.mz_store.specs.Bits.{bound_from, bound_vars}
 use Rattle.mz_store.specs.Sharing.{Sharing, Holds, tree_of}
 use Rattle.mz_store.specs.declared.item.Id.{Id}
-use Rattle.mz_unify_theory.specs.Sorted.{Sorted, AllSorted}
-use Rattle.mz_unify_theory.specs.Spells.{dummy_of}
-use Rattle.mz_unify_theory.specs.Streams.{of_definition, of_assertion}
+use Rattle.mz_machine_theory.specs.Sorted.{Sorted, AllSorted}
+use Rattle.mz_machine_theory.specs.Spells.{dummy_of}
+use Rattle.mz_machine_theory.specs.Streams.{of_definition, of_assertion}
 use Rattle.mz_machine_theory.specs.Lists.{kind_of}
 use Rattle.mz_machine_theory.specs.Premises.{bound_count as bound_in}
 use Rattle.mz_machine_theory.specs.MachineState.{is_axiom, is_theorem, is_definition}

@@ -15,13 +15,13 @@ use Rattle.mz_logic_theory.proofs.Offered.{split_at, one_at}
 use Rattle.mz_store.specs.Bits.{Tells, bound_vars}
 use Rattle.mz_store.specs.Sharing.{Sharing, Holds, IsIn, IsOver, DependsOn, tree_of, trees_of}
 use Rattle.mz_store.specs.declared.item.Id.{Id}
-use Rattle.mz_unify_theory.specs.Streams.{UnifyCommand}
+use Rattle.mz_machine_theory.specs.Streams.{UnifyCommand}
 use Rattle.mz_emit_bodies.specs.Variables.{IsShared}
 use Rattle.mz_emit_bodies.proofs.Offered.{variable_id}
 use Rattle.mz_emit_theory.specs.SymbolicState.{from_to}
 use Rattle.mz_emit_theory.specs.StreamWriting.{Written, and_then, assertion_written, stream_of, unify_bytes, write, write_hyps, writing_start}
-use Rattle.mz_unify_theory.specs.Spells.{variables_from}
-use Rattle.mz_unify_theory.proofs.Offered.{length-params}
+use Rattle.mz_machine_theory.specs.Spells.{variables_from}
+use Rattle.mz_machine_theory.proofs.Offered.{length-params}
 use Rattle.mz_emit_bodies.specs.Places.{place_of}
 use Rattle.mz_emit_theory.proofs.Offered.{get-own}
 use Rattle.mz_emit.specs.Going.{IsMarked, IsStatement, spelled}
@@ -129,8 +129,6 @@ module _ (ss : List SortMods) (sigs : List Signature) (s : Sharing) (vars : List
 -- two cuts at one place
 pub one_cut : (ps ds qs es : List Binder) → ps ++ ds ≡ qs ++ es → length ps ≡ length qs → (ps ≡ qs) × (ds ≡ es)
 one_cut [] ds [] es is long = (refl, is)
-one_cut [] ds (q ∷ qs) es is long = absurd (omega (arith, long))
-one_cut (p ∷ ps) ds [] es is long = absurd (omega (arith, long))
 one_cut (p ∷ ps) ds (q ∷ qs) es is long =
     let rest = one_cut ps ds qs es (ap tail is) (omega (arith, long)) in
     (ap (λ (b : Binder). b ∷ ps) (ap (head p) is) ∙ ap (λ (bs : List Binder). q ∷ bs) rest.0, rest.1)
@@ -142,6 +140,7 @@ one_cut (p ∷ ps) ds (q ∷ qs) es is long =
     head : Binder → List Binder → Binder
     head d [] = d
     head d (b ∷ bs) = b
+one_cut _ ds _ es is long = absurd (omega (arith, long))
 
 -- ---- the end
 

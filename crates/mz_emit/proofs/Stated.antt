@@ -39,9 +39,8 @@ marked_stated true names k no_nodes s h = absurd h
 marked_stated true names k (node l ns) s (is, h) = local_stated names (kind_of l) ns s h
 
 statement_stated : (names : Names) (n : Node) (s : Statement) → IsStatement names n s → IsStated s.decl
-statement_stated names (atom at w) s h = absurd h
-statement_stated names (list at no_nodes) s h = absurd h
 statement_stated names (list at (node k ns)) s h = marked_stated (is_local_word k) names k ns s h
+statement_stated names _ s h = absurd h
 
 -- each statement of a text
 pub all_stated : (names : Names) (ns : Nodes) (ss : List Statement) → AreStatements names ns ss → All (λ s. IsStated s.decl) ss

@@ -10,11 +10,10 @@ use Rattle.mz_emit.specs.Emitting.{body_weight}
 module _ (env : List Declaration) where
   mutual
     conv_same : (c : Conversion) → conv_written env c ≡ conv_weight env c
-    conv_same (refl_conv e) = refl
     conv_same (sym_conv c) = omega (arith, conv_same c)
     conv_same (cong_conv t cs) = omega (arith, convs_same cs)
     conv_same (unfold_conv t es ys c) = omega (arith, conv_same c)
-    conv_same (gap_conv l r) = refl
+    conv_same _ = refl
 
     convs_same : (cs : Conversions) → convs_written env cs ≡ convs_weight env cs
     convs_same no_convs = refl
@@ -22,12 +21,10 @@ module _ (env : List Declaration) where
 
   mutual
     proof_same : (p : Proof) → proof_written env p ≡ proof_weight env p
-    proof_same (by_hyp i) = refl
-    proof_same (by_name i) = refl
     proof_same (by_citation T es ps) = omega (arith, proofs_same ps)
     proof_same (by_conv e c p) = omega (arith, conv_same c, proof_same p)
     proof_same (by_let p q) = omega (arith, proof_same p, proof_same q)
-    proof_same (by_gap e) = refl
+    proof_same _ = refl
 
     proofs_same : (ps : Proofs) → proofs_written env ps ≡ proofs_weight env ps
     proofs_same no_proofs = refl

@@ -10,7 +10,7 @@ use Rattle.mz_logic_theory.specs.Words.{signatures_of}
 use Rattle.mz_logic_theory.specs.WordsWritten.{CanBeWords, words_of, result_word}
 use Rattle.mz_logic_theory.specs.declared.binder.Binder.{Binder}
 use Rattle.mz_logic_theory.specs.declared.binder.SortMods.{SortMods}
-use Rattle.mz_unify_theory.specs.Sorted.{Sorted}
+use Rattle.mz_machine_theory.specs.Sorted.{Sorted}
 use Rattle.mz_machine_theory.specs.Premises.{bound_count as bound_in}
 use Rattle.mz_mmu_theory.specs.Statements.{HasGapsOnly, Statement}
 use Rattle.mz_mmu_theory.specs.Proof.{Proof}

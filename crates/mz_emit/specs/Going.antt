@@ -9,7 +9,7 @@ use Rattle.mz_store.specs.Bits.{Tells, bound_vars}
 use Rattle.mz_store.specs.Sharing.{AreIn, Holds, IsIn, IsOver, Sharing, tree_of, trees_of}
 use Rattle.mz_store.specs.declared.item.DepsMode.TheVariants as of
 use Rattle.mz_store.specs.declared.item.Id.{Id}
-use Rattle.mz_unify_theory.specs.Streams.{UnifyCommand}
+use Rattle.mz_machine_theory.specs.Streams.{UnifyCommand}
 use Rattle.mz_emit_theory.specs.StreamWriting.{Writing, Written, unify_bytes, write_all, write_hyps}
 use Rattle.mz_emit_theory.specs.InReach.{InReach, AllInReach}
 use Rattle.mz_emit_bodies.specs.Places.{place_of}

@@ -6,8 +6,8 @@ use Rattle.mz_logic_theory.specs.Declaration.{Declaration}
 use Rattle.mz_logic_theory.specs.declared.binder.Binder.{Binder}
 use Rattle.mz_store.specs.Sharing.{Sharing, IsIn, Holds, tree_of}
 use Rattle.mz_store.specs.declared.item.Id.{Id}
-use Rattle.mz_unify_theory.specs.Profile.{expr}
-use Rattle.mz_unify_theory.specs.Spells.{variables_from}
+use Rattle.mz_machine_theory.specs.Profile.{expr}
+use Rattle.mz_machine_theory.specs.Spells.{variables_from}
 use Rattle.mz_emit_bodies.specs.Instances.{Grows}
 use Rattle.mz_emit_bodies.specs.Places.{place_of}
 use Rattle.mz_emit_bodies.specs.TaskInvariant.{to_do}

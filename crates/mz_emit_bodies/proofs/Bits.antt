@@ -55,9 +55,8 @@ bit_push (p ∷ ps) ds d zero = ap unit (among_push p ds d) ∙ either (is_membe
   where
     either : (a b : Bool) → unit (a || b) ≡ max (unit a) (unit b)
     either true true = refl
-    either true false = refl
     either false true = refl
-    either false false = refl
+    either _ _ = refl
 bit_push (p ∷ ps) ds d (suc k) = bit_push ps ds d k
 
 pub bits_push : (ps ds : List ℕ) (d : ℕ) → bits_of ps (ds ++ d ∷ []) ≡ bit_or (bits_of ps ds) (bits_of ps (d ∷ []))

@@ -9,11 +9,11 @@ use Rattle.mz_cmd.specs.Spelling.{operand_len, shortest_size}
 use Rattle.mz_logic_theory.specs.Tree.{Tree, Trees, listed, instance, instances}
 use Rattle.mz_logic_theory.specs.Declaration.{Assertion, Declaration, signatures, assertions}
 use Rattle.mz_logic_theory.specs.Sorts.{Fits}
-use Rattle.mz_logic_theory.specs.Variables.{Apart}
+use Rattle.mz_logic_theory.specs.Variables.{AreDisjoint}
 use Rattle.mz_logic_theory.specs.declared.binder.Binder.{Binder}
-use Rattle.mz_unify_theory.specs.Profile.{Item, expr, proof, plain}
-use Rattle.mz_unify_theory.specs.Spells.{trees_of as listed_back}
-use Rattle.mz_unify_theory.proofs.Offered.{trees_of-listed}
+use Rattle.mz_machine_theory.specs.Profile.{Item, expr, proof, plain}
+use Rattle.mz_machine_theory.specs.Spells.{trees_of as listed_back}
+use Rattle.mz_machine_theory.proofs.Offered.{trees_of-listed}
 use Rattle.mz_machine_theory.specs.Bodies.{stands_in}
 use Rattle.mz_machine_theory.specs.MachineState.{is_theorem}
 use Rattle.mz_emit_theory.specs.SymbolicState.{Work}
@@ -24,10 +24,8 @@ use Rattle.mz_emit_theory.specs.SharedBodies.{Builds}
 -- ---- bytes
 
 operand_short : (size : ℕ) → operand_len size ≤ 4
-operand_short zero = omega arith
-operand_short (suc zero) = omega arith
 operand_short (suc (suc zero)) = omega arith
-operand_short (suc (suc (suc n))) = omega arith
+operand_short _ = omega arith
 
 pub command_short : (c : ProofCode) (v : ℕ) → length (command_bytes (c, v)) ≤ 5
 command_short c v = (let a = length-bytes_low_first 0 (operand_len (shortest_size v)) v in let b = operand_short (shortest_size v) in omega (arith, a, b))
@@ -62,7 +60,7 @@ thm_step gaps env ctx T es hs rest items e (a, at, fits, apart, hs-is, reach, so
       items,
       at,
       subst (λ (z : Trees). Fits (signatures env) ctx z a.params) (sym back) fits,
-      subst (λ (z : Trees). Apart ctx z a.params) (sym back) apart,
+      subst (λ (z : Trees). AreDisjoint ctx z a.params) (sym back) apart,
       (
         hs,
         ap listed_back hs-is ∙ trees_of-listed (instances es a.hyps) ∙ ap (λ (z : Trees). instances z a.hyps) (sym back),
@@ -76,19 +74,4 @@ thm_step gaps env ctx T es hs rest items e (a, at, fits, apart, hs-is, reach, so
 -- every command may stand in a theorem's body
 pub in_theorem : (gaps : Bool) (c : ProofCode) → stands_in (plain gaps) is_theorem c ≡ true
 in_theorem gaps code.Term = refl
-in_theorem gaps code.TermSave = refl
-in_theorem gaps code.Ref = refl
-in_theorem gaps code.Dummy = refl
-in_theorem gaps code.Thm = refl
-in_theorem gaps code.ThmSave = refl
-in_theorem gaps code.Hyp = refl
-in_theorem gaps code.Conv = refl
-in_theorem gaps code.Refl = refl
-in_theorem gaps code.Symm = refl
-in_theorem gaps code.Cong = refl
-in_theorem gaps code.Unfold = refl
-in_theorem gaps code.ConvCut = refl
-in_theorem gaps code.ConvRef = refl
-in_theorem gaps code.ConvSave = refl
-in_theorem gaps code.Save = refl
-in_theorem gaps code.Sorry = refl
+in_theorem gaps _ = refl

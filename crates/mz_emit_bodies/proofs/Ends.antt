@@ -9,7 +9,7 @@ use Rattle.mz_logic_theory.specs.Declaration.{Declaration, signatures}
 use Rattle.mz_logic_theory.specs.declared.binder.Binder.{Binder}
 use Rattle.mz_store.specs.Sharing.{Sharing, IsIn, AreIn, sort_of, tree_of, trees_of}
 use Rattle.mz_store.specs.declared.item.Id.{Id}
-use Rattle.mz_unify_theory.specs.Sorted.{Sorted}
+use Rattle.mz_machine_theory.specs.Sorted.{Sorted}
 use Rattle.mz_mmu_theory.specs.Proof.{Proof}
 use Rattle.mz_emit_theory.specs.BodyWriting.{hypothesis, Writing, Written, Writer, and_then, nothing, ◌>>◌, keeping, at_first, write_expr, write_proof, write_hyp, write_hyps, definition_written, axiom_written, theorem_written}
 use Rattle.mz_emit_theory.specs.Claims.{IsSound}
@@ -36,9 +36,8 @@ use Rattle.mz_emit_bodies.proofs.Writers.{writing_ended, writing_more, writing_p
 
 take_whole : (A : Type 0) (xs : List A) (k : ℕ) → k ≡ length xs → take k xs ≡ xs
 take_whole A [] zero is = refl
-take_whole A [] (suc k) is = absurd (omega (arith, is))
-take_whole A (x ∷ xs) zero is = absurd (omega (arith, is))
 take_whole A (x ∷ xs) (suc k) is = ap (λ (zs : List A). x ∷ zs) (take_whole A xs k (omega (arith, is)))
+take_whole A _ _ is = absurd (omega (arith, is))
 
 module _ (env : List Declaration) (o : Job) (s : Sharing) (vars : List Id) (places : List (Option ℕ)) (len : ℕ) (hps : List ℕ) (cells : List Cell) where
   -- other tasks, for which this is written

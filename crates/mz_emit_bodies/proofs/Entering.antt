@@ -12,7 +12,7 @@ use Rattle.mz_store.specs.Bits.{bound_from, bound_vars}
 use Rattle.mz_store.specs.Sharing.{Sharing, AreIn, Holds, IsOver, KeepsIds, tree_of, trees_of, dummy_binder}
 use Rattle.mz_store.specs.declared.item.DepsMode.TheVariants as of
 use Rattle.mz_store.specs.declared.item.Id.{Id}
-use Rattle.mz_unify_theory.specs.Spells.{trees_of as operands_of, variables_from}
+use Rattle.mz_machine_theory.specs.Spells.{trees_of as operands_of, variables_from}
 use Rattle.mz_emit_bodies.specs.Variables.{IsShared}
 use Rattle.mz_emit_bodies.proofs.Making.{trees_push, in_push, are_in_grown, trees_grown}
 
@@ -34,13 +34,12 @@ number_push is i h new k id at = elim (split_at is (i ∷ []) k id at) [
 from_numbers : (s : Sharing) (j : ℕ) (vars : List Id) (ctx : List Binder) → length vars ≡ length ctx → ((i : ℕ) (id : Id) → slice_get vars i ≡ Some id → Holds s id.0 (var (j + i)))
     → AreIn s vars × (trees_of s vars ≡ operands_of (variables_from j ctx))
 from_numbers s j [] [] long h = (tt, refl)
-from_numbers s j [] (b ∷ ctx) long h = absurd (omega (arith, long))
-from_numbers s j (v ∷ vars) [] long h = absurd (omega (arith, long))
 from_numbers s j (v ∷ vars) (b ∷ ctx) long h =
     let first : Holds s v.0 (var (j + 0)) = h 0 v refl in
     let rest : AreIn s vars × (trees_of s vars ≡ operands_of (variables_from (suc j) ctx)) =
     from_numbers s (suc j) vars ctx (omega (arith, long)) (λ i id at. subst (λ (n : ℕ). Holds s id.0 (var n)) (omega arith) (h (suc i) id at)) in
     ((first.0, rest.0), ap (λ (e : Tree). more e (trees_of s vars)) (first.1 ∙ ap var (omega arith)) ∙ ap (more (var j)) rest.1)
+from_numbers s j _ _ long h = absurd (omega (arith, long))
 
 pub parameters_shared : (s : Sharing) (ws : List Word) (vars : List Id) → s.context ≡ binders_of ws → s.mode ≡ of.All → length s.entries ≡ length ws
     → ((i : ℕ) → i < length ws → tree_of s i ≡ var i) → ((sigs : List Signature) → IsOver sigs s) → length vars ≡ length ws → Each vars (λ i id. id.0 ≡ i)

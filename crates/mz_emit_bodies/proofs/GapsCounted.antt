@@ -14,8 +14,8 @@ use Rattle.mz_logic_theory.specs.Declaration.{Declaration}
 use Rattle.mz_logic_theory.specs.Conversions.{Conversion, Conversions, refl_conv, sym_conv, cong_conv, unfold_conv, gap_conv, no_convs, more_convs}
 use Rattle.mz_logic_theory.specs.declared.binder.Binder.{Binder}
 use Rattle.mz_mmu_theory.specs.Proof.{Proof, Proofs, by_hyp, by_name, by_citation, by_conv, by_let, by_gap, no_proofs, more_proofs}
-use Rattle.mz_unify_theory.specs.Spells.{trees_of}
-use Rattle.mz_unify_theory.proofs.Offered.{listed-trees_of}
+use Rattle.mz_machine_theory.specs.Spells.{trees_of}
+use Rattle.mz_machine_theory.proofs.Offered.{listed-trees_of}
 use Rattle.mz_emit_theory.specs.Claims.{conclusion_of}
 use Rattle.mz_emit_theory.specs.Costs.{body_at}
 use Rattle.mz_emit_theory.specs.Uses.{a_gap, command_uses, commands_use, conv_uses}
@@ -57,7 +57,6 @@ has_none f n q w = none_counted (f w).commands (q.uses w)
 module _ (env : List Declaration) (ctx : List Binder) where
   mutual
     payment_has : (c : Conversion) → Has (write_payment env ctx c) (gaps_in c)
-    payment_has (refl_conv e) = λ w. omega arith
     payment_has (sym_conv c) = has_to (write_payment env ctx (sym_conv c)) (0 + gaps_in c) (gaps_in c) (omega arith)
         (has_then (command code.Symm 0) (write_payment env ctx c) 0 (gaps_in c) (λ w. omega arith) (payment_has c))
     payment_has (cong_conv t cs) = has_to (write_payment env ctx (cong_conv t cs)) (0 + gaps_among cs) (gaps_among cs) (omega arith)
@@ -69,7 +68,7 @@ module _ (env : List Declaration) (ctx : List Binder) where
         (has_then (write_expr ctx l) (write_expr ctx x >> command code.Unfold 0 >> write_payment env ctx c) 0 (0 + (0 + gaps_in c)) (has_none (write_expr ctx l) (5 * size l) (expr_quiet a_gap ctx l))
         (has_then (write_expr ctx x) (command code.Unfold 0 >> write_payment env ctx c) 0 (0 + gaps_in c) (has_none (write_expr ctx x) (5 * size x) (expr_quiet a_gap ctx x))
         (has_then (command code.Unfold 0) (write_payment env ctx c) 0 (gaps_in c) (λ w. omega arith) (payment_has c))))
-    payment_has (gap_conv l r) = λ w. omega arith
+    payment_has _ = λ w. omega arith
 
     payments_have : (cs : Conversions) → Has (write_payments env ctx cs) (gaps_among cs)
     payments_have no_convs = λ w. omega arith
@@ -256,10 +255,9 @@ each_named : (P : Writer → Option ℕ → Type 0) (lets : List Writer) (sight 
     → P (get_or lets i nothing) (slice_get sight i) → (i ≡ length sight → P f (Some m)) → P nothing None → P (get_or (lets ++ f ∷ []) i nothing) (slice_get (sight ++ m ∷ []) i)
 each_named P [] [] f m zero many older own past = own refl
 each_named P [] [] f m (suc i) many older own past = past
-each_named P [] (k ∷ sight) f m i many older own past = absurd (omega (arith, many))
-each_named P (g ∷ lets) [] f m i many older own past = absurd (omega (arith, many))
 each_named P (g ∷ lets) (k ∷ sight) f m zero many older own past = older
 each_named P (g ∷ lets) (k ∷ sight) f m (suc i) many older own past = each_named P lets sight f m i (omega (arith, many)) older (λ is. own (ap suc is)) past
+each_named P _ _ f m i many older own past = absurd (omega (arith, many))
 
 -- a let is met
 met_stands : (w : Writing) (met : List Met) (x : Met) → Stands met w → Stands (met ++ x ∷ []) (record w { lets = suc w.lets })

@@ -9,8 +9,8 @@ use Rattle.mz_logic_theory.specs.Tree.{Tree, Trees, var, app}
 use Rattle.mz_logic_theory.specs.Legality.{binder_at}
 use Rattle.mz_logic_theory.specs.declared.binder.Binder.{Binder}
 use Rattle.mz_store.specs.Sharing.{Sharing, IsIn, Holds, tree_of}
-use Rattle.mz_unify_theory.specs.Tests.{same_tree}
-use Rattle.mz_unify_theory.proofs.Offered.{same_tree-refl, same_tree-true, not-both}
+use Rattle.mz_machine_theory.specs.Tests.{same_tree}
+use Rattle.mz_machine_theory.proofs.Offered.{same_tree-refl, same_tree-true, not-both}
 use Rattle.mz_emit_bodies.specs.Instances.{Grows}
 use Rattle.mz_emit_bodies.specs.Places.{place_of}
 use Rattle.mz_emit_bodies.proofs.Making.{in_grown, tree_grown}
@@ -81,9 +81,8 @@ not_same a b other = elim (cases_Bool (a == b)) [ inl is ↦ absurd (other (eqb-
 
 slice_before : (A : Type 0) (xs : List A) (y : A) (k : ℕ) → (k ≡ length xs → ⊥) → slice_get (xs ++ y ∷ []) k ≡ slice_get xs k
 slice_before A [] y zero other = absurd (other refl)
-slice_before A [] y (suc k) other = refl
-slice_before A (x ∷ xs) y zero other = refl
 slice_before A (x ∷ xs) y (suc k) other = slice_before A xs y k (λ is. other (ap suc is))
+slice_before A _ y _ other = refl
 
 pub some_get : (a b : ℕ) → ◌≡◌ {A = Option ℕ} (Some a) (Some b) → a ≡ b
 some_get a b e = ap get e

@@ -9,9 +9,8 @@ set_map A B g (z ∷ xs) zero x y lt is same = ap (λ (b : B). b ∷ map g xs) (
 set_map A B g (z ∷ xs) (suc i) x y lt is same = ap (λ (bs : List B). g z ∷ bs) (set_map A B g xs i x y (omega (arith, lt)) is same)
 
 pub set_long : (A : Type 0) (xs : List A) (i : ℕ) (y : A) → length (slice_set xs i y) ≡ length xs
-set_long A [] i y = refl
-set_long A (z ∷ xs) zero y = refl
 set_long A (z ∷ xs) (suc i) y = ap suc (set_long A xs i y)
+set_long A _ _ y = refl
 
 pub set_at : (A B : Type 0) (g : A → B) (xs : List A) (i : ℕ) (y : A) (b : B) → i < length xs → get_or (map g (slice_set xs i y)) i b ≡ g y
 set_at A B g [] i y b lt = absurd (omega (arith, lt))
@@ -19,11 +18,9 @@ set_at A B g (z ∷ xs) zero y b lt = refl
 set_at A B g (z ∷ xs) (suc i) y b lt = set_at A B g xs i y b (omega (arith, lt))
 
 pub set_others : (A B : Type 0) (g : A → B) (xs : List A) (i j : ℕ) (y : A) (b : B) → (j ≡ i → ⊥) → get_or (map g (slice_set xs i y)) j b ≡ get_or (map g xs) j b
-set_others A B g [] i j y b other = refl
 set_others A B g (z ∷ xs) zero zero y b other = absurd (other refl)
-set_others A B g (z ∷ xs) zero (suc j) y b other = refl
-set_others A B g (z ∷ xs) (suc i) zero y b other = refl
 set_others A B g (z ∷ xs) (suc i) (suc j) y b other = set_others A B g xs i j y b (λ is. other (ap suc is))
+set_others A B g _ _ _ y b other = refl
 
 pub get_slice : (A : Type 0) (xs : List A) (i : ℕ) (z : A) → i < length xs → slice_get xs i ≡ Some (get_or xs i z)
 get_slice A [] i z lt = absurd (omega (arith, lt))
@@ -32,9 +29,8 @@ get_slice A (x ∷ xs) (suc i) z lt = get_slice A xs i z (omega (arith, lt))
 
 pub slice_last : (A : Type 0) (xs : List A) (y : A) (n : ℕ) → n ≡ length xs → slice_get (xs ++ y ∷ []) n ≡ Some y
 slice_last A [] y zero is = refl
-slice_last A [] y (suc n) is = absurd (omega (arith, is))
-slice_last A (x ∷ xs) y zero is = absurd (omega (arith, is))
 slice_last A (x ∷ xs) y (suc n) is = slice_last A xs y n (omega (arith, is))
+slice_last A _ y _ is = absurd (omega (arith, is))
 
 pub last_or_before : (A : Type 0) (xs : List A) (y : A) (k : ℕ) (p : A) → slice_get (xs ++ y ∷ []) k ≡ Some p → (slice_get xs k ≡ Some p) ⊎ ((k ≡ length xs) × (y ≡ p))
 last_or_before A [] y zero p at = inr (refl, from at)
@@ -46,10 +42,9 @@ last_or_before A (x ∷ xs) y zero p at = inl at
 last_or_before A (x ∷ xs) y (suc k) p at = elim (last_or_before A xs y k p at) [ inl h ↦ inl h | inr (k-is, y-is) ↦ inr (ap suc k-is, y-is) ]
 
 pub none_last : (xs : List (Option ℕ)) (c p : ℕ) → get_or (xs ++ None ∷ []) c None ≡ Some p → get_or xs c None ≡ Some p
-none_last [] zero p is = is
-none_last [] (suc c) p is = is
-none_last (x ∷ xs) zero p is = is
 none_last (x ∷ xs) (suc c) p is = none_last xs c p is
+none_last [] zero p is = is
+none_last _ _ p is = is
 
 pub index_slice : (A : Type 0) (xs : List A) (i : ℕ) (x d : A) → i < length xs → x ≡ slice_index_or xs i d → slice_get xs i ≡ Some x
 index_slice A [] i x d lt is = absurd (omega (arith, lt))

@@ -71,30 +71,17 @@ pushes_cost env s ps (i ∷ is) us = (let r = pushes_cost env s ps is us in omeg
 
 module _ (gaps : Bool) (env : List Declaration) (ctx : List Binder) (hyps : List Tree) (n : ℕ) (s s' : Sharing) (g : Grows s s') (ps : List Part) where
   can_grown : (t : Task) → CanBeDone gaps env ctx hyps n s ps t → CanBeDone gaps env ctx hyps n s' ps t
-  can_grown (prove p chain) h = h
-  can_grown (prove_all qs chain) h = h
-  can_grown (cite T es) h = h
   can_grown (push i) h = in_grown s s' g i h
   can_grown (make i) h = (in_grown s s' g i h.0, h.1, ap head_of (tree_grown s s' g i h.0) ∙ h.2)
-  can_grown (pay c) h = h
-  can_grown (pay_all cs) h = h
-  can_grown (give c v) h = h
-  can_grown (save c) h = h
+  can_grown _ h = h
 
   pub all_grown : (ts : List Task) → AllCanBeDone gaps env ctx hyps n s ps ts → AllCanBeDone gaps env ctx hyps n s' ps ts
   all_grown [] h = h
   all_grown (t ∷ ts) (can, h) = (can_grown t can, all_grown ts h)
 
   cost_grown : (t : Task) → CanBeDone gaps env ctx hyps n s ps t → task_cost env s' ps t ≡ task_cost env s ps t
-  cost_grown (prove p chain) h = refl
-  cost_grown (prove_all qs chain) h = refl
-  cost_grown (cite T es) h = refl
   cost_grown (push i) h = ap (λ (e : Tree). 2 * size e) (tree_grown s s' g i h)
-  cost_grown (make i) h = refl
-  cost_grown (pay c) h = refl
-  cost_grown (pay_all cs) h = refl
-  cost_grown (give c v) h = refl
-  cost_grown (save c) h = refl
+  cost_grown _ h = refl
 
   pub left_grown : (ts : List Task) → AllCanBeDone gaps env ctx hyps n s ps ts → left env s' ps ts ≡ left env s ps ts
   left_grown [] h = refl
@@ -115,13 +102,8 @@ module _ (gaps : Bool) (env : List Declaration) (ctx : List Binder) (hyps : List
   can_opened : (t : Task) → CanBeDone gaps env ctx hyps n s ps t → CanBeDone gaps env ctx hyps n s (ps ++ p ∷ []) t
   can_opened (prove q chain) h = (h.0, there_opened chain h.1, subst (λ (L : List Tree). IsSound gaps env ctx hyps L q) (sym (claims_more chain h.1)) h.2)
   can_opened (prove_all qs chain) h = (h.0, there_opened chain h.1, subst (λ (L : List Tree). AreSound gaps env ctx hyps L qs) (sym (claims_more chain h.1)) h.2)
-  can_opened (cite T es) h = h
-  can_opened (push i) h = h
-  can_opened (make i) h = h
-  can_opened (pay c) h = h
-  can_opened (pay_all cs) h = h
-  can_opened (give c v) h = h
   can_opened (save c) h = omega (arith, h, more_parts)
+  can_opened _ h = h
 
   pub all_opened : (ts : List Task) → AllCanBeDone gaps env ctx hyps n s ps ts → AllCanBeDone gaps env ctx hyps n s (ps ++ p ∷ []) ts
   all_opened [] h = h
@@ -130,13 +112,7 @@ module _ (gaps : Bool) (env : List Declaration) (ctx : List Binder) (hyps : List
   cost_opened : (t : Task) → CanBeDone gaps env ctx hyps n s ps t → task_cost env s (ps ++ p ∷ []) t ≡ task_cost env s ps t
   cost_opened (prove q chain) h = ap (λ (L : List ℕ). cost env L q) (sight_more ℕ (λ k. cost env) ps p chain h.1)
   cost_opened (prove_all qs chain) h = ap (λ (L : List ℕ). costs env L qs) (sight_more ℕ (λ k. cost env) ps p chain h.1)
-  cost_opened (cite T es) h = refl
-  cost_opened (push i) h = refl
-  cost_opened (make i) h = refl
-  cost_opened (pay c) h = refl
-  cost_opened (pay_all cs) h = refl
-  cost_opened (give c v) h = refl
-  cost_opened (save c) h = refl
+  cost_opened _ h = refl
 
   pub left_opened : (ts : List Task) → AllCanBeDone gaps env ctx hyps n s ps ts → left env s (ps ++ p ∷ []) ts ≡ left env s ps ts
   left_opened [] h = refl

@@ -9,8 +9,8 @@ use Rattle.mz_cmd.specs.declared.code.ProofCode.TheVariants as code
 use Rattle.mz_logic_theory.specs.Tree.{Tree, listed, size, trees_size}
 use Rattle.mz_logic_theory.specs.Declaration.{Declaration, signatures, assertions}
 use Rattle.mz_logic_theory.specs.declared.binder.Binder.{Binder}
-use Rattle.mz_unify_theory.specs.Profile.{Item, expr, proof, obligation, conversion}
-use Rattle.mz_unify_theory.specs.Spells.{dummy_of}
+use Rattle.mz_machine_theory.specs.Profile.{Item, expr, proof, obligation, conversion}
+use Rattle.mz_machine_theory.specs.Spells.{dummy_of}
 use Rattle.mz_emit_theory.specs.BodyWriting.{definition_written, axiom_written, theorem_written}
 use Rattle.mz_emit_theory.specs.SharedBodies.{Builds, IsPlain, ArePlain}
 use Rattle.mz_emit_theory.specs.Steps.{IsReferred, Step}
@@ -70,16 +70,7 @@ module _ (gaps : Bool) (env : List Declaration) (ctx : List Binder) where
   operand_short small few code.Dummy v w w' (x, at, may, out, is) plain room = small.sorts x (dummy_of v) at
   operand_short small few code.Thm v w w' (e, rest, cited, is) plain room = (let lt = slice_get_within (assertions env) v cited.0 cited.3 in omega (arith, lt, few))
   operand_short small few code.ThmSave v w w' (e, rest, cited, is) plain room = (let lt = slice_get_within (assertions env) v cited.0 cited.3 in omega (arith, lt, few))
-  operand_short small few code.Hyp v w w' step plain room = zero_short v plain
-  operand_short small few code.Conv v w w' step plain room = zero_short v plain
-  operand_short small few code.Refl v w w' step plain room = zero_short v plain
-  operand_short small few code.Symm v w w' step plain room = zero_short v plain
-  operand_short small few code.Cong v w w' step plain room = zero_short v plain
-  operand_short small few code.Unfold v w w' step plain room = zero_short v plain
-  operand_short small few code.ConvCut v w w' step plain room = zero_short v plain
-  operand_short small few code.ConvSave v w w' step plain room = zero_short v plain
-  operand_short small few code.Save v w w' step plain room = zero_short v plain
-  operand_short small few code.Sorry v w w' step plain room = zero_short v plain
+  operand_short small few _ v w w' step plain room = zero_short v plain
 
   -- ---- commands
 

@@ -6,15 +6,14 @@ use Rattle.mz_logic_theory.specs.Tree.{Tree, Trees, var, app, none, more, instan
 use Rattle.mz_logic_theory.specs.Signature.{Signature}
 use Rattle.mz_logic_theory.specs.Sorts.{HasSort}
 use Rattle.mz_logic_theory.specs.declared.binder.Binder.{Binder}
-use Rattle.mz_unify_theory.specs.Spells.{trees_of as operands_of, variables_from}
+use Rattle.mz_machine_theory.specs.Spells.{trees_of as operands_of, variables_from}
 use Rattle.mz_store.specs.Sharing.{Sharing, AreIn, IsIn, IsOver, head_of, tree_of, trees_of}
 use Rattle.mz_store.specs.declared.item.Id.{Id}
-use Rattle.mz_unify_theory.proofs.Offered.{length-params}
+use Rattle.mz_machine_theory.proofs.Offered.{length-params, first-operand}
 use Rattle.mz_emit_bodies.specs.Instances.{Grows}
 use Rattle.mz_emit_theory.specs.InReach.{InReach, AllInReach, AreSorted}
 use Rattle.mz_emit_bodies.specs.Variables.{IsShared}
 use Rattle.mz_emit_bodies.proofs.Making.{are_in_grown, trees_grown}
-use Rattle.mz_machine_theory.proofs.Offered.{first-operand}
 use Rattle.mz_emit_theory.proofs.Offered.{reach_of_sort, reach_of_sorted}
 
 pub is_var : (e : Tree) → head_of e ≡ None → (x : ℕ) × (e ≡ var x)
@@ -52,13 +51,12 @@ ids_long s is es h = go is es h
 
     go : (js : List Id) (fs : List Tree) → trees_of s js ≡ operands_of fs → length js ≡ length fs
     go [] [] k = refl
-    go [] (f ∷ fs) k = absurd (omega (arith, ap many k))
-    go (j ∷ js) [] k = absurd (omega (arith, ap many k))
     go (j ∷ js) (f ∷ fs) k = ap suc (go js fs (ap others k))
       where
         others : Trees → Trees
         others none = none
         others (more e gs) = gs
+    go _ _ k = absurd (omega (arith, ap many k))
 
 pub shared_long : (sigs : List Signature) (s : Sharing) (vars : List Id) → IsShared sigs s vars → length vars ≡ length s.context
 shared_long sigs s vars h = ids_long s vars (variables_from 0 s.context) h.trees ∙ length-params 0 s.context

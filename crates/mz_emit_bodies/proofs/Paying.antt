@@ -14,8 +14,8 @@ use Rattle.mz_logic_theory.specs.declared.binder.Binder.{Binder}
 use Rattle.mz_logic_theory.proofs.Offered.{legal_env_is_right}
 use Rattle.mz_store.specs.Sharing.{Sharing, Holds, tree_of}
 use Rattle.mz_store.specs.declared.item.Id.{Id}
-use Rattle.mz_unify_theory.specs.Profile.{Item, expr, obligation}
-use Rattle.mz_unify_theory.proofs.Offered.{trees_of-listed, count-fits}
+use Rattle.mz_machine_theory.specs.Profile.{Item, expr, obligation}
+use Rattle.mz_machine_theory.proofs.Offered.{trees_of-listed, count-fits}
 use Rattle.mz_emit_theory.specs.SymbolicState.{Work}
 use Rattle.mz_emit_theory.specs.Steps.{stacked, Step, command_bytes}
 use Rattle.mz_emit_bodies.specs.Instances.{Grows}
@@ -44,13 +44,12 @@ pub body_is : (env : List Declaration) (t : ℕ) (d : Term) (dummies : List Bind
 body_is env t d dummies body (at, form) = ap (λ (x : Term). body_tree x.form) (get_or_from_slice_get (terms env) t d _ at) ∙ ap body_tree form
 
 form_body : (f : Form) (e : Tree) → body_of f ≡ more e none → body_tree f ≡ e
-form_body plain_form e is = absurd (grind (arith, is))
-form_body abstract_form e is = absurd (grind (arith, is))
 form_body (defined dummies body) e is = ap first is
   where
     first : Trees → Tree
     first none = body
     first (more f fs) = f
+form_body _ e is = absurd (grind (arith, is))
 
 pub body_found : (env : List Declaration) (t : ℕ) (d : Term) (e : Tree) → Some d ≡ slice_get (terms env) t → body_of d.form ≡ more e none → body_at env t ≡ e
 body_found env t d e at is = ap (λ (x : Term). body_tree x.form) (get_or_from_slice_get (terms env) t d _ (sym at)) ∙ form_body d.form e is
@@ -74,10 +73,7 @@ unfold_reach env ctx t es ys c l r n legal (_, _, _, (d, dummies, body, is, fits
 
 pub between_sorted : (env : List Declaration) (ctx : List Binder) (c : Conversion) (l r : Tree) → Between env ctx c l r → IsSorted env ctx l
 between_sorted env ctx (refl_conv e) l r h = h.0
-between_sorted env ctx (sym_conv c) l r h = h.0
-between_sorted env ctx (cong_conv t cs) l r h = h.0
-between_sorted env ctx (unfold_conv t es ys c) l r h = h.0
-between_sorted env ctx (gap_conv a b) l r h = h.0
+between_sorted env ctx _ l r h = h.0
 
 pub left_sorted : (env : List Declaration) (ctx : List Binder) (t : ℕ) (es : Trees) (ys : List ℕ) (c : Conversion) (l r : Tree) → Between env ctx (unfold_conv t es ys c) l r → IsSorted env ctx (app t es)
 left_sorted env ctx t es ys c l r (sorted, _, is, _) = subst (IsSorted env ctx) is sorted
@@ -172,9 +168,8 @@ first_conv (d ∷ cs) c le is =
 -- the first goes, and so do the others
 first_goes : (gaps : Bool) (env : List Declaration) (ctx : List Binder) (c : Conversion) (cs : Conversions) (ls rs : Trees) → AllGo gaps env ctx (more_convs c cs) ls rs
     → ((l : Tree) × (r : Tree) × Goes gaps env ctx c l r) × ((ms : Trees) × (ns : Trees) × AllGo gaps env ctx cs ms ns)
-first_goes gaps env ctx c cs none rs h = absurd h.0
-first_goes gaps env ctx c cs (more l ls) none h = absurd h.0
 first_goes gaps env ctx c cs (more l ls) (more r rs) h = ((l, r, (h.0.0, h.1.0)), (ls, rs, (h.0.1, h.1.1)))
+first_goes gaps env ctx c cs _ _ h = absurd h.0
 
 module _ (env : List Declaration) (o : Job) (s : Sharing) (vars : List Id) (places : List (Option ℕ)) (len : ℕ) (hps : List ℕ) (cells : List Cell) (us : List Task) (bs : List ℕ) where
   pub none_paid : IsGoing env o s vars places len hps cells (pay_all no_convs ∷ us) bs → IsGoing env o s vars places len hps cells us bs

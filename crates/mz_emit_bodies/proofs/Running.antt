@@ -16,10 +16,10 @@ use Rattle.mz_logic_theory.specs.Sorts.{HasSort, Fits, HasProvable}
 use Rattle.mz_logic_theory.specs.Conversions.{GapsOnly, AllGapsOnly, Conversion, Conversions, refl_conv, sym_conv, cong_conv, unfold_conv, gap_conv, no_convs, more_convs, Between, AllBetween}
 use Rattle.mz_logic_theory.specs.declared.binder.Binder.{Binder}
 use Rattle.mz_logic_theory.proofs.Offered.{extends_append}
-use Rattle.mz_unify_theory.specs.Spells.{dummy_of}
-use Rattle.mz_unify_theory.specs.Sorted.{Sorted}
-use Rattle.mz_unify_theory.specs.Profile.{Item, expr, proof, obligation}
-use Rattle.mz_unify_theory.proofs.Offered.{trees_of-listed, same_tree-true, same_tree-refl}
+use Rattle.mz_machine_theory.specs.Spells.{dummy_of}
+use Rattle.mz_machine_theory.specs.Sorted.{Sorted}
+use Rattle.mz_machine_theory.specs.Profile.{Item, expr, proof, obligation}
+use Rattle.mz_machine_theory.proofs.Offered.{trees_of-listed, same_tree-true, same_tree-refl}
 use Rattle.mz_machine_theory.specs.ProofMachine.{sides}
 use Rattle.mz_mmu_theory.specs.Proof.{Proof, Proofs, by_hyp, by_name, by_citation, by_conv, by_let, by_gap, no_proofs, more_proofs}
 use Rattle.mz_emit_theory.specs.SymbolicState.{Work}
@@ -41,28 +41,21 @@ same_is : (x y : Kept) → is_same x y ≡ true → x ≡ y
 same_is (expression e) (expression f) h = ap expression (same_tree-true e f h)
 same_is (hypothesis i) (hypothesis j) h = ap hypothesis (eqb-true i j h)
 same_is (first_part i) (first_part j) h = ap first_part (eqb-true i j h)
-same_is (expression e) (hypothesis j) h = absurd cc
-same_is (expression e) (first_part j) h = absurd cc
-same_is (hypothesis i) (expression f) h = absurd cc
-same_is (hypothesis i) (first_part j) h = absurd cc
-same_is (first_part i) (expression f) h = absurd cc
-same_is (first_part i) (hypothesis j) h = absurd cc
+same_is _ _ h = absurd cc
 
 tree_same : (a b : Tree) → expression a ≡ expression b → a ≡ b
 tree_same a b same = ap get same
   where
     get : Kept → Tree
     get (expression x) = x
-    get (hypothesis i) = a
-    get (first_part j) = a
+    get _ = a
 
 number_same : (a b : ℕ) → first_part a ≡ first_part b → a ≡ b
 number_same a b same = ap get same
   where
     get : Kept → ℕ
-    get (expression x) = 0
-    get (hypothesis i) = 0
     get (first_part j) = j
+    get _ = 0
 
 -- ---- lists of what is built
 
@@ -451,13 +444,11 @@ module _ (gaps : Bool) (env : List Declaration) (ctx : List Binder) (n : ℕ) (h
       payments_taken : (world : List Tree) (cs : Conversions) → AllGapsOnly (gaps ≡ true) cs → (ls rs : Trees) → AllBetween env ctx cs ls rs → (rest : List (Item Tree))
           → Takes Any count world (write_payments env ctx cs) (sides (listed ls) (listed rs) rest) rest
       payments_taken world no_convs may none none all rest = takes_nothing Any count world rest
-      payments_taken world no_convs may none (more r rs) all rest = absurd all
-      payments_taken world no_convs may (more l ls) rs all rest = absurd all
-      payments_taken world (more_convs c cs) may none rs all rest = absurd all
-      payments_taken world (more_convs c cs) may (more l ls) none all rest = absurd all
       payments_taken world (more_convs c cs) (c-may, may) (more l ls) (more r rs) (between, all) rest =
           takes_then Any count world (write_payment env ctx c) (write_payments env ctx cs) (obligation l r ∷ sides (listed ls) (listed rs) rest) (sides (listed ls) (listed rs) rest) rest
           (payment_taken world c c-may l r between (sides (listed ls) (listed rs) rest)) (payments_taken world cs may ls rs all rest)
+      payments_taken world (more_convs c cs) may (more l ls) none all rest = absurd all
+      payments_taken world _ may _ _ all rest = absurd all
 
     -- ---- proofs
 
@@ -518,9 +509,8 @@ module _ (gaps : Bool) (env : List Declaration) (ctx : List Binder) (n : ℕ) (h
     }
       where
         same : (x : Kept) (p : ℕ) → place_in x w.heap ≡ Some p → item_of claims x ≡ item_of (claims ++ e ∷ []) x
-        same (expression f) p at = refl
-        same (hypothesis i) p at = refl
         same (first_part m) p at = ap (λ (z : Tree). proof z) (sym (get_or_append_left claims (e ∷ []) (app 0 none) m (a.below m p at)))
+        same _ p at = refl
 
     module _ (all-there : count ≡ length hyps) where
       hyp_taken : (world : List Tree) (i : ℕ) → i < length hyps → (xs : List (Item Tree)) → Takes Any count world (unless_kept (hypothesis i) nothing) xs (proof (claim_at hyps i) ∷ xs)
@@ -650,6 +640,5 @@ module _ (gaps : Bool) (env : List Declaration) (ctx : List Binder) (n : ℕ) (h
     where
       slice_here : (xs : List Tree) (y : Tree) (ys : List Tree) (i : ℕ) → i ≡ length xs → slice_get (xs ++ y ∷ ys) i ≡ Some y
       slice_here [] y ys zero same = refl
-      slice_here [] y ys (suc i) same = absurd (omega (arith, same))
-      slice_here (x ∷ xs) y ys zero same = absurd (omega (arith, same))
       slice_here (x ∷ xs) y ys (suc i) same = slice_here xs y ys i (omega (arith, same))
+      slice_here _ y ys _ same = absurd (omega (arith, same))

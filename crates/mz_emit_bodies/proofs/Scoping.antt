@@ -9,9 +9,8 @@ use Rattle.mz_emit_bodies.specs.Scopes.{in_sight, row_of, scopes_after, scopes}
 
 get_last : (A : Type 0) (xs : List A) (y z : A) (k : ℕ) → k ≡ length xs → get_or (xs ++ y ∷ []) k z ≡ y
 get_last A [] y z zero is = refl
-get_last A [] y z (suc k) is = absurd (omega (arith, is))
-get_last A (x ∷ xs) y z zero is = absurd (omega (arith, is))
 get_last A (x ∷ xs) y z (suc k) is = get_last A xs y z k (omega (arith, is))
+get_last A _ y z _ is = absurd (omega (arith, is))
 
 module _ (A : Type 0) (f : ℕ → List A → Proof → A) where
   one_row : (t : List (List A)) (q : Part) → length (t ++ row_of f (length t) t q ∷ []) ≡ length t + 1

@@ -11,8 +11,8 @@ use Rattle.mz_logic_theory.specs.Tree.{Tree, instance, size, trees_size}
 use Rattle.mz_logic_theory.specs.Declaration.{Declaration}
 use Rattle.mz_logic_theory.specs.declared.binder.Binder.{Binder}
 use Rattle.mz_mmu_theory.specs.Proof.{Proof, Proofs, by_hyp, by_name, by_citation, by_conv, by_let, by_gap, no_proofs, more_proofs}
-use Rattle.mz_unify_theory.specs.Spells.{trees_of}
-use Rattle.mz_unify_theory.proofs.Offered.{listed-trees_of}
+use Rattle.mz_machine_theory.specs.Spells.{trees_of}
+use Rattle.mz_machine_theory.proofs.Offered.{listed-trees_of}
 use Rattle.mz_emit_theory.specs.Claims.{conclusion_of}
 use Rattle.mz_emit_theory.specs.Uses.{Use, is_gap, is_assertion, conv_uses, uses, some_use, commands_use}
 use Rattle.mz_emit_theory.specs.Weights.{conv_weight}
@@ -30,14 +30,12 @@ or_left a b is = ap (λ (z : Bool). z || b) is
 
 or_swapped : (a b : Bool) → (a || b) ≡ (b || a)
 or_swapped true true = refl
-or_swapped true false = refl
 or_swapped false true = refl
-or_swapped false false = refl
+or_swapped _ _ = refl
 
 or_had : (a b : Bool) → (b ≡ true → a ≡ true) → (a || false) ≡ (a || b)
-or_had true b had = refl
 or_had false true had = had refl
-or_had false false had = refl
+or_had _ _ had = refl
 
 -- ---- lets beside their flags
 
@@ -45,10 +43,9 @@ each_pair : (P : Writer → Bool → Type 0) (lets : List Writer) (flags : List 
     → ((j : ℕ) → P (get_or lets j nothing) (get_or flags j false)) → P f b → P nothing false → P (get_or (lets ++ f ∷ []) i nothing) (get_or (flags ++ b ∷ []) i false)
 each_pair P [] [] f b zero many each last past = last
 each_pair P [] [] f b (suc i) many each last past = past
-each_pair P [] (c ∷ flags) f b i many each last past = absurd (omega (arith, many))
-each_pair P (g ∷ lets) [] f b i many each last past = absurd (omega (arith, many))
 each_pair P (g ∷ lets) (c ∷ flags) f b zero many each last past = each zero
 each_pair P (g ∷ lets) (c ∷ flags) f b (suc i) many each last past = each_pair P lets flags f b i (omega (arith, many)) (λ j. each (suc j)) last past
+each_pair P _ _ f b i many each last past = absurd (omega (arith, many))
 
 module _ (u : Use) where
   -- these are the flags of the lets that were met: what stands in the heap with its flag set was used

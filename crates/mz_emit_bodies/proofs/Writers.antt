@@ -34,15 +34,9 @@ then_assoc4 f g h k l w = then_assoc f (g >> h >> k) l w ∙ then_second f ((g >
 
 module _ (gaps : Bool) (env : List Declaration) (ctx : List Binder) (hyps : List Tree) (n : ℕ) (s s' : Sharing) (g : Grows s s') (ps : List Part) where
   task_grown : (t : Task) → CanBeDone gaps env ctx hyps n s ps t → (w : Writing) → write_task env ctx s' ps t w ≡ write_task env ctx s ps t w
-  task_grown (prove p chain) h w = refl
-  task_grown (prove_all qs chain) h w = refl
-  task_grown (cite T es) h w = refl
   task_grown (push i) h w = ap (λ (e : Tree). write_expr ctx e w) (tree_grown s s' g i h)
   task_grown (make i) h w = ap (λ (e : Tree). keeping code.TermSave (term_of e) (expression e) w) (tree_grown s s' g i h.0)
-  task_grown (pay c) h w = refl
-  task_grown (pay_all cs) h w = refl
-  task_grown (give c v) h w = refl
-  task_grown (save c) h w = refl
+  task_grown _ h w = refl
 
   pub tasks_grown : (ts : List Task) → AllCanBeDone gaps env ctx hyps n s ps ts → (w : Writing) → write_tasks env ctx s' ps ts w ≡ write_tasks env ctx s ps ts w
   tasks_grown [] h w = refl
@@ -70,13 +64,7 @@ module _ (gaps : Bool) (env : List Declaration) (ctx : List Binder) (hyps : List
   task_opened : (t : Task) → CanBeDone gaps env ctx hyps count s ps t → (w : Writing) → write_task env ctx s (ps ++ p ∷ []) t w ≡ write_task env ctx s ps t w
   task_opened (prove q chain) h w = ap (λ (L : List Writer). write_proof env ctx L q w) (lets_opened chain h.1)
   task_opened (prove_all qs chain) h w = ap (λ (L : List Writer). write_proofs env ctx L qs w) (lets_opened chain h.1)
-  task_opened (cite T es) h w = refl
-  task_opened (push i) h w = refl
-  task_opened (make i) h w = refl
-  task_opened (pay c) h w = refl
-  task_opened (pay_all cs) h w = refl
-  task_opened (give c v) h w = refl
-  task_opened (save c) h w = refl
+  task_opened _ h w = refl
 
   pub tasks_opened : (ts : List Task) → AllCanBeDone gaps env ctx hyps count s ps ts → (w : Writing) → write_tasks env ctx s (ps ++ p ∷ []) ts w ≡ write_tasks env ctx s ps ts w
   tasks_opened [] h w = refl

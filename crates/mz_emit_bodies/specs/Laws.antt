@@ -6,8 +6,8 @@ use Rattle.mz_logic_theory.specs.Declaration.{Declaration, sorts, signatures}
 use Rattle.mz_logic_theory.specs.Modifiers.{MayBeDummySort}
 use Rattle.mz_logic_theory.specs.Sorts.{HasProvable}
 use Rattle.mz_logic_theory.specs.declared.binder.Binder.{Binder}
-use Rattle.mz_unify_theory.specs.Sorted.{Sorted}
-use Rattle.mz_unify_theory.specs.Spells.{dummy_of}
+use Rattle.mz_machine_theory.specs.Sorted.{Sorted}
+use Rattle.mz_machine_theory.specs.Spells.{dummy_of}
 use Rattle.mz_machine_theory.specs.MachineState.{is_axiom, is_theorem, is_definition}
 use Rattle.mz_machine_theory.specs.Premises.{bound_count}
 use Rattle.mz_mmu_theory.specs.Proof.{Proof}

@@ -6,7 +6,7 @@ use Rattle.mz_logic_theory.specs.Modifiers.{MayBeDummySort}
 use Rattle.mz_logic_theory.specs.declared.binder.Binder.{Binder}
 use Rattle.mz_store.specs.Sharing.{Sharing, IsIn, AreIn, tree_of, trees_of}
 use Rattle.mz_store.specs.declared.item.Id.{Id}
-use Rattle.mz_unify_theory.specs.Spells.{dummy_of}
+use Rattle.mz_machine_theory.specs.Spells.{dummy_of}
 use Rattle.mz_mmu_theory.specs.Proof.{Proof}
 use Rattle.mz_emit_theory.specs.BodyWriting.{Written, Writer, and_then, at_first, write_expr, write_hyp, write_hyps, write_proof}
 use Rattle.mz_emit_theory.specs.Claims.{IsSound}

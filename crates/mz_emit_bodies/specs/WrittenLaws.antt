@@ -5,7 +5,7 @@ use Rattle.mz_logic_theory.specs.Tree.{Tree, Trees, listed, size, trees_size}
 use Rattle.mz_logic_theory.specs.Declaration.{Declaration, signatures, assertions}
 use Rattle.mz_logic_theory.specs.Sorts.{HasProvable}
 use Rattle.mz_logic_theory.specs.declared.binder.Binder.{Binder}
-use Rattle.mz_unify_theory.specs.Sorted.{Sorted}
+use Rattle.mz_machine_theory.specs.Sorted.{Sorted}
 use Rattle.mz_machine_theory.specs.MachineState.{is_theorem}
 use Rattle.mz_machine_theory.specs.Premises.{bound_count}
 use Rattle.mz_mmu_theory.specs.Proof.{Proof}

@@ -6,7 +6,7 @@ ghost use Rattle.mz_logic_theory.specs.DeclView.{assertion_view, term_view};
 use mz_logic_theory::{Env, TermDecl, ThmDecl};
 use std::marker::Model;
 
-/// The first declarations of an environment, which is lent.
+/// The first declarations of an environment, which is borrowed.
 #[derive(Drop)]
 pub struct EnvPrefix<'e> {
     env: &'e Env,

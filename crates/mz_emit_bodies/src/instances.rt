@@ -169,7 +169,7 @@ pub fn conclusion_id(
     ensures instances { OnOk result ((env : List Declaration) → AreInstances env shared.old.store instances.old.items.items → tree conclusion.now ≡ conclusion_of env number
         → AreInstances env shared.new.store instances.new.items.items) }
 {
-    if nodes_left(&conclusion.lent(), LARGE) > 0 {
+    if nodes_left(&conclusion.borrowed(), LARGE) > 0 {
         return shared.instance(table, operands, conclusion);
     }
     let alloc = shared.alloc;

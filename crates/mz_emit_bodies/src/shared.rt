@@ -131,7 +131,7 @@ fn instance_hyps<T: Terms>(
 {
     let mut ids = Vec::new(alloc);
     for i in 0..hyps.len() {
-        let id = instance_id(alloc, store, terms, operands, &hyps.at(i).lent())?;
+        let id = instance_id(alloc, store, terms, operands, &hyps.at(i).borrowed())?;
         ids.push(id)?;
     }
     Ok(ids)
@@ -185,7 +185,7 @@ impl Shared {
             &mut self.store,
             table,
             &self.variables,
-            &expr.lent(),
+            &expr.borrowed(),
         )?;
         Ok(id)
     }
@@ -209,7 +209,7 @@ impl Shared {
             &mut self.store,
             table,
             &self.variables,
-            &es.lent(),
+            &es.borrowed(),
         )?;
         Ok(ids)
     }
@@ -247,7 +247,13 @@ impl Shared {
         ensures variables { OnOk result (self.new.variables.items ≡ self.old.variables.items) }
         ensures shared { OnOk result (IsShared (signatures_of (map words_of_row table.now.terms.items)) self.new.store self.new.variables.items) }
     {
-        let id = instance_id(self.alloc, &mut self.store, table, operands, &expr.lent())?;
+        let id = instance_id(
+            self.alloc,
+            &mut self.store,
+            table,
+            operands,
+            &expr.borrowed(),
+        )?;
         Ok(id)
     }
 

@@ -17,72 +17,46 @@ use Rattle.mz_emit_theory.proofs.SameBodies.{same-body-back}
 
 rows-of-same : (n : ℕ) (d d' : Declaration) → IsSameDeclaration d d' → term_row_of n d ≡ term_row_of n d'
 rows-of-same n (sort_decl m) (sort_decl m') h = refl
-rows-of-same n (sort_decl m) (term_decl e) h = absurd h
-rows-of-same n (sort_decl m) (assertion_decl b) h = absurd h
-rows-of-same n (term_decl d) (sort_decl m') h = absurd h
 rows-of-same n (term_decl d) (term_decl e) h = refl
-rows-of-same n (term_decl d) (assertion_decl b) h = absurd h
-rows-of-same n (assertion_decl a) (sort_decl m') h = absurd h
-rows-of-same n (assertion_decl a) (term_decl e) h = absurd h
 rows-of-same n (assertion_decl a) (assertion_decl b) h = refl
+rows-of-same n _ _ h = absurd h
 
 terms-of-same : (d d' : Declaration) → IsSameDeclaration d d' → length (terms (d ∷ [])) ≡ length (terms (d' ∷ []))
 terms-of-same (sort_decl m) (sort_decl m') h = refl
-terms-of-same (sort_decl m) (term_decl e) h = absurd h
-terms-of-same (sort_decl m) (assertion_decl b) h = absurd h
-terms-of-same (term_decl d) (sort_decl m') h = absurd h
 terms-of-same (term_decl d) (term_decl e) h = refl
-terms-of-same (term_decl d) (assertion_decl b) h = absurd h
-terms-of-same (assertion_decl a) (sort_decl m') h = absurd h
-terms-of-same (assertion_decl a) (term_decl e) h = absurd h
 terms-of-same (assertion_decl a) (assertion_decl b) h = refl
+terms-of-same _ _ h = absurd h
 
 pub same-rows : (n : ℕ) (ss ss' : List Statement) → IsSameList ss ss' → term_rows n ss ≡ term_rows n ss'
 same-rows n [] [] h = refl
-same-rows n [] (s' ∷ ss') h = absurd h
-same-rows n (s ∷ ss) [] h = absurd h
 same-rows n (s ∷ ss) (s' ∷ ss') ((mark, decl), h) =
     ap (λ (b : Bool). (if b then [] else term_row_of n s.decl) ++ term_rows (n + length (terms (s.decl ∷ []))) ss) mark
     ∙ ap (λ (xs : List ℕ). (if s'.is_local then [] else xs) ++ term_rows (n + length (terms (s.decl ∷ []))) ss) (rows-of-same n s.decl s'.decl decl)
     ∙ ap (λ (k : ℕ). (if s'.is_local then [] else term_row_of n s'.decl) ++ term_rows (n + k) ss) (terms-of-same s.decl s'.decl decl)
     ∙ ap (λ (xs : List ℕ). (if s'.is_local then [] else term_row_of n s'.decl) ++ xs) (same-rows (n + length (terms (s'.decl ∷ []))) ss ss' h)
+same-rows n _ _ h = absurd h
 
 pub same-longer : (ss ss' : List Statement) (s s' : Statement) → IsSameList ss ss' → IsSameStatement s s' → IsSameList (ss ++ s ∷ []) (ss' ++ s' ∷ [])
 same-longer [] [] s s' h one = (one, tt)
-same-longer [] (t' ∷ ss') s s' h one = absurd h
-same-longer (t ∷ ss) [] s s' h one = absurd h
 same-longer (t ∷ ss) (t' ∷ ss') s s' (first, h) one = (first, same-longer ss ss' s s' h one)
+same-longer _ _ s s' h one = absurd h
 
 -- ---- a declaration and its partner
 
 pub form-kind : (params : List Binder) (f f' : Form) → IsSameForm params f f' → kind_of_form f ≡ kind_of_form f'
 form-kind params plain_form plain_form h = refl
-form-kind params plain_form abstract_form h = absurd h
-form-kind params plain_form (defined ds b) h = absurd h
-form-kind params abstract_form plain_form h = absurd h
 form-kind params abstract_form abstract_form h = refl
-form-kind params abstract_form (defined ds b) h = absurd h
-form-kind params (defined ds b) plain_form h = absurd h
-form-kind params (defined ds b) abstract_form h = absurd h
 form-kind params (defined ds b) (defined ds' b') h = refl
+form-kind params _ _ h = absurd h
 
 form-agrees : (rows : List ℕ) (params : List Binder) (g f f' : Form) → IsSameForm params f f' → AllHold (form_checks rows (length params) g f) → AllHold (form_checks rows (length params) g f')
-form-agrees rows params plain_form f f' same h = tt
-form-agrees rows params abstract_form f f' same h = tt
-form-agrees rows params (defined ds e) plain_form f' same (h, _) = absurd h
-form-agrees rows params (defined ds e) abstract_form f' same (h, _) = absurd h
-form-agrees rows params (defined ds e) (defined es body) plain_form same h = absurd same
-form-agrees rows params (defined ds e) (defined es body) abstract_form same h = absurd same
 form-agrees rows params (defined ds e) (defined es body) (defined fs f) (ys, fresh, is, inside) (h, _) = (same-body-back rows params ds es fs e body f ys fresh is inside h, tt)
+form-agrees rows params (defined ds e) (defined es body) _ same h = absurd same
+form-agrees rows params (defined ds e) _ f' same (h, _) = absurd h
+form-agrees rows params _ f f' same h = tt
 
 decl-agrees : (rows : List ℕ) (d e e' : Declaration) → IsSameDeclaration e e' → AllHold (match_checks d (record { rows = rows; decl = e })) → AllHold (match_checks d (record { rows = rows; decl = e' }))
 decl-agrees rows d (sort_decl m) (sort_decl m') same h = subst (λ z. AllHold (match_checks d (record { rows = rows; decl = sort_decl z }))) same h
-decl-agrees rows d (sort_decl m) (term_decl t') same h = absurd same
-decl-agrees rows d (sort_decl m) (assertion_decl b) same h = absurd same
-decl-agrees rows d (term_decl t) (sort_decl m') same h = absurd same
-decl-agrees rows d (term_decl t) (assertion_decl b) same h = absurd same
-decl-agrees rows d (assertion_decl a) (sort_decl m') same h = absurd same
-decl-agrees rows d (assertion_decl a) (term_decl t') same h = absurd same
 decl-agrees rows d (assertion_decl a) (assertion_decl b) same h = subst (λ z. AllHold (match_checks d (record { rows = rows; decl = assertion_decl z }))) same h
 decl-agrees rows (sort_decl m) (term_decl t) (term_decl t') (sig, form) (kind, h) = (kind ∙ form-kind t.signature.params t.form t'.form form, h)
 decl-agrees rows (assertion_decl a) (term_decl t) (term_decl t') (sig, form) (kind, h) = (kind ∙ form-kind t.signature.params t.form t'.form form, h)
@@ -99,14 +73,14 @@ decl-agrees rows (term_decl d) (term_decl t) (term_decl t') (sig, form) (kind, (
         ),
       ),
     )
+decl-agrees rows d (term_decl t) (sort_decl m') same h = absurd same
+decl-agrees rows d _ _ same h = absurd same
 
 -- ---- all of them
 
 publics-agree : (ds : List Declaration) (before before' ss ss' : List Statement) → IsSameList before before' → IsSameList ss ss'
     → Agrees ds (publics_after before ss) → Agrees ds (publics_after before' ss')
 publics-agree ds before before' [] [] earlier same h = h
-publics-agree ds before before' [] (s' ∷ ss') earlier same h = absurd same
-publics-agree ds before before' (s ∷ ss) [] earlier same h = absurd same
 publics-agree ds before before' (s ∷ ss) (s' ∷ ss') earlier ((mark, decl), same) h =
     go s.is_local s'.is_local mark ds h (λ ds later. publics-agree ds (before ++ s ∷ []) (before' ++ s' ∷ []) ss ss' (same-longer before before' s s' earlier (mark, decl)) same later)
   where
@@ -121,6 +95,7 @@ publics-agree ds before before' (s ∷ ss) (s' ∷ ss') earlier ((mark, decl), s
     go false true is es hold later = absurd cc
     go false false is [] hold later = absurd hold
     go false false is (d ∷ es) (first, rest) later = (partner d first, later es rest)
+publics-agree ds before before' _ _ earlier same h = absurd same
 
 pub same-lists-agree : SameListsAgree
 same-lists-agree ds ss ss' same h = publics-agree ds [] [] ss ss' tt same h

@@ -10,10 +10,10 @@ use Rattle.mz_logic_theory.specs.Sorts.{HasProvable}
 use Rattle.mz_logic_theory.specs.Variables.{IsBoundAt}
 use Rattle.mz_logic_theory.specs.declared.binder.Binder.{Binder}
 use Rattle.mz_logic_theory.proofs.Offered.{extends_append, extends_itself, sort_extends, each_from_all, assertions_are_sorted, terms_are_sorted}
-use Rattle.mz_unify_theory.specs.Profile.{plain}
-use Rattle.mz_unify_theory.specs.Spells.{Text, trees_of}
-use Rattle.mz_unify_theory.specs.Streams.{of_assertion, of_definition}
-use Rattle.mz_unify_theory.proofs.Offered.{trees_of-listed}
+use Rattle.mz_machine_theory.specs.Profile.{plain}
+use Rattle.mz_machine_theory.specs.Spells.{Text, trees_of}
+use Rattle.mz_machine_theory.specs.Streams.{of_assertion, of_definition}
+use Rattle.mz_machine_theory.proofs.Offered.{trees_of-listed}
 use Rattle.mz_machine_theory.specs.Bodies.{Runs}
 use Rattle.mz_machine_theory.specs.Lists.{kind_of, assertion_of, definition_of}
 use Rattle.mz_machine_theory.specs.MachineState.{RowsBefore, Heading, is_definition, Declares}

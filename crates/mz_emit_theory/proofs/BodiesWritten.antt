@@ -25,15 +25,10 @@ module _ (gaps : Bool) (p : Parts) where
   body-here : (file : List ℕ) (at : ℕ) (env : List Declaration) (is_local : Bool) (d d' : Declaration) (w : Written) → IsWrittenDeclaration gaps p env is_local d d' w.body
       → body_there file (statement_at file at) ≡ w.body → body_of file at d' ≡ body_written d w
   body-here file at env is_local (sort_decl m) (sort_decl m') w written is = refl
-  body-here file at env is_local (sort_decl m) (term_decl d') w written is = absurd written
-  body-here file at env is_local (sort_decl m) (assertion_decl a') w written is = absurd written
-  body-here file at env is_local (term_decl d) (sort_decl m') w written is = absurd written
   body-here file at env is_local (term_decl d) (term_decl d') w written is = refl
-  body-here file at env is_local (term_decl d) (assertion_decl a') w written is = absurd written
-  body-here file at env is_local (assertion_decl a) (sort_decl m') w written is = absurd written
-  body-here file at env is_local (assertion_decl a) (term_decl d') w written is = absurd written
   body-here file at env is_local (assertion_decl a) (assertion_decl a') w (same, _) is =
       ap (λ (z : Assertion). one-body z.is_axiom (body_there file (statement_at file at))) (sym same) ∙ ap (one-body a.is_axiom) is
+  body-here file at env is_local _ _ w written is = absurd written
 
   bodies-here : (file : List ℕ) (at : ℕ) (env : List Declaration) (ts ss : List Statement) (ws : List Written) → AreWritten gaps p env ts ss ws → AreListed file at ws
       → bodies_from file at ss ≡ bodies_written ts ws
@@ -54,14 +49,13 @@ module _ (gaps : Bool) (p : Parts) where
       → slice_get (body_written d w ++ rest) T ≡ Some x → HasGap x.bytes → (gaps ≡ true) ⊎ ((U : ℕ) × (slice_get rest U ≡ Some x))
   gap-here env is_local (sort_decl m) d' w rest T x written there gap = inr (T, there)
   gap-here env is_local (term_decl d) d' w rest T x written there gap = inr (T, there)
-  gap-here env is_local (assertion_decl a) (sort_decl m') w rest T x written there gap = absurd written
-  gap-here env is_local (assertion_decl a) (term_decl d') w rest T x written there gap = absurd written
   gap-here env is_local (assertion_decl a) (assertion_decl a') w rest zero x (same, written) there gap =
       let b : AssertionBody = record { is_axiom = a.is_axiom; bytes = w.body } in
       let both : Some b ≡ Some x = there in
       let is : b ≡ x = cc in
       inl (only-drafts-leave-gaps gaps env (kind_of a.is_axiom) a.params written.dummies a.conclusion (listed a.hyps) w.body written.body.body (subst (λ (z : AssertionBody). HasGap z.bytes) (sym is) gap)).0
   gap-here env is_local (assertion_decl a) (assertion_decl a') w rest (suc T) x written there gap = inr (T, there)
+  gap-here env is_local (assertion_decl a) _ w rest T x written there gap = absurd written
 
   gap-among : (env : List Declaration) (ts ss : List Statement) (ws : List Written) (T : ℕ) (x : AssertionBody) → AreWritten gaps p env ts ss ws → slice_get (bodies_written ts ws) T ≡ Some x → HasGap x.bytes
       → gaps ≡ true

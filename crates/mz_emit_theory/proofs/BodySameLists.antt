@@ -17,17 +17,11 @@ env-assertion a env env' h = record { sorts_are = h.sorts_are; terms_are = h.ter
 
 env-more : (d d' : Declaration) (env env' : List Declaration) → IsSameDeclaration d d' → IsSameEnv env env' → IsSameEnv (d ∷ env) (d' ∷ env')
 env-more (sort_decl m) (sort_decl m') env env' same h = subst (λ (z : SortMods). IsSameEnv (sort_decl m ∷ env) (sort_decl z ∷ env')) same (env-sort m env env' h)
-env-more (sort_decl m) (term_decl e) env env' same h = absurd same
-env-more (sort_decl m) (assertion_decl b) env env' same h = absurd same
-env-more (term_decl d) (sort_decl m') env env' same h = absurd same
 env-more (term_decl d) (term_decl e) env env' same h = env-term d e env env' same h
-env-more (term_decl d) (assertion_decl b) env env' same h = absurd same
-env-more (assertion_decl a) (sort_decl m') env env' same h = absurd same
-env-more (assertion_decl a) (term_decl e) env env' same h = absurd same
 env-more (assertion_decl a) (assertion_decl b) env env' same h = subst (λ (z : Assertion). IsSameEnv (assertion_decl a ∷ env) (assertion_decl z ∷ env')) same (env-assertion a env env' h)
+env-more _ _ env env' same h = absurd same
 
 pub envs-same : SameListsAreSameEnvs
 envs-same [] [] h = record { sorts_are = refl; terms_are = tt; assertions_are = refl }
-envs-same [] (s' ∷ ss') h = absurd h
-envs-same (s ∷ ss) [] h = absurd h
 envs-same (s ∷ ss) (s' ∷ ss') ((_, decl), h) = env-more s.decl s'.decl (declarations ss) (declarations ss') decl (envs-same ss ss' h)
+envs-same _ _ h = absurd h

@@ -6,8 +6,8 @@ use Rattle.mz_cmd.specs.declared.code.ProofCode.TheVariants as code
 use Rattle.mz_cmd.specs.Codes.{proof_byte, is_known}
 use Rattle.mz_cmd.specs.Reading.{first_command}
 use Rattle.mz_cmd.proofs.Offered.{Spells-again, shortest-spells}
-use Rattle.mz_unify_theory.specs.Profile.{Profile}
-use Rattle.mz_unify_theory.proofs.Offered.{from_bind}
+use Rattle.mz_machine_theory.specs.Profile.{Profile}
+use Rattle.mz_machine_theory.proofs.Offered.{from_bind}
 use Rattle.mz_machine_theory.specs.MachineState.{RowsBefore, State, Kind, is_axiom, is_theorem, is_definition, Heading}
 use Rattle.mz_machine_theory.specs.ProofMachine.{proof_step, proof_end}
 use Rattle.mz_machine_theory.specs.Bodies.{stands_in, proves, body_command, body_from, body_start, body_run}
@@ -16,22 +16,7 @@ use Rattle.mz_emit_theory.specs.Endings.{spelled_body, MayStand}
 
 pub known-code : (c : ProofCode) → IsTrue (is_known (proof_byte c))
 known-code code.Term = refl
-known-code code.TermSave = refl
-known-code code.Ref = refl
-known-code code.Dummy = refl
-known-code code.Thm = refl
-known-code code.ThmSave = refl
-known-code code.Hyp = refl
-known-code code.Conv = refl
-known-code code.Refl = refl
-known-code code.Symm = refl
-known-code code.Cong = refl
-known-code code.Unfold = refl
-known-code code.ConvCut = refl
-known-code code.ConvRef = refl
-known-code code.ConvSave = refl
-known-code code.Save = refl
-known-code code.Sorry = refl
+known-code _ = refl
 
 code-again : (P : Profile) (kind : Kind) (c : ProofCode) (v : ℕ) → stands_in P kind c ≡ true → body_command P kind (proof_byte c) v ≡ Some (proves c v)
 code-again P kind code.Term v h = refl
@@ -39,20 +24,9 @@ code-again P kind code.TermSave v h = refl
 code-again P kind code.Ref v h = refl
 code-again P kind code.Dummy v h = refl
 code-again P kind code.Save v h = refl
-code-again P kind code.Hyp v h = rw h refl
-code-again P is_theorem code.ConvRef v h = rw h refl
 code-again P is_axiom code.ConvRef v h = absurd cc
 code-again P is_definition code.ConvRef v h = absurd cc
-code-again P kind code.Thm v h = rw h refl
-code-again P kind code.ThmSave v h = rw h refl
-code-again P kind code.Conv v h = rw h refl
-code-again P kind code.Refl v h = rw h refl
-code-again P kind code.Symm v h = rw h refl
-code-again P kind code.Cong v h = rw h refl
-code-again P kind code.Unfold v h = rw h refl
-code-again P kind code.ConvCut v h = rw h refl
-code-again P kind code.ConvSave v h = rw h refl
-code-again P kind code.Sorry v h = rw h refl
+code-again P _ _ v h = rw h refl
 
 pub drop-front : {A : Type 0} (xs ys : List A) → drop (length xs) (xs ++ ys) ≡ ys
 drop-front [] [] = refl

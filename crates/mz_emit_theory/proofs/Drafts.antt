@@ -9,7 +9,7 @@ use Rattle.mz_logic_theory.specs.LegalLists.{Statement}
 use Rattle.mz_logic_theory.specs.declared.binder.Binder.{Binder}
 use Rattle.mz_logic_theory.specs.declared.word.Word.{Word}
 use Rattle.mz_layout_tables.specs.Normal.{Written, Parts}
-use Rattle.mz_unify_theory.specs.Profile.{plain}
+use Rattle.mz_machine_theory.specs.Profile.{plain}
 use Rattle.mz_machine_theory.specs.Bodies.{stands_in}
 use Rattle.mz_machine_theory.specs.Lists.{kind_of}
 use Rattle.mz_machine_theory.specs.MachineState.{Kind, is_axiom, is_theorem, is_definition}
@@ -70,23 +70,12 @@ module _ (env : List Declaration) (kind : Kind) (params dummies : List Binder) (
 module _ (p : Parts) where
   form-too : (env : List Declaration) (is_local : Bool) (signature : Signature) (ws : List Word) (result : Word) (f g : Form) (bytes : List ℕ) → IsWrittenForm false p env is_local signature ws result f g bytes
       → IsWrittenForm true p env is_local signature ws result f g bytes
-  form-too env is_local signature ws result plain_form plain_form bytes w = w
-  form-too env is_local signature ws result plain_form abstract_form bytes w = w
-  form-too env is_local signature ws result plain_form (defined ds e) bytes w = w
-  form-too env is_local signature ws result abstract_form g bytes w = w
-  form-too env is_local signature ws result (defined ds e) plain_form bytes w = w
-  form-too env is_local signature ws result (defined ds e) abstract_form bytes w = w
   form-too env is_local signature ws result (defined ds e) (defined es f) bytes (stream, row, text, body) = (stream, row, text, body-too env is_definition signature.params ds e [] bytes body)
+  form-too env is_local signature ws result plain_form plain_form bytes w = w
+  form-too env is_local signature ws result _ _ bytes w = w
 
   declaration-too : (env : List Declaration) (is_local : Bool) (d d' : Declaration) (bytes : List ℕ) → IsWrittenDeclaration false p env is_local d d' bytes → IsWrittenDeclaration true p env is_local d d' bytes
-  declaration-too env is_local (sort_decl m) (sort_decl m') bytes w = w
-  declaration-too env is_local (sort_decl m) (term_decl d') bytes w = w
-  declaration-too env is_local (sort_decl m) (assertion_decl a') bytes w = w
-  declaration-too env is_local (term_decl d) (sort_decl m') bytes w = w
   declaration-too env is_local (term_decl d) (term_decl d') bytes (same, (ws, result, say, form)) = (same, (ws, result, say, form-too env is_local d.signature ws result d.form d'.form bytes form))
-  declaration-too env is_local (term_decl d) (assertion_decl a') bytes w = w
-  declaration-too env is_local (assertion_decl a) (sort_decl m') bytes w = w
-  declaration-too env is_local (assertion_decl a) (term_decl d') bytes w = w
   declaration-too env is_local (assertion_decl a) (assertion_decl a') bytes (is, w) = (
     is,
     record {
@@ -100,15 +89,14 @@ module _ (p : Parts) where
       body = body-too env (kind_of a.is_axiom) a.params w.dummies a.conclusion (listed a.hyps) bytes w.body;
     },
   )
+  declaration-too env is_local (sort_decl m) (sort_decl m') bytes w = w
+  declaration-too env is_local _ _ bytes w = w
 
   all-too : (env : List Declaration) (ts ss : List Statement) (ws : List Written) → AreWritten false p env ts ss ws → AreWritten true p env ts ss ws
-  all-too env [] [] [] written = written
-  all-too env [] [] (w ∷ ws) written = written
-  all-too env [] (s ∷ ss) ws written = written
-  all-too env (t ∷ ts) [] ws written = written
-  all-too env (t ∷ ts) (s ∷ ss) [] written = written
   all-too env (t ∷ ts) (s ∷ ss) (w ∷ ws) (written, all) =
       (record { mark = written.mark; code = written.code; declaration = declaration-too env s.is_local t.decl s.decl w.body written.declaration }, all-too (env ++ t.decl ∷ []) ts ss ws all)
+  all-too env [] [] [] written = written
+  all-too env _ _ _ written = written
 
 pub finished-is-draft : FinishedIsDraft
 finished-is-draft p text made written = all-too p [] text made p.statements written

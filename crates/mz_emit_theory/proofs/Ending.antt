@@ -12,17 +12,16 @@ use Rattle.mz_logic_theory.specs.Legality.{sort_of}
 use Rattle.mz_logic_theory.specs.declared.binder.Binder.{Binder}
 use Rattle.mz_logic_theory.specs.declared.binder.SortMods.{SortMods}
 use Rattle.mz_logic_theory.proofs.Offered.{sort_is, extends_append}
-use Rattle.mz_unify_theory.specs.Streams.{of_assertion}
-use Rattle.mz_unify_theory.specs.Spells.{trees_of, variables_from, SpellsText}
-use Rattle.mz_unify_theory.specs.Profile.{plain, strict, Item}
-use Rattle.mz_unify_theory.specs.UnifyMachine.{at_end, in_definition, UnifyMode, Matching, UnifyState, unify}
-use Rattle.mz_unify_theory.specs.Laws.{instances_of}
-use Rattle.mz_unify_theory.proofs.Offered.{fits-length, listed-trees_of, EachBelow, text-met, below-occurs, map-reverse, assertions-spelled, unfoldings-exact, unify-plain}
+use Rattle.mz_machine_theory.specs.Streams.{of_assertion}
+use Rattle.mz_machine_theory.specs.Spells.{trees_of, variables_from, SpellsText}
+use Rattle.mz_machine_theory.specs.Profile.{plain, strict, Item}
+use Rattle.mz_machine_theory.specs.UnifyMachine.{at_end, in_definition, UnifyMode, Matching, UnifyState, unify}
+use Rattle.mz_machine_theory.specs.UnifyLaws.{instances_of}
+use Rattle.mz_machine_theory.proofs.Offered.{fits-length, listed-trees_of, EachBelow, text-met, below-occurs, map-reverse, assertions-spelled, unfoldings-exact, unify-plain, own-are}
 use Rattle.mz_machine_theory.specs.MachineState.{RowsBefore, signatures_in, State, Kind, is_axiom, is_theorem, is_definition, Heading, Declares}
 use Rattle.mz_machine_theory.specs.Premises.{is_provable_sort}
 use Rattle.mz_machine_theory.specs.FreeVars.{free_within}
 use Rattle.mz_machine_theory.specs.ProofMachine.{last_item, own_stream, as_proofs, ending, ends_with, proof_end, has_provable_sort}
-use Rattle.mz_machine_theory.proofs.Offered.{own-are}
 use Rattle.mz_emit_theory.specs.SymbolicState.{renamed, all_renamed, item_renamed, name_in, Work, machine}
 use Rattle.mz_emit_theory.specs.AlphaEquivalence.{own, IsSameEnv}
 use Rattle.mz_emit_theory.specs.Endings.{IsAsserted, IsEnding, Ends}

@@ -19,9 +19,9 @@ use Rattle.mz_logic_theory.specs.declared.word.Word.{Word}
 use Rattle.mz_logic_theory.proofs.Offered.{assertions_are_sorted, terms_are_sorted, nothing_in}
 use Rattle.mz_layout_tables.specs.Normal.{Written}
 use Rattle.mz_layout_tables.specs.Standing.{Fit, HasRoom}
-use Rattle.mz_unify_theory.specs.Streams.{StreamKind, of_assertion, of_definition, UnifyCommand, u_term, u_dummy, StreamIs}
-use Rattle.mz_unify_theory.specs.Spells.{Marks, with_dummy, at_first, dummy_of}
-use Rattle.mz_unify_theory.specs.Profile.{expr, proof}
+use Rattle.mz_machine_theory.specs.Streams.{StreamKind, of_assertion, of_definition, UnifyCommand, u_term, u_dummy, StreamIs}
+use Rattle.mz_machine_theory.specs.Spells.{Marks, with_dummy, at_first, dummy_of}
+use Rattle.mz_machine_theory.specs.Profile.{expr, proof}
 use Rattle.mz_machine_theory.specs.MachineState.{is_axiom, is_theorem, is_definition}
 use Rattle.mz_machine_theory.specs.Sound.{HasGap}
 use Rattle.mz_binary_theory.specs.Gapped.{leaves_gap}

@@ -5,7 +5,7 @@ use Rattle.std.proofs.lemmas.List.{map-append}
 use Rattle.std.proofs.lemmas.Option.{get_or_from_slice_get}
 use Rattle.mz_logic_theory.specs.Legality.{binder_at}
 use Rattle.mz_logic_theory.specs.declared.binder.Binder.{Binder}
-use Rattle.mz_unify_theory.specs.Spells.{dummy_of}
+use Rattle.mz_machine_theory.specs.Spells.{dummy_of}
 use Rattle.mz_machine_theory.specs.Premises.{bound_count}
 use Rattle.mz_emit_theory.specs.SymbolicState.{met_binders}
 use Rattle.mz_emit_theory.specs.BodyLaws.{AreOnce}

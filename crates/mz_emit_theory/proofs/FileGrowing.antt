@@ -21,24 +21,15 @@ module _ (gaps : Bool) (p p' : Parts) (more : HaveAll p p') where
   form-stays : (env : List Declaration) (is_local : Bool) (signature : Signature) (ws : List Word) (result : Word) (f g : Form) (bytes : List ℕ) → IsWrittenForm gaps p env is_local signature ws result f g bytes
       → IsWrittenForm gaps p' env is_local signature ws result f g bytes
   form-stays env is_local signature ws result plain_form plain_form bytes (row, mark, empty) = (more.terms_stay (length (terms env)) _ row, mark, empty)
-  form-stays env is_local signature ws result plain_form abstract_form bytes w = w
-  form-stays env is_local signature ws result plain_form (defined ds e) bytes w = w
-  form-stays env is_local signature ws result abstract_form g bytes w = w
-  form-stays env is_local signature ws result (defined ds e) plain_form bytes w = w
-  form-stays env is_local signature ws result (defined ds e) abstract_form bytes w = w
   form-stays env is_local signature ws result (defined ds e) (defined es f) bytes (stream, row, text, body) = (stream, more.terms_stay (length (terms env)) _ row, text, body)
+  form-stays env is_local signature ws result _ _ bytes w = w
 
   declaration-stays : (env : List Declaration) (is_local : Bool) (d e : Declaration) (bytes : List ℕ) → IsWrittenDeclaration gaps p env is_local d e bytes → IsWrittenDeclaration gaps p' env is_local d e bytes
   declaration-stays env is_local (sort_decl m) (sort_decl m') bytes (is, row, empty) = (is, more.sorts_stay (length (sorts env)) m.0 row, empty)
-  declaration-stays env is_local (sort_decl m) (term_decl e) bytes w = w
-  declaration-stays env is_local (sort_decl m) (assertion_decl b) bytes w = w
-  declaration-stays env is_local (term_decl d) (sort_decl m') bytes w = w
   declaration-stays env is_local (term_decl d) (term_decl e) bytes (same, (ws, result, say, form)) = (same, (ws, result, say, form-stays env is_local d.signature ws result d.form e.form bytes form))
-  declaration-stays env is_local (term_decl d) (assertion_decl b) bytes w = w
-  declaration-stays env is_local (assertion_decl a) (sort_decl m') bytes w = w
-  declaration-stays env is_local (assertion_decl a) (term_decl e) bytes w = w
   declaration-stays env is_local (assertion_decl a) (assertion_decl b) bytes (is, w) =
       (is, record { words = w.words; stream = w.stream; row = more.thms_stay (length (assertions env)) _ w.row; say = w.say; text = w.text; dummies = w.dummies; are_dummies = w.are_dummies; body = w.body })
+  declaration-stays env is_local _ _ bytes w = w
 
   statement-stays : (env : List Declaration) (t s : Statement) (w : Written) → IsWrittenStatement gaps p env t s w → IsWrittenStatement gaps p' env t s w
   statement-stays env t s w written = record { mark = written.mark; code = written.code; declaration = declaration-stays env s.is_local t.decl s.decl w.body written.declaration }
@@ -49,32 +40,25 @@ module _ (gaps : Bool) (p p' : Parts) (more : HaveAll p p') where
   all-stay env [] [] [] t s w written one none-left =
       let same : env ++ [] ≡ env = append-nil env in
       (subst (λ (z : List Declaration). IsWrittenStatement gaps p' z t s w) same one, subst (λ (z : List Declaration). HaveNoMore p' (z ++ t.decl ∷ [])) same none-left)
-  all-stay env [] [] (v ∷ ws) t s w written one none-left = absurd written
-  all-stay env [] (s' ∷ ss) ws t s w written one none-left = absurd written
-  all-stay env (t' ∷ ts) [] ws t s w written one none-left = absurd written
-  all-stay env (t' ∷ ts) (s' ∷ ss) [] t s w written one none-left = absurd written
   all-stay env (t' ∷ ts) (s' ∷ ss) (v ∷ ws) t s w (here, all) one none-left =
       let same : env ++ declarations (t' ∷ ts) ≡ (env ++ t'.decl ∷ []) ++ declarations ts = sym (append_assoc env (t'.decl ∷ []) (declarations ts)) in
       (statement-stays env t' s' v here, all-stay (env ++ t'.decl ∷ []) ts ss ws t s w all (subst (λ (z : List Declaration). IsWrittenStatement gaps p' z t s w) same one) (subst (λ (z : List Declaration). HaveNoMore p' (z ++ t.decl ∷ [])) same none-left))
+  all-stay env _ _ _ t s w written one none-left = absurd written
 
 -- ---- counts
 
 counted-after : (gaps : Bool) (p : Parts) (env : List Declaration) (ts ss : List Statement) (ws : List Written) → AreWritten gaps p env ts ss ws → HaveNoMore p (env ++ declarations ts)
 counted-after gaps p env [] [] [] written = subst (HaveNoMore p) (sym (append-nil env)) written
-counted-after gaps p env [] [] (v ∷ ws) written = absurd written
-counted-after gaps p env [] (s ∷ ss) ws written = absurd written
-counted-after gaps p env (t ∷ ts) [] ws written = absurd written
-counted-after gaps p env (t ∷ ts) (s ∷ ss) [] written = absurd written
 counted-after gaps p env (t ∷ ts) (s ∷ ss) (w ∷ ws) (here, all) = subst (HaveNoMore p) (append_assoc env (t.decl ∷ []) (declarations ts)) (counted-after gaps p (env ++ t.decl ∷ []) ts ss ws all)
+counted-after gaps p env _ _ _ written = absurd written
 
 pub rows-counted : RowsAreCounted
 rows-counted gaps p text made written = counted-after gaps p [] text made p.statements written
 
 last-at : {A : Type 0} (xs : List A) (x : A) (n : ℕ) → n ≡ length xs → slice_get (xs ++ x ∷ []) n ≡ Some x
 last-at [] x zero is = refl
-last-at [] x (suc n) is = absurd (omega arith)
-last-at (y ∷ xs) x zero is = absurd (omega arith)
 last-at (y ∷ xs) x (suc n) is = last-at xs x n (omega arith)
+last-at _ x _ is = absurd (omega arith)
 
 pub appended-next : AppendedIsNext
 appended-next p env counts = (

@@ -9,22 +9,15 @@ use Rattle.mz_emit_theory.specs.FileWriting.{IsWrittenDeclaration, AreWritten}
 
 same-declaration : (gaps : Bool) (p : Parts) (env : List Declaration) (is_local : Bool) (d d' : Declaration) (bytes : List ℕ) → IsWrittenDeclaration gaps p env is_local d d' bytes → IsSameDeclaration d d'
 same-declaration gaps p env is_local (sort_decl m) (sort_decl m') bytes w = w.0
-same-declaration gaps p env is_local (sort_decl m) (term_decl d') bytes w = w
-same-declaration gaps p env is_local (sort_decl m) (assertion_decl a') bytes w = w
-same-declaration gaps p env is_local (term_decl d) (sort_decl m') bytes w = w
 same-declaration gaps p env is_local (term_decl d) (term_decl d') bytes w = w.0
-same-declaration gaps p env is_local (term_decl d) (assertion_decl a') bytes w = w
-same-declaration gaps p env is_local (assertion_decl a) (sort_decl m') bytes w = w
-same-declaration gaps p env is_local (assertion_decl a) (term_decl d') bytes w = w
 same-declaration gaps p env is_local (assertion_decl a) (assertion_decl a') bytes w = w.0
+same-declaration gaps p env is_local _ _ bytes w = w
 
 same-lists : (gaps : Bool) (p : Parts) (env : List Declaration) (ts ss : List Statement) (ws : List Written) → AreWritten gaps p env ts ss ws → IsSameList ts ss
 same-lists gaps p env [] [] ws written = tt
-same-lists gaps p env [] (s ∷ ss) ws written = absurd written
-same-lists gaps p env (t ∷ ts) [] ws written = absurd written
-same-lists gaps p env (t ∷ ts) (s ∷ ss) [] written = absurd written
 same-lists gaps p env (t ∷ ts) (s ∷ ss) (w ∷ ws) (written, all) =
     ((written.mark, same-declaration gaps p env s.is_local t.decl s.decl w.body written.declaration), same-lists gaps p (env ++ t.decl ∷ []) ts ss ws all)
+same-lists gaps p env _ _ _ written = absurd written
 
 pub written-same : WrittenListsAreSame
 written-same gaps p text made written = same-lists gaps p [] text made p.statements written

@@ -15,9 +15,8 @@ use Rattle.mz_layout_tables.proofs.Offered.{all-listed, counts-said}
 use Rattle.mz_layout_tables.specs.Heads.{body_bytes}
 use Rattle.mz_machine_theory.specs.FileRows.{taken_by, rows_taken}
 use Rattle.mz_machine_theory.specs.MachineState.{Declares}
-use Rattle.mz_binary_theory.specs.declared.standard.Standard.{Standard}
-use Rattle.mz_binary_theory.specs.declared.standard.Standard.TheVariants.{Portable}
-use Rattle.mz_binary_theory.specs.Standards.{strict_standard}
+use Rattle.mz_binary_theory.specs.Standards.{Standard, strict_standard}
+use Rattle.mz_pmachine_theory.specs.FilesByIdentity.{portable_standard}
 use Rattle.mz_binary_theory.specs.Chains.{IsGoodStatement, GoodTo, EndsAt}
 use Rattle.mz_binary_theory.specs.Checking.{checks_of}
 use Rattle.mz_binary_theory.specs.Good.{Good}
@@ -39,25 +38,25 @@ one-head file at code body next code' body' next' e f = let both : Ok (Head code
 
 module _ (file : List ℕ) where
   statement-too : (env : List Declaration) (at : ℕ) (s : Statement) (next : ℕ) (good : IsGoodStatement strict_standard file env at s next) → BodyRunsToo file (taken_by env) good.spelled.body next s.decl
-      → IsGoodStatement Portable file env at s next
+      → IsGoodStatement portable_standard file env at s next
   statement-too env at s next good too =
       let holds : (standard : Standard) → Result StmtAt StmtFault → Type 0 = λ standard r. AllHold (checks_of standard file (taken_by env) at r) in
       record {
         spelled = good.spelled;
-        passes = subst (holds Portable) (sym good.spelled.stands) (holds-too file (taken_by env) good.spelled.body next at good.spelled.code s.decl good.spelled.kind.0 too (subst (holds strict_standard) good.spelled.stands good.passes));
+        passes = subst (holds portable_standard) (sym good.spelled.stands) (holds-too file (taken_by env) good.spelled.body next at good.spelled.code s.decl good.spelled.kind.0 too (subst (holds strict_standard) good.spelled.stands good.passes));
       }
 
-  ends-too : (env : List Declaration) (at : ℕ) → EndsAt strict_standard file env at → EndsAt Portable file env at
+  ends-too : (env : List Declaration) (at : ℕ) → EndsAt strict_standard file env at → EndsAt portable_standard file env at
   ends-too env at end =
       let holds : (standard : Standard) → Result StmtAt StmtFault → Type 0 = λ standard r. AllHold (checks_of standard file (taken_by env) at r) in
-      record { ends = end.ends; passes = subst (holds Portable) (sym end.ends) (subst (holds strict_standard) end.ends end.passes) }
+      record { ends = end.ends; passes = subst (holds portable_standard) (sym end.ends) (subst (holds strict_standard) end.ends end.passes) }
 
 -- ---- all of them
 
 module _ (p : Parts) (fit : Fit p) where
   rest-too : (env env' : List Declaration) (at : ℕ) (ts ss : List Statement) (ws : List Written) (last : List Declaration) (to : ℕ) → AreWritten false p env ts ss ws → LegalAfter gap_free env ts
       → AreListed (file_of p) at ws → IsSameEnv env env' → IsLegalEnv env' → Declares (rows_taken (file_of p) (taken_by env')) env' → AreSharedRows (rows_taken (file_of p) (taken_by env')).terms
-      → GoodTo strict_standard (file_of p) env' at ss last to → GoodTo Portable (file_of p) env' at ss last to
+      → GoodTo strict_standard (file_of p) env' at ss last to → GoodTo portable_standard (file_of p) env' at ss last to
   rest-too env env' at ts [] ws last to written legal listed same legal-env declares shared chain = chain
   rest-too env env' at [] (s ∷ ss) ws last to written legal listed same legal-env declares shared chain = absurd written
   rest-too env env' at (t ∷ ts) (s ∷ ss) [] last to written legal listed same legal-env declares shared chain = absurd written

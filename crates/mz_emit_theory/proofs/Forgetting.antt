@@ -3,8 +3,8 @@ use Rattle.std.proofs.Common.{ℕ, List, [], ◌∷◌, inl, inr}
 use Rattle.mz_logic_theory.specs.Tree.{Tree, Trees, var, app, none, more, listed}
 use Rattle.std.specs.Prelude.{reverse}
 use Rattle.mz_logic_theory.specs.Signature.{Signature}
-use Rattle.mz_unify_theory.specs.Streams.{UnifyCommand}
-use Rattle.mz_unify_theory.specs.Spells.{Marks, marked, Spells, SpellsAll, SpellsHyps}
+use Rattle.mz_machine_theory.specs.Streams.{UnifyCommand}
+use Rattle.mz_machine_theory.specs.Spells.{Marks, marked, Spells, SpellsAll, SpellsHyps}
 use Rattle.mz_emit_theory.specs.Sharing.{Built, Builds, BuildsAll, BuildsHyps}
 use Rattle.mz_emit_theory.specs.StreamLaws.{BuildingSpells}
 

@@ -9,7 +9,7 @@ use Rattle.mz_cmd.specs.Reading.{first_command}
 use Rattle.mz_cmd.proofs.Offered.{Spells-again, shortest-spells}
 use Rattle.mz_logic_theory.specs.Declaration.{Declaration}
 use Rattle.mz_logic_theory.specs.declared.binder.Binder.{Binder}
-use Rattle.mz_unify_theory.specs.Profile.{plain}
+use Rattle.mz_machine_theory.specs.Profile.{plain}
 use Rattle.mz_machine_theory.specs.Bodies.{in_theorems, stands_in}
 use Rattle.mz_machine_theory.specs.Sound.{IsCitation, CitesWithin, GapsWithin}
 use Rattle.mz_machine_theory.specs.MachineState.{Kind, is_axiom, is_theorem, is_definition}
@@ -196,8 +196,7 @@ gaps-let-through gaps env ctx v (c ∷ cs) w w' (mid, step, steps) has =
 
 in-theorem : (kind : Kind) → in_theorems kind ≡ true → kind ≡ is_theorem
 in-theorem is_theorem is = refl
-in-theorem is_axiom is = absurd cc
-in-theorem is_definition is = absurd cc
+in-theorem _ is = absurd cc
 
 gaps-in-theorems : (kind : Kind) (gaps : Bool) (v : ℕ) (cs : List (ProofCode × ℕ)) → MayStand (plain gaps) kind cs → Contains cs (code.Sorry, v) → kind ≡ is_theorem
 gaps-in-theorems kind gaps v [] may has = in-none (code.Sorry, v) has

@@ -9,8 +9,8 @@ use Rattle.mz_logic_theory.specs.Declaration.{Term, Assertion, Declaration, sort
 use Rattle.mz_logic_theory.specs.declared.binder.Binder.{Binder}
 use Rattle.mz_logic_theory.specs.declared.binder.SortMods.{SortMods}
 use Rattle.mz_logic_theory.proofs.Offered.{Extends, extends_append, extends_itself, sorts-append, terms-append, assertions-append, split_at}
-use Rattle.mz_unify_theory.specs.Spells.{trees_of}
-use Rattle.mz_unify_theory.specs.Profile.{Item, expr, proof, obligation, conversion}
+use Rattle.mz_machine_theory.specs.Spells.{trees_of}
+use Rattle.mz_machine_theory.specs.Profile.{Item, expr, proof, obligation, conversion}
 use Rattle.mz_machine_theory.specs.MachineState.{Pairwise}
 use Rattle.mz_machine_theory.specs.ProofMachine.{sides}
 use Rattle.mz_machine_theory.proofs.Offered.{pairs-push}

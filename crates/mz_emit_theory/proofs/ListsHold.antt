@@ -29,8 +29,7 @@ use Rattle.mz_emit_theory.specs.AlphaEquivalence.{IsSameTerm, IsSameEnv}
 use Rattle.mz_emit_theory.proofs.Joining.{same-with-sort, same-with-term, same-with-assertion}
 use Rattle.mz_emit_theory.specs.FileWriting.{SaySignature, IsWrittenForm, IsWrittenDeclaration, IsWrittenStatement, HaveNoMore, AreWritten}
 use Rattle.mz_emit_theory.proofs.RowsHold.{IsGoodRow, term_code, assertion_code, sort-good, plain-good, definition-good, assertion-good}
-use Rattle.mz_binary_theory.specs.Standards.{by_table}
-use Rattle.mz_binary_theory.specs.declared.standard.Standard.{Standard}
+use Rattle.mz_binary_theory.specs.Standards.{by_table, Standard}
 
 pub body-is : (file : List ℕ) (at : ℕ) (w : Written) → Stands file (body_place at w) w.body → body_bytes file (body_place at w) (next_place at w) ≡ w.body
 body-is file at w stands =
@@ -48,13 +47,9 @@ module _ (gaps : Bool) (p : Parts) (fit : Fit p) (env env' : List Declaration) (
         → IsGoodRow file env' (term_decl (record { signature = signature; form = form' })) (kind_checks (by_table gaps) file (taken_by env') at body next (Some (term_code is_local)))
     term-good is_local signature plain_form plain_form ws result legal same-term say (row, mark, empty) =
         plain-good gaps p fit env env' same declares at body next bytes bytes-are is_local signature ws result say row mark empty
-    term-good is_local signature plain_form abstract_form ws result legal same-term say w = absurd w
-    term-good is_local signature plain_form (defined ds' e') ws result legal same-term say w = absurd w
-    term-good is_local signature abstract_form form' ws result legal same-term say w = absurd w
-    term-good is_local signature (defined ds e) plain_form ws result legal same-term say w = absurd w
-    term-good is_local signature (defined ds e) abstract_form ws result legal same-term say w = absurd w
     term-good is_local signature (defined ds e) (defined ds' e') ws result legal same-term say (stream, row, text, shared) =
         definition-good gaps p fit env env' same declares at body next bytes bytes-are is_local signature ws result say stream ds ds' e e' row legal same-term.1 text.spells shared.body
+    term-good is_local signature _ _ ws result legal same-term say w = absurd w
 
     -- the checks are those of the code
     GoodBy : ℕ → Declaration → Type 0
@@ -85,20 +80,15 @@ module _ (gaps : Bool) (p : Parts) (fit : Fit p) (env env' : List Declaration) (
         subst (λ (c : ℕ). IsGoodRow file env' (sort_decl m') (kind_checks (by_table gaps) file (taken_by env') at body next (statement_code c))) (sym kind)
         (subst (λ (z : SortMods). IsGoodRow file env' (sort_decl z) (kind_checks (by_table gaps) file (taken_by env') at body next (Some codes.Sort))) is
         (sort-good gaps p fit env env' same declares at body next bytes bytes-are m row empty))
-    good-by code is_local (sort_decl m) (term_decl d') legal kind mark w = absurd w
-    good-by code is_local (sort_decl m) (assertion_decl a') legal kind mark w = absurd w
-    good-by code is_local (term_decl d) (sort_decl m') legal kind mark w = absurd w
     good-by code is_local (term_decl d) (term_decl d') legal kind mark (same-term, (ws, result, say, form)) =
         term-by code is_local d' kind mark
         (subst (λ (z : Signature). IsGoodRow file env' (term_decl (record { signature = z; form = d'.form })) (kind_checks (by_table gaps) file (taken_by env') at body next (Some (term_code is_local)))) same-term.0
         (term-good is_local d.signature d.form d'.form ws result legal (refl, same-term.1) say form))
-    good-by code is_local (term_decl d) (assertion_decl a') legal kind mark w = absurd w
-    good-by code is_local (assertion_decl a) (sort_decl m') legal kind mark w = absurd w
-    good-by code is_local (assertion_decl a) (term_decl d') legal kind mark w = absurd w
     good-by code is_local (assertion_decl a) (assertion_decl a') legal kind mark (is, w) =
         assertion-by code a' a'.is_axiom kind
         (subst (λ (z : Assertion). IsGoodRow file env' (assertion_decl z) (kind_checks (by_table gaps) file (taken_by env') at body next (Some (assertion_code z.is_axiom)))) is
         (assertion-good gaps p fit env env' same declares at body next bytes bytes-are a legal w))
+    good-by code is_local _ _ legal kind mark w = absurd w
 
   -- ---- a statement at its place
 
@@ -116,15 +106,10 @@ module _ (gaps : Bool) (p : Parts) (fit : Fit p) (env env' : List Declaration) (
   -- both environments go on as they were
   pub same-after : (is_local : Bool) (d d' : Declaration) (bytes : List ℕ) → IsWrittenDeclaration gaps p env is_local d d' bytes → IsSameEnv (env ++ d ∷ []) (env' ++ d' ∷ [])
   same-after is_local (sort_decl m) (sort_decl m') bytes (is, _, _) = subst (λ (z : SortMods). IsSameEnv (env ++ sort_decl m ∷ []) (env' ++ sort_decl z ∷ [])) is (same-with-sort env env' m same)
-  same-after is_local (sort_decl m) (term_decl d') bytes w = absurd w
-  same-after is_local (sort_decl m) (assertion_decl a') bytes w = absurd w
-  same-after is_local (term_decl d) (sort_decl m') bytes w = absurd w
   same-after is_local (term_decl d) (term_decl d') bytes (same-term, _) = same-with-term env env' d d' same same-term
-  same-after is_local (term_decl d) (assertion_decl a') bytes w = absurd w
-  same-after is_local (assertion_decl a) (sort_decl m') bytes w = absurd w
-  same-after is_local (assertion_decl a) (term_decl d') bytes w = absurd w
   same-after is_local (assertion_decl a) (assertion_decl a') bytes (is, _) =
       subst (λ (z : Assertion). IsSameEnv (env ++ assertion_decl a ∷ []) (env' ++ assertion_decl z ∷ [])) is (same-with-assertion env env' a same)
+  same-after is_local _ _ bytes w = absurd w
 
   ends-here : (at : ℕ) → HaveNoMore p env → statement_at file at ≡ Ok End → EndsAt (by_table gaps) file env' at
   ends-here at none-left stands =
@@ -149,12 +134,9 @@ module _ (gaps : Bool) (p : Parts) (fit : Fit p) where
   pub rest-good : (env env' : List Declaration) (at : ℕ) (ts ss : List Statement) (ws : List Written) → AreWritten gaps p env ts ss ws → LegalAfter (allowed_with gaps) env ts → AreListed (file_of p) at ws
       → IsSameEnv env env' → IsLegalEnv env' → Declares (rows_taken (file_of p) (taken_by env')) env' → IsGoodRest (by_table gaps) (file_of p) env' at ss
   rest-good env env' at [] [] [] written legal listed same legal-env declares = record { last = env'; to = at; statements = (refl, refl); ends = ends-here gaps p fit env env' same declares at written listed }
-  rest-good env env' at [] [] (w ∷ ws) written legal listed same legal-env declares = absurd written
-  rest-good env env' at [] (s ∷ ss) ws written legal listed same legal-env declares = absurd written
-  rest-good env env' at (t ∷ ts) [] ws written legal listed same legal-env declares = absurd written
-  rest-good env env' at (t ∷ ts) (s ∷ ss) [] written legal listed same legal-env declares = absurd written
   rest-good env env' at (t ∷ ts) (s ∷ ss) (w ∷ ws) (written, all) (legal, all-legal) (stands, body, listed) same legal-env declares =
       let here : IsGoodStatement (by_table gaps) (file_of p) env' at s (next_place at w) = good-here gaps p fit env env' same declares at t s w legal.0 written stands body in
       let (legal-env', declares') = well-chain (by_table gaps) (file_of p) env' at (s ∷ []) (env' ++ s.decl ∷ []) (next_place at w) (next_place at w, here, (refl, refl)) legal-env declares in
       let r = rest-good (env ++ t.decl ∷ []) (env' ++ s.decl ∷ []) (next_place at w) ts ss ws all all-legal listed (same-after gaps p fit env env' same declares s.is_local t.decl s.decl w.body written.declaration) legal-env' declares' in
       record { last = r.last; to = r.to; statements = (next_place at w, here, r.statements); ends = r.ends }
+  rest-good env env' at _ _ _ written legal listed same legal-env declares = absurd written

@@ -6,9 +6,9 @@ use Rattle.mz_logic_theory.specs.Tree.{Tree, Trees, var, app, none, more}
 use Rattle.mz_logic_theory.specs.Signature.{Signature}
 use Rattle.mz_logic_theory.specs.declared.binder.Binder.{Binder}
 use Rattle.mz_logic_theory.proofs.Offered.{extends_append, split_at}
-use Rattle.mz_unify_theory.specs.Streams.{UnifyCommand}
-use Rattle.mz_unify_theory.specs.Spells.{Marks, marked, HasOperands, SpelledTerm, at_first}
-use Rattle.mz_unify_theory.proofs.Offered.{some_is}
+use Rattle.mz_machine_theory.specs.Streams.{UnifyCommand}
+use Rattle.mz_machine_theory.specs.Spells.{Marks, marked, HasOperands, SpelledTerm, at_first}
+use Rattle.mz_machine_theory.proofs.Offered.{some_is}
 use Rattle.mz_emit_theory.specs.StreamWriting.{body_spelled}
 use Rattle.mz_emit_theory.specs.Sharing.{Built, Builds, BuildsAll}
 use Rattle.mz_emit_theory.proofs.Texts.{definitions-shared}

@@ -13,9 +13,9 @@ use Rattle.mz_logic_theory.specs.Tree.{Tree}
 use Rattle.mz_logic_theory.specs.Signature.{Signature}
 use Rattle.mz_logic_theory.specs.Declaration.{Declaration, signatures}
 use Rattle.mz_logic_theory.specs.declared.binder.Binder.{Binder}
-use Rattle.mz_unify_theory.specs.Steps.{◌>>=◌, Turn, over}
-use Rattle.mz_unify_theory.specs.Profile.{Item, expr, proof, obligation, conversion}
-use Rattle.mz_unify_theory.proofs.Offered.{from_bind, some_is, taken-is}
+use Rattle.mz_machine_theory.specs.Steps.{◌>>=◌, Turn, over}
+use Rattle.mz_machine_theory.specs.Profile.{Item, expr, proof, obligation, conversion}
+use Rattle.mz_machine_theory.proofs.Offered.{from_bind, some_is, taken-is}
 use Rattle.mz_machine_theory.specs.MachineState.{RowsBefore, State, Heading}
 use Rattle.mz_machine_theory.specs.ProofMachine.{push, saved, built as application, proof_step, proof_end}
 use Rattle.mz_machine_theory.specs.Bodies.{body_turn}
@@ -36,11 +36,8 @@ trees_made made = map (λ m. m.1) made
 -- ---- a row
 
 top-renamed : (g : ℕ → ℕ) (xs : List (Item Tree)) → top (map (item_renamed g) xs) ≡ map (renamed g) (top xs)
-top-renamed g [] = refl
 top-renamed g (expr e ∷ xs) = refl
-top-renamed g (proof e ∷ xs) = refl
-top-renamed g (obligation l r ∷ xs) = refl
-top-renamed g (conversion l r ∷ xs) = refl
+top-renamed g _ = refl
 
 module _ (tables : RowsBefore) (ctx : List Binder) where
   row-builds : (at : ℕ) (c : ProofCode) (n : ℕ) (st : State Tree) (w : Work) → proof_step portable_trees tables at c n st ≡ Ok (machine ctx w)

@@ -7,8 +7,8 @@ use Rattle.mz_base.proofs.Offered.{both-true}
 use Rattle.mz_logic_theory.specs.Tree.{Tree, Trees, var, app, none, more}
 use Rattle.mz_logic_theory.specs.Variables.{Occurs, OccursIn}
 use Rattle.mz_logic_theory.proofs.Offered.{among-true}
-use Rattle.mz_unify_theory.specs.Tests.{same_tree}
-use Rattle.mz_unify_theory.proofs.Offered.{not-both, member-contains, same_tree-true, same_tree-refl}
+use Rattle.mz_machine_theory.specs.Tests.{same_tree}
+use Rattle.mz_machine_theory.proofs.Offered.{not-both, member-contains, same_tree-true, same_tree-refl}
 use Rattle.mz_emit_theory.specs.SymbolicState.{place_of}
 use Rattle.mz_emit_theory.specs.StreamWriting.{place_in, are_met, all_are_met}
 

@@ -10,8 +10,8 @@ use Rattle.mz_logic_theory.specs.Declaration.{Declaration, signatures}
 use Rattle.mz_logic_theory.specs.Variables.{Occurs, OccursIn}
 use Rattle.mz_logic_theory.specs.declared.binder.Binder.{Binder}
 use Rattle.mz_logic_theory.proofs.Offered.{same-variable, same-term, same-operands, same-first, same-rest, no-application, no-trees}
-use Rattle.mz_unify_theory.specs.Profile.{Item, expr, proof, obligation, conversion}
-use Rattle.mz_unify_theory.proofs.Offered.{some_is}
+use Rattle.mz_machine_theory.specs.Profile.{Item, expr, proof, obligation, conversion}
+use Rattle.mz_machine_theory.proofs.Offered.{some_is}
 use Rattle.mz_emit_theory.specs.SymbolicState.{renamed, all_renamed, name_in, Work}
 use Rattle.mz_emit_theory.specs.Steps.{IsReferred, Step}
 use Rattle.mz_emit_theory.specs.BodyLaws.{AreRightItems, AreRightTrees}
@@ -80,11 +80,8 @@ module _ (gaps : Bool) (env : List Declaration) (ctx : List Binder) where
 
 module _ (sigs : List Signature) (ctx : List Binder) (met : List ℕ) where
   right-top : (xs : List (Item Tree)) → AreRightItems sigs ctx met xs → AreRightTrees sigs ctx met (top xs)
-  right-top [] h = tt
   right-top (expr e ∷ xs) (h, _) = (h, tt)
-  right-top (proof e ∷ xs) h = tt
-  right-top (obligation l r ∷ xs) h = tt
-  right-top (conversion l r ∷ xs) h = tt
+  right-top _ h = tt
 
   pub right-both : (es fs : List Tree) → AreRightTrees sigs ctx met es → AreRightTrees sigs ctx met fs → AreRightTrees sigs ctx met (es ++ fs)
   right-both [] fs h hs = hs

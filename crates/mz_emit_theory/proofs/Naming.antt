@@ -8,14 +8,13 @@ use Rattle.std.proofs.lemmas.Option.{slice_get-map, get_or_from_slice_get}
 use Rattle.mz_logic_theory.specs.Tree.{Tree, Trees, var, app, none, more, listed, operand, instance, instances, followed_by, variables}
 use Rattle.mz_logic_theory.specs.Signature.{Signature}
 use Rattle.mz_logic_theory.specs.Sorts.{IsBoundVar, HasSort, Fits}
-use Rattle.mz_logic_theory.specs.Variables.{Occurs, OccursIn, InV, InSomeV, InFV, InSomeFV, IsOperandAt, Apart}
+use Rattle.mz_logic_theory.specs.Variables.{Occurs, OccursIn, InV, InSomeV, InFV, InSomeFV, IsOperandAt, AreDisjoint}
 use Rattle.mz_logic_theory.specs.Conversions.{AreFresh}
 use Rattle.mz_logic_theory.specs.Legality.{binder_at}
 use Rattle.mz_logic_theory.specs.declared.binder.Binder.{Binder}
 use Rattle.mz_logic_theory.proofs.Offered.{operand_has_sort, same-variable}
-use Rattle.mz_unify_theory.specs.Spells.{trees_of}
-use Rattle.mz_unify_theory.proofs.Offered.{some_is, not-both}
-use Rattle.mz_machine_theory.proofs.Offered.{no-app}
+use Rattle.mz_machine_theory.specs.Spells.{trees_of}
+use Rattle.mz_machine_theory.proofs.Offered.{some_is, not-both, no-app}
 use Rattle.mz_emit_theory.specs.SymbolicState.{renamed, all_renamed, place_of, name_in, met_binders}
 use Rattle.mz_emit_theory.specs.BodyLaws.{OwnNames, DependOnFirst, AreOnce}
 
@@ -70,9 +69,8 @@ once-more (y ∷ met) x (first, once) out = (
 -- ---- renaming and instances
 
 pub renamed-operand : (g : ℕ → ℕ) (f : Trees) (i : ℕ) → renamed g (operand f i) ≡ operand (all_renamed g f) i
-renamed-operand g none i = refl
-renamed-operand g (more e es) zero = refl
 renamed-operand g (more e es) (suc i) = renamed-operand g es i
+renamed-operand g _ _ = refl
 
 mutual
   pub renamed-instance : (g : ℕ → ℕ) (f : Trees) (e : Tree) → renamed g (instance f e) ≡ instance (all_renamed g f) e
@@ -155,10 +153,9 @@ module _ (sigs : List Signature) (ctx : List Binder) (met : List ℕ) (deps : De
 
     pub fits-forward : (es : Trees) (ps : List Binder) → AllKnown es → Fits sigs ctx es ps → Fits sigs ctx' (all_renamed g es) ps
     fits-forward none [] known h = tt
-    fits-forward none (p ∷ ps) known h = absurd h
-    fits-forward (more e es) [] known h = absurd h
     fits-forward (more e es) (p ∷ ps) known (has, bound, fits) =
         (sort-forward e p.sort (λ y o. known y (inl o)) has, λ is. bound-forward e (λ y o. known y (inl o)) (bound is), fits-forward es ps (λ y o. known y (inr o)) fits)
+    fits-forward _ _ known h = absurd h
 
   -- a variable of a named expression is the name of one of the expression
   abbrev Named : (ℕ → Type 0) → ℕ → Type 0
@@ -211,9 +208,9 @@ module _ (sigs : List Signature) (ctx : List Binder) (met : List ℕ) (deps : De
     some-fv-back z params all (p ∷ ps) (more e es) known (has, _, fits) (inr h) =
         let (x, in-met, name, v) = some-fv-back z params all ps es (λ y o. known y (inr o)) fits h in (x, in-met, name, inr v)
 
-  -- ---- operands that are apart, and fresh variables
+  -- ---- operands that are disjoint, and fresh variables
 
-  pub apart-forward : (es : Trees) (ps : List Binder) → AllKnown es → Fits sigs ctx es ps → Apart ctx es ps → Apart ctx' (all_renamed g es) ps
+  pub apart-forward : (es : Trees) (ps : List Binder) → AllKnown es → Fits sigs ctx es ps → AreDisjoint ctx es ps → AreDisjoint ctx' (all_renamed g es) ps
   apart-forward es ps known fits apart i j z p q p-at q-at bound z-at within =
       let (x, x-is, name) = var-back g z (operand es j) (renamed-operand g es j ∙ z-at) in
       let x-met : Contains met x = known x (occurs-in x j es (subst (Occurs x) (sym x-is) refl)) in
@@ -230,8 +227,6 @@ module _ (sigs : List Signature) (ctx : List Binder) (met : List ℕ) (deps : De
   pub fresh-forward : (es : Trees) (ps : List Binder) → AllKnown es → Fits sigs ctx es ps → (ys : List ℕ) (bs : List Binder) → ((k w : ℕ) → slice_get ys k ≡ Some w → Contains met w)
       → AreFresh ctx es ys bs → AreFresh ctx' (all_renamed g es) (map g ys) bs
   fresh-forward es ps known fits [] [] all h = tt
-  fresh-forward es ps known fits [] (b ∷ bs) all h = absurd h
-  fresh-forward es ps known fits (y ∷ ys) [] all h = absurd h
   fresh-forward es ps known fits (y ∷ ys) (b ∷ bs) all ((c, at, bound, sort-is), out, once, h) =
       let y-met : Contains met y = all 0 y refl in (
         (c, at-name y c y-met at, bound, sort-is),
@@ -241,10 +236,10 @@ module _ (sigs : List Signature) (ctx : List Binder) (met : List ℕ) (deps : De
         (λ has. once (contains-back ys y (λ j w. all (suc j) w) y-met has)),
         fresh-forward es ps known fits ys bs (λ j w. all (suc j) w) h,
       )
+  fresh-forward es ps known fits _ _ all h = absurd h
 
 -- fresh variables are as many as the dummies
 pub fresh_long : (ctx : List Binder) (es : Trees) (ys : List ℕ) (bs : List Binder) → AreFresh ctx es ys bs → length ys ≡ length bs
 fresh_long ctx es [] [] h = refl
-fresh_long ctx es [] (b ∷ bs) h = absurd h
-fresh_long ctx es (y ∷ ys) [] h = absurd h
 fresh_long ctx es (y ∷ ys) (b ∷ bs) (_, _, _, h) = ap suc (fresh_long ctx es ys bs h)
+fresh_long ctx es _ _ h = absurd h

@@ -3,9 +3,9 @@ use Rattle.std.proofs.Common.{◌≡◌, ℕ, List, [], ◌∷◌, ◌++◌, len
 use Rattle.std.specs.Prelude.{reverse, true, false}
 use Rattle.mz_logic_theory.specs.Tree.{Tree, Trees, var, app, none, more, listed}
 use Rattle.mz_logic_theory.specs.Signature.{Signature}
-use Rattle.mz_unify_theory.specs.Streams.{UnifyCommand, u_term, u_term_save, u_ref, u_dummy, u_hyp}
-use Rattle.mz_unify_theory.specs.Spells.{Marks, marked, with_dummy, Spells, SpellsAll, SpellsHyps, at_first}
-use Rattle.mz_unify_theory.proofs.Offered.{one-stream}
+use Rattle.mz_machine_theory.specs.Streams.{UnifyCommand, u_term, u_term_save, u_ref, u_dummy, u_hyp}
+use Rattle.mz_machine_theory.specs.Spells.{Marks, marked, with_dummy, Spells, SpellsAll, SpellsHyps, at_first}
+use Rattle.mz_machine_theory.proofs.Offered.{one-stream}
 use Rattle.mz_emit_theory.specs.Sharing.{Built, Builds, BuildsAll, BuildsHyps}
 use Rattle.mz_emit_theory.specs.StreamLaws.{SpellingBuilds, OneBuilding}
 

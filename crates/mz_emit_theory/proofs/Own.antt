@@ -10,8 +10,8 @@ use Rattle.mz_logic_theory.specs.Signature.{Signature}
 use Rattle.mz_logic_theory.specs.Sorts.{HasSort, Fits}
 use Rattle.mz_logic_theory.specs.Variables.{Occurs, OccursIn}
 use Rattle.mz_logic_theory.specs.declared.binder.Binder.{Binder}
-use Rattle.mz_unify_theory.specs.Spells.{trees_of, variables_from}
-use Rattle.mz_unify_theory.proofs.Offered.{followed-by-variables, operand-trees_of}
+use Rattle.mz_machine_theory.specs.Spells.{trees_of, variables_from}
+use Rattle.mz_machine_theory.proofs.Offered.{followed-by-variables, operand-trees_of}
 use Rattle.mz_emit_theory.specs.SymbolicState.{renamed, all_renamed, place_of, name_in, from_to}
 use Rattle.mz_emit_theory.specs.BodyLaws.{OwnNames, AreOnce}
 use Rattle.mz_emit_theory.specs.AlphaEquivalence.{own}

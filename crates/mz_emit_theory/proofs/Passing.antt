@@ -6,16 +6,15 @@ use Rattle.mz_logic_theory.specs.Tree.{Tree, var, app}
 use Rattle.mz_logic_theory.specs.Signature.{Signature}
 use Rattle.mz_logic_theory.specs.Modifiers.{MayBeClaimSort, MayBeDummySort}
 use Rattle.mz_logic_theory.specs.Sorts.{Fits}
-use Rattle.mz_logic_theory.specs.Variables.{InV, InFV, Apart, is_member}
+use Rattle.mz_logic_theory.specs.Variables.{InV, InFV, AreDisjoint, is_member}
 use Rattle.mz_logic_theory.specs.declared.binder.Binder.{Binder}
 use Rattle.mz_logic_theory.specs.declared.binder.SortMods.{SortMods}
 use Rattle.mz_logic_theory.proofs.Offered.{sort_is, among-true}
-use Rattle.mz_unify_theory.specs.Spells.{trees_of}
-use Rattle.mz_unify_theory.specs.Tests.{has_bit, is_bound_var, var_within}
-use Rattle.mz_unify_theory.proofs.Offered.{operand-trees_of, bit-set, bit-not-set, is-bound, in-v-true, not-both}
-use Rattle.mz_machine_theory.specs.Premises.{may_be_dummy_sort, is_provable_sort, operands_fit, apart_from, apart_at, are_apart}
+use Rattle.mz_machine_theory.specs.Spells.{trees_of}
+use Rattle.mz_machine_theory.specs.Tests.{has_bit, is_bound_var, var_within}
+use Rattle.mz_machine_theory.proofs.Offered.{operand-trees_of, bit-set, bit-not-set, is-bound, in-v-true, not-both, in-fv-true}
+use Rattle.mz_machine_theory.specs.Premises.{may_be_dummy_sort, is_provable_sort, operands_fit, disjoint_from, apart_at, are_disjoint}
 use Rattle.mz_machine_theory.specs.FreeVars.{in_fv, free_within}
-use Rattle.mz_machine_theory.proofs.Offered.{in-fv-true}
 
 -- ---- sorts
 
@@ -52,26 +51,24 @@ fits-pass sigs ctx (e ∷ es) (p ∷ ps) (has, bound, fits) =
     bound-passes true is = rw is (is-bound ctx e (bound is))
     bound-passes false is = rw is refl
 
--- ---- operands that are apart
+-- ---- operands that are disjoint
 
 abbrev pair_test : List Binder → ℕ → List ℕ → Tree → ℕ → Tree → Binder → Bool
 pair_test ctx i deps e j f q = not q.bound || i == j || is_member j deps || not (var_within ctx f e)
 
 apart-from-all : (ctx : List Binder) (i : ℕ) (deps : List ℕ) (e : Tree) (j : ℕ) (fs : List Tree) (qs : List Binder)
-    → ((m n : ℕ) (f : Tree) (q : Binder) → slice_get fs m ≡ Some f → slice_get qs m ≡ Some q → j + m ≡ n → pair_test ctx i deps e n f q ≡ true) → apart_from ctx i deps e j fs qs ≡ true
-apart-from-all ctx i deps e j [] qs h = refl
-apart-from-all ctx i deps e j (f ∷ fs) [] h = refl
+    → ((m n : ℕ) (f : Tree) (q : Binder) → slice_get fs m ≡ Some f → slice_get qs m ≡ Some q → j + m ≡ n → pair_test ctx i deps e n f q ≡ true) → disjoint_from ctx i deps e j fs qs ≡ true
 apart-from-all ctx i deps e j (f ∷ fs) (q ∷ qs) h =
-    and_from (pair_test ctx i deps e j f q) (apart_from ctx i deps e (j + 1) fs qs) (h 0 j f q refl refl (omega arith))
+    and_from (pair_test ctx i deps e j f q) (disjoint_from ctx i deps e (j + 1) fs qs) (h 0 j f q refl refl (omega arith))
     (apart-from-all ctx i deps e (j + 1) fs qs λ m n f' q' f-at q-at is. h (suc m) n f' q' f-at q-at (omega arith))
+apart-from-all ctx i deps e j _ _ h = refl
 
 apart-at-all : (ctx : List Binder) (all : List Tree) (params : List Binder) (i : ℕ) (es : List Tree) (ps : List Binder)
-    → ((m n : ℕ) (e : Tree) (p : Binder) → slice_get es m ≡ Some e → slice_get ps m ≡ Some p → i + m ≡ n → apart_from ctx n p.deps e 0 all params ≡ true) → apart_at ctx all params i es ps ≡ true
-apart-at-all ctx all params i [] ps h = refl
-apart-at-all ctx all params i (e ∷ es) [] h = refl
+    → ((m n : ℕ) (e : Tree) (p : Binder) → slice_get es m ≡ Some e → slice_get ps m ≡ Some p → i + m ≡ n → disjoint_from ctx n p.deps e 0 all params ≡ true) → apart_at ctx all params i es ps ≡ true
 apart-at-all ctx all params i (e ∷ es) (p ∷ ps) h =
-    and_from (apart_from ctx i p.deps e 0 all params) (apart_at ctx all params (i + 1) es ps) (h 0 i e p refl refl (omega arith))
+    and_from (disjoint_from ctx i p.deps e 0 all params) (apart_at ctx all params (i + 1) es ps) (h 0 i e p refl refl (omega arith))
     (apart-at-all ctx all params (i + 1) es ps λ m n e' p' e-at p-at is. h (suc m) n e' p' e-at p-at (omega arith))
+apart-at-all ctx all params i _ _ h = refl
 
 -- the pair passes where the variable's being within leads to one of the two
 pair-passes : (ctx : List Binder) (i : ℕ) (deps : List ℕ) (e : Tree) (j : ℕ) (f : Tree) (q : Binder)
@@ -83,16 +80,13 @@ pair-passes ctx i deps e j f q h = go q.bound (i == j) (is_member j deps) (var_w
     within (app t es) is bound w = absurd cc
 
     go : (b same dep w : Bool) → q.bound ≡ b → (i == j) ≡ same → is_member j deps ≡ dep → var_within ctx f e ≡ w → (not b || same || dep || not w) ≡ true
-    go false same dep w b-is s-is d-is w-is = refl
-    go true true dep w b-is s-is d-is w-is = refl
-    go true false true w b-is s-is d-is w-is = refl
-    go true false false false b-is s-is d-is w-is = refl
     go true false false true b-is s-is d-is w-is = elim (within f refl b-is w-is) [
       | inl same ↦ absurd (not-both (i == j) (eq-eqb i j same) s-is)
       | inr dep ↦ absurd (not-both (is_member j deps) (among-true j deps dep) d-is)
     ]
+    go _ _ _ _ b-is s-is d-is w-is = refl
 
-pub apart-passes : (ctx : List Binder) (es : List Tree) (params : List Binder) → Apart ctx (trees_of es) params → are_apart ctx es params ≡ true
+pub apart-passes : (ctx : List Binder) (es : List Tree) (params : List Binder) → AreDisjoint ctx (trees_of es) params → are_disjoint ctx es params ≡ true
 apart-passes ctx es params apart =
     apart-at-all ctx es params 0 es params λ m n e p e-at p-at n-is.
     let m-is : m ≡ n = omega arith in

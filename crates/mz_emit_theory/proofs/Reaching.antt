@@ -11,8 +11,8 @@ use Rattle.mz_cmd.specs.declared.code.ProofCode.TheVariants as code
 use Rattle.mz_logic_theory.specs.Tree.{Tree, Trees, var, app, none, more, listed, instance, instances, followed_by, variables}
 use Rattle.mz_logic_theory.specs.Declaration.{Form, Declaration, dummies_of, body_of, sorts, signatures}
 use Rattle.mz_logic_theory.specs.Modifiers.{MayBeDummySort}
-use Rattle.mz_logic_theory.specs.Sorts.{HasSort, Fits, IsSorted, HasProvable, AreProvable}
-use Rattle.mz_logic_theory.specs.Variables.{InFV, Apart}
+use Rattle.mz_logic_theory.specs.Sorts.{HasSort, Fits, HasProvable, AreProvable}
+use Rattle.mz_logic_theory.specs.Variables.{InFV, AreDisjoint}
 use Rattle.mz_logic_theory.specs.Legality.{EachTree, IsDummy, IsLegalEnv}
 use Rattle.mz_logic_theory.specs.Conversions.{Conversion, Conversions, refl_conv, sym_conv, cong_conv, unfold_conv, gap_conv, no_convs, more_convs, AreFresh, Between, AllBetween, GapsOnly, AllGapsOnly}
 use Rattle.mz_logic_theory.specs.Derivations.{Derivation, Derivations, hypothesis, cite, convert, gap, no_derivs, more_derivs, Derives, AllDerive, CitesOnly, AllCiteOnly, Uses}
@@ -20,10 +20,10 @@ use Rattle.mz_logic_theory.specs.LegalLists.{AreDummies}
 use Rattle.mz_logic_theory.specs.declared.binder.Binder.{Binder}
 use Rattle.mz_logic_theory.specs.declared.binder.SortMods.{SortMods}
 use Rattle.mz_logic_theory.proofs.Offered.{Extends, extends_append, extends_itself, sort_extends, split_at, derived_has_provable, assertions_are_sorted, terms_are_sorted, each_from_all, sorted_sides as between-sorted}
-use Rattle.mz_unify_theory.specs.Spells.{trees_of, variables_from, dummy_of}
-use Rattle.mz_unify_theory.specs.Sorted.{Sorted}
-use Rattle.mz_unify_theory.specs.Profile.{Item, expr, proof, obligation}
-use Rattle.mz_unify_theory.proofs.Offered.{trees_of-listed}
+use Rattle.mz_machine_theory.specs.Spells.{trees_of, variables_from, dummy_of}
+use Rattle.mz_machine_theory.specs.Sorted.{Sorted}
+use Rattle.mz_machine_theory.specs.Profile.{Item, expr, proof, obligation}
+use Rattle.mz_machine_theory.proofs.Offered.{trees_of-listed}
 use Rattle.mz_machine_theory.specs.ProofMachine.{sides}
 use Rattle.mz_emit_theory.specs.SymbolicState.{Work, work_start}
 use Rattle.mz_emit_theory.specs.Steps.{stacked, above, IsCited, IsUnfolding, Step, Steps}
@@ -165,14 +165,12 @@ module _ (gaps : Bool) (env : List Declaration) (ctx : List Binder) (n : ℕ)
 
     pay-all : (cs : Conversions) → AllGapsOnly (gaps ≡ true) cs → (ls rs : Trees) → AllBetween env ctx cs ls rs → (w : Work) (rest : List (Item Tree)) → w.stack ≡ sides (listed ls) (listed rs) rest → Ready w → Made w rest w.hyps
     pay-all no_convs may none none all w rest on ready = record { commands = []; work = w; steps = refl; stack = on; hyps = refl; ready = ready; grows = extends_itself w.heap }
-    pay-all no_convs may none (more r rs) all w rest on ready = absurd all
-    pay-all no_convs may (more l ls) rs all w rest on ready = absurd all
-    pay-all (more_convs c cs) may none rs all w rest on ready = absurd all
-    pay-all (more_convs c cs) may (more l ls) none all w rest on ready = absurd all
     pay-all (more_convs c cs) (c-may, may) (more l ls) (more r rs) (between, all) w rest on ready =
         let m = pay c c-may l r between w (sides (listed ls) (listed rs) rest) on ready in
         let k = pay-all cs may ls rs all m.work rest m.stack m.ready in
         then w (sides (listed ls) (listed rs) rest) rest w.hyps m k
+    pay-all (more_convs c cs) may (more l ls) none all w rest on ready = absurd all
+    pay-all _ may _ _ all w rest on ready = absurd all
 
   -- ---- hypotheses
 
@@ -242,7 +240,7 @@ module _ (gaps : Bool) (env : List Declaration) (ctx : List Binder) (n : ℕ)
             m.work.stack,
             a-at,
             subst (λ (z : Trees). Fits (signatures env) ctx z a.params) (sym es-same) fits,
-            subst (λ (z : Trees). Apart ctx z a.params) (sym es-same) apart,
+            subst (λ (z : Trees). AreDisjoint ctx z a.params) (sym es-same) apart,
             (hs, trees_of-listed (instances es a.hyps) ∙ ap (λ (z : Trees). instances z a.hyps) (sym es-same), e-is ∙ ap (λ (z : Trees). instance z a.conclusion) (sym es-same), m.stack),
             mko.stack ∙ ap (λ (z : List (Item Tree)). expr e ∷ z) mk.stack,
           ) in

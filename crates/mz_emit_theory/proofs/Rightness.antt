@@ -8,10 +8,10 @@ use Rattle.mz_logic_theory.specs.Signature.{Signature}
 use Rattle.mz_logic_theory.specs.Sorts.{Fits}
 use Rattle.mz_logic_theory.specs.Variables.{OccursIn}
 use Rattle.mz_logic_theory.specs.declared.binder.Binder.{Binder}
-use Rattle.mz_unify_theory.specs.Spells.{trees_of}
-use Rattle.mz_unify_theory.specs.Profile.{Item, expr, proof, obligation, conversion}
-use Rattle.mz_unify_theory.specs.Sorted.{Sorted, AllSorted, ItemSorted, ItemsSorted}
-use Rattle.mz_unify_theory.proofs.Offered.{map-reverse}
+use Rattle.mz_machine_theory.specs.Spells.{trees_of}
+use Rattle.mz_machine_theory.specs.Profile.{Item, expr, proof, obligation, conversion}
+use Rattle.mz_machine_theory.specs.Sorted.{Sorted, AllSorted, ItemSorted, ItemsSorted}
+use Rattle.mz_machine_theory.proofs.Offered.{map-reverse}
 use Rattle.mz_machine_theory.specs.ProofMachine.{sides}
 use Rattle.mz_emit_theory.specs.SymbolicState.{renamed, item_renamed, name_in, met_binders}
 use Rattle.mz_emit_theory.specs.Steps.{above}
@@ -87,9 +87,8 @@ module _ (sigs : List Signature) (ctx : List Binder) (met : List ℕ) where
   right-parts t es ((s, (d, _, _, fits)), known) = right-operands es d.params fits known
 
   pub right-sides : (ls rs : List Tree) (rest : List (Item Tree)) → RightTrees ls → RightTrees rs → RightItems rest → RightItems (sides ls rs rest)
-  right-sides [] rs rest hl hr h = h
-  right-sides (l ∷ ls) [] rest hl hr h = h
   right-sides (l ∷ ls) (r ∷ rs) rest (hl, hls) (hr, hrs) h = ((hl, hr), right-sides ls rs rest hls hrs h)
+  right-sides _ _ rest hl hr h = h
 
   -- ---- the machine's expressions have sorts
 
@@ -136,9 +135,8 @@ module _ (g : ℕ → ℕ) where
       ∙ ap (λ (z : List (Item Tree)). z ++ map (item_renamed g) rest) (renamed-proofs (reverse hs) ∙ ap (map proof) (map-reverse (renamed g) hs))
 
   pub renamed-sides : (ls rs : List Tree) (rest : List (Item Tree)) → map (item_renamed g) (sides ls rs rest) ≡ sides (map (renamed g) ls) (map (renamed g) rs) (map (item_renamed g) rest)
-  renamed-sides [] rs rest = refl
-  renamed-sides (l ∷ ls) [] rest = refl
   renamed-sides (l ∷ ls) (r ∷ rs) rest = ap (λ (z : List (Item Tree)). obligation (renamed g l) (renamed g r) ∷ z) (renamed-sides ls rs rest)
+  renamed-sides _ _ rest = refl
 
 -- ---- one variable more
 

@@ -10,17 +10,16 @@ use Rattle.mz_logic_theory.specs.Tree.{Tree, var, app}
 use Rattle.mz_logic_theory.specs.Signature.{Signature}
 use Rattle.mz_logic_theory.specs.Legality.{sort_of}
 use Rattle.mz_logic_theory.specs.declared.binder.Binder.{Binder}
-use Rattle.mz_unify_theory.specs.Steps.{◌>>=◌, ◌>>◌, need, rule_of}
-use Rattle.mz_unify_theory.specs.Spells.{trees_of, variables_from, SpelledTerm}
-use Rattle.mz_unify_theory.specs.Sorted.{Sorted}
-use Rattle.mz_unify_theory.specs.Profile.{strict, Item, expr, obligation}
-use Rattle.mz_unify_theory.specs.UnifyMachine.{Matching, UnifyState, unify}
-use Rattle.mz_unify_theory.specs.Laws.{unfolding_by}
-use Rattle.mz_unify_theory.proofs.Offered.{length-params, from_bind, from_need, rule_of-ok, taken-is, same_tree-refl, listed-trees_of}
+use Rattle.mz_machine_theory.specs.Steps.{◌>>=◌, ◌>>◌, need, rule_of}
+use Rattle.mz_machine_theory.specs.Spells.{trees_of, variables_from, SpelledTerm}
+use Rattle.mz_machine_theory.specs.Sorted.{Sorted}
+use Rattle.mz_machine_theory.specs.Profile.{strict, Item, expr, obligation}
+use Rattle.mz_machine_theory.specs.UnifyMachine.{Matching, UnifyState, unify}
+use Rattle.mz_machine_theory.specs.UnifyLaws.{unfolding_by}
+use Rattle.mz_machine_theory.proofs.Offered.{length-params, from_bind, from_need, rule_of-ok, taken-is, same_tree-refl, listed-trees_of, own-are}
 use Rattle.mz_machine_theory.specs.MachineState.{RowsBefore, signatures_in, State, Kind, is_axiom, is_theorem, is_definition, Heading}
 use Rattle.mz_machine_theory.specs.FreeVars.{free_within}
 use Rattle.mz_machine_theory.specs.ProofMachine.{push, matched_by, unfolding_of, proof_step, own_variables, ends_with, proof_end}
-use Rattle.mz_machine_theory.proofs.Offered.{own-are}
 use Rattle.mz_pmachine_theory.specs.SharedBuilding.{portable_trees}
 use Rattle.mz_pmachine_theory.proofs.Offered.{ends-too}
 use Rattle.mz_emit_theory.specs.SharedRows.{SharesBody, IsSharedHeading}
@@ -98,5 +97,4 @@ module _ (tables : RowsBefore) where
     where
       is-definition : (kind : Kind) → (kind ≡ is_definition) ⊎ (kind ≡ is_definition → ⊥)
       is-definition is_definition = inl refl
-      is-definition is_axiom = inr λ is. cc
-      is-definition is_theorem = inr λ is. cc
+      is-definition _ = inr λ is. cc

@@ -20,16 +20,16 @@ use Rattle.mz_layout_tables.specs.NormalLaws.{written_term, written_thm, term_pl
 use Rattle.mz_layout_tables.specs.Standing.{Fit, Stands}
 use Rattle.mz_layout_tables.specs.Tables.{TermRow, ThmRow, sort_count, term_count, thm_count, term_row, thm_row}
 use Rattle.mz_layout_tables.proofs.Offered.{SaysCounts, counts-said, slice_get-sorts, mods-read, term-read, thm-read, term-stream, thm-stream, params-hold, words-hold}
-use Rattle.mz_unify_theory.specs.Profile.{plain}
-use Rattle.mz_unify_theory.specs.Spells.{Text, SpelledTerm, SpelledThm, SpellsTerm, SpellsThm}
-use Rattle.mz_unify_theory.specs.Streams.{of_assertion, of_definition}
-use Rattle.mz_machine_theory.specs.Bodies.{Runs, body_checks}
+use Rattle.mz_machine_theory.specs.Profile.{plain}
+use Rattle.mz_machine_theory.specs.Spells.{Text, SpelledTerm, SpelledThm, SpellsTerm, SpellsThm}
+use Rattle.mz_machine_theory.specs.Streams.{of_assertion, of_definition}
+use Rattle.mz_machine_theory.specs.Bodies.{Runs}
 use Rattle.mz_machine_theory.specs.FileRows.{taken_by, stream_of, term_of_file, thm_of_file, rows_taken, Taken}
 use Rattle.mz_layout_tables.specs.Heads.{body_bytes}
 use Rattle.mz_machine_theory.specs.Lists.{assertion_of, definition_of}
 use Rattle.mz_layout_tables.specs.RowWords.{IsResultWord, param_checks, word_checks}
 use Rattle.mz_machine_theory.specs.MachineState.{RowsBefore, Heading, is_definition, Declares}
-use Rattle.mz_machine_theory.proofs.Offered.{pairs-long, bodies-checked}
+use Rattle.mz_machine_theory.proofs.Offered.{pairs-long}
 use Rattle.mz_binary_theory.specs.Checking.{term_body_checks, term_checks, thm_checks, kind_checks}
 use Rattle.mz_binary_theory.specs.Spelling.{SpellsRow}
 use Rattle.mz_emit_theory.specs.AlphaEquivalence.{IsSameTerm, IsSameForm, IsSameEnv}
@@ -38,8 +38,8 @@ use Rattle.mz_emit_theory.specs.Bodies.{IsBody}
 use Rattle.mz_emit_theory.specs.SpellsBefore.{SpellsBefore}
 use Rattle.mz_emit_theory.specs.FileWriting.{SayParams, SaySignature, IsWrittenAssertion}
 use Rattle.mz_emit_theory.proofs.BodiesRun.{assertion-runs, definition-runs}
-use Rattle.mz_binary_theory.proofs.Offered.{runs-with}
-use Rattle.mz_binary_theory.specs.Standards.{profile_of, by_table}
+use Rattle.mz_binary_theory.proofs.Offered.{holds-with}
+use Rattle.mz_binary_theory.specs.Standards.{checks_by, by_table}
 
 -- the code of a term's statement, and of an assertion's
 abbrev pub term_code : (is_local : Bool) → StatementCode
@@ -60,9 +60,6 @@ module _ (gaps : Bool) (file : List ℕ) (taken : Taken) (at body next : ℕ) wh
   assertion-holds : (w : Bool) → taken.thms < thm_count file → AllHold (thm_checks (by_table gaps) file taken body next w) → AllHold (kind_checks (by_table gaps) file taken at body next (Some (assertion_code w)))
   assertion-holds true below all = (below, all)
   assertion-holds false below all = (below, all)
-
-holds-of : (gaps : Bool) (tables : RowsBefore) (h : Heading) (at : ℕ) (bytes : List ℕ) → Runs (plain gaps) tables h at bytes → AllHold (body_checks (profile_of (by_table gaps)) tables h at bytes)
-holds-of gaps tables h at bytes runs = (bodies-checked (profile_of (by_table gaps)) tables h at bytes).0.1 (runs-with gaps tables h at bytes runs)
 
 -- a term's row as it is read of its record, and an assertion's
 abbrev term_by : List ℕ → TermRow → SpelledTerm
@@ -161,8 +158,8 @@ module _ (gaps : Bool) (p : Parts) (fit : Fit p) (env env' : List Declaration) (
         (definition-runs gaps tables env env' declares same body bytes signature bytes' dummies dummies' e e' legal same-form (spells further) b) in
         let ends : AllHold (term_body_checks (by_table gaps) file (taken_by env') at body next (term_of_file file n).stream) =
         subst (λ (o : Option (List ℕ)). AllHold (term_body_checks (by_table gaps) file (taken_by env') at body next o)) (sym (ap (λ (r : SpelledTerm). r.stream) row))
-        (subst (λ (r : SpelledTerm). AllHold (body_checks (profile_of (by_table gaps)) tables (definition_of r bytes') body (body_bytes file body next))) (sym row)
-        (holds-of gaps tables (definition_of (record { signature = signature; stream = Some bytes' }) bytes') body (body_bytes file body next) runs)) in
+        (subst (λ (r : SpelledTerm). AllHold (checks_by (by_table gaps) tables (definition_of r bytes') body (body_bytes file body next))) (sym row)
+        (holds-with gaps tables (definition_of (record { signature = signature; stream = Some bytes' }) bytes') body (body_bytes file body next) runs)) in
         let text : Text of_definition (signatures env') signature.params bytes' none e' dummies' = subst (λ (z : List Signature). Text of_definition z signature.params bytes' none e' dummies') sigs (spells further) in
         record {
           row = (below, subst (λ (r : SpelledTerm). SpellsTerm (signatures env') r (record { signature = signature; form = defined dummies' e' })) (sym row) (refl, text));
@@ -188,11 +185,11 @@ module _ (gaps : Bool) (p : Parts) (fit : Fit p) (env env' : List Declaration) (
       let words : AllHold (param_checks (sorts env') (thm_row file n).words_at (thm_row file n).params) =
       subst (λ (r : ThmRow). AllHold (param_checks (sorts env') r.words_at r.params)) (sym row-is)
       (params-hold (sorts env') (thm_place p n) w.words (subst (λ (ss : List SortMods). SayParams ss w.words a.params) same.sorts_are w.say).right) in
-      let ends : AllHold (body_checks (profile_of (by_table gaps)) tables (assertion_of a.is_axiom (thm_of_file file n)) body (body_bytes file body next)) =
-      subst (λ (r : SpelledThm). AllHold (body_checks (profile_of (by_table gaps)) tables (assertion_of a.is_axiom r) body (body_bytes file body next))) (sym row) (holds-of gaps tables h body (body_bytes file body next) runs) in
+      let ends : AllHold (checks_by (by_table gaps) tables (assertion_of a.is_axiom (thm_of_file file n)) body (body_bytes file body next)) =
+      subst (λ (r : SpelledThm). AllHold (checks_by (by_table gaps) tables (assertion_of a.is_axiom r) body (body_bytes file body next))) (sym row) (holds-with gaps tables h body (body_bytes file body next) runs) in
       let text : Text of_assertion (signatures env') a.params bytes' a.hyps a.conclusion [] = subst (λ (z : List Signature). Text of_assertion z a.params bytes' a.hyps a.conclusion []) sigs (w.text.spells stands.rest) in
       record {
         row = (below, subst (λ (r : SpelledThm). SpellsThm (signatures env') r a) (sym row) (refl, text));
         holds = assertion-holds gaps file (taken_by env') at body next a.is_axiom below
-            (all_hold-both (param_checks (sorts env') (thm_row file n).words_at (thm_row file n).params) (body_checks (profile_of (by_table gaps)) tables (assertion_of a.is_axiom (thm_of_file file n)) body (body_bytes file body next)) words ends);
+            (all_hold-both (param_checks (sorts env') (thm_row file n).words_at (thm_row file n).params) (checks_by (by_table gaps) tables (assertion_of a.is_axiom (thm_of_file file n)) body (body_bytes file body next)) words ends);
       }

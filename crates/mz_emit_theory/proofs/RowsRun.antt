@@ -6,13 +6,13 @@ use Rattle.std.proofs.lemmas.Bool.{le-leb, lt-ltb}
 use Rattle.mz_cmd.specs.declared.code.ProofCode.TheVariants as code
 use Rattle.mz_logic_theory.specs.Tree.{Tree, Trees, var, app, listed}
 use Rattle.mz_logic_theory.specs.Legality.{sort_of}
-use Rattle.mz_unify_theory.specs.Spells.{SpelledTerm, SpelledThm, trees_of, dummy_of}
-use Rattle.mz_unify_theory.specs.Profile.{plain, Item, expr, proof, obligation, conversion}
-use Rattle.mz_unify_theory.specs.UnifyMachine.{UnifyState, unify}
-use Rattle.mz_unify_theory.specs.Laws.{citing, unfolding_by}
-use Rattle.mz_unify_theory.proofs.Offered.{same_tree-refl, listed-trees_of}
+use Rattle.mz_machine_theory.specs.Spells.{SpelledTerm, SpelledThm, trees_of, dummy_of}
+use Rattle.mz_machine_theory.specs.Profile.{plain, Item, expr, proof, obligation, conversion}
+use Rattle.mz_machine_theory.specs.UnifyMachine.{UnifyState, unify}
+use Rattle.mz_machine_theory.specs.UnifyLaws.{citing, unfolding_by}
+use Rattle.mz_machine_theory.proofs.Offered.{same_tree-refl, listed-trees_of}
 use Rattle.mz_machine_theory.specs.MachineState.{RowsBefore, signatures_in, State}
-use Rattle.mz_machine_theory.specs.Premises.{pop_exprs, pop_operands, is_obligation, may_be_dummy_sort, is_provable_sort, bound_count, operands_fit, are_apart}
+use Rattle.mz_machine_theory.specs.Premises.{pop_exprs, pop_operands, is_obligation, may_be_dummy_sort, is_provable_sort, bound_count, operands_fit, are_disjoint}
 use Rattle.mz_machine_theory.specs.ProofMachine.{built, citation, cited, sides, unfolding_of, proof_step}
 use Rattle.mz_emit_theory.specs.Steps.{above}
 
@@ -85,7 +85,7 @@ module _ (gaps : Bool) (tables : RowsBefore) (at : ℕ) (st : State Tree) where
   -- ---- citations
 
   pub cited-row : (t : ℕ) (e : Tree) (es : List Tree) (items rest : List (Item Tree)) (row : SpelledThm) (u : UnifyState Tree) → slice_get tables.thms t ≡ Some row → length es ≡ length row.params
-      → st.stack ≡ expr e ∷ above es items → operands_fit (signatures_in tables) st.ctx es row.params ≡ Ok tt → are_apart st.ctx es row.params ≡ true
+      → st.stack ≡ expr e ∷ above es items → operands_fit (signatures_in tables) st.ctx es row.params ≡ Ok tt → are_disjoint st.ctx es row.params ≡ true
       → unify (plain gaps) (signatures_in tables) st.ctx (citing row.stream es e items) ≡ Ok u → u.items ≡ rest → cited (plain gaps) tables t st ≡ Ok (e, rest)
   unfolding cited citation
   cited-row t e es items rest row u row-at len is fit apart ran left =

@@ -8,8 +8,8 @@ use Rattle.mz_logic_theory.specs.Signature.{Signature}
 use Rattle.mz_logic_theory.specs.Sorts.{HasProvable}
 use Rattle.mz_logic_theory.specs.declared.binder.Binder.{Binder}
 use Rattle.mz_logic_theory.proofs.Offered.{assertions_are_sorted, terms_are_sorted}
-use Rattle.mz_unify_theory.specs.Spells.{SpellsForm}
-use Rattle.mz_unify_theory.specs.Sorted.{AllSorted}
+use Rattle.mz_machine_theory.specs.Spells.{SpellsForm}
+use Rattle.mz_machine_theory.specs.Sorted.{AllSorted}
 use Rattle.mz_emit_theory.proofs.Texts.{assertions-written, definitions-written}
 use Rattle.mz_emit_theory.specs.SpelledLists.{form_spelled}
 use Rattle.mz_emit_theory.specs.WrittenRows.{stream_written, CanBeStream, AssertionRowsSpell, TermRowsSpell}

@@ -12,20 +12,20 @@ use Rattle.mz_logic_theory.specs.Tree.{Tree, Trees, var, app, listed, instance, 
 use Rattle.mz_logic_theory.specs.Signature.{Signature}
 use Rattle.mz_logic_theory.specs.Declaration.{Declaration, sorts, signatures}
 use Rattle.mz_logic_theory.specs.Sorts.{HasSort, Fits}
-use Rattle.mz_logic_theory.specs.Variables.{Occurs, Apart}
+use Rattle.mz_logic_theory.specs.Variables.{Occurs, AreDisjoint}
 use Rattle.mz_logic_theory.specs.Conversions.{AreFresh}
 use Rattle.mz_logic_theory.specs.Legality.{binder_at, sort_of}
 use Rattle.mz_logic_theory.specs.declared.binder.Binder.{Binder}
 use Rattle.mz_logic_theory.specs.declared.binder.SortMods.{SortMods}
 use Rattle.mz_logic_theory.proofs.Offered.{sort_is}
-use Rattle.mz_unify_theory.specs.Steps.{◌>>=◌}
-use Rattle.mz_unify_theory.specs.Spells.{trees_of, dummy_of}
-use Rattle.mz_unify_theory.specs.Profile.{plain, strict, Item, expr, proof, obligation, conversion}
-use Rattle.mz_unify_theory.specs.UnifyMachine.{unify}
-use Rattle.mz_unify_theory.specs.Laws.{citing, unfolding_by, instances_of}
-use Rattle.mz_unify_theory.proofs.Offered.{taken, fits-length, citations-exact, unfoldings-exact, unify-plain}
+use Rattle.mz_machine_theory.specs.Steps.{◌>>=◌}
+use Rattle.mz_machine_theory.specs.Spells.{trees_of, dummy_of}
+use Rattle.mz_machine_theory.specs.Profile.{plain, strict, Item, expr, proof, obligation, conversion}
+use Rattle.mz_machine_theory.specs.UnifyMachine.{unify}
+use Rattle.mz_machine_theory.specs.UnifyLaws.{citing, unfolding_by, instances_of}
+use Rattle.mz_machine_theory.proofs.Offered.{taken, fits-length, citations-exact, unfoldings-exact, unify-plain}
 use Rattle.mz_machine_theory.specs.MachineState.{RowsBefore, signatures_in, State, Declares}
-use Rattle.mz_machine_theory.specs.Premises.{is_obligation, may_be_dummy_sort, is_provable_sort, bound_count, operands_fit, are_apart}
+use Rattle.mz_machine_theory.specs.Premises.{is_obligation, may_be_dummy_sort, is_provable_sort, bound_count, operands_fit, are_disjoint}
 use Rattle.mz_machine_theory.specs.ProofMachine.{built, cited, sides, proof_step}
 use Rattle.mz_emit_theory.specs.SymbolicState.{renamed, all_renamed, item_renamed, name_in, Work, met_binders, machine}
 use Rattle.mz_emit_theory.specs.Steps.{stacked, kept, above, IsBuilt, IsCited, Step, Steps, command_bytes, run_commands}
@@ -212,10 +212,8 @@ module _ (gaps : Bool) (tables : RowsBefore) (env env' : List Declaration) (decl
         )
 
     obligation-stays : (x : Item Tree) → is_obligation x ≡ false → is_obligation (item_renamed g x) ≡ false
-    obligation-stays (expr e) h = refl
-    obligation-stays (proof e) h = refl
     obligation-stays (obligation l r) h = h
-    obligation-stays (conversion l r) h = refl
+    obligation-stays _ h = refl
 
     goes-save : (v : ℕ) (w' : Work) → Step gaps env ctx w code.Save v w' → Goes at code.Save v w w'
     goes-save v w' (x, rest, on, kind, is) =
@@ -250,8 +248,8 @@ module _ (gaps : Bool) (tables : RowsBefore) (env env' : List Declaration) (decl
         (sorted-forward Sigs ctx w.met deps e e-right) (items-sorted Sigs ctx w.met deps items items-right)).1 ((hs', hs-are', e-is', items-are'), refl) in (
           cited-row gaps tables at st T (renamed g e) es' (named items) (named rest) row u row-at len
               (stack-is (expr e ∷ above es items) on ∙ ap (λ (z : List (Item Tree)). expr (renamed g e) ∷ z) (renamed-above g es items)) passes
-              (subst (λ (z : List Binder). are_apart st.ctx es' z ≡ true) (sym params-are)
-              (apart-passes st.ctx es' a.params (subst (λ (z : Trees). Apart st.ctx z a.params) (renamed-trees g es) (apart-forward Sigs ctx w.met deps (trees_of es) a.params known fits apart))))
+              (subst (λ (z : List Binder). are_disjoint st.ctx es' z ≡ true) (sym params-are)
+              (apart-passes st.ctx es' a.params (subst (λ (z : Trees). AreDisjoint st.ctx z a.params) (renamed-trees g es) (apart-forward Sigs ctx w.met deps (trees_of es) a.params known fits apart))))
               (unify-plain gaps (signatures_in tables) st.ctx (citing row.stream es' (renamed g e) (named items)) ∙ subst (λ (z : List Signature). unify strict z st.ctx (citing row.stream es' (renamed g e) (named items)) ≡ Ok u) (sym (in-tables tables env env' declares same)) ran)
               left,
           e-right,

@@ -9,8 +9,8 @@ use Rattle.mz_logic_theory.specs.Variables.{Occurs, OccursIn, InSomeV}
 use Rattle.mz_logic_theory.specs.Conversions.{IsBoundOf, AreFresh}
 use Rattle.mz_logic_theory.specs.declared.binder.Binder.{Binder}
 use Rattle.mz_logic_theory.proofs.Offered.{split_at}
-use Rattle.mz_unify_theory.specs.Spells.{variables_from}
-use Rattle.mz_unify_theory.proofs.Offered.{some_is, distinct, in-some, operand-trees_of, length-params}
+use Rattle.mz_machine_theory.specs.Spells.{variables_from}
+use Rattle.mz_machine_theory.proofs.Offered.{some_is, distinct, in-some, operand-trees_of, length-params}
 use Rattle.mz_emit_theory.specs.AlphaEquivalence.{own}
 use Rattle.mz_emit_theory.proofs.Naming.{fresh_long}
 use Rattle.mz_emit_theory.proofs.Unfolds.{operand-front, operand-behind, operand-variables, get-own}
@@ -147,9 +147,8 @@ module _ (rows : List ℕ) (params ds es fs : List Binder) (ys : List ℕ) (fres
 
     pub bodies-back : (es' gs : Trees) → ((y : ℕ) → OccursIn y gs → y < length params + length fs) → AllSameOver (IsPaired (length params) pairs) rows es' (instances F gs) → AllSameOver (IsPaired (length params) pairs') rows es' gs
     bodies-back none none inside same = tt
-    bodies-back none (more g gs) inside same = absurd same
-    bodies-back (more e es') none inside same = absurd same
     bodies-back (more e es') (more g gs) inside (first, others) = (body-back e g (λ y o. inside y (inl o)) first, bodies-back es' gs (λ y o. inside y (inr o)) others)
+    bodies-back _ _ inside same = absurd same
 
 pub same-body-back : (rows : List ℕ) (params ds es fs : List Binder) (e body f : Tree) (ys : List ℕ) → AreFresh (params ++ es) (own params) ys fs → body ≡ instance (followed_by (own params) (variables ys)) f
     → ((y : ℕ) → Occurs y f → y < length params + length fs) → SameBody rows (length params) ds es e body → SameBody rows (length params) ds fs e f

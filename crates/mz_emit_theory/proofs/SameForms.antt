@@ -11,7 +11,7 @@ use Rattle.mz_logic_theory.specs.Legality.{Each, IsDummy, AreParams, binder_at}
 use Rattle.mz_logic_theory.specs.declared.binder.Binder.{Binder}
 use Rattle.mz_logic_theory.specs.declared.binder.SortMods.{SortMods}
 use Rattle.mz_logic_theory.proofs.Offered.{extends_append, split_at, one_at}
-use Rattle.mz_unify_theory.specs.Spells.{trees_of, variables_from, dummy_of}
+use Rattle.mz_machine_theory.specs.Spells.{trees_of, variables_from, dummy_of}
 use Rattle.mz_emit_theory.specs.SymbolicState.{name_in, from_to}
 use Rattle.mz_emit_theory.specs.BodyLaws.{AreOnce}
 use Rattle.mz_emit_theory.specs.AlphaEquivalence.{own}

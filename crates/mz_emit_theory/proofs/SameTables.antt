@@ -3,23 +3,21 @@ use Rattle.std.proofs.Common.{◌≡◌, ℕ, zero, suc, List, [], ◌∷◌, ma
 use Rattle.std.specs.Prelude.{slice_get}
 use Rattle.mz_logic_theory.specs.Signature.{Signature}
 use Rattle.mz_logic_theory.specs.Declaration.{Term, Assertion, Declaration, sorts, terms, signatures, assertions}
-use Rattle.mz_unify_theory.specs.Spells.{SpelledTerm, SpelledThm, SpellsThm, SpellsTerm}
+use Rattle.mz_machine_theory.specs.Spells.{SpelledTerm, SpelledThm, SpellsThm, SpellsTerm}
 use Rattle.mz_machine_theory.specs.MachineState.{RowsBefore, signatures_in, Pairwise, Declares}
 use Rattle.mz_machine_theory.proofs.Offered.{pair-at, signatures-are, signatures-of}
 use Rattle.mz_emit_theory.specs.AlphaEquivalence.{IsSameTerm, IsSameEnv}
 
 pub pair-back : {A B : Type 0} (R : A → B → Type 0) (xs : List A) (ys : List B) → Pairwise R xs ys → (i : ℕ) (y : B) → slice_get ys i ≡ Some y → (x : A) × (slice_get xs i ≡ Some x) × R x y
 pair-back R [] [] h i y at = absurd cc
-pair-back R [] (b ∷ ys) h i y at = absurd h
-pair-back R (a ∷ xs) [] h i y at = absurd h
 pair-back R (a ∷ xs) (b ∷ ys) (r, h) zero y at = let is : b ≡ y = cc in (a, refl, subst (λ z. R a z) is r)
 pair-back R (a ∷ xs) (b ∷ ys) (r, h) (suc i) y at = pair-back R xs ys h i y at
+pair-back R _ _ h i y at = absurd h
 
 terms-signatures : (ds ds' : List Term) → Pairwise IsSameTerm ds ds' → map (λ d. d.signature) ds ≡ map (λ d. d.signature) ds'
 terms-signatures [] [] h = refl
-terms-signatures [] (d ∷ ds') h = absurd h
-terms-signatures (d ∷ ds) [] h = absurd h
 terms-signatures (d ∷ ds) (d' ∷ ds') ((is, _), h) = ap (λ (z : Signature). z ∷ map (λ c. c.signature) ds) is ∙ ap (λ (z : List Signature). d'.signature ∷ z) (terms-signatures ds ds' h)
+terms-signatures _ _ h = absurd h
 
 pub same-signatures : (env env' : List Declaration) → IsSameEnv env env' → signatures env ≡ signatures env'
 same-signatures env env' same = signatures-of env ∙ terms-signatures (terms env) (terms env') same.terms_are ∙ sym (signatures-of env')

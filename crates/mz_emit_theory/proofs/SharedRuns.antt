@@ -8,16 +8,15 @@ use Rattle.mz_logic_theory.specs.Tree.{Tree, Trees, app}
 use Rattle.mz_logic_theory.specs.Signature.{Signature}
 use Rattle.mz_logic_theory.specs.Declaration.{Declaration, signatures}
 use Rattle.mz_logic_theory.specs.declared.binder.Binder.{Binder}
-use Rattle.mz_unify_theory.specs.Steps.{◌>>=◌}
-use Rattle.mz_unify_theory.specs.Spells.{trees_of}
-use Rattle.mz_unify_theory.specs.Sorted.{Sorted}
-use Rattle.mz_unify_theory.specs.Profile.{strict, expr, obligation}
-use Rattle.mz_unify_theory.proofs.Offered.{from_bind, fits-length}
+use Rattle.mz_machine_theory.specs.Steps.{◌>>=◌}
+use Rattle.mz_machine_theory.specs.Spells.{trees_of}
+use Rattle.mz_machine_theory.specs.Sorted.{Sorted}
+use Rattle.mz_machine_theory.specs.Profile.{strict, expr, obligation}
+use Rattle.mz_machine_theory.proofs.Offered.{from_bind, fits-length, own-are}
 use Rattle.mz_machine_theory.specs.MachineState.{RowsBefore, signatures_in, State, Heading, Declares}
 use Rattle.mz_machine_theory.specs.Premises.{bound_count}
 use Rattle.mz_machine_theory.specs.ProofMachine.{proof_step, proof_end}
 use Rattle.mz_machine_theory.specs.Bodies.{body_start, body_run, Runs}
-use Rattle.mz_machine_theory.proofs.Offered.{own-are}
 use Rattle.mz_emit_theory.specs.SymbolicState.{renamed, item_renamed, name_in, Work, work_start, machine}
 use Rattle.mz_emit_theory.specs.Steps.{Step, Steps, command_bytes, run_commands}
 use Rattle.mz_emit_theory.specs.AlphaEquivalence.{IsSameEnv}

@@ -10,9 +10,9 @@ use Rattle.mz_logic_theory.specs.Signature.{Signature}
 use Rattle.mz_logic_theory.specs.Sorts.{HasSort, Fits}
 use Rattle.mz_logic_theory.specs.Legality.{binder_at}
 use Rattle.mz_logic_theory.specs.declared.binder.Binder.{Binder}
-use Rattle.mz_unify_theory.specs.Streams.{UnifyCommand, u_term, u_term_save, u_ref, u_dummy, u_hyp, u_end}
-use Rattle.mz_unify_theory.specs.Sorted.{Sorted, AllSorted}
-use Rattle.mz_unify_theory.proofs.Offered.{length-params, sorted-reverse}
+use Rattle.mz_machine_theory.specs.Streams.{UnifyCommand, u_term, u_term_save, u_ref, u_dummy, u_hyp, u_end}
+use Rattle.mz_machine_theory.specs.Sorted.{Sorted, AllSorted}
+use Rattle.mz_machine_theory.proofs.Offered.{length-params, sorted-reverse}
 use Rattle.mz_emit_theory.specs.SymbolicState.{from_to}
 use Rattle.mz_emit_theory.specs.StreamWriting.{Writing, Written, writing_start, meeting, place_in, are_met, referred, headed, head_of, marked_if, write, write_all, write_hyps, assertion_written, definition_written, unify_bytes, stream_of, AreShort}
 use Rattle.mz_emit_theory.specs.StreamLaws.{IsSmall, AssertionsAreShort, DefinitionsAreShort, AssertionsAreBounded, DefinitionsAreBounded}
@@ -152,10 +152,8 @@ size-small : (v : ℕ) → operand_len (shortest_size v) ≤ 4
 size-small v = go (v == 0) (nat_lt v 256) (nat_lt v 65536)
   where
     go : (a b d : Bool) → operand_len (cond a 0 (cond b 1 (cond d 2 3))) ≤ 4
-    go true b d = omega arith
-    go false true d = omega arith
     go false false true = omega arith
-    go false false false = omega arith
+    go _ _ _ = omega arith
 
 shortest-five : (code v : ℕ) → length (shortest code v) ≤ 5
 shortest-five code v = let long = length-bytes_low_first 0 (operand_len (shortest_size v)) v in let small = size-small v in omega (arith, long, small)

@@ -15,7 +15,7 @@ use Rattle.mz_mmu_theory.specs.Gaps.{LeavesOnly, AllLeaveOnly}
 use Rattle.mz_mmu_theory.specs.Proof.{Proof, Proofs, by_hyp, by_name, by_citation, by_conv, by_let, by_gap, no_proofs, more_proofs}
 use Rattle.mz_mmu_theory.specs.Names.{ProofThere, ProofsThere}
 use Rattle.mz_mmu_theory.specs.Meaning.{then_deriv, derivation, derivations, LetsDerive, AllLetsDerive}
-use Rattle.mz_unify_theory.proofs.Offered.{count-fits}
+use Rattle.mz_machine_theory.proofs.Offered.{count-fits}
 use Rattle.mz_emit_theory.specs.InReach.{InReach}
 use Rattle.mz_emit_theory.specs.Claims.{claim_at, conclusion_of, proved, all_proved, IsCitable, IsSound, AreSound}
 use Rattle.mz_emit_theory.proofs.OverContext.{reach_of_sort}
@@ -26,8 +26,7 @@ module _ (env : List Declaration) (ctx : List Binder) (hyps : Trees) where
   one_derived : (d : Derivation) (e f : Tree) → Derives env ctx hyps d e → Derives env ctx hyps d f → e ≡ f
   one_derived (hypothesis i) e f a b = one_at a b
   one_derived (cite T es ds) e f a b = a.2 ∙ ap (λ (x : Assertion). instance es x.conclusion) (one_at a.1 b.1) ∙ sym b.2
-  one_derived (convert g c d) e f a b = a.0 ∙ sym b.0
-  one_derived (gap g) e f a b = a.0 ∙ sym b.0
+  one_derived _ e f a b = a.0 ∙ sym b.0
 
   -- each let's derivation derives what the let proves
   abbrev LetsProve : Derivations → List Tree → Type 0
@@ -38,16 +37,14 @@ module _ (env : List Declaration) (ctx : List Binder) (hyps : Trees) where
 
   let_at : (ds : Derivations) (es : List Tree) (i : ℕ) → LetsProve ds es → i < length es → Derives env ctx hyps (derivation_at ds i) (claim_at es i)
   let_at no_derivs [] i h lt = absurd (omega (arith, lt))
-  let_at no_derivs (e ∷ es) i h lt = absurd h
-  let_at (more_derivs d ds) [] i h lt = absurd h
   let_at (more_derivs d ds) (e ∷ es) zero h lt = h.0
   let_at (more_derivs d ds) (e ∷ es) (suc i) h lt = let_at ds es i h.1 (omega (arith, lt))
+  let_at _ _ i h lt = absurd h
 
   let_more : (ds : Derivations) (es : List Tree) (d : Derivation) (e : Tree) → LetsProve ds es → Derives env ctx hyps d e → LetsProve (then_deriv ds d) (es ++ e ∷ [])
   let_more no_derivs [] d e h k = (k, tt)
-  let_more no_derivs (f ∷ es) d e h k = absurd h
-  let_more (more_derivs c ds) [] d e h k = absurd h
   let_more (more_derivs c ds) (f ∷ es) d e h k = (h.0, let_more ds es d e h.1 k)
+  let_more _ _ d e h k = absurd h
 
   module _ (legal : IsLegalEnv env) (gaps : Bool) where
     citable : (T : ℕ) (es : Trees) (ds : Derivations) (e : Tree) (hs : List Tree) (h : Derives env ctx hyps (cite T es ds) e) → hs ≡ listed (instances es h.0.hyps) → IsCitable env ctx T es hs
@@ -95,12 +92,11 @@ module _ (env : List Declaration) (ctx : List Binder) (hyps : Trees) where
             → ProofsThere ts n ths (length (listed hyps)) ls ps → AllLeaveOnly (gaps ≡ true) ps → AllLetsDerive env ctx hyps lets ps → AllDerive env ctx hyps (derivations lets ps) es
             → AreSound gaps env ctx (listed hyps) claims ps × (all_proved env (listed hyps) claims ps ≡ listed es)
         all_sound no_proofs lets claims ls none ls-is prove there leaves derive h = (tt, refl)
-        all_sound no_proofs lets claims ls (more e es) ls-is prove there leaves derive h = absurd h
-        all_sound (more_proofs p ps) lets claims ls none ls-is prove there leaves derive h = absurd h
         all_sound (more_proofs p ps) lets claims ls (more e es) ls-is prove there leaves derive h =
             let first = sound p lets claims ls e ls-is prove there.0 leaves.0 derive.0 h.0 in
             let rest = all_sound ps lets claims ls es ls-is prove there.1 leaves.1 derive.1 h.1 in
             ((first.0, rest.0), ap (λ (z : Tree). z ∷ all_proved env (listed hyps) claims ps) first.1 ∙ ap (λ (z : List Tree). e ∷ z) rest.1)
+        all_sound _ lets claims ls _ ls-is prove there leaves derive h = absurd h
 
 pub stated_sound : StatedProofsAreSound
 stated_sound gaps env legal ctx a p is leaves there =

@@ -14,17 +14,15 @@ use Rattle.mz_emit_theory.proofs.SameForms.{bodies-same}
 
 form-same : (env : List Declaration) (sig : Signature) (form : Form) → IsLegalDecl env (term_decl (record { signature = sig; form = form }))
     → IsSameForm sig.params form (form_spelled sig.params form)
-form-same env sig plain_form legal = tt
-form-same env sig abstract_form legal = tt
 form-same env sig (defined ds body) legal =
     let (_, right, dummies, _, _, ((has, _), _)) = (terms_are_sorted env (record { signature = sig; form = defined ds body })).0 legal in
     let each : Each ds (λ _ b. IsDummy b) = λ i b at. (each_from_all (λ (c : Binder). IsDummy c × MayBeDummySort (sorts env) c.sort) ds dummies i b at).0 in
     bodies-same (sorts env) (signatures env) sig.params ds body right each (sig.result.sort, has)
+form-same env sig _ legal = tt
 
 decl-same : (env : List Declaration) (d : Declaration) → IsLegalDecl env d → IsSameDeclaration d (decl_spelled d)
-decl-same env (sort_decl m) legal = refl
 decl-same env (term_decl d) legal = (refl, form-same env d.signature d.form legal)
-decl-same env (assertion_decl a) legal = refl
+decl-same env _ legal = refl
 
 all-same : (env : List Declaration) (ss : List Statement) → LegalEnvAfter env (declarations ss) → IsSameList ss (list_spelled ss)
 all-same env [] legal = tt

@@ -9,8 +9,8 @@ use Rattle.mz_logic_theory.specs.Signature.{Signature}
 use Rattle.mz_logic_theory.specs.Legality.{binder_at}
 use Rattle.mz_logic_theory.specs.declared.binder.Binder.{Binder}
 use Rattle.mz_logic_theory.proofs.Offered.{extends_append}
-use Rattle.mz_unify_theory.specs.Spells.{variables_from}
-use Rattle.mz_unify_theory.specs.Profile.{strict, Item, expr}
+use Rattle.mz_machine_theory.specs.Spells.{variables_from}
+use Rattle.mz_machine_theory.specs.Profile.{strict, Item, expr}
 use Rattle.mz_machine_theory.specs.MachineState.{State, Heading}
 use Rattle.mz_machine_theory.specs.ProofMachine.{own_variables}
 use Rattle.mz_machine_theory.specs.Bodies.{body_start}

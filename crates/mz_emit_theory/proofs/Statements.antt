@@ -3,12 +3,12 @@ use Rattle.std.proofs.Common.{◌≡◌, Bool, true, false, List, [], ◌∷◌,
 use Rattle.mz_logic_theory.specs.Tree.{listed}
 use Rattle.mz_logic_theory.specs.Signature.{Signature}
 use Rattle.mz_logic_theory.specs.Declaration.{sorts, signatures}
-use Rattle.mz_unify_theory.specs.Spells.{SpelledTerm}
-use Rattle.mz_unify_theory.specs.Profile.{strict}
+use Rattle.mz_machine_theory.specs.Spells.{SpelledTerm}
+use Rattle.mz_machine_theory.specs.Profile.{strict}
 use Rattle.mz_machine_theory.specs.Bodies.{Runs}
 use Rattle.mz_machine_theory.specs.MachineState.{signatures_in, is_definition, Heading}
 use Rattle.mz_machine_theory.specs.Lists.{kind_of, assertion_of, definition_of}
-use Rattle.mz_unify_theory.proofs.Offered.{some_is}
+use Rattle.mz_machine_theory.proofs.Offered.{some_is}
 use Rattle.mz_emit_theory.proofs.Joining.{contexts-depend}
 use Rattle.mz_emit_theory.proofs.SameTables.{in-tables}
 use Rattle.mz_pmachine_theory.specs.NodeIdentity.{portable}

@@ -12,13 +12,12 @@ use Rattle.mz_logic_theory.specs.declared.word.Word.{Word}
 use Rattle.mz_logic_theory.proofs.Offered.{each_from_all, assertions_are_sorted, terms_are_sorted}
 use Rattle.mz_layout_tables.specs.Normal.{Parts, row_of_term, file_of}
 use Rattle.mz_layout_tables.specs.Standing.{Fit}
-use Rattle.mz_unify_theory.specs.Spells.{SpelledTerm, SpelledThm, SpellsForm}
-use Rattle.mz_unify_theory.proofs.Offered.{some_is}
+use Rattle.mz_machine_theory.specs.Spells.{SpelledTerm, SpelledThm, SpellsForm}
+use Rattle.mz_machine_theory.proofs.Offered.{some_is, pairs-long}
 use Rattle.mz_layout_tables.specs.Heads.{body_bytes}
 use Rattle.mz_machine_theory.specs.FileRows.{taken_by, term_of_file, thm_of_file, rows_taken}
 use Rattle.mz_machine_theory.specs.Lists.{definition_of, assertion_of}
 use Rattle.mz_machine_theory.specs.MachineState.{RowsBefore, Declares}
-use Rattle.mz_machine_theory.proofs.Offered.{pairs-long}
 use Rattle.mz_binary_theory.specs.Spelling.{SpellsRow}
 use Rattle.mz_binary_theory.proofs.Offered.{terms-many, rows-after}
 use Rattle.mz_emit_theory.specs.AlphaEquivalence.{IsSameTerm, IsSameEnv}
@@ -92,12 +91,8 @@ module _ (p : Parts) (fit : Fit p) (env env' : List Declaration) (same : IsSameE
       → IsWrittenForm false p env is_local signature ws result form form' bytes → TermGoesOn
   term-goes is_local signature plain_form plain_form ws result legal say sigs params spells w =
       (λ stream is. absurd (no-stream sigs params term-row.stream spells stream is), shared-with-term tables.terms term-row shared (λ stream is. absurd (no-stream sigs params term-row.stream spells stream is)))
-  term-goes is_local signature plain_form abstract_form ws result legal say sigs params spells w = absurd w
-  term-goes is_local signature plain_form (defined ds' e') ws result legal say sigs params spells w = absurd w
-  term-goes is_local signature abstract_form form' ws result legal say sigs params spells w = absurd w
-  term-goes is_local signature (defined ds e) plain_form ws result legal say sigs params spells w = absurd w
-  term-goes is_local signature (defined ds e) abstract_form ws result legal say sigs params spells w = absurd w
   term-goes is_local signature (defined ds e) (defined ds' e') ws result legal say sigs params spells w = definition-goes signature ws result ds ds' e e' legal say is_local w
+  term-goes is_local signature _ _ ws result legal say sigs params spells w = absurd w
 
   -- ---- axioms and theorems
 
@@ -113,16 +108,11 @@ module _ (p : Parts) (fit : Fit p) (env env' : List Declaration) (same : IsSameE
 
   pub goes-on : (is_local : Bool) (d d' : Declaration) → IsLegalDecl env d → SpellsRow file env' d' → IsWrittenDeclaration false p env is_local d d' bytes → GoesOn d'
   goes-on is_local (sort_decl m) (sort_decl m') legal row w = record { runs = tt; shares = same-rows (sort_decl m') refl }
-  goes-on is_local (sort_decl m) (term_decl d') legal row w = absurd w
-  goes-on is_local (sort_decl m) (assertion_decl a') legal row w = absurd w
-  goes-on is_local (term_decl d) (sort_decl m') legal row w = absurd w
   goes-on is_local (term_decl d) (term_decl d') legal (_, (_, spells)) (_, (ws, result, say, form)) =
       let (runs, rows) = term-goes is_local d.signature d.form d'.form ws result legal say _ _ spells form in
       record { runs = runs; shares = one-row (term_decl d') refl rows }
-  goes-on is_local (term_decl d) (assertion_decl a') legal row w = absurd w
-  goes-on is_local (assertion_decl a) (sort_decl m') legal row w = absurd w
-  goes-on is_local (assertion_decl a) (term_decl d') legal row w = absurd w
   goes-on is_local (assertion_decl a) (assertion_decl a') legal (_, (params, _)) (is, w) = record {
     runs = subst (λ (z : Assertion). RunsToo tables (assertion_of z.is_axiom thm-row) body (body_bytes file body next)) is (assertion-goes a legal (params ∙ ap (λ (z : Assertion). z.params) (sym is)) w);
     shares = same-rows (assertion_decl a') refl;
   }
+  goes-on is_local _ _ legal row w = absurd w

@@ -8,10 +8,10 @@ use Rattle.mz_logic_theory.specs.Tree.{Tree, Trees, var, app, none, more, listed
 use Rattle.mz_logic_theory.specs.Signature.{Signature}
 use Rattle.mz_logic_theory.specs.Variables.{Occurs, OccursIn}
 use Rattle.mz_logic_theory.specs.declared.binder.Binder.{Binder}
-use Rattle.mz_unify_theory.specs.Streams.{StreamKind, of_assertion, of_definition, UnifyCommand}
-use Rattle.mz_unify_theory.specs.Spells.{Marks, at_first, Text}
-use Rattle.mz_unify_theory.specs.Sorted.{Sorted, AllSorted}
-use Rattle.mz_unify_theory.proofs.Offered.{sorted-reverse}
+use Rattle.mz_machine_theory.specs.Streams.{StreamKind, of_assertion, of_definition, UnifyCommand}
+use Rattle.mz_machine_theory.specs.Spells.{Marks, at_first, Text}
+use Rattle.mz_machine_theory.specs.Sorted.{Sorted, AllSorted}
+use Rattle.mz_machine_theory.proofs.Offered.{sorted-reverse}
 use Rattle.mz_emit_theory.specs.SymbolicState.{renamed, all_renamed, name_in, from_to, place_of}
 use Rattle.mz_emit_theory.proofs.Naming.{place-at}
 use Rattle.mz_emit_theory.specs.StreamWriting.{Writing, Written, writing_start, write, write_hyps, assertion_written, definition_written, body_spelled, dummies_spelled, spelled_dummies, stream_of, AreShort}

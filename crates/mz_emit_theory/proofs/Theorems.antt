@@ -5,14 +5,14 @@ use Rattle.mz_logic_theory.specs.Declaration.{sorts, signatures}
 use Rattle.mz_logic_theory.specs.Legality.{AreParams}
 use Rattle.mz_logic_theory.specs.declared.binder.Binder.{Binder}
 use Rattle.mz_logic_theory.proofs.Offered.{assertions_are_sorted}
-use Rattle.mz_unify_theory.specs.Streams.{of_assertion}
-use Rattle.mz_unify_theory.specs.Spells.{trees_of, Text}
-use Rattle.mz_unify_theory.proofs.Offered.{trees_of-listed}
+use Rattle.mz_machine_theory.specs.Streams.{of_assertion}
+use Rattle.mz_machine_theory.specs.Spells.{trees_of, Text}
+use Rattle.mz_machine_theory.proofs.Offered.{trees_of-listed}
 use Rattle.mz_machine_theory.specs.MachineState.{State, Kind}
 use Rattle.mz_machine_theory.specs.Premises.{bound_count}
 use Rattle.mz_emit_theory.specs.SymbolicState.{work_start, machine}
 use Rattle.mz_emit_theory.specs.Steps.{Steps, run_commands}
-use Rattle.mz_unify_theory.specs.Profile.{plain}
+use Rattle.mz_machine_theory.specs.Profile.{plain}
 use Rattle.mz_emit_theory.specs.Endings.{IsEnding, Ends}
 use Rattle.mz_emit_theory.specs.BodyLaws.{DependOnFirst}
 use Rattle.mz_emit_theory.specs.Completeness.{LegalTheoremsRun}

@@ -7,9 +7,9 @@ use Rattle.mz_cmd.specs.declared.code.ProofCode.TheVariants as code
 use Rattle.mz_cmd.specs.Codes.{proof_byte, is_known}
 use Rattle.mz_cmd.specs.Reading.{first_command}
 use Rattle.mz_cmd.proofs.Offered.{Spells-again, shortest-spells}
-use Rattle.mz_unify_theory.specs.Steps.{◌>>=◌, at_place, Turn, over, goes_on, follow}
-use Rattle.mz_unify_theory.specs.Profile.{Profile, strict}
-use Rattle.mz_unify_theory.proofs.Offered.{from_bind, taken, taken-is}
+use Rattle.mz_machine_theory.specs.Steps.{◌>>=◌, at_place, Turn, over, goes_on, follow}
+use Rattle.mz_machine_theory.specs.Profile.{Profile, strict}
+use Rattle.mz_machine_theory.proofs.Offered.{from_bind, taken, taken-is}
 use Rattle.mz_machine_theory.specs.MachineState.{RowsBefore, State, Kind, Heading}
 use Rattle.mz_machine_theory.specs.ProofMachine.{matched_by, proof_step, ends_with, proof_end}
 use Rattle.mz_machine_theory.specs.Bodies.{stands_in, proves, if_allowed, body_command, body_turn, body_from, body_start, body_run}
@@ -26,22 +26,7 @@ IsReadAgain P kind v c = IsTrue (is_known (proof_byte c)) × (body_command P kin
 
 read-again : (P : Profile) (kind : Kind) (v : ℕ) (c : ProofCode) → IsReadAgain P kind v c
 read-again P kind v code.Term = (refl, refl)
-read-again P kind v code.TermSave = (refl, refl)
-read-again P kind v code.Ref = (refl, refl)
-read-again P kind v code.Dummy = (refl, refl)
-read-again P kind v code.Thm = (refl, refl)
-read-again P kind v code.ThmSave = (refl, refl)
-read-again P kind v code.Hyp = (refl, refl)
-read-again P kind v code.Conv = (refl, refl)
-read-again P kind v code.Refl = (refl, refl)
-read-again P kind v code.Symm = (refl, refl)
-read-again P kind v code.Cong = (refl, refl)
-read-again P kind v code.Unfold = (refl, refl)
-read-again P kind v code.ConvCut = (refl, refl)
-read-again P kind v code.ConvRef = (refl, refl)
-read-again P kind v code.ConvSave = (refl, refl)
-read-again P kind v code.Save = (refl, refl)
-read-again P kind v code.Sorry = (refl, refl)
+read-again P kind v _ = (refl, refl)
 
 -- ---- commands that may stand
 

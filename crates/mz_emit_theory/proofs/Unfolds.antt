@@ -11,11 +11,10 @@ use Rattle.mz_logic_theory.specs.Variables.{Occurs, OccursIn, InSomeV}
 use Rattle.mz_logic_theory.specs.Conversions.{IsBoundOf, AreFresh}
 use Rattle.mz_logic_theory.specs.declared.binder.Binder.{Binder}
 use Rattle.mz_logic_theory.proofs.Offered.{instance-instance, instances-followed_by, split_at}
-use Rattle.mz_unify_theory.specs.Streams.{of_definition, UnifyCommand}
-use Rattle.mz_unify_theory.specs.Spells.{trees_of, variables_from, dummy_of, Marks, marked, Spells, SpellsAll, SpellsText, Text, SpelledTerm, SpellsForm}
-use Rattle.mz_unify_theory.proofs.Offered.{some_is, fits-length, fresh-at, distinct, in-some}
+use Rattle.mz_machine_theory.specs.Streams.{of_definition, UnifyCommand}
+use Rattle.mz_machine_theory.specs.Spells.{trees_of, variables_from, dummy_of, Marks, marked, Spells, SpellsAll, SpellsText, Text, SpelledTerm, SpellsForm}
+use Rattle.mz_machine_theory.proofs.Offered.{some_is, fits-length, fresh-at, distinct, in-some, signature-at}
 use Rattle.mz_machine_theory.specs.MachineState.{RowsBefore, Declares}
-use Rattle.mz_machine_theory.proofs.Offered.{signature-at}
 use Rattle.mz_emit_theory.specs.Steps.{IsUnfolding}
 use Rattle.mz_emit_theory.specs.AlphaEquivalence.{own, IsSameForm, IsSameEnv}
 use Rattle.mz_emit_theory.proofs.SameTables.{same-signatures, definition-row-at}
@@ -79,8 +78,6 @@ operand-variables (w ∷ zs) (suc k) z at = operand-variables zs k z at
 own-instances : (F : Trees) (ps : List Binder) (j : ℕ) (es : List Tree) → length es ≡ length ps → ((i : ℕ) → i < length ps → operand F (j + i) ≡ operand (trees_of es) i)
     → instances F (trees_of (variables_from j ps)) ≡ trees_of es
 own-instances F [] j [] len each = refl
-own-instances F [] j (e ∷ es) len each = absurd (omega arith)
-own-instances F (p ∷ ps) j [] len each = absurd (omega arith)
 own-instances F (p ∷ ps) j (e ∷ es) len each =
     ap (λ (z : Tree). more z (instances F (trees_of (variables_from (suc j) ps)))) (ap (operand F) (plus-zero j) ∙ each 0 (omega arith))
     ∙ ap (more e) (own-instances F ps (suc j) es (omega arith) λ i lt. ap (operand F) (shift j i) ∙ each (suc i) (omega arith))
@@ -90,6 +87,7 @@ own-instances F (p ∷ ps) j (e ∷ es) len each =
 
     shift : (a b : ℕ) → suc a + b ≡ a + suc b
     shift a b = omega arith
+own-instances F _ j _ len each = absurd (omega arith)
 
 pub get-own : (j : ℕ) (ps : List Binder) (i : ℕ) → i < length ps → slice_get (variables_from j ps) i ≡ Some (var (j + i))
 get-own j [] i lt = absurd (omega arith)
@@ -140,8 +138,6 @@ module _ (ctx : List Binder) (es : List Tree) (ps ds : List Binder) (zs : List �
 
   pub picked-fresh : (ys : List ℕ) (fs : List Binder) → AreFresh (ps ++ ds) (own ps) ys fs → AreFresh ctx (trees_of es) (map pick ys) fs
   picked-fresh [] [] h = tt
-  picked-fresh [] (b ∷ fs) h = absurd h
-  picked-fresh (y ∷ ys) [] h = absurd h
   picked-fresh (y ∷ ys) (b ∷ fs) ((c, c-at, bound, sort-is), out, once, h) =
       let hy : HasPlace y = has-place y c c-at bound out in
       let (z, z-at, z-is, (a, a-at, a-bound, a-sort), z-out) = pick-is y hy in
@@ -151,6 +147,7 @@ module _ (ctx : List Binder) (es : List Tree) (ps ds : List Binder) (zs : List �
         (λ has. once (pick-back ys y (places ys fs h) hy has)),
         picked-fresh ys fs h,
       )
+  picked-fresh _ _ h = absurd h
 
   variables-picked : (F : Trees) → ((y : ℕ) → HasPlace y → operand F y ≡ var (pick y)) → (ys : List ℕ) → ((i w : ℕ) → slice_get ys i ≡ Some w → HasPlace w) → instances F (variables ys) ≡ variables (map pick ys)
   variables-picked F each [] all = refl
@@ -177,9 +174,8 @@ module _ (ctx : List Binder) (es : List Tree) (ps ds : List Binder) (zs : List �
 
 same-form : (params ds : List Binder) (body : Tree) (form : Form) → IsSameForm params (defined ds body) form
     → (fs : List Binder) × (f : Tree) × (form ≡ defined fs f) × ((ys : List ℕ) × AreFresh (params ++ ds) (own params) ys fs × (body ≡ instance (followed_by (own params) (variables ys)) f))
-same-form params ds body plain_form h = absurd h
-same-form params ds body abstract_form h = absurd h
 same-form params ds body (defined fs f) (ys, fresh, is, _) = (fs, f, refl, (ys, fresh, is))
+same-form params ds body _ h = absurd h
 
 spelled-form : (sigs : List Signature) (params : List Binder) (o : Option (List ℕ)) (fs : List Binder) (f : Tree) → SpellsForm sigs params o (defined fs f)
     → (stream : List ℕ) × (o ≡ Some stream) × Text of_definition sigs params stream none f fs

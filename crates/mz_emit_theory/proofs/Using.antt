@@ -80,16 +80,14 @@ module _ (cites : ℕ → Bool) (gaps : Bool) where
 
   let_at : (ds : Derivations) (fs : List (Use → Bool)) (i : ℕ) → LetsAgree ds fs → Agrees (derivation_at ds i) (λ u. get_or (each u fs) i false)
   let_at no_derivs [] i h = ((λ only u is. no_use (may_use cites gaps u ≡ true) is), λ may. tt)
-  let_at no_derivs (f ∷ fs) i h = absurd h
-  let_at (more_derivs d ds) [] i h = absurd h
   let_at (more_derivs d ds) (f ∷ fs) zero h = h.0
   let_at (more_derivs d ds) (f ∷ fs) (suc i) h = let_at ds fs i h.1
+  let_at _ _ i h = absurd h
 
   let_more : (ds : Derivations) (fs : List (Use → Bool)) (d : Derivation) (f : Use → Bool) → LetsAgree ds fs → Agrees d f → LetsAgree (then_deriv ds d) (fs ++ f ∷ [])
   let_more no_derivs [] d f h k = (k, tt)
-  let_more no_derivs (g ∷ fs) d f h k = absurd h
-  let_more (more_derivs c ds) [] d f h k = absurd h
   let_more (more_derivs c ds) (g ∷ fs) d f h k = (h.0, let_more ds fs d f h.1 k)
+  let_more _ _ d f h k = absurd h
 
   -- ---- proofs
 

@@ -11,11 +11,10 @@ use Rattle.mz_emit_theory.specs.ClaimsLaws.{WeightsAreTheTexts}
 module _ (env : List Declaration) where
   mutual
     conv-weighs : (c : Conversion) → body.conv_weight env c ≡ conv_weight env c
-    conv-weighs (refl_conv e) = refl
     conv-weighs (sym_conv c) = ap (λ (n : ℕ). 1 + n) (conv-weighs c)
     conv-weighs (cong_conv t cs) = ap (λ (n : ℕ). 1 + n) (convs-weigh cs)
     conv-weighs (unfold_conv t es ys c) = (let a = conv-weighs c in omega (arith, a))
-    conv-weighs (gap_conv l r) = refl
+    conv-weighs _ = refl
 
     convs-weigh : (cs : Conversions) → body.convs_weight env cs ≡ convs_weight env cs
     convs-weigh no_convs = refl
@@ -23,12 +22,10 @@ module _ (env : List Declaration) where
 
   mutual
     proof-weighs : (p : Proof) → body.proof_weight env p ≡ proof_weight env p
-    proof-weighs (by_hyp i) = refl
-    proof-weighs (by_name i) = refl
     proof-weighs (by_citation T es ps) = (let a = proofs-weigh ps in omega (arith, a))
     proof-weighs (by_conv e c p) = (let a = conv-weighs c in let b = proof-weighs p in omega (arith, a, b))
     proof-weighs (by_let p q) = (let a = proof-weighs p in let b = proof-weighs q in omega (arith, a, b))
-    proof-weighs (by_gap e) = refl
+    proof-weighs _ = refl
 
     proofs-weigh : (ps : Proofs) → body.proofs_weight env ps ≡ proofs_weight env ps
     proofs-weigh no_proofs = refl

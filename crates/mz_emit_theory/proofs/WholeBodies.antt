@@ -6,7 +6,7 @@ use Rattle.mz_logic_theory.specs.declared.binder.Binder.{Binder}
 use Rattle.mz_machine_theory.specs.MachineState.{State}
 use Rattle.mz_emit_theory.specs.SymbolicState.{work_start, machine}
 use Rattle.mz_emit_theory.specs.Steps.{run_commands}
-use Rattle.mz_unify_theory.specs.Profile.{plain}
+use Rattle.mz_machine_theory.specs.Profile.{plain}
 use Rattle.mz_emit_theory.specs.BodyLaws.{RightBodiesRun}
 use Rattle.mz_emit_theory.proofs.Running.{steps-run}
 use Rattle.mz_emit_theory.proofs.Ending.{ends-end}

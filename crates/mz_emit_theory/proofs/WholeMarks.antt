@@ -10,13 +10,13 @@ use Rattle.mz_logic_theory.specs.Signature.{Signature}
 use Rattle.mz_logic_theory.specs.Variables.{Occurs}
 use Rattle.mz_logic_theory.specs.declared.binder.Binder.{Binder}
 use Rattle.mz_logic_theory.proofs.Offered.{extends_append, split_at}
-use Rattle.mz_unify_theory.specs.Profile.{strict}
-use Rattle.mz_unify_theory.specs.Streams.{of_definition, UnifyCommand}
-use Rattle.mz_unify_theory.specs.Spells.{trees_of, variables_from, dummy_of, Marks, marked, with_dummy, at_first}
-use Rattle.mz_unify_theory.specs.Sorted.{Sorted}
-use Rattle.mz_unify_theory.specs.UnifyMachine.{UnifyState, unify}
-use Rattle.mz_unify_theory.specs.Laws.{instances_of, unfolding_by}
-use Rattle.mz_unify_theory.proofs.Offered.{unfoldings-exact, some_is, unfolding-is}
+use Rattle.mz_machine_theory.specs.Profile.{strict}
+use Rattle.mz_machine_theory.specs.Streams.{of_definition, UnifyCommand}
+use Rattle.mz_machine_theory.specs.Spells.{trees_of, variables_from, dummy_of, Marks, marked, with_dummy, at_first}
+use Rattle.mz_machine_theory.specs.Sorted.{Sorted}
+use Rattle.mz_machine_theory.specs.UnifyMachine.{UnifyState, unify}
+use Rattle.mz_machine_theory.specs.UnifyLaws.{instances_of, unfolding_by}
+use Rattle.mz_machine_theory.proofs.Offered.{unfoldings-exact, some_is, unfolding-is}
 use Rattle.mz_emit_theory.specs.Sharing.{Built, Builds, BuildsAll, IsWhole}
 use Rattle.mz_emit_theory.proofs.Forgetting.{building-spells}
 use Rattle.mz_pmachine_theory.specs.SharedBuilding.{portable_trees}

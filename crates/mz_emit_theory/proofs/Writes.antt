@@ -13,9 +13,9 @@ use Rattle.mz_logic_theory.specs.Variables.{Occurs, OccursIn}
 use Rattle.mz_logic_theory.specs.Legality.{binder_at}
 use Rattle.mz_logic_theory.specs.declared.binder.Binder.{Binder}
 use Rattle.mz_logic_theory.proofs.Offered.{split_at}
-use Rattle.mz_unify_theory.specs.Streams.{StreamKind, of_assertion, of_definition, UnifyCommand, u_ref, u_dummy}
-use Rattle.mz_unify_theory.specs.Spells.{dummy_of, Marks, with_dummy, HasOperands}
-use Rattle.mz_unify_theory.proofs.Offered.{not-both}
+use Rattle.mz_machine_theory.specs.Streams.{StreamKind, of_assertion, of_definition, UnifyCommand, u_ref, u_dummy}
+use Rattle.mz_machine_theory.specs.Spells.{dummy_of, Marks, with_dummy, HasOperands}
+use Rattle.mz_machine_theory.proofs.Offered.{not-both}
 use Rattle.mz_emit_theory.specs.SymbolicState.{renamed, all_renamed, place_of, name_in}
 use Rattle.mz_emit_theory.specs.BodyLaws.{AreOnce}
 use Rattle.mz_emit_theory.proofs.Naming.{place-new, once-more}
@@ -26,9 +26,8 @@ use Rattle.mz_emit_theory.proofs.StreamGrowing.{Making, StandsIn, AllStandIn, st
 
 fits-long : (sigs : List Signature) (ctx : List Binder) (g : ℕ → ℕ) (es : Trees) (ps : List Binder) → Fits sigs ctx es ps → length (listed (all_renamed g es)) ≡ length ps
 fits-long sigs ctx g none [] h = refl
-fits-long sigs ctx g none (p ∷ ps) h = absurd h
-fits-long sigs ctx g (more e es) [] h = absurd h
 fits-long sigs ctx g (more e es) (p ∷ ps) (_, _, h) = ap suc (fits-long sigs ctx g es ps h)
+fits-long sigs ctx g _ _ h = absurd h
 
 module _ (sigs : List Signature) (ctx : List Binder) (own : List ℕ) where
   abbrev pub g : List ℕ → ℕ → ℕ
@@ -242,9 +241,8 @@ module _ (sigs : List Signature) (ctx : List Binder) (own : List ℕ) where
 
       stand : (b : Bool) (kind : StreamKind) → StandsIn kind (head_of b t)
       stand true of_assertion = tt
-      stand true of_definition = tt
       stand false of_assertion = tt
-      stand false of_definition = tt
+      stand _ _ = tt
 
       has : (last : List ℕ) → HasOperands sigs t (all_renamed (g last) es)
       has last = (d, at, fits-long sigs ctx (g last) es d.params fits)

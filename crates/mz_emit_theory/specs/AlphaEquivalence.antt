@@ -6,7 +6,7 @@ use Rattle.mz_logic_theory.specs.Declaration.{Form, plain_form, abstract_form, d
 use Rattle.mz_logic_theory.specs.Conversions.{AreFresh}
 use Rattle.mz_logic_theory.specs.Variables.{Occurs}
 use Rattle.mz_logic_theory.specs.declared.binder.Binder.{Binder}
-use Rattle.mz_unify_theory.specs.Spells.{trees_of, variables_from}
+use Rattle.mz_machine_theory.specs.Spells.{trees_of, variables_from}
 use Rattle.mz_machine_theory.specs.MachineState.{Pairwise}
 
 -- the parameters as expressions

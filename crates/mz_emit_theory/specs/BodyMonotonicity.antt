@@ -6,7 +6,7 @@ use Rattle.mz_logic_theory.specs.Declaration.{Term, Assertion, Declaration, sort
 use Rattle.mz_logic_theory.specs.Legality.{AreParams, Each}
 use Rattle.mz_logic_theory.specs.declared.binder.Binder.{Binder}
 use Rattle.mz_logic_theory.specs.declared.binder.SortMods.{SortMods}
-use Rattle.mz_unify_theory.specs.Profile.{Item}
+use Rattle.mz_machine_theory.specs.Profile.{Item}
 use Rattle.mz_emit_theory.specs.SymbolicState.{Work}
 use Rattle.mz_emit_theory.specs.Steps.{Steps}
 use Rattle.mz_emit_theory.specs.AlphaEquivalence.{IsSameTerm, IsSameEnv}

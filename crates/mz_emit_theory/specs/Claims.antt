@@ -3,10 +3,10 @@ use Rattle.std.specs.Prelude.{ℕ, ◌≡◌, ◌<◌, ⊤, Bool, true, List, []
 use Rattle.mz_logic_theory.specs.Tree.{Tree, Trees, app, none, listed, instance, instances}
 use Rattle.mz_logic_theory.specs.Declaration.{Assertion, Declaration, signatures, assertions}
 use Rattle.mz_logic_theory.specs.Sorts.{Fits, HasProvable}
-use Rattle.mz_logic_theory.specs.Variables.{Apart}
+use Rattle.mz_logic_theory.specs.Variables.{AreDisjoint}
 use Rattle.mz_logic_theory.specs.Conversions.{Conversion, Conversions, Between, AllBetween, GapsOnly, AllGapsOnly}
 use Rattle.mz_logic_theory.specs.declared.binder.Binder.{Binder}
-use Rattle.mz_unify_theory.specs.Sorted.{Sorted}
+use Rattle.mz_machine_theory.specs.Sorted.{Sorted}
 use Rattle.mz_mmu_theory.specs.Proof.{Proof, Proofs, by_hyp, by_name, by_citation, by_conv, by_let, by_gap, no_proofs, more_proofs}
 use Rattle.mz_emit_theory.specs.InReach.{InReach}
 
@@ -32,7 +32,7 @@ all_proved env hyps lets (more_proofs p ps) = proved env hyps lets p ∷ all_pro
 
 -- the assertion T may be cited with these operands, of the proofs of these
 abbrev pub IsCitable : List Declaration → List Binder → ℕ → Trees → List Tree → Type 0
-IsCitable env ctx T es hs = (a : Assertion) × (slice_get (assertions env) T ≡ Some a) × Fits (signatures env) ctx es a.params × Apart ctx es a.params
+IsCitable env ctx T es hs = (a : Assertion) × (slice_get (assertions env) T ≡ Some a) × Fits (signatures env) ctx es a.params × AreDisjoint ctx es a.params
     × (hs ≡ listed (instances es a.hyps)) × InReach (length (listed es)) a.conclusion × Sorted (signatures env) ctx (instance es a.conclusion)
 
 -- the conversion goes from l to r, with gaps where they are let through

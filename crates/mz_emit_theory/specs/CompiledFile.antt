@@ -1,12 +1,11 @@
 -- The file that statements are compiled to, as a function of them (this project's own).
-use Rattle.std.specs.Prelude.{Bool, true, false, ◌+◌, ℕ, List, [], ◌∷◌, ◌++◌, Option, Some, None}
+use Rattle.std.specs.Prelude.{Bool, true, false, ℕ, List, [], ◌∷◌, ◌++◌, Option, Some, None}
 use Rattle.mz_logic_theory.specs.Tree.{Tree, listed}
 use Rattle.mz_logic_theory.specs.Signature.{Signature}
-use Rattle.mz_logic_theory.specs.Declaration.{Form, plain_form, abstract_form, defined, Assertion, Declaration, sort_decl, term_decl, assertion_decl, sorts}
+use Rattle.mz_logic_theory.specs.Declaration.{Form, plain_form, abstract_form, defined, Assertion, Declaration, sort_decl, term_decl, assertion_decl}
 use Rattle.mz_logic_theory.specs.WordsWritten.{words_of, result_word}
 use Rattle.mz_logic_theory.specs.declared.binder.Binder.{Binder}
 use Rattle.mz_layout_tables.specs.Normal.{Row, Written, Parts, no_parts, row_of_term, row_of_thm, file_of}
-use Rattle.mz_machine_theory.specs.MachineState.{is_axiom}
 use Rattle.mz_mmu_theory.specs.Statements.{Statement}
 use Rattle.mz_mmu_theory.specs.Proof.{Proof}
 use Rattle.mz_emit_theory.specs.StreamWriting.{stream_of, assertion_written as assertion_streamed, definition_written as definition_streamed}

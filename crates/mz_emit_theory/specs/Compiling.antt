@@ -22,9 +22,8 @@ use Rattle.mz_emit_theory.specs.CompiledFile.{compiled_file}
 use Rattle.mz_emit_theory.specs.Limits.{limit, over}
 use Rattle.mz_emit_theory.specs.declared.compiled.Compiled.{Compiled}
 use Rattle.mz_emit_theory.specs.declared.compiled.Compiled.TheVariants as answers
-use Rattle.mz_binary_theory.specs.Standards.{by_table}
-use Rattle.mz_binary_theory.specs.declared.standard.Standard.{Standard}
-use Rattle.mz_binary_theory.specs.declared.standard.Standard.TheVariants.{Portable}
+use Rattle.mz_binary_theory.specs.Standards.{by_table, Standard}
+use Rattle.mz_pmachine_theory.specs.FilesByIdentity.{portable_standard}
 
 -- ---- the binary, of a finished text or, with gaps, of a draft
 
@@ -58,7 +57,7 @@ pub record IsBinaryOf (gaps : Bool) (ss : List Statement) (bytes : List ℕ) : T
   pub written : IsWritten gaps ss bytes
   pub good : IsGoodFor gaps ss bytes
   pub accepted : IsAccepted (by_table gaps) ss bytes
-  pub by_identity : gaps ≡ false → IsAccepted Portable ss bytes
+  pub by_identity : gaps ≡ false → IsAccepted portable_standard ss bytes
   pub compiled : bytes ≡ compiled_file ss
 
 -- ---- the answers

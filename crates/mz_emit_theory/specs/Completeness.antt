@@ -7,9 +7,9 @@ use Rattle.mz_logic_theory.specs.Legality.{IsLegalDecl, IsLegalEnv}
 use Rattle.mz_logic_theory.specs.Derivations.{Derivation, Derives}
 use Rattle.mz_logic_theory.specs.LegalLists.{AreDummies, allowed_with}
 use Rattle.mz_logic_theory.specs.declared.binder.Binder.{Binder}
-use Rattle.mz_unify_theory.specs.Streams.{of_assertion}
-use Rattle.mz_unify_theory.specs.Spells.{Text}
-use Rattle.mz_unify_theory.specs.Profile.{plain, Item, expr, proof}
+use Rattle.mz_machine_theory.specs.Streams.{of_assertion}
+use Rattle.mz_machine_theory.specs.Spells.{Text}
+use Rattle.mz_machine_theory.specs.Profile.{plain, Item, expr, proof}
 use Rattle.mz_machine_theory.specs.MachineState.{RowsBefore, State, is_theorem, Heading, Declares}
 use Rattle.mz_machine_theory.specs.Premises.{bound_count}
 use Rattle.mz_machine_theory.specs.ProofMachine.{proof_end}

@@ -8,9 +8,9 @@ use Rattle.mz_logic_theory.specs.Sorts.{HasSort, HasProvable}
 use Rattle.mz_logic_theory.specs.Variables.{InFV}
 use Rattle.mz_logic_theory.specs.Conversions.{AreFresh}
 use Rattle.mz_logic_theory.specs.declared.binder.Binder.{Binder}
-use Rattle.mz_unify_theory.specs.Streams.{of_assertion, of_definition}
-use Rattle.mz_unify_theory.specs.Spells.{trees_of, Text}
-use Rattle.mz_unify_theory.specs.Profile.{Profile, expr, proof}
+use Rattle.mz_machine_theory.specs.Streams.{of_assertion, of_definition}
+use Rattle.mz_machine_theory.specs.Spells.{trees_of, Text}
+use Rattle.mz_machine_theory.specs.Profile.{Profile, expr, proof}
 use Rattle.mz_machine_theory.specs.MachineState.{Kind, is_axiom, is_theorem, is_definition, Heading}
 use Rattle.mz_machine_theory.specs.Bodies.{stands_in}
 use Rattle.mz_emit_theory.specs.SymbolicState.{Work}

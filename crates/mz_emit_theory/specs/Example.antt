@@ -8,7 +8,7 @@ use Rattle.mz_logic_theory.specs.declared.binder.Binder.{Binder}
 use Rattle.mz_logic_theory.specs.declared.word.Word.{Word}
 use Rattle.mz_layout_tables.specs.Normal.{Parts, row_of_term, row_of_thm}
 use Rattle.mz_layout_tables.specs.Standing.{Fit}
-use Rattle.mz_unify_theory.specs.Spells.{dummy_of}
+use Rattle.mz_machine_theory.specs.Spells.{dummy_of}
 use Rattle.mz_binary_theory.specs.Gapped.{IsGapped}
 use Rattle.mz_emit_theory.specs.Gaps.{bodies_written}
 use Rattle.mz_emit_theory.specs.FileWriting.{IsWrittenAs}

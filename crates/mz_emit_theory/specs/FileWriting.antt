@@ -12,7 +12,7 @@ use Rattle.mz_logic_theory.specs.declared.binder.Binder.{Binder}
 use Rattle.mz_logic_theory.specs.declared.binder.SortMods.{SortMods}
 use Rattle.mz_logic_theory.specs.declared.word.Word.{Word}
 use Rattle.mz_layout_tables.specs.Normal.{Written, Parts, row_of_term, row_of_thm}
-use Rattle.mz_unify_theory.specs.Streams.{of_assertion, of_definition}
+use Rattle.mz_machine_theory.specs.Streams.{of_assertion, of_definition}
 use Rattle.mz_machine_theory.specs.Lists.{kind_of}
 use Rattle.mz_layout_tables.specs.RowWords.{bound_count, AreParamWords}
 use Rattle.mz_machine_theory.specs.MachineState.{is_definition}

@@ -5,10 +5,10 @@ use Rattle.mz_logic_theory.specs.Signature.{Signature}
 use Rattle.mz_logic_theory.specs.Declaration.{Assertion, Declaration, sorts, signatures}
 use Rattle.mz_logic_theory.specs.Legality.{Each, AreParams}
 use Rattle.mz_logic_theory.specs.declared.binder.Binder.{Binder}
-use Rattle.mz_unify_theory.specs.Streams.{of_definition}
-use Rattle.mz_unify_theory.specs.Sorted.{Sorted}
-use Rattle.mz_unify_theory.specs.Spells.{SpelledTerm}
-use Rattle.mz_unify_theory.specs.Profile.{strict}
+use Rattle.mz_machine_theory.specs.Streams.{of_definition}
+use Rattle.mz_machine_theory.specs.Sorted.{Sorted}
+use Rattle.mz_machine_theory.specs.Spells.{SpelledTerm}
+use Rattle.mz_machine_theory.specs.Profile.{strict}
 use Rattle.mz_machine_theory.specs.MachineState.{RowsBefore, signatures_in, is_definition, Heading, Declares}
 use Rattle.mz_machine_theory.specs.Lists.{kind_of, assertion_of, definition_of}
 use Rattle.mz_machine_theory.specs.Bodies.{Runs}

@@ -6,7 +6,7 @@ use Rattle.mz_cmd.specs.declared.code.ProofCode.TheVariants as code
 use Rattle.mz_logic_theory.specs.Tree.{Tree}
 use Rattle.mz_logic_theory.specs.Declaration.{Declaration}
 use Rattle.mz_logic_theory.specs.declared.binder.Binder.{Binder}
-use Rattle.mz_unify_theory.specs.Profile.{Item, expr, proof, obligation, conversion}
+use Rattle.mz_machine_theory.specs.Profile.{Item, expr, proof, obligation, conversion}
 use Rattle.mz_machine_theory.specs.MachineState.{Kind}
 use Rattle.mz_emit_theory.specs.Bodies.{IsBody}
 use Rattle.mz_emit_theory.specs.Steps.{Step}

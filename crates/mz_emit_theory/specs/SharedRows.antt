@@ -3,8 +3,8 @@ use Rattle.std.specs.Prelude.{◌≡◌, ℕ, List, map, Some, slice_get}
 use Rattle.mz_logic_theory.specs.Tree.{Tree, none}
 use Rattle.mz_logic_theory.specs.Signature.{Signature}
 use Rattle.mz_logic_theory.specs.declared.binder.Binder.{Binder}
-use Rattle.mz_unify_theory.specs.Streams.{of_definition}
-use Rattle.mz_unify_theory.specs.Spells.{SpelledTerm}
+use Rattle.mz_machine_theory.specs.Streams.{of_definition}
+use Rattle.mz_machine_theory.specs.Spells.{SpelledTerm}
 use Rattle.mz_machine_theory.specs.MachineState.{is_definition, Heading}
 use Rattle.mz_emit_theory.specs.Sharing.{SharedStream}
 

@@ -4,7 +4,7 @@ use Rattle.std.specs.Prelude.{◌≡◌, ℕ, List, ◌++◌}
 use Rattle.mz_logic_theory.specs.Tree.{Tree, Trees}
 use Rattle.mz_logic_theory.specs.Signature.{Signature}
 use Rattle.mz_logic_theory.specs.declared.binder.Binder.{Binder}
-use Rattle.mz_unify_theory.specs.Streams.{StreamKind, UnifyCommand}
+use Rattle.mz_machine_theory.specs.Streams.{StreamKind, UnifyCommand}
 use Rattle.mz_emit_theory.specs.Sharing.{SharedStream}
 use Rattle.mz_emit_theory.specs.SpellsBefore.{SpellsBefore}
 use Rattle.mz_emit_theory.specs.StreamWriting.{stream_of, AreShort}

@@ -5,8 +5,8 @@ use Rattle.mz_logic_theory.specs.Tree.{Tree, Trees, var, app, none, more, listed
 use Rattle.mz_logic_theory.specs.Signature.{Signature}
 use Rattle.mz_logic_theory.specs.Variables.{Occurs}
 use Rattle.mz_logic_theory.specs.declared.binder.Binder.{Binder}
-use Rattle.mz_unify_theory.specs.Streams.{StreamKind, UnifyCommand, u_term, u_term_save, u_ref, u_hyp, StreamIs}
-use Rattle.mz_unify_theory.specs.Spells.{Marks, marked, HasOperands, Spells, at_first}
+use Rattle.mz_machine_theory.specs.Streams.{StreamKind, UnifyCommand, u_term, u_term_save, u_ref, u_hyp, StreamIs}
+use Rattle.mz_machine_theory.specs.Spells.{Marks, marked, HasOperands, Spells, at_first}
 
 -- a command that builds an application: the application, whether it is saved, and how many dummies are met
 -- before the command

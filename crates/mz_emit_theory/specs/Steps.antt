@@ -10,14 +10,14 @@ use Rattle.mz_logic_theory.specs.Tree.{Tree, Trees, var, app, listed, instance, 
 use Rattle.mz_logic_theory.specs.Declaration.{Term, Assertion, Declaration, sorts, signatures, assertions}
 use Rattle.mz_logic_theory.specs.Modifiers.{MayBeDummySort}
 use Rattle.mz_logic_theory.specs.Sorts.{HasSort, Fits, HasProvable}
-use Rattle.mz_logic_theory.specs.Variables.{Apart}
+use Rattle.mz_logic_theory.specs.Variables.{AreDisjoint}
 use Rattle.mz_logic_theory.specs.Conversions.{IsDefined, AreFresh}
 use Rattle.mz_logic_theory.specs.declared.binder.Binder.{Binder}
-use Rattle.mz_unify_theory.specs.Steps.{◌>>=◌}
-use Rattle.mz_unify_theory.specs.Spells.{trees_of, dummy_of}
-use Rattle.mz_unify_theory.specs.Sorted.{Sorted}
-use Rattle.mz_unify_theory.specs.Profile.{Profile, Item, expr, proof, obligation, conversion}
-use Rattle.mz_unify_theory.specs.Laws.{IsCitedAs}
+use Rattle.mz_machine_theory.specs.Steps.{◌>>=◌}
+use Rattle.mz_machine_theory.specs.Spells.{trees_of, dummy_of}
+use Rattle.mz_machine_theory.specs.Sorted.{Sorted}
+use Rattle.mz_machine_theory.specs.Profile.{Profile, Item, expr, proof, obligation, conversion}
+use Rattle.mz_machine_theory.specs.UnifyLaws.{IsCitedAs}
 use Rattle.mz_machine_theory.specs.MachineState.{RowsBefore, State}
 use Rattle.mz_machine_theory.specs.Premises.{is_obligation}
 use Rattle.mz_machine_theory.specs.ProofMachine.{sides, proof_step}
@@ -41,11 +41,11 @@ above es xs = map expr (reverse es) ++ xs
 abbrev pub IsBuilt : List Declaration → List Binder → Work → ℕ → List Tree → List (Item Tree) → Type 0
 IsBuilt env ctx w t es rest = Sorted (signatures env) ctx (app t (trees_of es)) × (w.stack ≡ above es rest)
 
--- assertion T is cited: below its conclusion's instance stand the operands, which fit and are apart, and
+-- assertion T is cited: below its conclusion's instance stand the operands, which fit and are disjoint, and
 -- below them the proofs of its hypotheses' instances
 abbrev pub IsCited : List Declaration → List Binder → Work → ℕ → Tree → List (Item Tree) → Type 0
 IsCited env ctx w T e rest = (a : Assertion) × (es : List Tree) × (items : List (Item Tree))
-    × (slice_get (assertions env) T ≡ Some a) × Fits (signatures env) ctx (trees_of es) a.params × Apart ctx (trees_of es) a.params
+    × (slice_get (assertions env) T ≡ Some a) × Fits (signatures env) ctx (trees_of es) a.params × AreDisjoint ctx (trees_of es) a.params
     × IsCitedAs a.hyps a.conclusion es e items rest × (w.stack ≡ expr e ∷ above es items)
 
 -- an item of the heap: a conversion pays the obligation on top, another is pushed

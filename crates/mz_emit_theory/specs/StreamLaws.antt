@@ -6,9 +6,9 @@ use Rattle.mz_logic_theory.specs.Declaration.{defined}
 use Rattle.mz_logic_theory.specs.Legality.{Each, IsDummy, AreParams}
 use Rattle.mz_logic_theory.specs.declared.binder.Binder.{Binder}
 use Rattle.mz_logic_theory.specs.declared.binder.SortMods.{SortMods}
-use Rattle.mz_unify_theory.specs.Streams.{StreamKind, of_assertion, of_definition, u_term, u_term_save, u_ref, u_dummy}
-use Rattle.mz_unify_theory.specs.Spells.{dummy_of, Marks, SpellsText}
-use Rattle.mz_unify_theory.specs.Sorted.{Sorted, AllSorted}
+use Rattle.mz_machine_theory.specs.Streams.{StreamKind, of_assertion, of_definition, u_term, u_term_save, u_ref, u_dummy}
+use Rattle.mz_machine_theory.specs.Spells.{dummy_of, Marks, SpellsText}
+use Rattle.mz_machine_theory.specs.Sorted.{Sorted, AllSorted}
 use Rattle.mz_emit_theory.specs.AlphaEquivalence.{IsInside, IsSameForm}
 use Rattle.mz_emit_theory.specs.StreamWriting.{assertion_written, definition_written, body_spelled, dummies_spelled, stream_of, AreShort}
 use Rattle.mz_emit_theory.specs.SpellsBefore.{SpellsBefore}

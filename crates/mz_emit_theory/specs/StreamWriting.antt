@@ -7,9 +7,9 @@ use Rattle.mz_logic_theory.specs.Tree.{Tree, Trees, var, app, none, more, listed
 use Rattle.mz_logic_theory.specs.Legality.{binder_at}
 use Rattle.mz_logic_theory.specs.declared.binder.Binder.{Binder}
 use Rattle.mz_logic_theory.specs.Variables.{is_member}
-use Rattle.mz_unify_theory.specs.Streams.{UnifyCommand, u_term, u_term_save, u_ref, u_dummy, u_hyp, u_end}
-use Rattle.mz_unify_theory.specs.Spells.{variables_from, dummy_of}
-use Rattle.mz_unify_theory.specs.Tests.{same_tree}
+use Rattle.mz_machine_theory.specs.Streams.{UnifyCommand, u_term, u_term_save, u_ref, u_dummy, u_hyp, u_end}
+use Rattle.mz_machine_theory.specs.Spells.{variables_from, dummy_of}
+use Rattle.mz_machine_theory.specs.Tests.{same_tree}
 use Rattle.mz_emit_theory.specs.SymbolicState.{renamed, name_in, from_to}
 
 -- ---- what is written

@@ -3,7 +3,7 @@ use Rattle.std.specs.Prelude.{⊤, ℕ, List, ◌++◌, Option, Some, None}
 use Rattle.mz_logic_theory.specs.Declaration.{Form, plain_form, abstract_form, defined, Term, Assertion, Declaration, term_decl, assertion_decl, signatures}
 use Rattle.mz_logic_theory.specs.Legality.{IsLegalDecl}
 use Rattle.mz_logic_theory.specs.declared.binder.Binder.{Binder}
-use Rattle.mz_unify_theory.specs.Spells.{SpellsThm, SpellsTerm}
+use Rattle.mz_machine_theory.specs.Spells.{SpellsThm, SpellsTerm}
 use Rattle.mz_emit_theory.specs.StreamWriting.{assertion_written, definition_written, stream_of, AreShort}
 use Rattle.mz_emit_theory.specs.SpelledLists.{form_spelled}
 

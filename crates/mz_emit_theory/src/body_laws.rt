@@ -4,7 +4,7 @@ ghost use Rattle.mz_emit_theory.specs.BodyLaws.{BodiesRunAsCommands, RightBodies
 ghost use Rattle.mz_emit_theory.specs.BodyMonotonicity.{ContextsDependOnParams, SameAtFirst, SameWithAssertion, SameWithSort, SameWithTerm, StepsJoin, StepsKeepTheHeap};
 ghost use Rattle.mz_emit_theory.specs.AlphaLists.{SameListsAreSameEnvs};
 ghost use Rattle.mz_emit_theory.specs.Completeness.{LegalAxiomsHaveSteps, LegalDefinitionsHaveSteps, LegalTheoremsHaveSteps, LegalTheoremsRun};
-ghost use Rattle.mz_unify_theory.specs.Profile.{plain};
+ghost use Rattle.mz_machine_theory.specs.Profile.{plain};
 
 /// Right steps run: the machine goes from what they begin with to what they make.
 pub fn right_steps_run()

@@ -5,18 +5,18 @@ use Rattle.mz_logic_theory.specs.Tree.{Tree, var, app, none, more}
 use Rattle.mz_logic_theory.specs.Declaration.{Term, defined, signatures}
 use Rattle.mz_logic_theory.specs.Modifiers.{IsFree}
 use Rattle.mz_logic_theory.specs.Sorts.{HasSort, IsSorted}
-use Rattle.mz_logic_theory.specs.Variables.{InFV, InSomeFV, InSomeV, IsOperandAt, Apart}
+use Rattle.mz_logic_theory.specs.Variables.{InFV, InSomeFV, InSomeV, IsOperandAt, AreDisjoint}
 use Rattle.mz_logic_theory.specs.Conversions.{Conversion, refl_conv, sym_conv, cong_conv, unfold_conv, gap_conv, Between, GapsOnly, AreFresh}
 use Rattle.mz_logic_theory.specs.Derivations.{Derivation, hypothesis, cite, convert, gap, Derives, IsGapFree}
 use Rattle.mz_logic_theory.specs.Examples.{wff, wff_sort, nat, wff_x, y_and_q}
-use Rattle.mz_logic_theory.specs.NearMisses.{NotApartThoughLater, of_nat, at_y, FreeByTheResult, BoundByTheTerm, generalized, CitesWhereItDepends, CitesNotApart, rel, relation, result_wff, UnfoldsWithFresh, UnfoldsWithOperand, UnfoldsWithOneForTwo, NoSortNoConversion, FreeDummy, CitesItself, GapConverts, GapIsIllegal, NothingFromNothing}
+use Rattle.mz_logic_theory.specs.NearMisses.{NotDisjointThoughLater, of_nat, at_y, FreeByTheResult, BoundByTheTerm, generalized, CitesWhereItDepends, CitesNotDisjoint, rel, relation, result_wff, UnfoldsWithFresh, UnfoldsWithOperand, UnfoldsWithOneForTwo, NoSortNoConversion, FreeDummy, CitesItself, GapConverts, GapIsIllegal, NothingFromNothing}
 use Rattle.mz_logic_theory.specs.declared.binder.Binder.{Binder}
 use Rattle.mz_logic_theory.specs.declared.binder.SortMods.{SortMods}
 use Rattle.mz_logic_theory.proofs.Offered.{one_at}
-use Rattle.mz_logic.proofs.WorkedExamples.{apart_where_it_depends, not_apart, reg}
+use Rattle.mz_logic.proofs.WorkedExamples.{disjoint_where_it_depends, not_disjoint, reg}
 
-pub not_apart_though_later : NotApartThoughLater
-not_apart_though_later h = elim (h 0 1 0 wff nat refl refl refl refl (wff_x, refl, inr (refl, (zero, zero-lt-suc 0, refl)))) [
+pub not_disjoint_though_later : NotDisjointThoughLater
+not_disjoint_though_later h = elim (h 0 1 0 wff nat refl refl refl refl (wff_x, refl, inr (refl, (zero, zero-lt-suc 0, refl)))) [
   | inl same ↦ (let e : ◌≡◌ {A = ℕ} 0 1 = same in cc)
   | inr (k, below, is) ↦ not-suc-le-zero below
 ]
@@ -43,12 +43,12 @@ cites_where_it_depends = (
   refl,
   refl,
   ((nat, refl, refl), (λ _. (zero, nat, refl, refl, refl)), ((wff_x, refl, refl), reg, tt)),
-  apart_where_it_depends,
+  disjoint_where_it_depends,
   (refl, tt),
 )
 
-pub cites_not_apart : CitesNotApart
-cites_not_apart (a, at, is, fits, apart, derives) = not_apart (subst (λ b. Apart y_and_q (more (var 0) (more (var 1) none)) b.params) (one_at at refl) apart)
+pub cites_not_disjoint : CitesNotDisjoint
+cites_not_disjoint (a, at, is, fits, apart, derives) = not_disjoint (subst (λ b. AreDisjoint y_and_q (more (var 0) (more (var 1) none)) b.params) (one_at at refl) apart)
 
 -- ---- unfoldings
 

@@ -7,7 +7,7 @@ use Rattle.mz_base.proofs.Offered.{contains_none, contains-decided}
 use Rattle.mz_logic_theory.specs.Tree.{Trees, var, operand}
 use Rattle.mz_logic_theory.specs.Signature.{Signature}
 use Rattle.mz_logic_theory.specs.Sorts.{Fits, IsBoundVar}
-use Rattle.mz_logic_theory.specs.Variables.{Apart, InV, IsBoundAt, IsOperandAt}
+use Rattle.mz_logic_theory.specs.Variables.{AreDisjoint, InV, IsBoundAt, IsOperandAt}
 use Rattle.mz_logic_theory.specs.declared.binder.Binder.{Binder}
 use Rattle.mz_logic_theory.proofs.Offered.{each_from_all, one_at, bound_operand, same-variable}
 use Rattle.mz_logic_free.specs.Own.{HaveOwners, is_own}
@@ -182,7 +182,7 @@ module _ (params : List Binder) (es : Trees) where
     -- ---- apart
 
     module _ (owned-is : (x : ℕ) → Contains owned x ↔ ((j : ℕ) × IsBoundAt params j × (operand es j ≡ var x))) where
-      apart-to : Apart ctx es params → (i : ℕ) → NamesOwn i
+      apart-to : AreDisjoint ctx es params → (i : ℕ) → NamesOwn i
       apart-to apart i x p at named has = go ((owned-is x).0 has)
         where
           go : ((j : ℕ) × IsBoundAt params j × (operand es j ≡ var x)) → IsOwn p i x
@@ -191,19 +191,19 @@ module _ (params : List Binder) (es : Trees) where
             | inr dep ↦ inl (j, dep, (q, at-q, bound), is)
           ]
 
-      apart-from : Single → ((i : ℕ) → NamesOwn i) → Apart ctx es params
+      apart-from : Single → ((i : ℕ) → NamesOwn i) → AreDisjoint ctx es params
       apart-from single names i j x p q at at-q bound is named = elim (names i x p at named ((owned-is x).1 (j, (q, at-q, bound), is))) [
         | inl (k, dep, k-bound, k-is) ↦ inr (subst (Contains p.deps) (single k j x k-bound k-is (q, at-q, bound) is) dep)
         | inr own ↦ inl (single i j x own.0 own.1 (q, at-q, bound) is)
       ]
 
-      pub apart-by : Single → (b : Bool) → IsTrue b ↔ ((i : ℕ) → NamesOwn i) → IsTrue b ↔ Apart ctx es params
+      pub apart-by : Single → (b : Bool) → IsTrue b ↔ ((i : ℕ) → NamesOwn i) → IsTrue b ↔ AreDisjoint ctx es params
       apart-by single b (to, from) = (λ is. apart-from single (to is), λ apart. from (apart-to apart))
 
 -- ---- one operand of two bound parameters
 
--- where bound parameters depend on none, operands that are apart differ
-pub apart-single : (sigs : List Signature) (ctx params : List Binder) (es : Trees) → Fits sigs ctx es params → All (λ (p : Binder). p.bound ≡ true → p.deps ≡ []) params → Apart ctx es params → Single params es
+-- where bound parameters depend on none, operands that are disjoint differ
+pub apart-single : (sigs : List Signature) (ctx params : List Binder) (es : Trees) → Fits sigs ctx es params → All (λ (p : Binder). p.bound ≡ true → p.deps ≡ []) params → AreDisjoint ctx es params → Single params es
 apart-single sigs ctx params es fits alone apart j k x (p, at-p, bound-p) j-is (q, at-q, bound-q) k-is = elim (apart j k x p q at-p at-q bound-q k-is named) [
   | inl same ↦ same
   | inr dep ↦ absurd (contains_none k (subst (λ (ys : List ℕ). Contains ys k) (each_from_all (λ (b : Binder). b.bound ≡ true → b.deps ≡ []) params alone j p at-p bound-p) dep))

@@ -6,12 +6,12 @@ use Rattle.mz_logic_theory.specs.Signature.{Signature}
 use Rattle.mz_logic_theory.specs.Declaration.{Declaration, assertion_decl, signatures, sorts}
 use Rattle.mz_logic_theory.specs.Modifiers.{MayBeClaimSort}
 use Rattle.mz_logic_theory.specs.Sorts.{HasSort, AreProvable}
-use Rattle.mz_logic_theory.specs.Variables.{InV, InFV, InSomeFV, IsOperandAt, IsBoundAt, Apart}
+use Rattle.mz_logic_theory.specs.Variables.{InV, InFV, InSomeFV, IsOperandAt, IsBoundAt, AreDisjoint}
 use Rattle.mz_logic_theory.specs.Legality.{AreParams, IsLegalDecl, NamesThere, BindersRight, AreBindersThere}
 use Rattle.mz_logic_theory.specs.LegalLists.{IsProvedBy, gap_free}
 use Rattle.mz_logic_theory.specs.Derivations.{hypothesis, cite, no_derivs, more_derivs, AllDerive}
 use Rattle.mz_logic_theory.specs.Laws.{SortsThere}
-use Rattle.mz_logic_theory.specs.Examples.{wff, two, im, im_declared, im_term, wff_sort, ax_1, ax_mp, implication, A1iDerives, A1iTurnedFails, same_twice, FourAreLegal, LocalAxiomFails, nat, wff_x, all_signature, quantifier, y_and_q, NotApart, ApartWhereItDepends, all_y_q, NotApartThoughNotFree, wff_y, plain_term, MissingDependency, LaterDependency, neg, one_param, negation, NnUnfolds}
+use Rattle.mz_logic_theory.specs.Examples.{wff, two, im, im_declared, im_term, wff_sort, ax_1, ax_mp, implication, A1iDerives, A1iTurnedFails, same_twice, FourAreLegal, LocalAxiomFails, nat, wff_x, all_signature, quantifier, y_and_q, NotDisjoint, DisjointWhereItDepends, all_y_q, NotDisjointThoughNotFree, wff_y, plain_term, MissingDependency, LaterDependency, neg, one_param, negation, NnUnfolds}
 use Rattle.mz_logic_theory.specs.declared.binder.Binder.{Binder}
 use Rattle.mz_logic_theory.specs.declared.binder.SortMods.{SortMods}
 use Rattle.mz_logic_theory.proofs.Offered.{one_at, terms_are_sorted, assertions_are_sorted, nothing_in}
@@ -33,8 +33,8 @@ two_are_wff (suc i) b at = one_is_wff i b at
 none_bound : (params : List Binder) → ((i : ℕ) (b : Binder) → slice_get params i ≡ Some b → wff ≡ b) → (j : ℕ) (q : Binder) → slice_get params j ≡ Some q → q.bound ≡ true → ⊥
 none_bound params are j q at bd = true≢false (sym bd ∙ sym (ap (λ r. r.bound) (are j q at)))
 
--- operands of regular parameters alone are apart
-regular_apart : (ctx params : List Binder) → ((i : ℕ) (b : Binder) → slice_get params i ≡ Some b → wff ≡ b) → (es : Trees) → Apart ctx es params
+-- operands of regular parameters alone are disjoint
+regular_apart : (ctx params : List Binder) → ((i : ℕ) (b : Binder) → slice_get params i ≡ Some b → wff ≡ b) → (es : Trees) → AreDisjoint ctx es params
 regular_apart ctx params are es i j x p q at_i at_j bd is has = absurd (none_bound params are j q at_j bd)
 
 var_wff : (ctx : List Binder) (i : ℕ) → slice_get ctx i ≡ Some wff → (c : Binder) × (slice_get ctx i ≡ Some c) × (c.sort ≡ 0)
@@ -163,28 +163,28 @@ local_axiom_fails h = true≢false (h.1.1.0.1 refl)
 
 -- ---- the quantifier
 
-pub not_apart : NotApart
-not_apart h = elim (h 1 0 0 wff nat refl refl refl refl (wff_x, refl, inr (refl, (zero, zero-lt-suc 0, refl)))) [
+pub not_disjoint : NotDisjoint
+not_disjoint h = elim (h 1 0 0 wff nat refl refl refl refl (wff_x, refl, inr (refl, (zero, zero-lt-suc 0, refl)))) [
   | inl same ↦ (let e : ◌≡◌ {A = ℕ} 1 0 = same in cc)
   | inr (k, below, is) ↦ not-suc-le-zero below
 ]
 
-pub apart_where_it_depends : ApartWhereItDepends
-apart_where_it_depends zero zero x p q at_i at_j bd is has = inl refl
-apart_where_it_depends zero (suc zero) x p q at_i at_j bd is has = absurd (true≢false (sym bd ∙ ap (λ r. r.bound) (one_at at_j refl)))
-apart_where_it_depends zero (suc (suc j)) x p q at_i at_j bd is has = absurd (none-some _ at_j)
-apart_where_it_depends (suc zero) zero x p q at_i at_j bd is has = inr (subst (λ r. Contains r.deps 0) (one_at refl at_i) (zero, zero-lt-suc 0, refl))
-apart_where_it_depends (suc zero) (suc zero) x p q at_i at_j bd is has = inl refl
-apart_where_it_depends (suc zero) (suc (suc j)) x p q at_i at_j bd is has = absurd (none-some _ at_j)
-apart_where_it_depends (suc (suc i)) j x p q at_i at_j bd is has = absurd (none-some _ at_i)
+pub disjoint_where_it_depends : DisjointWhereItDepends
+disjoint_where_it_depends zero zero x p q at_i at_j bd is has = inl refl
+disjoint_where_it_depends zero (suc zero) x p q at_i at_j bd is has = absurd (true≢false (sym bd ∙ ap (λ r. r.bound) (one_at at_j refl)))
+disjoint_where_it_depends zero (suc (suc j)) x p q at_i at_j bd is has = absurd (none-some _ at_j)
+disjoint_where_it_depends (suc zero) zero x p q at_i at_j bd is has = inr (subst (λ r. Contains r.deps 0) (one_at refl at_i) (zero, zero-lt-suc 0, refl))
+disjoint_where_it_depends (suc zero) (suc zero) x p q at_i at_j bd is has = inl refl
+disjoint_where_it_depends (suc zero) (suc (suc j)) x p q at_i at_j bd is has = absurd (none-some _ at_j)
+disjoint_where_it_depends (suc (suc i)) j x p q at_i at_j bd is has = absurd (none-some _ at_i)
 
 y_in_all : InV y_and_q 0 all_y_q
 y_in_all = inl (nat, refl, inl (refl, refl))
 
-pub not_apart_though_not_free : NotApartThoughNotFree
-not_apart_though_not_free = (no, y_in_all, not_free)
+pub not_disjoint_though_not_free : NotDisjointThoughNotFree
+not_disjoint_though_not_free = (no, y_in_all, not_free)
   where
-    no : Apart y_and_q (more (var 0) (more all_y_q none)) (nat ∷ wff ∷ []) → ⊥
+    no : AreDisjoint y_and_q (more (var 0) (more all_y_q none)) (nat ∷ wff ∷ []) → ⊥
     no h = elim (h 1 0 0 wff nat refl refl refl refl y_in_all) [
       | inl same ↦ (let e : ◌≡◌ {A = ℕ} 1 0 = same in cc)
       | inr (k, below, is) ↦ not-suc-le-zero below

@@ -1,25 +1,25 @@
-// Whether operands are apart, in one walk over each of them.
+// Whether operands are disjoint, in one walk over each of them.
 ghost use Rattle.std.specs.Prelude.{◌≡◌, ◌↔◌, ◌⊎◌, ◌<◌, ◌++◌, ◌∷◌, [], ℕ, IsTrue, IfOk, OnOk, All, Contains, Some, slice_get, true, length};
 ghost use Rattle.mz_logic_free.specs.Narrowed.{AreNarrowed};
 ghost use Rattle.mz_logic_free.specs.Own.{HaveOwners};
 ghost use Rattle.mz_logic_theory.specs.Declaration.{signatures};
 ghost use Rattle.mz_logic_theory.specs.Sorts.{Fits};
 ghost use Rattle.mz_logic_theory.specs.Tree.{operand, var};
-ghost use Rattle.mz_logic_theory.specs.Variables.{Apart, InV, IsBoundAt, IsOperandAt};
+ghost use Rattle.mz_logic_theory.specs.Variables.{AreDisjoint, InV, IsBoundAt, IsOperandAt};
 ghost use Rattle.mz_logic_theory.specs.declared.binder.Binder.{Binder as Param};
 
-use crate::disjoint::are_apart_by_pairs;
+use crate::disjoint::are_disjoint_by_pairs;
 use mz_logic_free::{Narrowed, Own, VariableSet, bound_operand, names_other};
 use mz_logic_theory::{Binder, Context, Env, Exprs};
 use std::alloc::{AllocError, Global};
 
-/// Whether operands that fit the parameters are apart: where the operand of a bound parameter is in
+/// Whether operands that fit the parameters are disjoint: where the operand of a bound parameter is in
 /// V of another operand, the other one's parameter depends on it.
 ///
 /// # Errors
 ///
 /// Where there is no memory.
-pub fn are_apart(
+pub fn are_disjoint(
     alloc: Global,
     env: &Env,
     ctx: &Context,
@@ -27,16 +27,16 @@ pub fn are_apart(
     params: &[Binder],
 ) -> Result<bool, AllocError>
     requires { Fits (signatures env.now) ctx.now es.now params.now }
-    ensures { IfOk result (λ apart. IsTrue apart ↔ Apart ctx.now es.now params.now) }
+    ensures { IfOk result (λ apart. IsTrue apart ↔ AreDisjoint ctx.now es.now params.now) }
 {
     let mut owned = VariableSet::new(alloc);
     let mut owners = Vec::new(alloc);
     let mut narrowed = Narrowed::new(alloc);
-    are_apart_with(env, ctx, es, params, &mut owned, &mut owners, &mut narrowed)
+    are_disjoint_with(env, ctx, es, params, &mut owned, &mut owners, &mut narrowed)
 }
 
 /// The same, with room for the operands of the bound parameters, the places of these and what is narrowed.
-fn are_apart_with(
+fn are_disjoint_with(
     env: &Env,
     ctx: &Context,
     es: &Exprs,
@@ -49,7 +49,7 @@ fn are_apart_with(
     requires empty { owned.old ≡ [] }
     requires none { owners.old.items ≡ [] }
     requires narrowed { narrowed.old ≡ [] }
-    ensures { IfOk result (λ apart. IsTrue apart ↔ Apart ctx.now es.now params.now) }
+    ensures { IfOk result (λ apart. IsTrue apart ↔ AreDisjoint ctx.now es.now params.now) }
 {
     let single = gather_owned(params, es, owned, owners)?;
     if single {
@@ -58,7 +58,7 @@ fn are_apart_with(
     if all_stand_alone(params) {
         return Ok(false);
     }
-    Ok(are_apart_by_pairs(env, ctx, es, params))
+    Ok(are_disjoint_by_pairs(env, ctx, es, params))
 }
 
 /// Gathers the operands of the bound parameters, and beside each the place of its parameter. Whether no two

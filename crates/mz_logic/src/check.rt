@@ -97,7 +97,7 @@ fn body_is_in_range(env: &Env, term: &TermDecl) -> bool
 {
     match term.form.body() {
         None => true,
-        Some(e) => in_range(env, term.context().len(), &e.lent()),
+        Some(e) => in_range(env, term.context().len(), &e.borrowed()),
     }
 }
 
@@ -108,7 +108,7 @@ fn thm_names_are_there(env: &Env, thm: &ThmDecl) -> bool
     let end = thm.params.len();
     binders_are_there(env, end, thm.params.as_slice())
         && hyps_are_in_range(env, end, &thm.hyps)
-        && in_range(env, end, &thm.conclusion.lent())
+        && in_range(env, end, &thm.conclusion.borrowed())
 }
 
 /// Whether each binder's sort is there, and its dependencies are places below `end`.
@@ -268,7 +268,7 @@ fn body_sorts_are_right(env: &Env, term: &TermDecl) -> bool
         None => true,
         Some(e) => {
             let ctx = term.context();
-            has_operand_sorts(env, &ctx, &e.lent()) && sort_of(env, &ctx, e) == term.result.sort
+            has_operand_sorts(env, &ctx, &e.borrowed()) && sort_of(env, &ctx, e) == term.result.sort
         }
     }
 }
@@ -279,7 +279,7 @@ fn body_has_bound_operands(env: &Env, term: &TermDecl) -> bool
 {
     match term.form.body() {
         None => true,
-        Some(e) => has_bound_operands(env, &term.context(), &e.lent()),
+        Some(e) => has_bound_operands(env, &term.context(), &e.borrowed()),
     }
 }
 
@@ -289,7 +289,7 @@ fn claim_sorts_are_right(env: &Env, thm: &ThmDecl) -> bool
 {
     let ctx = Context::of(&thm.params);
     all_have_operand_sorts(env, &ctx, &thm.hyps)
-        && has_operand_sorts(env, &ctx, &thm.conclusion.lent())
+        && has_operand_sorts(env, &ctx, &thm.conclusion.borrowed())
 }
 
 fn claims_have_bound_operands(env: &Env, thm: &ThmDecl) -> bool
@@ -298,7 +298,7 @@ fn claims_have_bound_operands(env: &Env, thm: &ThmDecl) -> bool
 {
     let ctx = Context::of(&thm.params);
     all_have_bound_operands(env, &ctx, &thm.hyps)
-        && has_bound_operands(env, &ctx, &thm.conclusion.lent())
+        && has_bound_operands(env, &ctx, &thm.conclusion.borrowed())
 }
 
 fn claims_are_provable(env: &Env, thm: &ThmDecl) -> bool

@@ -2,35 +2,35 @@ ghost use Rattle.std.specs.Prelude.{ℕ, ◌≡◌, ◌↔◌, ◌<◌, IsTrue, 
 ghost use Rattle.mz_logic_theory.specs.Declaration.{signatures};
 ghost use Rattle.mz_logic_theory.specs.Legality.{AllInRange};
 ghost use Rattle.mz_logic_theory.specs.Sorts.{Fits};
-ghost use Rattle.mz_logic_theory.specs.Variables.{Apart, ApartAt, InV};
+ghost use Rattle.mz_logic_theory.specs.Variables.{AreDisjoint, AreDisjointAt, InV};
 ghost use Rattle.mz_logic_theory.specs.Tree.{listed, operand};
 
 use crate::vars::{has_place, in_tree};
 use mz_logic_theory::{Binder, Context, Env, Exprs, Shape};
 
-/// Whether operands that fit the parameters are apart: where the operand of a bound parameter is in
+/// Whether operands that fit the parameters are disjoint: where the operand of a bound parameter is in
 /// V of another operand, the other one's parameter depends on it. Each pair of operands is looked at.
-pub fn are_apart_by_pairs(env: &Env, ctx: &Context, es: &Exprs, params: &[Binder]) -> bool
+pub fn are_disjoint_by_pairs(env: &Env, ctx: &Context, es: &Exprs, params: &[Binder]) -> bool
     requires { Fits (signatures env.now) ctx.now es.now params.now }
-    ensures { IsTrue result ↔ Apart ctx.now es.now params.now }
+    ensures { IsTrue result ↔ AreDisjoint ctx.now es.now params.now }
 {
     for j in 0..params.len() {
-        if params[j].bound && !are_apart_from(env, ctx, es, params, j) {
+        if params[j].bound && !are_disjoint_from(env, ctx, es, params, j) {
             return false;
         }
     }
     true
 }
 
-/// Whether each operand is apart from the j-th.
-fn are_apart_from(env: &Env, ctx: &Context, es: &Exprs, params: &[Binder], j: usize) -> bool
+/// Whether each operand is disjoint from the j-th.
+fn are_disjoint_from(env: &Env, ctx: &Context, es: &Exprs, params: &[Binder], j: usize) -> bool
     requires there { AllInRange (signatures env.now) (length ctx.now) es.now }
     requires many { length (listed es.now) ≡ length params.now }
     requires within { j < length params.now }
-    ensures { IsTrue result ↔ ((i : ℕ) → ApartAt ctx.now es.now params.now i j) }
+    ensures { IsTrue result ↔ ((i : ℕ) → AreDisjointAt ctx.now es.now params.now i j) }
 {
     for i in 0..params.len() {
-        if !is_apart_from(env, ctx, es, params, i, j) {
+        if !is_disjoint_from(env, ctx, es, params, i, j) {
             return false;
         }
     }
@@ -38,7 +38,7 @@ fn are_apart_from(env: &Env, ctx: &Context, es: &Exprs, params: &[Binder], j: us
 }
 
 /// Whether the j-th operand, if its parameter is bound, may be in V of the i-th one or isn't.
-fn is_apart_from(
+fn is_disjoint_from(
     env: &Env,
     ctx: &Context,
     es: &Exprs,
@@ -50,7 +50,7 @@ fn is_apart_from(
     requires many { length (listed es.now) ≡ length params.now }
     requires within { i < length params.now }
     requires within_too { j < length params.now }
-    ensures { IsTrue result ↔ ApartAt ctx.now es.now params.now i j }
+    ensures { IsTrue result ↔ AreDisjointAt ctx.now es.now params.now i j }
 {
     if !params[j].bound || i == j || has_place(&params[i].deps, j) {
         return true;

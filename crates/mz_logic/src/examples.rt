@@ -1,6 +1,6 @@
 //! Worked examples of the definitions. Each function does nothing; its contract is the example.
-ghost use Rattle.mz_logic_theory.specs.NearMisses.{NotApartThoughLater, FreeByTheResult, BoundByTheTerm, CitesWhereItDepends, CitesNotApart, UnfoldsWithFresh, UnfoldsWithOperand, UnfoldsWithOneForTwo, NoSortNoConversion, FreeDummy, CitesItself, GapConverts, GapIsIllegal, NothingFromNothing};
-ghost use Rattle.mz_logic_theory.specs.Examples.{A1iDerives, A1iTurnedFails, FourAreLegal, LocalAxiomFails, NotApart, ApartWhereItDepends, NotApartThoughNotFree, MissingDependency, LaterDependency, NnUnfolds};
+ghost use Rattle.mz_logic_theory.specs.NearMisses.{NotDisjointThoughLater, FreeByTheResult, BoundByTheTerm, CitesWhereItDepends, CitesNotDisjoint, UnfoldsWithFresh, UnfoldsWithOperand, UnfoldsWithOneForTwo, NoSortNoConversion, FreeDummy, CitesItself, GapConverts, GapIsIllegal, NothingFromNothing};
+ghost use Rattle.mz_logic_theory.specs.Examples.{A1iDerives, A1iTurnedFails, FourAreLegal, LocalAxiomFails, NotDisjoint, DisjointWhereItDepends, NotDisjointThoughNotFree, MissingDependency, LaterDependency, NnUnfolds};
 
 /// From `a` follows `b -> a`, by modus ponens and the first axiom; with the subproofs exchanged it
 /// doesn't.
@@ -15,12 +15,12 @@ pub fn four_statements_are_legal()
     ensures local { LocalAxiomFails }
 {}
 
-/// Operands are apart by all variables: one that depends on another asks that its parameter does
+/// Operands are disjoint by all variables: one that depends on another asks that its parameter does
 /// too, and a bound variable in it that isn't free counts.
-pub fn operands_are_apart()
-    ensures depends { ApartWhereItDepends }
-    ensures fails { NotApart }
-    ensures not_free { NotApartThoughNotFree }
+pub fn operands_are_disjoint()
+    ensures depends { DisjointWhereItDepends }
+    ensures fails { NotDisjoint }
+    ensures not_free { NotDisjointThoughNotFree }
 {}
 
 /// The first fault of a declaration: a dependency that is no variable is a missing name, and one
@@ -36,8 +36,8 @@ pub fn definition_unfolds()
 {}
 
 /// A bound operand counts also for a parameter that comes before its own.
-pub fn apart_in_any_order()
-    ensures { NotApartThoughLater }
+pub fn disjoint_in_any_order()
+    ensures { NotDisjointThoughLater }
 {}
 
 /// The operand of a bound parameter is free exactly where the result depends on it.
@@ -46,11 +46,11 @@ pub fn results_free_their_operands()
     ensures bound { BoundByTheTerm }
 {}
 
-/// A citation derives its instance where its operands are apart, and derives nothing where they
+/// A citation derives its instance where its operands are disjoint, and derives nothing where they
 /// aren't.
-pub fn citations_are_apart()
+pub fn citations_are_disjoint()
     ensures holds { CitesWhereItDepends }
-    ensures fails { CitesNotApart }
+    ensures fails { CitesNotDisjoint }
 {}
 
 /// The variables of an unfolding are fresh, and different from each other.

@@ -1,7 +1,7 @@
 //! The logic of Metamath Zero, checked, and its laws: whether a declaration is legal, its sorts and variables.
 //!
 //! `check_decl` says whether a declaration is legal over an environment, or the first rule that fails. `sort_of`
-//! gives an expression's sort. `are_apart` says whether arguments are disjoint where their parameters ask for it.
+//! gives an expression's sort. `are_disjoint` says whether arguments are disjoint where their parameters ask for it.
 //! Each answer is exact.
 //!
 //! The definitions are those of `mz_logic_theory`, whose types are shown here too. Each law is a function with an
@@ -20,20 +20,20 @@ mod laws;
 mod sorts;
 mod vars;
 
-pub use apart::are_apart;
+pub use apart::are_disjoint;
 pub use check::{
     are_bound_before, check_decl, may_be_bound_sort, may_be_dummy_sort, may_be_result_sort,
 };
-pub use disjoint::are_apart_by_pairs;
+pub use disjoint::are_disjoint_by_pairs;
 pub use examples::{
-    apart_in_any_order, citations_are_apart, conversions_are_sorted, definition_unfolds,
-    dependencies_come_before, dummies_are_not_free, four_statements_are_legal, gaps_prove_nothing,
-    implication_is_derived, no_theorem_cites_itself, operands_are_apart,
+    citations_are_disjoint, conversions_are_sorted, definition_unfolds, dependencies_come_before,
+    disjoint_in_any_order, dummies_are_not_free, four_statements_are_legal, gaps_prove_nothing,
+    implication_is_derived, no_theorem_cites_itself, operands_are_disjoint,
     results_free_their_operands, unfoldings_are_fresh,
 };
 pub use laws::{
     conversions_keep_sorts, derived_is_provable, instances_have_what_is_put_in,
-    instances_keep_sorts, instances_stay_apart, legal_declarations_are_sorted,
+    instances_keep_sorts, instances_stay_disjoint, legal_declarations_are_sorted,
     legal_lists_are_closed, legal_lists_are_legal_envs, longer_ones_keep, sorts_are_unique,
     words_are_read_back, words_say_binders,
 };
@@ -42,5 +42,7 @@ pub use mz_logic_theory::{
     Operands, ResultType, Shape, SortMods, TermDecl, TermForm, TermPath, Terms, ThmDecl, ThmForm,
     Word, is_bound_at, push_tightly,
 };
-pub use sorts::{is_bound_var, is_claim, lent_is_bound_var, lent_sort_of, sort_of, sort_of_term};
+pub use sorts::{
+    borrowed_is_bound_var, borrowed_sort_of, is_bound_var, is_claim, sort_of, sort_of_term,
+};
 pub use vars::{in_all_vars, in_free_vars};

@@ -40,7 +40,7 @@ fn all_in_range(env: &Env, end: usize, es: &Operands) -> bool
 pub fn hyps_are_in_range(env: &Env, end: usize, hyps: &Hyps) -> bool
     ensures { IsTrue result ↔ AllInRange (signatures env.now) end hyps.now }
 {
-    all_in_range(env, end, &hyps.formulas().lent())
+    all_in_range(env, end, &hyps.formulas().borrowed())
 }
 
 /// The sort of a variable, 0 where it isn't there.
@@ -67,11 +67,11 @@ pub fn sort_of_term(env: &Env, term: u32) -> u32
 pub fn sort_of(env: &Env, ctx: &Context, expr: &Expr) -> u32
     ensures { result ≡ Legality.sort_of (signatures env.now) ctx.now (tree expr.now) }
 {
-    lent_sort_of(env, ctx, &expr.lent())
+    borrowed_sort_of(env, ctx, &expr.borrowed())
 }
 
-/// The same of an expression that is lent.
-pub fn lent_sort_of(env: &Env, ctx: &Context, expr: &ExprRef) -> u32
+/// The same of an expression that is borrowed.
+pub fn borrowed_sort_of(env: &Env, ctx: &Context, expr: &ExprRef) -> u32
     ensures { result ≡ Legality.sort_of (signatures env.now) ctx.now expr.now }
 {
     match expr.shape() {
@@ -104,7 +104,7 @@ fn have_operand_sorts(env: &Env, ctx: &Context, es: &Operands, params: &[Binder]
 {
     for i in 0..es.len() {
         let e = es.at(i);
-        if !(lent_sort_of(env, ctx, &e) == params[i].sort && has_operand_sorts(env, ctx, &e)) {
+        if !(borrowed_sort_of(env, ctx, &e) == params[i].sort && has_operand_sorts(env, ctx, &e)) {
             return false;
         }
     }
@@ -147,18 +147,18 @@ fn have_bound_operands(env: &Env, ctx: &Context, es: &Operands, params: &[Binder
 fn fits_bound(ctx: &Context, operand: &ExprRef, param: &Binder) -> bool
     ensures { IsTrue result ↔ BoundFit ctx.now operand.now param.now }
 {
-    !param.bound || lent_is_bound_var(ctx, operand)
+    !param.bound || borrowed_is_bound_var(ctx, operand)
 }
 
 /// Whether the expression is a bound variable.
 pub fn is_bound_var(ctx: &Context, expr: &Expr) -> bool
     ensures { IsTrue result ↔ IsBoundVar ctx.now (tree expr.now) }
 {
-    lent_is_bound_var(ctx, &expr.lent())
+    borrowed_is_bound_var(ctx, &expr.borrowed())
 }
 
-/// The same of an expression that is lent.
-pub fn lent_is_bound_var(ctx: &Context, expr: &ExprRef) -> bool
+/// The same of an expression that is borrowed.
+pub fn borrowed_is_bound_var(ctx: &Context, expr: &ExprRef) -> bool
     ensures { IsTrue result ↔ IsBoundVar ctx.now expr.now }
 {
     match expr.shape() {
@@ -176,7 +176,7 @@ pub fn all_have_operand_sorts(env: &Env, ctx: &Context, hyps: &Hyps) -> bool
     ensures { IsTrue result ↔ EachTree (HasOperandSorts (signatures env.now) ctx.now) hyps.now }
 {
     for e in hyps.formulas().as_slice() {
-        if !has_operand_sorts(env, ctx, &e.lent()) {
+        if !has_operand_sorts(env, ctx, &e.borrowed()) {
             return false;
         }
     }
@@ -189,7 +189,7 @@ pub fn all_have_bound_operands(env: &Env, ctx: &Context, hyps: &Hyps) -> bool
     ensures { IsTrue result ↔ EachTree (HasBoundOperands (signatures env.now) ctx.now) hyps.now }
 {
     for e in hyps.formulas().as_slice() {
-        if !has_bound_operands(env, ctx, &e.lent()) {
+        if !has_bound_operands(env, ctx, &e.borrowed()) {
             return false;
         }
     }

@@ -80,7 +80,7 @@ pub fn in_free_vars(env: &Env, ctx: &Binders, expr: &Expr, x: u32) -> bool
     requires { (s : ℕ) × HasSort (signatures env.now) ctx.now (tree expr.now) s }
     ensures { IsTrue result ↔ InFV (signatures env.now) ctx.now x (tree expr.now) }
 {
-    in_free_tree(env, &Context::of(ctx), &expr.lent(), x as usize)
+    in_free_tree(env, &Context::of(ctx), &expr.borrowed(), x as usize)
 }
 
 /// The same over a context of parameters and dummies.
@@ -195,5 +195,5 @@ fn is_free(env: &Env, ctx: &Context, expr: &Expr, x: usize) -> bool
     if !ctx.is_bound(x) {
         return false;
     }
-    in_free_tree(env, ctx, &expr.lent(), x)
+    in_free_tree(env, ctx, &expr.borrowed(), x)
 }

@@ -52,7 +52,7 @@ fn free_vars_are_covered(
     ensures { IfOk result (λ are. IsTrue are ↔ ((x : ℕ) → InFV (signatures env.now) ctx.now x (tree expr.now) → Contains places.now x)) }
 {
     cover_places(places, &mut covered.variables)?;
-    covers(env, ctx, &expr.lent(), covered)
+    covers(env, ctx, &expr.borrowed(), covered)
 }
 
 /// Adds the variables at these places.
@@ -289,7 +289,7 @@ fn covers_bound_operand(
 ) -> bool
     ensures { IsTrue result ↔ ((x : ℕ) → IsBoundAt params.now place → operand es.now place ≡ var x → Contains covered.now x) }
 {
-    match lent_bound_operand(params, es, place) {
+    match borrowed_bound_operand(params, es, place) {
         Some(x) => covered.has(x),
         None => true,
     }
@@ -306,7 +306,7 @@ fn add_bound_operands(
     ensures has { OnOk result ((x : ℕ) → Contains variables.new x ↔ (Contains variables.old x ⊎ IsOperandAt params.now es.now places.now x)) }
 {
     for place in places.as_slice() {
-        if let Some(x) = lent_bound_operand(params, es, *place as usize) {
+        if let Some(x) = borrowed_bound_operand(params, es, *place as usize) {
             variables.add(x)?;
         }
     }
@@ -317,12 +317,12 @@ fn add_bound_operands(
 pub fn bound_operand(params: &[Binder], es: &Exprs, place: usize) -> Option<u32>
     ensures { MatchOption result ((x : ℕ) → IsBoundAt params.now place → operand es.now place ≡ var x → ⊥) (λ x. IsBoundAt params.now place × (operand es.now place ≡ var x)) }
 {
-    lent_bound_operand(params, &es.lent(), place)
+    borrowed_bound_operand(params, &es.borrowed(), place)
 }
 
-/// The same of operands that are lent.
+/// The same of operands that are borrowed.
 #[inline]
-fn lent_bound_operand(params: &[Binder], es: &Operands, place: usize) -> Option<u32>
+fn borrowed_bound_operand(params: &[Binder], es: &Operands, place: usize) -> Option<u32>
     ensures { MatchOption result ((x : ℕ) → IsBoundAt params.now place → operand es.now place ≡ var x → ⊥) (λ x. IsBoundAt params.now place × (operand es.now place ≡ var x)) }
 {
     if !is_bound_at(params, place) {

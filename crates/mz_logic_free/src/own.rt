@@ -7,7 +7,7 @@ use mz_logic_theory::Deps;
 use std::marker::Model;
 
 /// Of variables beside each of which stands the place of its owner, those whose owner is at one place or at
-/// one of others. The set is lent, and not made anew for each place.
+/// one of others. The set is borrowed, and not made anew for each place.
 #[derive(Drop)]
 pub struct Own<'a> {
     owned: &'a VariableSet,

@@ -7,7 +7,7 @@ use Rattle.mz_base.proofs.Offered.{slice_get-append_add}
 use Rattle.mz_logic_theory.specs.Tree.{Tree, Trees, none, more, instance, instances, followed_by}
 use Rattle.mz_logic_theory.specs.Declaration.{Assertion, Declaration, sort_decl, term_decl, assertion_decl, sorts, signatures, assertions}
 use Rattle.mz_logic_theory.specs.Sorts.{Fits, AreProvable}
-use Rattle.mz_logic_theory.specs.Variables.{Apart}
+use Rattle.mz_logic_theory.specs.Variables.{AreDisjoint}
 use Rattle.mz_logic_theory.specs.Legality.{IsLegalDecl, IsBinderThere, LegalEnvAfter, IsLegalEnv}
 use Rattle.mz_logic_theory.specs.Derivations.{Derivation, Derivations, hypothesis, cite, convert, gap, no_derivs, more_derivs, Derives, AllDerive, CitesOnly, AllCiteOnly, without_gaps}
 use Rattle.mz_logic_theory.specs.LegalLists.{AreDummies, IsProvedBy, IsProvedIfTheorem, Statement, IsLegalStatement, LegalAfter, LegalBy, Legal, DraftLegal, any_derivation, declarations}
@@ -16,7 +16,7 @@ use Rattle.mz_logic_theory.specs.declared.binder.Binder.{Binder}
 use Rattle.mz_logic_theory.specs.declared.binder.SortMods.{SortMods}
 use Rattle.mz_logic_theory.proofs.Instance.{one_at}
 use Rattle.mz_logic_theory.specs.Laws.{BoundArePlain}
-use Rattle.mz_logic_theory.proofs.Extend.{Extends, extends_append, extends_itself, EnvExtends, env_extends_append, fits_extends, apart_extends, between_extends, derives_extends, all_derive_extends, assertions-append}
+use Rattle.mz_logic_theory.proofs.Extend.{Extends, extends_append, extends_itself, EnvExtends, env_extends_append, fits_extends, disjoint_extends, between_extends, derives_extends, all_derive_extends, assertions-append}
 use Rattle.mz_logic_theory.proofs.Sound.{AssertionRight, RightEnv, fits_followed_by}
 use Rattle.mz_logic_theory.proofs.LegalIsRight.{right_step}
 use Rattle.mz_logic_theory.proofs.Lists.{each_from_all}
@@ -67,7 +67,7 @@ module _ (env : List Declaration) (right : RightEnv env) (P Q : ℕ → Type 0) 
 
   -- a cited theorem's derivation from axioms alone takes the place of the citation
   cite_closed : (ctx new : List Binder) → IsScoped ctx → AreDummies (sorts env) new → (T : ℕ) (a : Assertion) → slice_get (assertions env) T ≡ Some a
-      → (es : Trees) → Fits (signatures env) ctx es a.params → Apart ctx es a.params
+      → (es : Trees) → Fits (signatures env) ctx es a.params → AreDisjoint ctx es a.params
       → (ds : Derivations) → AllCiteOnly (without_gaps Q) ds → AllDerive env (ctx ++ new) hyps ds (instances es a.hyps)
       → IsProvedBy (by_citing Q) env a → Closes ctx (instance es a.conclusion)
   cite_closed ctx new scoped new_dummies T a at es fits apart ds cites they (bs, bs_dummies, (d, d_cites, d_derives)) =
@@ -85,8 +85,8 @@ module _ (env : List Declaration) (right : RightEnv env) (P Q : ℕ → Type 0) 
       fits₂ : Fits (signatures env) (ctx ++ new) es a.params
       fits₂ = fits_extends (signatures env) (signatures env) ctx (ctx ++ new) (extends_itself _) (extends_append ctx new) es a.params fits
 
-      apart₂ : Apart (ctx ++ new) es a.params
-      apart₂ = apart_extends (signatures env) ctx (ctx ++ new) (extends_append ctx new) es a.params fits apart
+      apart₂ : AreDisjoint (ctx ++ new) es a.params
+      apart₂ = disjoint_extends (signatures env) ctx (ctx ++ new) (extends_append ctx new) es a.params fits apart
 
       a_right : AssertionRight env a
       a_right = right.assertions_right T a at
@@ -99,7 +99,7 @@ module _ (env : List Declaration) (right : RightEnv env) (P Q : ℕ → Type 0) 
           (fits_extends (signatures env) (signatures env) (ctx ++ new) ((ctx ++ new) ++ bs) (extends_itself _) (extends_append (ctx ++ new) bs) es a.params fits₂)
           (fresh_fits (signatures env) ((ctx ++ new) ++ bs) (length (ctx ++ new)) bs (λ k b is. slice_get-append_add (ctx ++ new) bs k ∙ is) (all_dummies (sorts env) bs bs_dummies))
 
-      f_apart : Apart ((ctx ++ new) ++ bs) (followed_by es (fresh (length (ctx ++ new)) bs)) (a.params ++ bs)
+      f_apart : AreDisjoint ((ctx ++ new) ++ bs) (followed_by es (fresh (length (ctx ++ new)) bs)) (a.params ++ bs)
       f_apart = apart_fresh (signatures env) (ctx ++ new) scoped₂ es a.params fits₂ apart₂ bs (all_dummies (sorts env) bs bs_dummies)
 
       given : AllDerive env ((ctx ++ new) ++ bs) hyps ds (instances (followed_by es (fresh (length (ctx ++ new)) bs)) a.hyps)
@@ -116,7 +116,7 @@ module _ (env : List Declaration) (right : RightEnv env) (P Q : ℕ → Type 0) 
           (instance_first (signatures env) (ctx ++ new) es (fresh (length (ctx ++ new)) bs) a.params fits₂ a.conclusion a_right.2.0 a_right.2.1) grafted)
 
   cite_either : (ctx : List Binder) → IsScoped ctx → (T : ℕ) (a : Assertion) → slice_get (assertions env) T ≡ Some a → P T
-      → (es : Trees) → Fits (signatures env) ctx es a.params → Apart ctx es a.params → AllClose ctx (instances es a.hyps) → Closes ctx (instance es a.conclusion)
+      → (es : Trees) → Fits (signatures env) ctx es a.params → AreDisjoint ctx es a.params → AllClose ctx (instances es a.hyps) → Closes ctx (instance es a.conclusion)
   cite_either ctx scoped T a at may es fits apart (new, new_dummies, (ds, cites, they)) = go a.is_axiom refl
     where
       go : (v : Bool) → a.is_axiom ≡ v → Closes ctx (instance es a.conclusion)
@@ -131,7 +131,7 @@ module _ (env : List Declaration) (right : RightEnv env) (P Q : ℕ → Type 0) 
             at,
             refl,
             fits_extends (signatures env) (signatures env) ctx (ctx ++ new) (extends_itself _) (extends_append ctx new) es a.params fits,
-            apart_extends (signatures env) ctx (ctx ++ new) (extends_append ctx new) es a.params fits apart,
+            disjoint_extends (signatures env) ctx (ctx ++ new) (extends_append ctx new) es a.params fits apart,
             they,
           ),
         ),

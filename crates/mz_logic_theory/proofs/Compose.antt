@@ -6,7 +6,7 @@ use Rattle.mz_logic_theory.specs.Tree.{Tree, Trees, var, app, none, more, operan
 use Rattle.mz_logic_theory.specs.Signature.{Signature}
 use Rattle.mz_logic_theory.specs.Sorts.{HasSort, Fits}
 use Rattle.mz_logic_theory.specs.declared.binder.Binder.{Binder}
-use Rattle.mz_logic_theory.proofs.Apart.{operand-instances}
+use Rattle.mz_logic_theory.proofs.AreDisjoint.{operand-instances}
 
 mutual
   pub instance-instance : (f g : Trees) (e : Tree) → instance f (instance g e) ≡ instance (instances f g) e

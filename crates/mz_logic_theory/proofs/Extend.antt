@@ -6,12 +6,12 @@ use Rattle.mz_logic_theory.specs.Signature.{Signature}
 use Rattle.mz_logic_theory.specs.Declaration.{Declaration, sort_decl, term_decl, assertion_decl, sorts, terms, signatures, assertions}
 use Rattle.mz_logic_theory.specs.Modifiers.{MayBeClaimSort}
 use Rattle.mz_logic_theory.specs.Sorts.{IsBoundVar, HasSort, Fits, IsSorted}
-use Rattle.mz_logic_theory.specs.Variables.{InV, InSomeV, Apart}
+use Rattle.mz_logic_theory.specs.Variables.{InV, InSomeV, AreDisjoint}
 use Rattle.mz_logic_theory.specs.Conversions.{Conversion, Conversions, refl_conv, sym_conv, cong_conv, unfold_conv, gap_conv, no_convs, more_convs, IsBoundOf, AreFresh, Between, AllBetween}
 use Rattle.mz_logic_theory.specs.Derivations.{Derivation, Derivations, hypothesis, cite, convert, gap, no_derivs, more_derivs, Derives, AllDerive}
 use Rattle.mz_logic_theory.specs.declared.binder.Binder.{Binder}
 use Rattle.mz_logic_theory.proofs.Instance.{one_at}
-use Rattle.mz_logic_theory.proofs.Apart.{operand_has_sort}
+use Rattle.mz_logic_theory.proofs.AreDisjoint.{operand_has_sort}
 
 -- ys has what xs has, at the same places
 abbrev pub Extends : {A : Type 0} → List A → List A → Type 0
@@ -67,9 +67,9 @@ mutual
   in_some_v_extends ctx ctx' l x (more e es) (inl h) = inl (in_v_extends ctx ctx' l x e h)
   in_some_v_extends ctx ctx' l x (more e es) (inr h) = inr (in_some_v_extends ctx ctx' l x es h)
 
-pub apart_extends : (sigs : List Signature) (ctx ctx' : List Binder) → Extends ctx ctx' → (es : Trees) (ps : List Binder) → Fits sigs ctx es ps
-    → Apart ctx es ps → Apart ctx' es ps
-apart_extends sigs ctx ctx' l es ps fits apart i j x p q at_i at_j is_bound is_x has =
+pub disjoint_extends : (sigs : List Signature) (ctx ctx' : List Binder) → Extends ctx ctx' → (es : Trees) (ps : List Binder) → Fits sigs ctx es ps
+    → AreDisjoint ctx es ps → AreDisjoint ctx' es ps
+disjoint_extends sigs ctx ctx' l es ps fits apart i j x p q at_i at_j is_bound is_x has =
     apart i j x p q at_i at_j is_bound is_x (in_v_back sigs ctx ctx' l x (operand es i) p.sort (operand_has_sort sigs ctx es ps fits i p at_i) has)
 
 -- ---- environments
@@ -205,7 +205,7 @@ module _ (env env' : List Declaration) (ctx ctx' : List Binder) (m : EnvExtends 
       m.assertions_too T a at,
       is,
       fits_extends (signatures env) (signatures env') ctx ctx' m.signatures_too l es a.params fits,
-      apart_extends (signatures env) ctx ctx' l es a.params fits apart,
+      disjoint_extends (signatures env) ctx ctx' l es a.params fits apart,
       all_derive_extends hyps ds (instances es a.hyps) h,
     )
     derives_extends hyps (convert f c d) e (is, (g, h, k)) = (is, (g, between_extends c f g h, derives_extends hyps d g k))

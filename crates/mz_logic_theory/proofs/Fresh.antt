@@ -5,11 +5,11 @@ use Rattle.mz_base.proofs.Offered.{slice_get-append_add}
 use Rattle.mz_logic_theory.specs.Tree.{Tree, Trees, var, app, none, more, operand, followed_by}
 use Rattle.mz_logic_theory.specs.Signature.{Signature}
 use Rattle.mz_logic_theory.specs.Sorts.{Fits}
-use Rattle.mz_logic_theory.specs.Variables.{InV, InSomeV, Apart}
+use Rattle.mz_logic_theory.specs.Variables.{InV, InSomeV, AreDisjoint}
 use Rattle.mz_logic_theory.specs.Legality.{Each, IsDummy}
 use Rattle.mz_logic_theory.specs.declared.binder.Binder.{Binder}
 use Rattle.mz_logic_theory.proofs.Instance.{one_at, bound_operand}
-use Rattle.mz_logic_theory.proofs.Apart.{operand_has_sort}
+use Rattle.mz_logic_theory.proofs.AreDisjoint.{operand_has_sort}
 use Rattle.mz_logic_theory.specs.Laws.{BoundArePlain}
 use Rattle.mz_logic_theory.proofs.Extend.{extends_append, in_v_back}
 use Rattle.mz_logic_theory.proofs.Compose.{operand_first, operand_later}
@@ -86,8 +86,8 @@ scoped_with_dummies ctx bs scoped dummies = record { no_deps = no_deps'; inside 
       | inr later ↦ absurd (none_in x (subst (λ ds. Contains ds x) (dummies later.0 b later.2).1 has))
     ]
 
--- operands that are apart stay so when fresh variables follow them
-module _ (sigs : List Signature) (ctx : List Binder) (scoped : IsScoped ctx) (es : Trees) (ps : List Binder) (fits : Fits sigs ctx es ps) (apart : Apart ctx es ps)
+-- operands that are disjoint stay so when fresh variables follow them
+module _ (sigs : List Signature) (ctx : List Binder) (scoped : IsScoped ctx) (es : Trees) (ps : List Binder) (fits : Fits sigs ctx es ps) (apart : AreDisjoint ctx es ps)
     (bs : List Binder) (dummies : AreAllDummies bs) where
   f_first : (i : ℕ) (p : Binder) → slice_get ps i ≡ Some p → operand (followed_by es (fresh (length ctx) bs)) i ≡ operand es i
   f_first i p at = operand_first sigs ctx es (fresh (length ctx) bs) ps fits i p at
@@ -101,7 +101,7 @@ module _ (sigs : List Signature) (ctx : List Binder) (scoped : IsScoped ctx) (es
   in_fresh x k b at (c, at', inr (bd, has)) =
       absurd (true≢false (sym (dummies k b at).0 ∙ ap (λ d. d.bound) (one_at (slice_get-append_add ctx bs k ∙ at) at') ∙ bd))
 
-  pub apart_fresh : Apart (ctx ++ bs) (followed_by es (fresh (length ctx) bs)) (ps ++ bs)
+  pub apart_fresh : AreDisjoint (ctx ++ bs) (followed_by es (fresh (length ctx) bs)) (ps ++ bs)
   apart_fresh i j x p q at_i at_j bd is_x has = go (split_at ps bs i p at_i) (split_at ps bs j q at_j)
     where
       go : (slice_get ps i ≡ Some p) ⊎ ((k : ℕ) × (i ≡ length ps + k) × (slice_get bs k ≡ Some p))

@@ -4,12 +4,12 @@ use Rattle.std.proofs.lemmas.Option.{none-some}
 use Rattle.mz_logic_theory.specs.Tree.{Tree, Trees, var, app, none, more, listed, operand, instance, instances, followed_by, variables}
 use Rattle.mz_logic_theory.specs.Declaration.{Declaration, signatures}
 use Rattle.mz_logic_theory.specs.Sorts.{IsBoundVar, HasSort, Fits, IsSorted}
-use Rattle.mz_logic_theory.specs.Variables.{InV, InSomeV, Apart}
+use Rattle.mz_logic_theory.specs.Variables.{InV, InSomeV, AreDisjoint}
 use Rattle.mz_logic_theory.specs.Conversions.{Conversion, Conversions, refl_conv, sym_conv, cong_conv, unfold_conv, gap_conv, no_convs, more_convs, IsBoundOf, AreFresh, Between, AllBetween, GapsOnly, AllGapsOnly}
 use Rattle.mz_logic_theory.specs.Derivations.{Derivation, Derivations, hypothesis, cite, convert, gap, no_derivs, more_derivs, Derives, AllDerive, Uses, CitesOnly, AllCiteOnly, derivation_at}
 use Rattle.mz_logic_theory.specs.declared.binder.Binder.{Binder}
 use Rattle.mz_logic_theory.proofs.Instance.{one_at, bound_operand, sort_of_operand, sort_of_instance, fits_of_instances}
-use Rattle.mz_logic_theory.proofs.Apart.{in_v_of_pattern, apart_of_instances}
+use Rattle.mz_logic_theory.proofs.AreDisjoint.{in_v_of_pattern, disjoint_instances}
 use Rattle.mz_logic_theory.specs.Laws.{BoundArePlain}
 use Rattle.mz_logic_theory.proofs.Compose.{instance-instance, instances-instances, instances-followed_by, contains_map}
 
@@ -49,7 +49,7 @@ abbrev mutual
 -- ---- a substitution, from the context `params` to `ctx`
 
 module _ (env : List Declaration) (ctx params : List Binder) (no_deps : BoundArePlain params)
-    (f : Trees) (fits : Fits (signatures env) ctx f params) (apart : Apart ctx f params) where
+    (f : Trees) (fits : Fits (signatures env) ctx f params) (apart : AreDisjoint ctx f params) where
   sorted_instance : (e : Tree) → IsSorted env params e → IsSorted env ctx (instance f e)
   sorted_instance e (s, h) = (s, sort_of_instance (signatures env) ctx params f fits e s h)
 
@@ -171,7 +171,7 @@ module _ (env : List Declaration) (ctx params : List Binder) (no_deps : BoundAre
         at,
         ap (instance f) is ∙ instance-instance f es a.conclusion,
         fits_of_instances (signatures env) ctx params f fits es a.params h,
-        apart_of_instances (signatures env) ctx params no_deps f apart es a.params h k,
+        disjoint_instances (signatures env) ctx params no_deps f apart es a.params h k,
         subst (AllDerive env ctx hyps' (grafts f given ds)) (instances-instances f es a.hyps) (all_derive_graft ds (instances es a.hyps) rest),
       )
       derives_graft (convert x c d) e (is, (g, h, k)) = (ap (instance f) is, (instance f g, between_instance c x g h, derives_graft d g k))

@@ -1,5 +1,5 @@
 pub mod Instance
-pub mod Apart
+pub mod AreDisjoint
 pub mod Extend
 pub mod Rules
 pub mod Sound

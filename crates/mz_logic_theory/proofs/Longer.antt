@@ -1,8 +1,8 @@
 -- What holds over an environment and a context holds over longer ones, and what a legal environment gives.
 use Rattle.mz_logic_theory.specs.Declaration.{signatures}
-use Rattle.mz_logic_theory.specs.Laws.{LongerKeepSorts, LongerKeepFits, LongerKeepVariables, LongerKeepApart, LongerKeepConversions, LongerKeepDerivations, ConversionsKeepSorts, DerivedIsProvable}
+use Rattle.mz_logic_theory.specs.Laws.{LongerKeepSorts, LongerKeepFits, LongerKeepVariables, LongerKeepDisjoint, LongerKeepConversions, LongerKeepDerivations, ConversionsKeepSorts, DerivedIsProvable}
 use Rattle.std.proofs.Common.{◌++◌}
-use Rattle.mz_logic_theory.proofs.Extend.{extends_append, env_extends_append, sort_extends, fits_extends, in_v_back, in_v_extends, apart_extends, between_extends, derives_extends}
+use Rattle.mz_logic_theory.proofs.Extend.{extends_append, env_extends_append, sort_extends, fits_extends, in_v_back, in_v_extends, disjoint_extends, between_extends, derives_extends}
 use Rattle.mz_logic_theory.proofs.LegalIsRight.{legal_env_is_right}
 use Rattle.mz_logic_theory.proofs.Sound.{same_sort, derived_is_provable}
 
@@ -18,8 +18,8 @@ pub keep_variables : LongerKeepVariables
 keep_variables sigs ctx further x e s h =
     (in_v_back sigs ctx (ctx ++ further) (extends_append ctx further) x e s h, in_v_extends ctx (ctx ++ further) (extends_append ctx further) x e)
 
-pub keep_apart : LongerKeepApart
-keep_apart sigs ctx further es ps fits apart = apart_extends sigs ctx (ctx ++ further) (extends_append ctx further) es ps fits apart
+pub keep_disjoint : LongerKeepDisjoint
+keep_disjoint sigs ctx further es ps fits apart = disjoint_extends sigs ctx (ctx ++ further) (extends_append ctx further) es ps fits apart
 
 pub keep_conversions : LongerKeepConversions
 keep_conversions env more ctx further c l r h =

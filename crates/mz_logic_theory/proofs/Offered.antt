@@ -1,12 +1,12 @@
 -- What crates above may use of these proofs; all else is this crate's own, and may change.
-pub use Rattle.mz_logic_theory.proofs.Apart.{apart_of_instances, in_instance, instance_has, operand_has_sort}
+pub use Rattle.mz_logic_theory.proofs.AreDisjoint.{disjoint_instances, in_instance, instance_has, operand_has_sort}
 pub use Rattle.mz_logic_theory.proofs.AsExprs.{expr-at, expr-read, exprs-within, exprs_of, length-exprs, trees-exprs}
 pub use Rattle.mz_logic_theory.proofs.Bound.{body_has_sort, depends_on_bound, free_is_bound, is_at}
 pub use Rattle.mz_logic_theory.proofs.Closing.{closed_unless, legal_at, legal_by_supports, legal_list_by_axioms, legal_list_is_closed, legal_list_is_legal_env}
 pub use Rattle.mz_logic_theory.proofs.Compose.{instance-instance, instances-followed_by}
 pub use Rattle.mz_logic_theory.proofs.Constructors.{no-application, no-trees, same-first, same-operands, same-rest, same-term, same-variable, trees_size-followed}
 pub use Rattle.mz_logic_theory.proofs.EightRules.{legal_by_rules}
-pub use Rattle.mz_logic_theory.proofs.Extend.{Extends, apart_extends, assertions-append, env_extends_append, extends_append, extends_itself, fits_extends, fresh_extends, in_v_back, in_v_extends, length-signatures, same-signatures, same-sorts, signatures-append, sort_extends, sorts-append, sorts-few, terms-append, terms-few}
+pub use Rattle.mz_logic_theory.proofs.Extend.{Extends, disjoint_extends, assertions-append, env_extends_append, extends_append, extends_itself, fits_extends, fresh_extends, in_v_back, in_v_extends, length-signatures, same-signatures, same-sorts, signatures-append, sort_extends, sorts-append, sorts-few, terms-append, terms-few}
 pub use Rattle.mz_logic_theory.proofs.Follow.{followed_by_assoc, followed_by_none, followed_by_push}
 pub use Rattle.mz_logic_theory.proofs.Fresh.{split_at}
 pub use Rattle.mz_logic_theory.proofs.Graft.{cites_more}
@@ -14,7 +14,7 @@ pub use Rattle.mz_logic_theory.proofs.Instance.{bound_operand, fits_of_instances
 pub use Rattle.mz_logic_theory.proofs.Left.{some_passed}
 pub use Rattle.mz_logic_theory.proofs.LegalIsRight.{legal_env_is_right, legal_push}
 pub use Rattle.mz_logic_theory.proofs.Lists.{all_at_end, all_from_each, each_at_end, each_from_all, each_so_far_more, not_all, nothing_in}
-pub use Rattle.mz_logic_theory.proofs.Longer.{conversion_keeps_sort, derived_has_provable, keep_apart, keep_conversions, keep_derivations, keep_fits, keep_sorts, keep_variables}
+pub use Rattle.mz_logic_theory.proofs.Longer.{conversion_keeps_sort, derived_has_provable, keep_disjoint, keep_conversions, keep_derivations, keep_fits, keep_sorts, keep_variables}
 pub use Rattle.mz_logic_theory.proofs.Lookup.{none_read}
 pub use Rattle.mz_logic_theory.proofs.Past.{at-end, past-at, past-end}
 pub use Rattle.mz_logic_theory.proofs.PlainLegality.{assertions_are_sorted, terms_are_sorted}

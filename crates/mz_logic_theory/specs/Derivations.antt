@@ -3,7 +3,7 @@ use Rattle.std.specs.Prelude.{ℕ, zero, suc, ◌≡◌, ⊤, List, slice_get, S
 use Rattle.mz_logic_theory.specs.Tree.{Tree, Trees, none, more, listed, instance, instances}
 use Rattle.mz_logic_theory.specs.Declaration.{Assertion, Declaration, signatures, assertions}
 use Rattle.mz_logic_theory.specs.Sorts.{Fits, HasProvable}
-use Rattle.mz_logic_theory.specs.Variables.{Apart}
+use Rattle.mz_logic_theory.specs.Variables.{AreDisjoint}
 use Rattle.mz_logic_theory.specs.Conversions.{Conversion, Between, GapsOnly}
 use Rattle.mz_logic_theory.specs.declared.binder.Binder.{Binder}
 
@@ -27,13 +27,13 @@ derivation_at (more_derivs d ds) zero = d
 derivation_at (more_derivs d ds) (suc i) = derivation_at ds i
 
 -- d derives e from the hypotheses: it is one of them; or it is the instance of a cited conclusion,
--- under operands that fit and are apart, and the instances of the cited hypotheses are derived; or it
+-- under operands that fit and are disjoint, and the instances of the cited hypotheses are derived; or it
 -- converts to what is derived; or it is a gap, of a provable sort
 abbrev mutual
   pub Derives : List Declaration → List Binder → Trees → Derivation → Tree → Type 0
   Derives env ctx hyps (hypothesis i) e = slice_get (listed hyps) i ≡ Some e
   Derives env ctx hyps (cite T es ds) e = (a : Assertion) × (slice_get (assertions env) T ≡ Some a) × (e ≡ instance es a.conclusion)
-      × Fits (signatures env) ctx es a.params × Apart ctx es a.params × AllDerive env ctx hyps ds (instances es a.hyps)
+      × Fits (signatures env) ctx es a.params × AreDisjoint ctx es a.params × AllDerive env ctx hyps ds (instances es a.hyps)
   Derives env ctx hyps (convert f c d) e = (e ≡ f) × ((g : Tree) × Between env ctx c f g × Derives env ctx hyps d g)
   Derives env ctx hyps (gap f) e = (e ≡ f) × HasProvable env ctx e
 

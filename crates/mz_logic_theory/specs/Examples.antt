@@ -4,7 +4,7 @@ use Rattle.mz_base.specs.Checks.{FailsFirst}
 use Rattle.mz_logic_theory.specs.Tree.{Tree, var, app, none, more}
 use Rattle.mz_logic_theory.specs.Signature.{Signature}
 use Rattle.mz_logic_theory.specs.Declaration.{plain_form, defined, Term, Assertion, Declaration, sort_decl, term_decl, assertion_decl, signatures}
-use Rattle.mz_logic_theory.specs.Variables.{InV, InFV, Apart}
+use Rattle.mz_logic_theory.specs.Variables.{InV, InFV, AreDisjoint}
 use Rattle.mz_logic_theory.specs.Legality.{decl_checks}
 use Rattle.mz_logic_theory.specs.Conversions.{refl_conv, unfold_conv, Between}
 use Rattle.mz_logic_theory.specs.Derivations.{Derivation, hypothesis, cite, no_derivs, more_derivs, Derives}
@@ -97,20 +97,20 @@ quantifier = wff_sort ∷ sort_decl (record { 0 = 0 }) ∷ term_decl (record { s
 abbrev pub y_and_q : List Binder
 y_and_q = nat ∷ wff_x ∷ []
 
--- y and q are not apart for {x: nat} (p: wff), since q depends on y and p doesn't depend on x
-abbrev pub NotApart : Type 0
-NotApart = Apart y_and_q (more (var 0) (more (var 1) none)) (nat ∷ wff ∷ []) → ⊥
+-- y and q are not disjoint for {x: nat} (p: wff), since q depends on y and p doesn't depend on x
+abbrev pub NotDisjoint : Type 0
+NotDisjoint = AreDisjoint y_and_q (more (var 0) (more (var 1) none)) (nat ∷ wff ∷ []) → ⊥
 
 -- but for {x: nat} (p: wff x) they are
-abbrev pub ApartWhereItDepends : Type 0
-ApartWhereItDepends = Apart y_and_q (more (var 0) (more (var 1) none)) (nat ∷ wff_x ∷ [])
+abbrev pub DisjointWhereItDepends : Type 0
+DisjointWhereItDepends = AreDisjoint y_and_q (more (var 0) (more (var 1) none)) (nat ∷ wff_x ∷ [])
 
 abbrev pub all_y_q : Tree
 all_y_q = app 0 (more (var 0) (more (var 1) none))
 
 -- nor are y and (all y q) for {x: nat} (p: wff): y is in V of (all y q), though not in FV
-abbrev pub NotApartThoughNotFree : Type 0
-NotApartThoughNotFree = (Apart y_and_q (more (var 0) (more all_y_q none)) (nat ∷ wff ∷ []) → ⊥)
+abbrev pub NotDisjointThoughNotFree : Type 0
+NotDisjointThoughNotFree = (AreDisjoint y_and_q (more (var 0) (more all_y_q none)) (nat ∷ wff ∷ []) → ⊥)
     × InV y_and_q 0 all_y_q × (InFV (signatures quantifier) y_and_q 0 all_y_q → ⊥)
 
 -- ---- the first fault of a declaration

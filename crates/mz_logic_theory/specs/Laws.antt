@@ -6,7 +6,7 @@ use Rattle.mz_logic_theory.specs.Signature.{Signature}
 use Rattle.mz_logic_theory.specs.Declaration.{Term, Assertion, Declaration, term_decl, assertion_decl, dummies_of, body_of, context_of, sorts, signatures}
 use Rattle.mz_logic_theory.specs.Modifiers.{MayBeResultSort, MayBeBoundSort, MayBeDummySort}
 use Rattle.mz_logic_theory.specs.Sorts.{HasSort, Fits, HasProvable, AreProvable}
-use Rattle.mz_logic_theory.specs.Variables.{Occurs, InV, InFV, IsBoundAt, Apart}
+use Rattle.mz_logic_theory.specs.Variables.{Occurs, InV, InFV, IsBoundAt, AreDisjoint}
 use Rattle.mz_logic_theory.specs.Legality.{Each, EachTree, IsDummy, AreParams, IsLegalDecl, IsLegalEnv}
 use Rattle.mz_logic_theory.specs.Conversions.{Conversion, Between}
 use Rattle.mz_logic_theory.specs.Derivations.{Derivation, Derives}
@@ -42,12 +42,12 @@ InstancesHaveWhatIsPutIn = (ctx : List Binder) (x : ℕ) (f : Trees) (e : Tree)
 abbrev pub BoundArePlain : List Binder → Type 0
 BoundArePlain ctx = Each ctx (λ _ b. b.bound ≡ true → b.deps ≡ [])
 
--- operands that are apart stay so under a substitution whose own operands are apart
-abbrev pub InstancesStayApart : Type 0
-InstancesStayApart = (sigs : List Signature) (ctx params : List Binder) → BoundArePlain params
-    → (f : Trees) → Apart ctx f params
-    → (es : Trees) (ps : List Binder) → Fits sigs params es ps → Apart params es ps
-    → Apart ctx (instances f es) ps
+-- operands that are disjoint stay so under a substitution whose own operands are disjoint
+abbrev pub InstancesStayDisjoint : Type 0
+InstancesStayDisjoint = (sigs : List Signature) (ctx params : List Binder) → BoundArePlain params
+    → (f : Trees) → AreDisjoint ctx f params
+    → (es : Trees) (ps : List Binder) → Fits sigs params es ps → AreDisjoint params es ps
+    → AreDisjoint ctx (instances f es) ps
 
 -- ---- longer environments and contexts
 
@@ -64,9 +64,9 @@ abbrev pub LongerKeepVariables : Type 0
 LongerKeepVariables = (sigs : List Signature) (ctx further : List Binder) (x : ℕ) (e : Tree) (s : ℕ)
     → HasSort sigs ctx e s → InV (ctx ++ further) x e ↔ InV ctx x e
 
-abbrev pub LongerKeepApart : Type 0
-LongerKeepApart = (sigs : List Signature) (ctx further : List Binder) (es : Trees) (ps : List Binder)
-    → Fits sigs ctx es ps → Apart ctx es ps → Apart (ctx ++ further) es ps
+abbrev pub LongerKeepDisjoint : Type 0
+LongerKeepDisjoint = (sigs : List Signature) (ctx further : List Binder) (es : Trees) (ps : List Binder)
+    → Fits sigs ctx es ps → AreDisjoint ctx es ps → AreDisjoint (ctx ++ further) es ps
 
 abbrev pub LongerKeepConversions : Type 0
 LongerKeepConversions = (env more : List Declaration) (ctx further : List Binder) (c : Conversion) (l r : Tree)

@@ -3,16 +3,16 @@ use Rattle.std.specs.Prelude.{◌≡◌, true, false, ℕ, List, [], ◌∷◌, 
 use Rattle.mz_logic_theory.specs.Tree.{Tree, var, app, none, more}
 use Rattle.mz_logic_theory.specs.Signature.{Signature}
 use Rattle.mz_logic_theory.specs.Declaration.{plain_form, defined, Assertion, Declaration, sort_decl, term_decl, assertion_decl, assertions}
-use Rattle.mz_logic_theory.specs.Variables.{InV, InFV, Apart}
+use Rattle.mz_logic_theory.specs.Variables.{InV, InFV, AreDisjoint}
 use Rattle.mz_logic_theory.specs.Conversions.{refl_conv, unfold_conv, gap_conv, Between}
 use Rattle.mz_logic_theory.specs.Derivations.{Derivation, hypothesis, cite, convert, no_derivs, more_derivs, Derives, IsGapFree}
 use Rattle.mz_logic_theory.specs.LegalLists.{AreDummies, Legal}
 use Rattle.mz_logic_theory.specs.Examples.{wff, wff_sort, nat, wff_x, quantifier, y_and_q, all_y_q, public}
 use Rattle.mz_logic_theory.specs.declared.binder.Binder.{Binder}
 
--- q and y are not apart for (p: wff) {x: nat}: that the bound one comes later doesn't matter
-abbrev pub NotApartThoughLater : Type 0
-NotApartThoughLater = Apart y_and_q (more (var 1) (more (var 0) none)) (wff ∷ nat ∷ []) → ⊥
+-- q and y are not disjoint for (p: wff) {x: nat}: that the bound one comes later doesn't matter
+abbrev pub NotDisjointThoughLater : Type 0
+NotDisjointThoughLater = AreDisjoint y_and_q (more (var 1) (more (var 0) none)) (wff ∷ nat ∷ []) → ⊥
 
 -- ---- a bound operand is free where the result depends on it
 
@@ -43,8 +43,8 @@ abbrev pub CitesWhereItDepends : Type 0
 CitesWhereItDepends = Generalizes wff_x
 
 -- by the axiom for (p: wff) it doesn't
-abbrev pub CitesNotApart : Type 0
-CitesNotApart = Generalizes wff → ⊥
+abbrev pub CitesNotDisjoint : Type 0
+CitesNotDisjoint = Generalizes wff → ⊥
 
 -- ---- an unfolding with dummies
 

@@ -55,15 +55,15 @@ abbrev pub IsFreeOperand : List Signature → List Binder → ℕ → List Binde
 IsFreeOperand sigs ctx x params all p e = (p.bound ≡ false) × InFV sigs ctx x e × (IsOperandAt params all p.deps x → ⊥)
 
 -- where the j-th parameter is bound and its operand is in V of the i-th operand, i is j or depends on j
-abbrev pub ApartAt : List Binder → Trees → List Binder → ℕ → ℕ → Type 0
-ApartAt ctx es params i j = (x : ℕ) (p q : Binder)
+abbrev pub AreDisjointAt : List Binder → Trees → List Binder → ℕ → ℕ → Type 0
+AreDisjointAt ctx es params i j = (x : ℕ) (p q : Binder)
     → slice_get params i ≡ Some p → slice_get params j ≡ Some q → q.bound ≡ true → operand es j ≡ var x
     → InV ctx x (operand es i) → (i ≡ j) ⊎ Contains p.deps j
 
--- the operands are apart: each two are, whichever of them comes first (mm0.md, on disjointness;
+-- the operands are disjoint: each two are, whichever of them comes first (mm0.md, on disjointness;
 -- Carneiro, the rule of theorem application)
-abbrev pub Apart : List Binder → Trees → List Binder → Type 0
-Apart ctx es params = (i j : ℕ) → ApartAt ctx es params i j
+abbrev pub AreDisjoint : List Binder → Trees → List Binder → Type 0
+AreDisjoint ctx es params = (i j : ℕ) → AreDisjointAt ctx es params i j
 
 -- `Contains` as a test
 abbrev pub is_member : ℕ → List ℕ → Bool

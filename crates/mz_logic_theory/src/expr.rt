@@ -1,4 +1,4 @@
-//! Expressions, owned and lent.
+//! Expressions, owned and borrowed.
 ghost use Rattle.std.specs.Prelude.{◌≡◌, ◌<◌, ◌≤◌, ◌+◌, length, map, slice_get, option_map, IfOk, IfErr, OnOk, OnErr, MatchOption};
 ghost use Rattle.mz_logic_theory.specs.Tree.{listed, operand, app, var, none, more, followed_by, past, under, size, trees_size};
 ghost use Rattle.mz_logic_theory.specs.Kinds.{kind_tree, HasSmaller};
@@ -128,7 +128,7 @@ impl TermPath {
     }
 }
 
-/// An expression that is lent.
+/// An expression that is borrowed.
 #[derive(Drop)]
 pub struct ExprRef<'a> {
     // terms that stand over it, the innermost first
@@ -147,7 +147,7 @@ impl<'a> Model for ExprRef<'a> {
     ghost view = { λ a. under a.path.now a.expr.now };
 }
 
-/// Expressions that are lent.
+/// Expressions that are borrowed.
 #[derive(Drop)]
 pub struct Operands<'a> {
     // terms that stand over each of them, the innermost first
@@ -219,8 +219,8 @@ impl Expr {
         &self.kind
     }
 
-    /// The expression, lent.
-    pub fn lent(&self) -> ExprRef<'_>
+    /// The expression, borrowed.
+    pub fn borrowed(&self) -> ExprRef<'_>
         ensures { result ≡ self.now }
     {
         ExprRef {
@@ -235,7 +235,7 @@ impl Expr {
     {
         match &self.kind {
             ExprKind::Var(x) => Shape::Var(*x),
-            ExprKind::App(t, es) => Shape::App(*t, es.lent()),
+            ExprKind::App(t, es) => Shape::App(*t, es.borrowed()),
             ExprKind::Under(path, expr) => shape_under(path.as_slice(), expr),
         }
     }
@@ -361,8 +361,8 @@ impl Exprs {
         &self.items
     }
 
-    /// The expressions, lent.
-    pub fn lent(&self) -> Operands<'_>
+    /// The expressions, borrowed.
+    pub fn borrowed(&self) -> Operands<'_>
         ensures { result ≡ self.now }
     {
         Operands {

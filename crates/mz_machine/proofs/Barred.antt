@@ -4,8 +4,8 @@ use Rattle.std.specs.Prelude.{⊤, nat_le}
 use Rattle.std.proofs.lemmas.Bool.{le-leb}
 use Rattle.mz_cmd.specs.declared.rule.K.{K}
 use Rattle.mz_cmd.specs.declared.rule.K.TheVariants as k
-use Rattle.mz_unify_theory.specs.Steps.{◌>>=◌, ◌>>◌, need, want}
-use Rattle.mz_unify_theory.specs.Profile.{Item, expr, proof, obligation, conversion}
+use Rattle.mz_machine_theory.specs.Steps.{◌>>=◌, ◌>>◌, need, want}
+use Rattle.mz_machine_theory.specs.Profile.{Item, expr, proof, obligation, conversion}
 use Rattle.mz_machine_theory.specs.Premises.{pop_expr, pop_proof, pop_obligation, pop_conversion, pop_exprs, pop_operands}
 use Rattle.mz_machine.specs.OpenEquations.{EndsBarred, IsBarred}
 

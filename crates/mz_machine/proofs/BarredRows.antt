@@ -1,18 +1,17 @@
 -- A row above a barrier: what lies below is left, and asked of but for how much it is.
 use Rattle.std.proofs.Common.{◌≡◌, ◌≤◌, ℕ, suc, Bool, true, false, List, [], ◌∷◌, ◌++◌, length, Option, Some, None, Result, Ok, Err, slice_get, refl, ap, arith}
-use Rattle.std.specs.Prelude.{nat_le, map, not, ◌&&◌, if◌then◌else◌}
+use Rattle.std.specs.Prelude.{nat_le, map, not, ◌&&◌, if◌then◌else◌, ◌==◌, nat_lt}
 use Rattle.mz_cmd.specs.declared.rule.K.{K}
 use Rattle.mz_cmd.specs.declared.rule.K.TheVariants as k
 use Rattle.mz_cmd.specs.declared.code.ProofCode.{ProofCode}
 use Rattle.mz_cmd.specs.declared.code.ProofCode.TheVariants as code
 use Rattle.mz_logic_theory.specs.Legality.{sort_of}
-use Rattle.std.specs.Prelude.{◌==◌, nat_lt}
-use Rattle.mz_unify_theory.specs.Steps.{◌>>=◌, ◌>>◌, need, want, rule_of}
-use Rattle.mz_unify_theory.specs.Profile.{Profile, Item, expr, proof, obligation, conversion}
-use Rattle.mz_unify_theory.specs.Spells.{SpelledTerm, SpelledThm, dummy_of}
-use Rattle.mz_unify_theory.specs.UnifyMachine.{in_citation, in_definition, Matching, UnifyState, unify}
+use Rattle.mz_machine_theory.specs.Steps.{◌>>=◌, ◌>>◌, need, want, rule_of}
+use Rattle.mz_machine_theory.specs.Profile.{Profile, Item, expr, proof, obligation, conversion}
+use Rattle.mz_machine_theory.specs.Spells.{SpelledTerm, SpelledThm, dummy_of}
+use Rattle.mz_machine_theory.specs.UnifyMachine.{in_citation, in_definition, Matching, UnifyState, unify}
 use Rattle.mz_machine_theory.specs.MachineState.{RowsBefore, State, signatures_in}
-use Rattle.mz_machine_theory.specs.Premises.{pop_expr, pop_operands, pop_sides, is_conversion, is_obligation, may_be_dummy_sort, is_provable_sort, bound_count, operands_fit, are_apart}
+use Rattle.mz_machine_theory.specs.Premises.{pop_expr, pop_operands, pop_sides, is_conversion, is_obligation, may_be_dummy_sort, is_provable_sort, bound_count, operands_fit, are_disjoint}
 use Rattle.mz_machine_theory.specs.ProofMachine.{built, citation, matched_by, cited, referred, sides, same_term, stream_of, unfolding_of, gapped, has_provable_sort, proof_step, saved}
 use Rattle.mz_machine.specs.OpenEquations.{IsBarrier, EndsBarred, IsBarred, many_of_term, many_of_thm, asked_by}
 use Rattle.mz_machine.proofs.Barred.{still-barred, Above, made, needed, fitted, wanted, enough, top-obligation, top-conversion, top-expr, top-proof, top-operands, bound}
@@ -101,7 +100,7 @@ module _ (P : Profile) (tables : RowsBefore) (st : State P.T) (x : Item P.T) (xs
   abbrev cites : SpelledThm → P.T → List P.T → List (Item P.T) → Result (Matching P.T) K
   cites row e es ys =
       operands_fit (signatures_in tables) st.ctx (map P.tree es) row.params
-      >> (need (are_apart st.ctx (map P.tree es) row.params) k.Disjoint >> Ok (record { mode = in_citation; stream = row.stream; operands = es; target = e; items = ys }))
+      >> (need (are_disjoint st.ctx (map P.tree es) row.params) k.Disjoint >> Ok (record { mode = in_citation; stream = row.stream; operands = es; target = e; items = ys }))
 
   pub citation-above : (t : ℕ) → Above (HasMany (many_of_thm (slice_get tables.thms t))) lay_match IsHeldMatch (λ zs. citation P tables t (on zs))
   unfolding citation
@@ -117,7 +116,7 @@ module _ (P : Profile) (tables : RowsBefore) (st : State P.T) (x : Item P.T) (xs
           (top-expr (HasMany (suc n)) lay_match IsHeldMatch x xs barred (λ e ys. pop_operands n ys >>= λ es. cites row e es.0 es.1) λ e y ys b is.
           top-operands (HasMany (suc n)) lay_match IsHeldMatch n y ys b (λ zs fits. omega (arith, fits, ap (λ (ws : List (Item P.T)). length (ws ++ zs)) is)) (λ es ws. cites row e es ws) λ es z ws c.
           fitted (HasMany (suc n)) lay_match IsHeldMatch (operands_fit (signatures_in tables) st.ctx (map P.tree es) row.params) _
-          (needed (HasMany (suc n)) lay_match IsHeldMatch (are_apart st.ctx (map P.tree es) row.params) k.Disjoint _
+          (needed (HasMany (suc n)) lay_match IsHeldMatch (are_disjoint st.ctx (map P.tree es) row.params) k.Disjoint _
           (made (HasMany (suc n)) lay_match IsHeldMatch (record { mode = in_citation; stream = row.stream; operands = es; target = e; items = z ∷ ws }) _ (c, refl) λ zs. refl)))
 
   run-above : (Fits : List (Item P.T) → Type 0) (m : Matching P.T) → IsHeldMatch m → Above Fits lay_left IsHeldLeft (λ zs. matched_by P tables st.ctx (matched_over zs m) >>= λ u. Ok (m.target, u.items))

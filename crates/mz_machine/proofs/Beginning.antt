@@ -6,7 +6,7 @@ use Rattle.mz_logic_theory.specs.Words.{binders_of}
 use Rattle.mz_logic_theory.specs.declared.word.Word.{Word}
 use Rattle.mz_store.specs.Sharing.{Sharing, tree_of, IsIn, IsOver}
 use Rattle.mz_store.specs.declared.item.Item.TheVariants.{Expr}
-use Rattle.mz_unify_theory.specs.Profile.{strict, Item, expr}
+use Rattle.mz_machine_theory.specs.Profile.{strict, Item, expr}
 use Rattle.mz_unify.specs.Stored.{AreItemsIn}
 use Rattle.mz_machine_theory.specs.MachineState.{signatures_in}
 use Rattle.mz_machine_theory.specs.Bodies.{body_start}

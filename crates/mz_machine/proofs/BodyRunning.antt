@@ -7,10 +7,10 @@ use Rattle.mz_cmd.specs.declared.rule.K.{K}
 use Rattle.mz_logic_theory.specs.Tree.{Tree}
 use Rattle.mz_machine_theory.specs.MachineState.{State}
 use Rattle.mz_machine_theory.specs.ProofMachine.{proof_end}
-use Rattle.mz_unify_theory.specs.Profile.{plain}
+use Rattle.mz_machine_theory.specs.Profile.{plain}
 use Rattle.mz_machine_theory.specs.Sound.{HasGap}
 use Rattle.mz_machine.specs.BodyAnswers.{IsBodyRun, UnlessMem as UnlessBodyMem}
-use Rattle.mz_machine.specs.Rooms.{HasCommands, OneACommand}
+use Rattle.mz_machine.specs.Tidiness.{HasCommands, OneACommand}
 use Rattle.mz_machine.specs.declared.body.BodyChecked.{BodyChecked}
 use Rattle.mz_machine.specs.declared.body.BodyChecked.TheVariants as checked
 use Rattle.mz_machine.specs.Steps.{Underway, tables_for, heading_for, row_of, steps_for, end_steps}

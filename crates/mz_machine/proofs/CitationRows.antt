@@ -8,12 +8,12 @@ use Rattle.mz_logic_theory.specs.Tree.{Tree}
 use Rattle.mz_logic_theory.specs.declared.binder.Binder.{Binder}
 use Rattle.mz_logic_theory.specs.Words.{binders_of}
 use Rattle.mz_layout_tables.specs.Tables.{thm_row}
-use Rattle.mz_unify_theory.specs.Spells.{SpelledThm}
-use Rattle.mz_unify_theory.specs.Profile.{Profile, Item, proof}
-use Rattle.mz_unify_theory.specs.Steps.{◌>>=◌}
-use Rattle.mz_unify_theory.specs.UnifyMachine.{in_citation, Matching, UnifyState, unify, unify_steps}
+use Rattle.mz_machine_theory.specs.Spells.{SpelledThm}
+use Rattle.mz_machine_theory.specs.Profile.{Profile, Item, proof}
+use Rattle.mz_machine_theory.specs.Steps.{◌>>=◌}
+use Rattle.mz_machine_theory.specs.UnifyMachine.{in_citation, Matching, UnifyState, unify, unify_steps}
 use Rattle.mz_machine_theory.specs.MachineState.{RowsBefore, State, signatures_in}
-use Rattle.mz_machine_theory.specs.Premises.{pop_expr, pop_operands, operands_fit, are_apart}
+use Rattle.mz_machine_theory.specs.Premises.{pop_expr, pop_operands, operands_fit, are_disjoint}
 use Rattle.mz_machine_theory.specs.ProofMachine.{proof_step, citation, cited, push, saved}
 use Rattle.mz_machine_theory.specs.Bodies.{row_steps}
 use Rattle.mz_machine_env.specs.Before.{Before, tables_of, signatures_of}
@@ -49,11 +49,11 @@ module _ (P : Profile) (trees : List P.T → List Tree) (trees-are : (es : List 
             unfit rule h = rw (there, enough, popped, taken, trees-are es, h) refl
 
             module _ (fit : operands_fit (signatures_in tables) st.ctx (trees es) row.params ≡ Ok tt) where
-              not-apart : are_apart st.ctx (trees es) row.params ≡ false → citation P tables t st ≡ Err k.Disjoint
+              not-apart : are_disjoint st.ctx (trees es) row.params ≡ false → citation P tables t st ≡ Err k.Disjoint
               unfolding citation
               not-apart h = rw (there, enough, popped, taken, trees-are es, fit, h) refl
 
-              all-asked : are_apart st.ctx (trees es) row.params ≡ true → citation P tables t st ≡ Ok (record { mode = in_citation; stream = row.stream; operands = es; target = e; items = rest })
+              all-asked : are_disjoint st.ctx (trees es) row.params ≡ true → citation P tables t st ≡ Ok (record { mode = in_citation; stream = row.stream; operands = es; target = e; items = rest })
               unfolding citation
               all-asked h = rw (there, enough, popped, taken, trees-are es, fit, h) refl
 
@@ -94,18 +94,18 @@ module _ (P : Profile) (trees : List P.T → List Tree) (trees-are : (es : List 
                 (ap (λ bs. operands_fit (signatures_of b) bs (trees es) (binders_of (thm_row b.file t).params)) same ∙ h)
 
             module _ (fit : operands_fit (signatures_of b) ctx (trees es) (binders_of (thm_row b.file t).params) ≡ Ok tt) where
-              pub cites-meeting : are_apart ctx (trees es) (binders_of (thm_row b.file t).params) ≡ false → citation P (tables_of b) t st ≡ Err k.Disjoint
+              pub cites-meeting : are_disjoint ctx (trees es) (binders_of (thm_row b.file t).params) ≡ false → citation P (tables_of b) t st ≡ Err k.Disjoint
               cites-meeting h =
                   not-apart (tables_of b) t st (thm_of_file b.file t) (thm-before b t below) enough e ys (ap pop_expr is ∙ popped) es rest (ap (λ m. pop_operands m ys) as-many ∙ taken)
                   (ap (λ bs. operands_fit (signatures_of b) bs (trees es) (binders_of (thm_row b.file t).params)) same ∙ fit)
-                  (ap (λ bs. are_apart bs (trees es) (binders_of (thm_row b.file t).params)) same ∙ h)
+                  (ap (λ bs. are_disjoint bs (trees es) (binders_of (thm_row b.file t).params)) same ∙ h)
 
-              pub cites-so : are_apart ctx (trees es) (binders_of (thm_row b.file t).params) ≡ true
+              pub cites-so : are_disjoint ctx (trees es) (binders_of (thm_row b.file t).params) ≡ true
                   → citation P (tables_of b) t st ≡ Ok (record { mode = in_citation; stream = drop (thm_row b.file t).stream_at b.file; operands = es; target = e; items = rest })
               cites-so h =
                   all-asked (tables_of b) t st (thm_of_file b.file t) (thm-before b t below) enough e ys (ap pop_expr is ∙ popped) es rest (ap (λ m. pop_operands m ys) as-many ∙ taken)
                   (ap (λ bs. operands_fit (signatures_of b) bs (trees es) (binders_of (thm_row b.file t).params)) same ∙ fit)
-                  (ap (λ bs. are_apart bs (trees es) (binders_of (thm_row b.file t).params)) same ∙ h)
+                  (ap (λ bs. are_disjoint bs (trees es) (binders_of (thm_row b.file t).params)) same ∙ h)
 
 -- ---- the rows
 

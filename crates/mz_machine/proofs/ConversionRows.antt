@@ -5,9 +5,9 @@ use Rattle.std.proofs.lemmas.Bool.{eqb-true}
 use Rattle.mz_cmd.specs.declared.rule.K.{K}
 use Rattle.mz_cmd.specs.declared.rule.K.TheVariants as k
 use Rattle.mz_cmd.specs.declared.code.ProofCode.TheVariants as code
-use Rattle.mz_unify_theory.specs.Steps.{◌>>=◌, want}
-use Rattle.mz_unify_theory.specs.Profile.{Profile, Item, proof, obligation}
-use Rattle.mz_unify_theory.specs.UnifyMachine.{in_definition, Matching, UnifyState, unify, unify_steps}
+use Rattle.mz_machine_theory.specs.Steps.{◌>>=◌, want}
+use Rattle.mz_machine_theory.specs.Profile.{Profile, Item, proof, obligation}
+use Rattle.mz_machine_theory.specs.UnifyMachine.{in_definition, Matching, UnifyState, unify, unify_steps}
 use Rattle.mz_unify.specs.Rows.{StopsBy}
 use Rattle.mz_unify.specs.declared.stop.Stop.{Stop}
 use Rattle.mz_unify.specs.declared.stop.Stop.TheVariants.{Rule, Mem}

@@ -6,11 +6,11 @@ use Rattle.mz_logic_theory.specs.Tree.{Tree, listed}
 use Rattle.mz_store.specs.Sharing.{Sharing, trees_of, operands_of}
 use Rattle.mz_store.specs.declared.item.Id.{Id}
 use Rattle.mz_store.specs.declared.item.Item.{Item as Kept}
-use Rattle.mz_unify_theory.specs.Profile.{strict, Item, expr}
-use Rattle.mz_unify_theory.specs.Tests.{same_tree}
+use Rattle.mz_machine_theory.specs.Profile.{strict, Item, expr}
+use Rattle.mz_machine_theory.specs.Tests.{same_tree}
 use Rattle.mz_unify.specs.Stored.{IsItemIn, AreItemsIn, trees_at}
 use Rattle.mz_unify.proofs.Offered.{differ, items-in-both, listed-trees, of-trees}
-use Rattle.mz_unify_theory.proofs.Offered.{taken-is}
+use Rattle.mz_machine_theory.proofs.Offered.{taken-is}
 use Rattle.mz_machine_theory.specs.Premises.{pop, pop_expr, pop_obligation, pop_sides}
 use Rattle.mz_machine.specs.OverStore.{pop_unfolding}
 use Rattle.mz_machine.proofs.ConversionRows.{same}

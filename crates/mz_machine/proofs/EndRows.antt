@@ -6,9 +6,9 @@ use Rattle.mz_cmd.specs.declared.rule.K.TheVariants as k
 use Rattle.mz_logic_theory.specs.Sorts.{HasSort}
 use Rattle.mz_logic_theory.proofs.Offered.{sort_is}
 use Rattle.mz_logic_theory.specs.declared.binder.Binder.{Binder}
-use Rattle.mz_unify_theory.specs.Profile.{Profile, Item}
-use Rattle.mz_unify_theory.specs.Steps.{◌>>◌, need}
-use Rattle.mz_unify_theory.specs.UnifyMachine.{at_end, in_definition, Matching, UnifyState, unify, unify_steps}
+use Rattle.mz_machine_theory.specs.Profile.{Profile, Item}
+use Rattle.mz_machine_theory.specs.Steps.{◌>>◌, need}
+use Rattle.mz_machine_theory.specs.UnifyMachine.{at_end, in_definition, Matching, UnifyState, unify, unify_steps}
 use Rattle.mz_machine_theory.specs.MachineState.{RowsBefore, State, Heading, is_axiom, is_definition, signatures_in}
 use Rattle.mz_machine_theory.specs.FreeVars.{free_within}
 use Rattle.mz_machine_theory.specs.ProofMachine.{as_proofs, has_provable_sort, last_item, own_stream, own_variables, ending, ends_with, proof_end}

@@ -39,8 +39,8 @@ module _ (sigs : List Signature) (row row' : Row) (takes takes' : Type 0) (rows 
   stops-so (Rule k) h = λ at. rows at ∙ h at
   stops-so Mem h = λ none. h (fewer none)
 
-  module _ (s s' : Sharing) (heap' stack stack' : List Kept) (hyps' : List Id) (room room' : ℕ) where
-    so : (o : Option (Id × Id)) → GoesThrough sigs row takes s s' heap' stack stack' hyps' room room' o → GoesThrough sigs row' takes' s s' heap' stack stack' hyps' room room' o
+  module _ (s s' : Sharing) (heap' stack stack' : List Kept) (hyps' : List Id) (scratch scratch' : ℕ) where
+    so : (o : Option (Id × Id)) → GoesThrough sigs row takes s s' heap' stack stack' hyps' scratch scratch' o → GoesThrough sigs row' takes' s s' heap' stack stack' hyps' scratch scratch' o
     so o h = record {
       grows = h.grows;
       heap_in = h.heap_in;
@@ -51,37 +51,37 @@ module _ (sigs : List Signature) (row row' : Row) (takes takes' : Type 0) (rows 
       no_more = λ none. h.no_more (fewer none);
     }
 
-    pub executes-so : (result : Result (Option (Id × Id)) Stop) → Executes sigs row takes s s' heap' stack stack' hyps' room room' (λ o. o) result
-        → Executes sigs row' takes' s s' heap' stack stack' hyps' room room' (λ o. o) result
+    pub executes-so : (result : Result (Option (Id × Id)) Stop) → Executes sigs row takes s s' heap' stack stack' hyps' scratch scratch' (λ o. o) result
+        → Executes sigs row' takes' s s' heap' stack stack' hyps' scratch scratch' (λ o. o) result
     executes-so (Ok o) h = so o h
     executes-so (Err stop) h = stops-so stop h
 
     pub none-executes : {A : Type 0} (answer : Result A Stop) (result : Result (Option (Id × Id)) Stop) → OpensNone answer result
-        → Executes sigs row takes s s' heap' stack stack' hyps' room room' (λ (_ : A). None) answer → Executes sigs row' takes' s s' heap' stack stack' hyps' room room' (λ o. o) result
+        → Executes sigs row takes s s' heap' stack stack' hyps' scratch scratch' (λ (_ : A). None) answer → Executes sigs row' takes' s s' heap' stack stack' hyps' scratch scratch' (λ o. o) result
     none-executes (Ok x) result is h = rw is (so None h)
     none-executes (Err stop) result is h = rw is (stops-so stop h)
 
 -- ---- a command that changes the stack alone
 
-module _ (sigs : List Signature) (row : Row) (takes : Type 0) (s : Sharing) (over : IsOver sigs s) (heap stack stack' : List Kept) (heap_in : AreItemsIn s heap) (hyps : List Id) (hyps_in : AreHyps s hyps) (room room' : ℕ) where
-  through : AreItemsIn s stack' → ((at : ℕ) → row at ≡ Ok (state_at s heap stack' hyps)) → (takes → room ≤ room') → GoesThrough sigs row takes s s heap stack stack' hyps room room' None
+module _ (sigs : List Signature) (row : Row) (takes : Type 0) (s : Sharing) (over : IsOver sigs s) (heap stack stack' : List Kept) (heap_in : AreItemsIn s heap) (hyps : List Id) (hyps_in : AreHyps s hyps) (scratch scratch' : ℕ) where
+  through : AreItemsIn s stack' → ((at : ℕ) → row at ≡ Ok (state_at s heap stack' hyps)) → (takes → scratch ≤ scratch') → GoesThrough sigs row takes s s heap stack stack' hyps scratch scratch' None
   through stack_in is more = record { grows = grows-not sigs s over; heap_in = heap_in; stack_in = stack_in; hyps_in = hyps_in; opens = tt; row_is = is; no_more = λ none. (refl, more none) }
 
   pub given-executes : {A : Type 0} (result : Result A Stop) → OnOk result (AreItemsIn s stack') → ((at : ℕ) → Gives (row at) result (λ _. state_at s heap stack' hyps)) → (takes → NeverWants result)
-      → (takes → room ≤ room') → Executes sigs row takes s s heap stack stack' hyps room room' (λ (_ : A). None) result
+      → (takes → scratch ≤ scratch') → Executes sigs row takes s s heap stack stack' hyps scratch scratch' (λ (_ : A). None) result
   given-executes (Ok x) ids is never more = through ids is more
   given-executes (Err (Rule k)) ids is never more = is
   given-executes (Err Mem) ids is never more = λ none. never none refl
 
   pub ruled-executes : {A : Type 0} (answer : Result A K) (result : Result A Stop) → IsByRule answer result → OnOk answer (AreItemsIn s stack') → ((at : ℕ) → GivesRule (row at) answer (λ _. state_at s heap stack' hyps))
-      → (takes → room ≤ room') → Executes sigs row takes s s heap stack stack' hyps room room' (λ (_ : A). None) result
+      → (takes → scratch ≤ scratch') → Executes sigs row takes s s heap stack stack' hyps scratch scratch' (λ (_ : A). None) result
   ruled-executes (Ok x) result by ids is more = rw by (through ids is more)
   ruled-executes (Err k) result by ids is more = rw by is
 
   -- Cong
   pub opens-executes : (answer : Result (Id × Id) K) (result : Result (Option (Id × Id)) Stop) → Opens answer result → IfOk answer (λ e. IsIn s e.0.0 × IsIn s e.1.0 × AreItemsIn s stack')
       → IfOk answer (λ e. stack ≡ stack' ++ Obligation e.0 e.1 ∷ []) → ((at : ℕ) → GivesRule (row at) answer (λ e. opened_state s heap (Some e) stack' hyps)) → (takes → ⊥)
-      → Executes sigs row takes s s heap stack stack' hyps room room' (λ o. o) result
+      → Executes sigs row takes s s heap stack stack' hyps scratch scratch' (λ o. o) result
   opens-executes (Ok e) result by ids items is some = rw by (record {
     grows = grows-not sigs s over;
     heap_in = heap_in;
@@ -95,15 +95,15 @@ module _ (sigs : List Signature) (row : Row) (takes : Type 0) (s : Sharing) (ove
 
 -- ---- a command whose last call is stopped by memory alone
 
-module _ (sigs : List Signature) (row : Row) (takes : Type 0) (s s' : Sharing) (heap' stack stack' : List Kept) (hyps' : List Id) (room room' : ℕ) (some : takes → ⊥) where
-  pub kept-executes : {A P : Type 0} (result : Result A Stop) → (P → GoesThrough sigs row takes s s' heap' stack stack' hyps' room room' None) → MatchResult result (λ _. P) (λ stop. StopsBy stop (λ _. ⊥))
-      → Executes sigs row takes s s' heap' stack stack' hyps' room room' (λ (_ : A). None) result
+module _ (sigs : List Signature) (row : Row) (takes : Type 0) (s s' : Sharing) (heap' stack stack' : List Kept) (hyps' : List Id) (scratch scratch' : ℕ) (some : takes → ⊥) where
+  pub kept-executes : {A P : Type 0} (result : Result A Stop) → (P → GoesThrough sigs row takes s s' heap' stack stack' hyps' scratch scratch' None) → MatchResult result (λ _. P) (λ stop. StopsBy stop (λ _. ⊥))
+      → Executes sigs row takes s s' heap' stack stack' hyps' scratch scratch' (λ (_ : A). None) result
   kept-executes (Ok x) done h = done h
   kept-executes (Err Mem) done h = some
   kept-executes (Err (Rule d)) done h = absurd h
 
-  pub pushed-executes : {A : Type 0} (result : Result A Stop) → OnOk result (GoesThrough sigs row takes s s' heap' stack stack' hyps' room room' None) → MatchResult result (λ _. ⊤) (λ stop. StopsBy stop (λ _. ⊥))
-      → Executes sigs row takes s s' heap' stack stack' hyps' room room' (λ (_ : A). None) result
+  pub pushed-executes : {A : Type 0} (result : Result A Stop) → OnOk result (GoesThrough sigs row takes s s' heap' stack stack' hyps' scratch scratch' None) → MatchResult result (λ _. ⊤) (λ stop. StopsBy stop (λ _. ⊥))
+      → Executes sigs row takes s s' heap' stack stack' hyps' scratch scratch' (λ (_ : A). None) result
   pushed-executes (Ok x) h err = h
   pushed-executes (Err Mem) h err = some
   pushed-executes (Err (Rule d)) h err = absurd err
@@ -114,8 +114,8 @@ module _ (sigs : List Signature) (row : Row) (takes : Type 0) (s s' : Sharing) (
 
 -- ---- a command that makes an expression or a proof
 
-module _ (sigs : List Signature) (row : Row) (s s' : Sharing) (grows : Grows sigs s s') (context : s'.context ≡ s.context) (heap stack below : List Kept) (hyps : List Id) (heap_in : AreItemsIn s heap) (hyps_in : AreHyps s hyps) (x : Kept) (x_in : IsItemIn s' x) (below_in : AreItemsIn s' below) (room room' : ℕ) where
-  pub made : (stack' : List Kept) → stack' ≡ below ++ x ∷ [] → ((at : ℕ) → row at ≡ Ok (push (item_at s' x) (items_at s' below) (state_at s heap stack hyps))) → GoesThrough sigs row ⊥ s s' heap stack stack' hyps room room' None
+module _ (sigs : List Signature) (row : Row) (s s' : Sharing) (grows : Grows sigs s s') (context : s'.context ≡ s.context) (heap stack below : List Kept) (hyps : List Id) (heap_in : AreItemsIn s heap) (hyps_in : AreHyps s hyps) (x : Kept) (x_in : IsItemIn s' x) (below_in : AreItemsIn s' below) (scratch scratch' : ℕ) where
+  pub made : (stack' : List Kept) → stack' ≡ below ++ x ∷ [] → ((at : ℕ) → row at ≡ Ok (push (item_at s' x) (items_at s' below) (state_at s heap stack hyps))) → GoesThrough sigs row ⊥ s s' heap stack stack' hyps scratch scratch' None
   made stack' put is = record {
     grows = grows;
     heap_in = items-still s s' grows.keeps heap heap_in;
@@ -127,7 +127,7 @@ module _ (sigs : List Signature) (row : Row) (s s' : Sharing) (grows : Grows sig
   }
 
   pub made-saved : (heap' stack' : List Kept) → heap' ≡ heap ++ x ∷ [] → stack' ≡ below ++ x ∷ [] → ((at : ℕ) → row at ≡ Ok (saved (item_at s' x) (push (item_at s' x) (items_at s' below) (state_at s heap stack hyps))))
-      → GoesThrough sigs row ⊥ s s' heap' stack stack' hyps room room' None
+      → GoesThrough sigs row ⊥ s s' heap' stack stack' hyps scratch scratch' None
   made-saved heap' stack' more put is = record {
     grows = grows;
     heap_in = rw more (items-in-both s' heap (x ∷ []) (items-still s s' grows.keeps heap heap_in) (x_in, tt));

@@ -9,12 +9,12 @@ use Rattle.mz_logic_theory.specs.Signature.{Signature}
 use Rattle.mz_logic_theory.specs.Legality.{sort_of}
 use Rattle.mz_logic_theory.specs.Sorts.{HasSort, IsBoundVar}
 use Rattle.mz_logic_theory.proofs.Offered.{sort_is}
-use Rattle.mz_unify_theory.proofs.Offered.{bound-is}
+use Rattle.mz_machine_theory.proofs.Offered.{bound-is}
 use Rattle.mz_logic_theory.specs.Words.{word_bound, word_sort, bound_places, binder_of, binders_of}
 use Rattle.mz_logic_theory.specs.declared.binder.Binder.{Binder}
 use Rattle.mz_logic_theory.specs.declared.word.Word.{Word}
-use Rattle.mz_unify_theory.specs.Steps.{◌>>◌, need}
-use Rattle.mz_unify_theory.specs.Tests.{is_bound_var}
+use Rattle.mz_machine_theory.specs.Steps.{◌>>◌, need}
+use Rattle.mz_machine_theory.specs.Tests.{is_bound_var}
 use Rattle.mz_machine_theory.specs.Premises.{operands_fit}
 use Rattle.mz_store.proofs.Offered.{next-binder}
 use Rattle.mz_machine_env.proofs.Offered.{next-at}

@@ -8,9 +8,9 @@ use Rattle.mz_cmd.specs.declared.code.ProofCode.TheVariants as code
 use Rattle.mz_logic_theory.specs.Tree.{Tree}
 use Rattle.mz_logic_theory.specs.Sorts.{HasSort}
 use Rattle.mz_logic_theory.proofs.Offered.{sort_is}
-use Rattle.mz_unify_theory.specs.Profile.{plain, strict, draft, Item, expr, proof, obligation, conversion}
-use Rattle.mz_unify_theory.specs.UnifyMachine.{Matching}
-use Rattle.mz_unify_theory.proofs.Offered.{unify_steps-plain}
+use Rattle.mz_machine_theory.specs.Profile.{plain, strict, draft, Item, expr, proof, obligation, conversion}
+use Rattle.mz_machine_theory.specs.UnifyMachine.{Matching}
+use Rattle.mz_machine_theory.proofs.Offered.{unify_steps-plain, citation-plain, unfolding-plain, row-plain, ends-plain, own-plain, command-plain}
 use Rattle.mz_machine_theory.specs.MachineState.{RowsBefore, State, signatures_in, Kind, Heading}
 use Rattle.mz_machine_theory.specs.Premises.{pop, is_provable_sort}
 use Rattle.mz_machine_theory.specs.ProofMachine.{proof_step, citation, unfolding_of, ends_with}
@@ -20,7 +20,6 @@ use Rattle.mz_machine_env.specs.Before.{Before, tables_of, signatures_of}
 use Rattle.mz_machine.specs.OverStore.{with_stack, Gives, UnlessMem}
 use Rattle.mz_unify.specs.declared.stop.Stop.{Stop}
 use Rattle.mz_unify.specs.declared.stop.Stop.TheVariants.{Rule, Mem}
-use Rattle.mz_machine_theory.proofs.Offered.{citation-plain, unfolding-plain, row-plain, ends-plain, own-plain, command-plain}
 
 module _ (b : Before) (at n : ℕ) (st : State Tree) where
   pub gap-none : (d : K) → pop st.stack ≡ Err d → proof_step draft (tables_of b) at code.Sorry n st ≡ Err d

@@ -7,8 +7,8 @@ use Rattle.mz_cmd.specs.declared.code.ProofCode.{ProofCode}
 use Rattle.mz_cmd.specs.declared.code.ProofCode.TheVariants as code
 use Rattle.mz_cmd.specs.Codes.{proof_code}
 use Rattle.mz_cmd.specs.Reading.{first_command}
-use Rattle.mz_unify_theory.specs.UnifyMachine.{is_empty}
-use Rattle.mz_unify_theory.proofs.Offered.{command-long, drop-less}
+use Rattle.mz_machine_theory.specs.UnifyMachine.{is_empty}
+use Rattle.mz_machine_theory.proofs.Offered.{command-long, drop-less}
 use Rattle.mz_machine_theory.specs.Sound.{GapsWithin, HasGap}
 use Rattle.mz_machine.specs.Steps.{is_sorry}
 

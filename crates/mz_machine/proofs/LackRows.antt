@@ -11,8 +11,8 @@ use Rattle.mz_cmd.specs.declared.code.ProofCode.{ProofCode}
 use Rattle.mz_cmd.specs.declared.code.ProofCode.TheVariants as code
 use Rattle.mz_cmd.specs.Codes.{proof_code}
 use Rattle.mz_logic_theory.specs.Tree.{Tree}
-use Rattle.mz_unify_theory.specs.Spells.{SpelledTerm, SpelledThm}
-use Rattle.mz_unify_theory.specs.Profile.{Profile, Item, plain, strict, expr, proof, obligation, conversion}
+use Rattle.mz_machine_theory.specs.Spells.{SpelledTerm, SpelledThm}
+use Rattle.mz_machine_theory.specs.Profile.{Profile, Item, plain, strict, expr, proof, obligation, conversion}
 use Rattle.mz_machine_theory.specs.MachineState.{RowsBefore, State, Kind}
 use Rattle.mz_machine_theory.specs.Premises.{pop_operands}
 use Rattle.mz_machine_theory.specs.ProofMachine.{proof_step, built, citation}

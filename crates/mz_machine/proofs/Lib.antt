@@ -12,7 +12,7 @@ pub mod TakenOperands
 pub mod ReadExprs
 mod StoredItems
 pub mod FittingOperands
-mod Apartness
+mod Disjointness
 mod TermRows
 pub mod TermResults
 pub mod Stopping

@@ -10,7 +10,7 @@ use Rattle.mz_store.specs.Sharing.{Sharing, AreIn}
 use Rattle.mz_store.specs.declared.item.Id.{Id}
 use Rattle.mz_store.specs.declared.item.Item.{Item as Kept}
 use Rattle.mz_store.specs.declared.item.DepsMode.TheVariants.{All}
-use Rattle.mz_unify_theory.specs.Profile.{strict}
+use Rattle.mz_machine_theory.specs.Profile.{strict}
 use Rattle.mz_unify.specs.Stored.{AreItemsIn}
 use Rattle.mz_unify.proofs.Offered.{still-in}
 use Rattle.mz_machine_theory.specs.MachineState.{Kind, is_axiom, is_theorem, is_definition, signatures_in}

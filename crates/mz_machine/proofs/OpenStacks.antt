@@ -7,7 +7,7 @@ use Rattle.std.proofs.lemmas.List.{take_at, drop_at, length-map, reverse-append,
 use Rattle.std.proofs.lemmas.Bool.{ltb-true, ltb-false}
 use Rattle.mz_base.proofs.Offered.{drop-past}
 use Rattle.mz_store.specs.declared.item.Id.{Id}
-use Rattle.mz_unify_theory.specs.Profile.{Item, obligation}
+use Rattle.mz_machine_theory.specs.Profile.{Item, obligation}
 use Rattle.mz_machine_env.proofs.Offered.{next-at}
 use Rattle.mz_machine_theory.specs.ProofMachine.{sides}
 use Rattle.mz_machine.specs.OpenEquations.{IsBarrier, IsBarred, Expressions, to_come, after, above, below, whole_stack, many_at, IsOpen, AreOpen, IsInHand, AreSettled, many_to_come}

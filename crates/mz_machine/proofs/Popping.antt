@@ -9,7 +9,7 @@ use Rattle.mz_store.specs.Sharing.{Sharing, tree_of}
 use Rattle.mz_store.specs.declared.item.Id.{Id}
 use Rattle.mz_store.specs.declared.item.Item.{Item as Kept}
 use Rattle.mz_store.specs.declared.item.Item.TheVariants.{Expr, Proof, Obligation, Conversion}
-use Rattle.mz_unify_theory.specs.Profile.{Item, proof}
+use Rattle.mz_machine_theory.specs.Profile.{Item, proof}
 use Rattle.mz_unify.specs.Stored.{item_at, items_at, trees_at, IsItemIn, AreItemsIn}
 use Rattle.mz_unify.proofs.Offered.{items-in-left, items-in-right, items-push}
 use Rattle.mz_machine_theory.specs.Premises.{is_conversion, is_obligation}

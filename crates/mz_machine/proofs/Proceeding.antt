@@ -8,7 +8,7 @@ use Rattle.mz_store.specs.Sharing.{Sharing, IsIn, KeepsIds, operands_of}
 use Rattle.mz_store.specs.declared.item.Id.{Id}
 use Rattle.mz_store.specs.declared.item.Item.{Item as Kept}
 use Rattle.mz_store.specs.declared.item.Item.TheVariants.{Obligation}
-use Rattle.mz_unify_theory.specs.Profile.{plain}
+use Rattle.mz_machine_theory.specs.Profile.{plain}
 use Rattle.mz_unify.specs.Stored.{item_at, items_at, AreItemsIn}
 use Rattle.mz_unify.proofs.Offered.{still-in}
 use Rattle.mz_unify.specs.declared.stop.Stop.{Stop}
@@ -91,12 +91,12 @@ module _ (gaps : Bool) (tables : RowsBefore) (s : Sharing) (heap stack : List Ke
     still-stopped Mem h = λ none. h (takes-written none)
 
     -- and behind it the next obligation is written out
-    module _ (sigs : List Signature) (s' : Sharing) (heap' stack' : List Kept) (hyps' : List Id) (room room' : ℕ) (o : Option (Id × Id)) (h : GoesThrough sigs row (TakesNone st u) s s' heap' stack stack' hyps' room room' o) (inside : AreItemsIn s stack) where
+    module _ (sigs : List Signature) (s' : Sharing) (heap' stack' : List Kept) (hyps' : List Id) (scratch scratch' : ℕ) (o : Option (Id × Id)) (h : GoesThrough sigs row (TakesNone st u) s s' heap' stack stack' hyps' scratch scratch' o) (inside : AreItemsIn s stack) where
       pub now-stand : AreOpen (stored s') (reverse es) (items_at s' stack')
       now-stand = (goes-through settled asks s' h.grows.keeps inside heap' stack' hyps' o h.opens 0 (h.row_is 0)).0
 
-      pub resumed : {A : Type 0} (result : Result A Stop) (es' : List Equation) (ended : List Kept) → length (items_at s stack) ≤ room
-          → MatchResult result (λ _. AreItemsIn s' ended × AreSettled (stored s') (reverse es') (items_at s' ended) × (whole_stack (stored s') (reverse es') (items_at s' ended) ≡ opened_on (stored s') o (whole_stack (stored s') (reverse es) (items_at s' stack')))) (WantsUnless ((o ≡ None) × IsInHand (reverse es) room'))
+      pub resumed : {A : Type 0} (result : Result A Stop) (es' : List Equation) (ended : List Kept) → length (items_at s stack) ≤ scratch
+          → MatchResult result (λ _. AreItemsIn s' ended × AreSettled (stored s') (reverse es') (items_at s' ended) × (whole_stack (stored s') (reverse es') (items_at s' ended) ≡ opened_on (stored s') o (whole_stack (stored s') (reverse es) (items_at s' stack')))) (WantsUnless ((o ≡ None) × IsInHand (reverse es) scratch'))
           → MatchResult result (λ _. Proceeds sigs whole-row s s' heap' es' ended hyps') (StopsAs whole-row whole-takes)
       resumed (Ok x) es' ended few is = record {
         grows = h.grows;
@@ -109,4 +109,4 @@ module _ (gaps : Bool) (tables : RowsBefore) (s : Sharing) (heap stack : List Ke
       resumed (Err (Rule k)) es' ended few is = absurd is
       resumed (Err Mem) es' ended few is = λ none.
           let n = h.no_more (takes-written none) in
-          is (n.0, in-hand-more (reverse es) (length (items_at s stack)) room' settled.1 (omega (arith, few, n.1)))
+          is (n.0, in-hand-more (reverse es) (length (items_at s stack)) scratch' settled.1 (omega (arith, few, n.1)))

@@ -8,9 +8,9 @@ use Rattle.mz_cmd.specs.declared.rule.K.TheVariants as k
 use Rattle.mz_store.specs.declared.item.Id.{Id}
 use Rattle.mz_store.specs.declared.item.Item.{Item as Kept}
 use Rattle.mz_store.specs.declared.item.Item.TheVariants.{Expr, Proof, Obligation, Conversion}
-use Rattle.mz_unify_theory.specs.Profile.{Item, expr, proof, obligation, conversion}
-use Rattle.mz_unify_theory.specs.Steps.{◌>>=◌}
-use Rattle.mz_unify_theory.proofs.Offered.{taken-is}
+use Rattle.mz_machine_theory.specs.Profile.{Item, expr, proof, obligation, conversion}
+use Rattle.mz_machine_theory.specs.Steps.{◌>>=◌}
+use Rattle.mz_machine_theory.proofs.Offered.{taken-is}
 use Rattle.mz_machine_theory.specs.Premises.{pop_exprs, pop_operands}
 use Rattle.mz_machine.specs.OverStore.{exprs_of}
 use Rattle.mz_machine.proofs.TakenOperands.{pop-enough}

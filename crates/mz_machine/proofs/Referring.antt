@@ -10,24 +10,22 @@ use Rattle.mz_cmd.specs.declared.code.ProofCode.TheVariants as code
 use Rattle.mz_store.specs.Sharing.{Sharing}
 use Rattle.mz_store.specs.declared.item.Id.{Id}
 use Rattle.mz_store.specs.declared.item.Item.{Item as Kept}
-use Rattle.mz_unify_theory.specs.Profile.{plain, strict}
+use Rattle.mz_machine_theory.specs.Profile.{plain, strict}
 use Rattle.mz_unify.specs.Stored.{items_at}
 use Rattle.mz_logic_theory.specs.Tree.{Tree}
 use Rattle.mz_machine_theory.specs.MachineState.{RowsBefore, State, Kind, is_axiom, is_theorem, is_definition}
-use Rattle.mz_machine_theory.specs.Bodies.{body_command, proves}
+use Rattle.mz_machine_theory.specs.Bodies.{body_command, proves, BodyCommand}
 use Rattle.mz_machine.specs.OpenEquations.{asked_by, AsksNoMore}
-use Rattle.mz_machine.specs.Steps.{is_sorry, steps_by}
+use Rattle.mz_machine.specs.Steps.{is_sorry, steps_by, row_by, takes_none, TakesNone}
 use Rattle.mz_machine.specs.declared.equations.Equation.{Equation}
 use Rattle.mz_base.specs.Gaps.{gaps_of}
 use Rattle.mz_cmd.specs.declared.rule.K.{K}
 use Rattle.mz_unify.specs.declared.stop.Stop.{Stop}
-use Rattle.mz_machine_theory.specs.Bodies.{BodyCommand}
 use Rattle.mz_machine_theory.specs.ProofMachine.{proof_step}
 use Rattle.mz_machine_env.specs.Before.{signatures_of, tables_of}
 use Rattle.mz_machine_env.specs.OwnRow.{kind_of}
 use Rattle.mz_machine.specs.Executing.{Executes}
 use Rattle.mz_machine.specs.OverStore.{state_at}
-use Rattle.mz_machine.specs.Steps.{row_by, takes_none, TakesNone}
 use Rattle.mz_machine.specs.declared.machine.Parts.{Parts}
 use Rattle.mz_machine.specs.declared.machine.Setting.{Setting}
 use Rattle.mz_machine.proofs.Executed.{OpensNone}
@@ -71,7 +69,7 @@ module _ (gaps : Bool) (tables : RowsBefore) (kind : Kind) (place : ℕ) where
   counts-one st = its-steps gaps tables kind 0x12 place code.Ref (stands kind place) st
 
 -- what the rows of the heap say of it, over the parts of a machine
-module _ (t : Setting) (p : Parts) (place : ℕ) (s' : Sharing) (heap' stack' : List Kept) (hyps' : List Id) (room' : ℕ) where
+module _ (t : Setting) (p : Parts) (place : ℕ) (s' : Sharing) (heap' stack' : List Kept) (hyps' : List Id) (scratch' : ℕ) where
   abbrev u : Option BodyCommand
   u = body_command (plain (gaps_of t.mode)) (kind_of t.kind) 0x12 place
 
@@ -79,11 +77,11 @@ module _ (t : Setting) (p : Parts) (place : ℕ) (s' : Sharing) (heap' stack' : 
   st = state_at p.store p.heap.items p.stack.items p.hyps.items
 
   abbrev row : ℕ → Result (State Tree) K
-  row = λ at. row_by (gaps_of t.mode) (tables_of t.earlier) at st u
+  row = λ at. row_by (gaps_of t.mode) (tables_of t.env) at st u
 
   pub refers : {A : Type 0} (answer : Result A Stop) (result r : Result (Option (Id × Id)) Stop) → OpensNone answer result → result ≡ r
-      → Executes (signatures_of t.earlier) (λ at. proof_step strict (tables_of t.earlier) at code.Ref place st) (IsTrue (takes_none code.Ref place st)) p.store s' heap' p.stack.items stack' hyps' p.stack.cap room' (λ (_ : A). None) answer
-      → Executes (signatures_of t.earlier) row (TakesNone st u) p.store s' heap' p.stack.items stack' hyps' p.stack.cap room' (λ o. o) r
+      → Executes (signatures_of t.env) (λ at. proof_step strict (tables_of t.env) at code.Ref place st) (IsTrue (takes_none code.Ref place st)) p.store s' heap' p.stack.items stack' hyps' p.stack.cap scratch' (λ (_ : A). None) answer
+      → Executes (signatures_of t.env) row (TakesNone st u) p.store s' heap' p.stack.items stack' hyps' p.stack.cap scratch' (λ o. o) r
   refers answer result r none is h =
-      subst (λ (x : Result (Option (Id × Id)) Stop). Executes (signatures_of t.earlier) row (TakesNone st u) p.store s' heap' p.stack.items stack' hyps' p.stack.cap room' (λ o. o) x) is
-      (obeys-none (gaps_of t.mode) (tables_of t.earlier) (kind_of t.kind) 0x12 place code.Ref (stands (kind_of t.kind) place) st (signatures_of t.earlier) (IsTrue (takes_none code.Ref place st)) (λ x. x) p.store s' heap' p.stack.items stack' hyps' p.stack.cap room' (no-gap (gaps_of t.mode)) answer result none h)
+      subst (λ (x : Result (Option (Id × Id)) Stop). Executes (signatures_of t.env) row (TakesNone st u) p.store s' heap' p.stack.items stack' hyps' p.stack.cap scratch' (λ o. o) x) is
+      (obeys-none (gaps_of t.mode) (tables_of t.env) (kind_of t.kind) 0x12 place code.Ref (stands (kind_of t.kind) place) st (signatures_of t.env) (IsTrue (takes_none code.Ref place st)) (λ x. x) p.store s' heap' p.stack.items stack' hyps' p.stack.cap scratch' (no-gap (gaps_of t.mode)) answer result none h)

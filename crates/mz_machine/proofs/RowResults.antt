@@ -8,8 +8,8 @@ use Rattle.mz_logic_theory.specs.Sorts.{HasSort}
 use Rattle.mz_logic_theory.specs.declared.binder.Binder.{Binder}
 use Rattle.mz_logic_theory.proofs.Offered.{sort_is}
 use Rattle.mz_store.specs.Bits.{bound_from, bound_vars}
-use Rattle.mz_unify_theory.specs.Spells.{dummy_of}
-use Rattle.mz_unify_theory.specs.Profile.{Profile, Item, expr, proof, obligation, conversion}
+use Rattle.mz_machine_theory.specs.Spells.{dummy_of}
+use Rattle.mz_machine_theory.specs.Profile.{Profile, Item, expr, proof, obligation, conversion}
 use Rattle.mz_unify.proofs.Offered.{Parts, differ}
 use Rattle.mz_machine_theory.specs.MachineState.{RowsBefore, State}
 use Rattle.mz_machine_theory.specs.Premises.{pop_expr, pop_obligation, is_conversion, is_obligation, may_be_dummy_sort, is_provable_sort, bound_count}

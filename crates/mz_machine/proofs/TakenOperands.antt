@@ -2,7 +2,7 @@
 use Rattle.std.proofs.Common.{◌≡◌, ◌<◌, ◌≤◌, ℕ, Bool, true, false, List, [], length, Result, refl, arith, le-leb, leb-true}
 use Rattle.std.specs.Prelude.{nat_le}
 use Rattle.mz_cmd.specs.declared.rule.K.{K}
-use Rattle.mz_unify_theory.specs.Profile.{Item}
+use Rattle.mz_machine_theory.specs.Profile.{Item}
 use Rattle.mz_machine_theory.specs.Premises.{pop_exprs, pop_operands}
 
 pub too-few : (n m : ℕ) → m < n → nat_le n m ≡ false

@@ -11,10 +11,10 @@ use Rattle.mz_logic_theory.specs.declared.binder.Binder.{Binder}
 use Rattle.mz_logic_theory.proofs.Offered.{length-binders}
 use Rattle.mz_layout_tables.specs.Tables.{term_row}
 use Rattle.mz_store.specs.Sharing.{CanTake}
-use Rattle.mz_unify_theory.specs.Spells.{SpelledTerm, trees_of}
-use Rattle.mz_unify_theory.specs.Sorted.{AllSorted}
-use Rattle.mz_unify_theory.specs.Profile.{Profile, Item, expr}
-use Rattle.mz_unify_theory.specs.Steps.{◌>>=◌}
+use Rattle.mz_machine_theory.specs.Spells.{SpelledTerm, trees_of}
+use Rattle.mz_machine_theory.specs.Sorted.{AllSorted}
+use Rattle.mz_machine_theory.specs.Profile.{Profile, Item, expr}
+use Rattle.mz_machine_theory.specs.Steps.{◌>>=◌}
 use Rattle.mz_machine_theory.specs.MachineState.{RowsBefore, signatures_in, State}
 use Rattle.mz_machine_theory.specs.Premises.{pop_operands, operands_fit}
 use Rattle.mz_machine_theory.specs.ProofMachine.{proof_step, built, push, saved}

@@ -12,8 +12,8 @@ use Rattle.mz_layout_tables.specs.Tables.{term_row}
 use Rattle.mz_store.specs.Sharing.{Sharing, IsIn, IsOver, tree_of, head_of}
 use Rattle.mz_store.specs.declared.item.Id.{Id}
 use Rattle.mz_store.specs.declared.item.Item.{Item as Kept}
-use Rattle.mz_unify_theory.specs.Profile.{strict}
-use Rattle.mz_unify_theory.specs.UnifyMachine.{in_definition, Matching, unify, unify_steps}
+use Rattle.mz_machine_theory.specs.Profile.{strict}
+use Rattle.mz_machine_theory.specs.UnifyMachine.{in_definition, Matching, unify, unify_steps}
 use Rattle.mz_unify.specs.Stored.{IsItemIn, AreItemsIn, item_at, items_at, trees_at, matching_at}
 use Rattle.mz_unify.proofs.Offered.{items-push}
 use Rattle.mz_unify.specs.declared.unified.UnifyMode.TheVariants.{Body}

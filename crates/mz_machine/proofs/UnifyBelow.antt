@@ -8,11 +8,11 @@ use Rattle.mz_cmd.specs.declared.command.CmdFault.{CmdFault}
 use Rattle.mz_cmd.specs.Reading.{first_command}
 use Rattle.mz_logic_theory.specs.Signature.{Signature}
 use Rattle.mz_logic_theory.specs.declared.binder.Binder.{Binder}
-use Rattle.mz_unify_theory.specs.Steps.{◌>>=◌, ◌>>◌, need, want, at_place, Turn, over, goes_on, follow, goes_to}
-use Rattle.mz_unify_theory.specs.Streams.{UnifyCommand, u_term, u_term_save, u_ref, u_dummy, u_hyp, u_end, unify_command}
-use Rattle.mz_unify_theory.specs.Profile.{Profile, Item, expr, proof, obligation, conversion}
-use Rattle.mz_unify_theory.specs.UnifyMachine.{in_citation, kind_of, Matching, UnifyState, top_target, is_empty, operands_of, is_fresh, next_hypothesis, unify_step, unify_turn_by, unify_turn, unify_from, at_start, unify, unify_steps_from, unify_steps}
-use Rattle.mz_unify_theory.proofs.Offered.{if_read-same}
+use Rattle.mz_machine_theory.specs.Steps.{◌>>=◌, ◌>>◌, need, want, at_place, Turn, over, goes_on, follow, goes_to}
+use Rattle.mz_machine_theory.specs.Streams.{UnifyCommand, u_term, u_term_save, u_ref, u_dummy, u_hyp, u_end, unify_command}
+use Rattle.mz_machine_theory.specs.Profile.{Profile, Item, expr, proof, obligation, conversion}
+use Rattle.mz_machine_theory.specs.UnifyMachine.{in_citation, kind_of, Matching, UnifyState, top_target, is_empty, operands_of, is_fresh, next_hypothesis, unify_step, unify_turn_by, unify_turn, unify_from, at_start, unify, unify_steps_from, unify_steps}
+use Rattle.mz_machine_theory.proofs.Offered.{if_read-same}
 use Rattle.mz_machine.specs.OpenEquations.{EndsBarred}
 
 -- there are items, of which the lowest is a barrier

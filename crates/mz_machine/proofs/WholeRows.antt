@@ -6,12 +6,12 @@ use Rattle.mz_cmd.specs.declared.rule.K.{K}
 use Rattle.mz_cmd.specs.declared.code.ProofCode.{ProofCode}
 use Rattle.mz_cmd.specs.declared.code.ProofCode.TheVariants as code
 use Rattle.mz_store.specs.declared.item.Id.{Id}
-use Rattle.mz_unify_theory.specs.Profile.{Profile, Item}
+use Rattle.mz_machine_theory.specs.Profile.{Profile, Item}
 use Rattle.mz_machine_theory.specs.MachineState.{RowsBefore, State, signatures_in}
 use Rattle.mz_machine_theory.specs.ProofMachine.{proof_step, citation, unfolding_of, sides}
 use Rattle.mz_machine_theory.specs.Bodies.{BodyCommand, ends, proves, match_steps, row_steps, fst_of}
 use Rattle.mz_machine_env.specs.OneCommand.{row_in, steps_in}
-use Rattle.mz_unify_theory.specs.UnifyMachine.{Matching}
+use Rattle.mz_machine_theory.specs.UnifyMachine.{Matching}
 use Rattle.mz_machine.specs.OpenEquations.{EndsBarred, IsBarred, asked_by, AsksNoMore, many_of_thm, Expressions, to_come, above, below, whole_stack, AreOpen, AreSettled, opened_on}
 use Rattle.mz_machine.specs.declared.equations.Equation.{Equation}
 use Rattle.mz_machine.proofs.Barred.{Above, still-barred}

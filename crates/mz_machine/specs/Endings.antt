@@ -2,8 +2,8 @@
 use Rattle.std.specs.Prelude.{◌≡◌, ℕ, ⊤, List, [], Result, Ok, Err}
 use Rattle.mz_cmd.specs.declared.rule.K.{K}
 use Rattle.mz_logic_theory.specs.Tree.{Tree}
-use Rattle.mz_unify_theory.specs.Profile.{strict, Item}
-use Rattle.mz_unify_theory.specs.UnifyMachine.{Matching, UnifyState, at_end, in_definition}
+use Rattle.mz_machine_theory.specs.Profile.{strict, Item}
+use Rattle.mz_machine_theory.specs.UnifyMachine.{Matching, UnifyState, at_end, in_definition}
 use Rattle.mz_unify.specs.declared.unified.UnifyMode.{UnifyMode}
 use Rattle.mz_unify.specs.declared.unified.UnifyMode.TheVariants.{Final, Body}
 use Rattle.mz_machine_theory.specs.MachineState.{State, Kind, is_axiom, is_theorem, is_definition, Heading}

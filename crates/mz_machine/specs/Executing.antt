@@ -35,17 +35,17 @@ WantsUnless P (Rule k) = ⊥
 WantsUnless P Mem = P → ⊥
 
 -- where a command goes through, with the equation that it opens; what takes no memory opens none, and leaves the stack its room
-pub record GoesThrough (sigs : List Signature) (row : ℕ → Result (State Tree) K) (takes_none : Type 0) (s s' : Sharing) (heap' stack stack' : List Kept) (hyps' : List Id) (room room' : ℕ) (opened : Option (Id × Id)) : Type 0 where
+pub record GoesThrough (sigs : List Signature) (row : ℕ → Result (State Tree) K) (takes_none : Type 0) (s s' : Sharing) (heap' stack stack' : List Kept) (hyps' : List Id) (scratch scratch' : ℕ) (opened : Option (Id × Id)) : Type 0 where
   pub grows : Grows sigs s s'
   pub heap_in : AreItemsIn s' heap'
   pub stack_in : AreItemsIn s' stack'
   pub hyps_in : AreHyps s' hyps'
   pub opens : IsOpenedBy s' opened stack stack'
   pub row_is : (at : ℕ) → row at ≡ Ok (opened_state s' heap' opened stack' hyps')
-  pub no_more : takes_none → (opened ≡ None) × (room ≤ room')
+  pub no_more : takes_none → (opened ≡ None) × (scratch ≤ scratch')
 
-abbrev pub Executes : {A : Type 0} → List Signature → (row : ℕ → Result (State Tree) K) → (takes_none : Type 0) → (s s' : Sharing) → (heap' stack stack' : List Kept) → (hyps' : List Id) → (room room' : ℕ) → (A → Option (Id × Id)) → Result A Stop → Type 0
-Executes sigs row takes_none s s' heap' stack stack' hyps' room room' opened result = MatchResult result (λ x. GoesThrough sigs row takes_none s s' heap' stack stack' hyps' room room' (opened x)) (StopsAs row takes_none)
+abbrev pub Executes : {A : Type 0} → List Signature → (row : ℕ → Result (State Tree) K) → (takes_none : Type 0) → (s s' : Sharing) → (heap' stack stack' : List Kept) → (hyps' : List Id) → (scratch scratch' : ℕ) → (A → Option (Id × Id)) → Result A Stop → Type 0
+Executes sigs row takes_none s s' heap' stack stack' hyps' scratch scratch' opened result = MatchResult result (λ x. GoesThrough sigs row takes_none s s' heap' stack stack' hyps' scratch scratch' (opened x)) (StopsAs row takes_none)
 
 -- the same over all that stands on the stack
 pub record Proceeds (sigs : List Signature) (row : ℕ → Result (State Tree) K) (s s' : Sharing) (heap' : List Kept) (equations' : List Equation) (stack' : List Kept) (hyps' : List Id) : Type 0 where

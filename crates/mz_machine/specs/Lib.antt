@@ -8,4 +8,4 @@ pub mod Stepping
 pub mod UnderwayCode
 pub mod Running
 pub mod Parameters
-pub mod Rooms
+pub mod Tidiness

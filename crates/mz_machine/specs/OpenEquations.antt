@@ -11,8 +11,8 @@ use Rattle.mz_store.specs.Sharing.{Sharing, tree_of, operands_of, IsIn}
 use Rattle.mz_store.specs.declared.item.Id.{Id}
 use Rattle.mz_store.specs.declared.item.Item.{Item as Kept}
 use Rattle.mz_store.specs.declared.item.Item.TheVariants.{Obligation}
-use Rattle.mz_unify_theory.specs.Profile.{strict, Item, expr, proof, obligation, conversion}
-use Rattle.mz_unify_theory.specs.Spells.{SpelledTerm, SpelledThm}
+use Rattle.mz_machine_theory.specs.Profile.{strict, Item, expr, proof, obligation, conversion}
+use Rattle.mz_machine_theory.specs.Spells.{SpelledTerm, SpelledThm}
 use Rattle.mz_unify.specs.Stored.{items_at}
 use Rattle.mz_machine_theory.specs.MachineState.{RowsBefore, State, Kind}
 use Rattle.mz_machine_theory.specs.ProofMachine.{sides}

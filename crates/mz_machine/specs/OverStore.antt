@@ -10,14 +10,14 @@ use Rattle.mz_store.specs.Sharing.{Sharing, tree_of, IsIn, AreIn, IsOver, KeepsI
 use Rattle.mz_store.specs.declared.item.Id.{Id}
 use Rattle.mz_store.specs.declared.item.Item.{Item as Kept}
 use Rattle.mz_store.specs.declared.item.Item.TheVariants.{Expr}
-use Rattle.mz_unify_theory.specs.Profile.{Item, strict}
+use Rattle.mz_machine_theory.specs.Profile.{Item, strict}
 use Rattle.mz_unify.specs.Stored.{trees_at, item_at, items_at, AreItemsIn}
 use Rattle.mz_machine_theory.specs.MachineState.{State, signatures_in}
 use Rattle.mz_machine_env.specs.OwnRow.{MayRun, mode_for}
 use Rattle.mz_machine_theory.specs.Headings.{kind_at, heading_of}
 use Rattle.mz_machine_env.specs.Before.{tables_before}
 use Rattle.mz_machine_env.specs.CommandCodes.{code_of_making, code_of_converting}
-use Rattle.mz_unify_theory.specs.Steps.{◌>>=◌}
+use Rattle.mz_machine_theory.specs.Steps.{◌>>=◌}
 use Rattle.mz_machine_theory.specs.Premises.{pop_expr, pop_sides}
 use Rattle.mz_cmd.specs.declared.code.ProofCode.{ProofCode}
 use Rattle.mz_cmd.specs.declared.code.ProofCode.TheVariants as code

@@ -15,13 +15,13 @@ use Rattle.mz_machine.specs.declared.machine.Parts.{Parts}
 
 -- the machine that both are, in a state
 abbrev pub machine_in : Setting → Parts → State Tree → Underway
-machine_in t p st = record { gaps = gaps_of t.mode; file = t.earlier.file; kind = byte_of t.kind; row = t.row; before = t.earlier.rows; state = st; sorry = p.sorry; nodes = length p.store.entries }
+machine_in t p st = record { gaps = gaps_of t.mode; file = t.env.file; kind = byte_of t.kind; row = t.row; before = t.env.rows; state = st; sorry = p.sorry; nodes = length p.store.entries }
 
 abbrev pub machine_of : Setting → Parts → Underway
 machine_of t p = machine_in t p (whole_state p.store p.heap.items p.equations.items p.stack.items p.hyps.items)
 
 abbrev pub IsRunning : Setting → Parts → Type 0
 IsRunning t p =
-    IsUnderway t.earlier.file (byte_of t.kind) t.row t.earlier.rows p.store p.heap.items p.stack.items p.hyps.items
-    × IsOwn t.earlier.file t.row (kind_at (byte_of t.kind)) t.entered
+    IsUnderway t.env.file (byte_of t.kind) t.row t.env.rows p.store p.heap.items p.stack.items p.hyps.items
+    × IsOwn t.env.file t.row (kind_at (byte_of t.kind)) t.entered
     × AreSettled (stored p.store) (reverse p.equations.items) (items_at p.store p.stack.items)

@@ -2,7 +2,7 @@
 use Rattle.std.specs.Prelude.{◌≡◌, ℕ, ⊤, ◌+◌, ◌≤◌, ◌||◌, Bool, false, List, length, Result, Ok, Err}
 use Rattle.mz_cmd.specs.declared.command.Cmd.{Cmd}
 use Rattle.mz_cmd.specs.Codes.{proof_code}
-use Rattle.mz_unify_theory.specs.Profile.{plain}
+use Rattle.mz_machine_theory.specs.Profile.{plain}
 use Rattle.mz_logic_theory.specs.Tree.{Tree}
 use Rattle.mz_machine_theory.specs.MachineState.{State}
 use Rattle.mz_machine_theory.specs.ProofMachine.{proof_end}

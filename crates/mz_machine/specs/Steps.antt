@@ -5,7 +5,7 @@ use Rattle.mz_cmd.specs.declared.command.Cmd.{Cmd}
 use Rattle.mz_cmd.specs.declared.code.ProofCode.{ProofCode}
 use Rattle.mz_cmd.specs.declared.code.ProofCode.TheVariants as code
 use Rattle.mz_logic_theory.specs.Tree.{Tree}
-use Rattle.mz_unify_theory.specs.Profile.{plain, Item}
+use Rattle.mz_machine_theory.specs.Profile.{plain, Item}
 use Rattle.mz_machine_theory.specs.MachineState.{RowsBefore, State, Heading}
 use Rattle.mz_machine_theory.specs.Premises.{is_conversion}
 use Rattle.mz_machine_theory.specs.ProofMachine.{ends_with}

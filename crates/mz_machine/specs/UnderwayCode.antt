@@ -4,7 +4,7 @@ use Rattle.std.specs.Coded.{Coded, code_by, coded×, coded_ℕ, coded_bool, code
 use Rattle.mz_logic_theory.specs.Tree.{Tree}
 use Rattle.mz_logic_theory.specs.Codes.{tree_code, binder_code}
 use Rattle.mz_logic_theory.specs.declared.binder.Binder.{Binder}
-use Rattle.mz_unify_theory.specs.Profile.{Item, expr, proof, obligation, conversion}
+use Rattle.mz_machine_theory.specs.Profile.{Item, expr, proof, obligation, conversion}
 use Rattle.mz_machine_theory.specs.MachineState.{State}
 use Rattle.mz_machine.specs.Steps.{Underway}
 use Rattle.mz_layout_tables.specs.declared.rows_so_far.Rows.{Rows}

@@ -15,7 +15,7 @@ ghost use Rattle.mz_machine.specs.OverStore.{exprs_of, Gives, GivesRule};
 use mz_cmd::K;
 use mz_layout_tables::Row;
 use mz_logic_theory::Word;
-use mz_machine_env::Earlier;
+use mz_machine_env::Environment;
 use mz_store::{Id, Item, Store};
 use mz_unify::{Stop, push};
 
@@ -78,20 +78,20 @@ fn check_operand(store: &Store, word: Word, id: Id) -> Result<(), K>
 /// Whether each operand fits its parameter.
 #[inline(always)]
 pub(crate) fn check_operands(
-    earlier: &Earlier,
+    env: &Environment,
     row: Row,
     store: &Store,
     operands: &[Id],
 ) -> Result<(), K>
-    requires row { IsBefore earlier.now row }
-    requires over { IsOver (signatures_of earlier.now) store.now }
+    requires row { IsBefore env.now row }
+    requires over { IsOver (signatures_of env.now) store.now }
     requires ids { AreIn store.now operands.now }
-    requires many { length operands.now ≡ length (params_of earlier.now.file row) }
-    ensures { GivesRule (operands_fit (signatures_of earlier.now) store.now.context (trees_at store.now operands.now) (binders_of (params_of earlier.now.file row))) result (λ _. tt) }
+    requires many { length operands.now ≡ length (params_of env.now.file row) }
+    ensures { GivesRule (operands_fit (signatures_of env.now) store.now.context (trees_at store.now operands.now) (binders_of (params_of env.now.file row))) result (λ _. tt) }
 {
-    let first = earlier.words_at(row);
-    'operands: for j in 0..earlier.arity_of(row) {
-        let word = earlier.word_from(row, first, j);
+    let first = env.words_at(row);
+    'operands: for j in 0..env.arity_of(row) {
+        let word = env.word_from(row, first, j);
         check_operand(store, word, operands[j as usize])?;
     }
     Ok(())
@@ -100,23 +100,23 @@ pub(crate) fn check_operands(
 /// Whether each operand fits its parameter; the list becomes the places of the bound parameters.
 #[inline(always)]
 pub(crate) fn check_cited(
-    earlier: &Earlier,
+    env: &Environment,
     row: Row,
     store: &Store,
     operands: &[Id],
     places: &mut Vec<u32>,
 ) -> Result<(), Stop>
-    requires row { IsBefore earlier.now row }
-    requires over { IsOver (signatures_of earlier.now) store.now }
+    requires row { IsBefore env.now row }
+    requires over { IsOver (signatures_of env.now) store.now }
     requires ids { AreIn store.now operands.now }
-    requires many { length operands.now ≡ length (params_of earlier.now.file row) }
-    ensures fit { Gives (operands_fit (signatures_of earlier.now) store.now.context (trees_at store.now operands.now) (binders_of (params_of earlier.now.file row))) result (λ _. tt) }
-    ensures places { OnOk result (places.new.items ≡ bound_places 0 (params_of earlier.now.file row)) }
+    requires many { length operands.now ≡ length (params_of env.now.file row) }
+    ensures fit { Gives (operands_fit (signatures_of env.now) store.now.context (trees_at store.now operands.now) (binders_of (params_of env.now.file row))) result (λ _. tt) }
+    ensures places { OnOk result (places.new.items ≡ bound_places 0 (params_of env.now.file row)) }
 {
     places.clear();
-    let first = earlier.words_at(row);
-    'operands: for j in 0..earlier.arity_of(row) {
-        let word = earlier.word_from(row, first, j);
+    let first = env.words_at(row);
+    'operands: for j in 0..env.arity_of(row) {
+        let word = env.word_from(row, first, j);
         if let Err(rule) = check_operand(store, word, operands[j as usize]) {
             return Err(Stop::Rule(rule));
         }

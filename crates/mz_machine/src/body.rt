@@ -2,7 +2,7 @@
 ghost use Rattle.std.specs.Prelude.{◌≡◌, ◌≤◌, ◌<◌, ◌^◌, ◌+◌, ◌-◌, ◌*◌, false, IfSome, Ok, length};
 ghost use Rattle.mz_cmd.specs.Reading.{first_command};
 ghost use Rattle.mz_base.specs.Gaps.{gaps_of};
-ghost use Rattle.mz_unify_theory.specs.Profile.{plain};
+ghost use Rattle.mz_machine_theory.specs.Profile.{plain};
 ghost use Rattle.mz_machine_theory.specs.Bodies.{body_run, body_steps, body_from, body_steps_from};
 ghost use Rattle.mz_machine.specs.Steps.{heading_for, tables_for};
 ghost use Rattle.mz_layout_tables.specs.Heads.{body_bytes};
@@ -11,13 +11,13 @@ ghost use Rattle.mz_machine_theory.specs.Headings.{heading_of};
 ghost use Rattle.mz_machine_env.specs.Before.{tables_before};
 ghost use Rattle.mz_machine.specs.BodyAnswers.{IsBodyRun, UnlessMem, WhereGood};
 ghost use Rattle.mz_machine.specs.Parameters.{Remembers};
-ghost use Rattle.mz_machine.specs.Rooms.{HoldsAtMost, IsTidy, IsTidyDesk, OneACommand};
+ghost use Rattle.mz_machine.specs.Tidiness.{HoldsAtMost, IsTidy, AreTidyBuffers, OneACommand};
 ghost use Rattle.mz_machine.specs.Running.{IsRunning, machine_of};
 ghost use Rattle.mz_machine.specs.Stepping.{ended_at, reference, stopped_at};
 
 use crate::machine::{Finished, Parts, Setting};
 use crate::params::Entered;
-use crate::scratch::{Desk, Room};
+use crate::scratch::{BodyScratch, Buffers};
 use mz_base::Mode;
 use mz_cmd::{END, K, Steps, cmd_at};
 use mz_layout_tables::{Mmb, Rows};
@@ -97,17 +97,27 @@ pub fn check_body<L: Ledger>(
     ensures most { steps.new ≤ steps.old + (body.1 - body.0) * (length mmb.now + 1) }
     ensures steps { UnlessMem result (steps.new ≡ steps.old + body_steps (plain (gaps_of mode)) (tables_before mmb.now before) (heading_of mmb.now kind row) body.0 (body_bytes mmb.now body.0 body.1)) }
 {
-    let mut room = Room::new(Seed::FIXED);
+    let mut scratch = BodyScratch::new(Seed::FIXED);
     let kind = kind_by(kind);
-    check_body_in(alloc, &mut room, mmb, mode, kind, row, before, body, steps)
+    check_body_in(
+        alloc,
+        &mut scratch,
+        mmb,
+        mode,
+        kind,
+        row,
+        before,
+        body,
+        steps,
+    )
 }
 
-/// Runs the body of a statement as `check_body` does, in room that earlier bodies may have left. Unless
-/// out of memory, the room keeps at most an expression for each parameter and for each command that
+/// Runs the body of a statement as `check_body` does, in buffers that earlier bodies may have left. Unless
+/// out of memory, the scratch keeps at most an expression for each parameter and for each command that
 /// comes before the END.
 pub fn check_body_in<L: Ledger>(
     alloc: Global,
-    room: &mut Room,
+    scratch: &mut BodyScratch,
     mmb: &Mmb,
     mode: Mode,
     kind: BodyKind,
@@ -122,24 +132,24 @@ pub fn check_body_in<L: Ledger>(
     ensures run { IsBodyRun (heading_of mmb.now (byte_of kind) row) (body_bytes mmb.now body.0 body.1) (body_run (plain (gaps_of mode)) (tables_before mmb.now before) (heading_of mmb.now (byte_of kind) row) body.0 (body_bytes mmb.now body.0 body.1)) result }
     ensures most { steps.new ≤ steps.old + (body.1 - body.0) * (length mmb.now + 1) }
     ensures steps { UnlessMem result (steps.new ≡ steps.old + body_steps (plain (gaps_of mode)) (tables_before mmb.now before) (heading_of mmb.now (byte_of kind) row) body.0 (body_bytes mmb.now body.0 body.1)) }
-    ensures nodes { UnlessMem result (HoldsAtMost (length (heading_of mmb.now (byte_of kind) row).params) (body_bytes mmb.now body.0 body.1) room.new) }
+    ensures nodes { UnlessMem result (HoldsAtMost (length (heading_of mmb.now (byte_of kind) row).params) (body_bytes mmb.now body.0 body.1) scratch.new) }
 {
-    let Ok(mut desk) = room.take(alloc) else {
+    let Ok(mut buffers) = scratch.take(alloc) else {
         return BodyChecked::Mem;
     };
-    desk.last = None;
-    let checked = check_on(&mut desk, mmb, mode, kind, row, before, body, steps);
-    room.keep(desk);
+    buffers.last = None;
+    let checked = check_on(&mut buffers, mmb, mode, kind, row, before, body, steps);
+    scratch.keep(buffers);
     checked
 }
 
-/// Runs the body of a statement as `check_body_in` does, in room that earlier bodies of the same file may
+/// Runs the body of a statement as `check_body_in` does, in buffers that earlier bodies of the same file may
 /// have left: parameters that a row shares with the one before are gone over once. Unless out of memory,
-/// the room keeps at most an expression for each parameter and for each command that comes before the
+/// the scratch keeps at most an expression for each parameter and for each command that comes before the
 /// END.
 pub fn check_body_after<L: Ledger>(
     alloc: Global,
-    room: &mut Room,
+    scratch: &mut BodyScratch,
     mmb: &Mmb,
     mode: Mode,
     kind: BodyKind,
@@ -151,24 +161,24 @@ pub fn check_body_after<L: Ledger>(
     requires may_run { MayRun mmb.now (byte_of kind) row before }
     requires order { body.0 ≤ body.1 }
     requires within { body.1 ≤ length mmb.now }
-    requires tidy { IsTidy mmb.now room.old }
+    requires tidy { IsTidy mmb.now scratch.old }
     ensures run { IsBodyRun (heading_of mmb.now (byte_of kind) row) (body_bytes mmb.now body.0 body.1) (body_run (plain (gaps_of mode)) (tables_before mmb.now before) (heading_of mmb.now (byte_of kind) row) body.0 (body_bytes mmb.now body.0 body.1)) result }
     ensures most { steps.new ≤ steps.old + (body.1 - body.0) * (length mmb.now + 1) }
     ensures steps { UnlessMem result (steps.new ≡ steps.old + body_steps (plain (gaps_of mode)) (tables_before mmb.now before) (heading_of mmb.now (byte_of kind) row) body.0 (body_bytes mmb.now body.0 body.1)) }
-    ensures tidy { IsTidy mmb.now room.new }
-    ensures nodes { UnlessMem result (HoldsAtMost (length (heading_of mmb.now (byte_of kind) row).params) (body_bytes mmb.now body.0 body.1) room.new) }
+    ensures tidy { IsTidy mmb.now scratch.new }
+    ensures nodes { UnlessMem result (HoldsAtMost (length (heading_of mmb.now (byte_of kind) row).params) (body_bytes mmb.now body.0 body.1) scratch.new) }
 {
-    let Ok(mut desk) = room.take(alloc) else {
+    let Ok(mut buffers) = scratch.take(alloc) else {
         return BodyChecked::Mem;
     };
-    let checked = check_on(&mut desk, mmb, mode, kind, row, before, body, steps);
-    room.keep(desk);
+    let checked = check_on(&mut buffers, mmb, mode, kind, row, before, body, steps);
+    scratch.keep(buffers);
     checked
 }
 
-/// Runs the body of a statement on a desk, whatever lies on it.
+/// Runs the body of a statement with scratch buffers, whatever they hold.
 fn check_on<L: Ledger>(
-    desk: &mut Desk,
+    buffers: &mut Buffers,
     mmb: &Mmb,
     mode: Mode,
     kind: BodyKind,
@@ -180,15 +190,15 @@ fn check_on<L: Ledger>(
     requires may_run { MayRun mmb.now (byte_of kind) row before }
     requires order { body.0 ≤ body.1 }
     requires within { body.1 ≤ length mmb.now }
-    requires tidy { IsTidyDesk mmb.now desk.old }
+    requires tidy { AreTidyBuffers mmb.now buffers.old }
     ensures run { IsBodyRun (heading_of mmb.now (byte_of kind) row) (body_bytes mmb.now body.0 body.1) (body_run (plain (gaps_of mode)) (tables_before mmb.now before) (heading_of mmb.now (byte_of kind) row) body.0 (body_bytes mmb.now body.0 body.1)) result }
     ensures most { steps.new ≤ steps.old + (body.1 - body.0) * (length mmb.now + 1) }
     ensures steps { UnlessMem result (steps.new ≡ steps.old + body_steps (plain (gaps_of mode)) (tables_before mmb.now before) (heading_of mmb.now (byte_of kind) row) body.0 (body_bytes mmb.now body.0 body.1)) }
-    ensures tidy { IsTidyDesk mmb.now desk.new }
-    ensures nodes { UnlessMem result (OneACommand (length (heading_of mmb.now (byte_of kind) row).params) (body_bytes mmb.now body.0 body.1) (length desk.new.parts.store.entries)) }
+    ensures tidy { AreTidyBuffers mmb.now buffers.new }
+    ensures nodes { UnlessMem result (OneACommand (length (heading_of mmb.now (byte_of kind) row).params) (body_bytes mmb.now body.0 body.1) (length buffers.new.parts.store.entries)) }
 {
-    let last = desk.last;
-    desk.last = None;
+    let last = buffers.last;
+    buffers.last = None;
     let Ok(setting) = Setting::begin(
         mmb,
         mode,
@@ -196,21 +206,21 @@ fn check_on<L: Ledger>(
         row,
         before,
         last,
-        &mut desk.words,
-        &mut desk.parts,
+        &mut buffers.words,
+        &mut buffers.parts,
     ) else {
         return BodyChecked::Mem;
     };
     let bytes = &mmb.file()[body.0 as usize..body.1 as usize];
-    let checked = run(&setting, &mut desk.parts, bytes, body.0, steps);
-    desk.last = left(&setting, &desk.parts, checked);
+    let checked = run(&setting, &mut buffers.parts, bytes, body.0, steps);
+    buffers.last = left(&setting, &buffers.parts, checked);
     checked
 }
 
 /// The parameters that are known to stand in the store after a body that has come to this answer.
 fn left(setting: &Setting, parts: &Parts, checked: BodyChecked) -> Option<Entered>
     requires { WhereGood checked (IsRunning setting.now parts.now) }
-    ensures { IfSome result (λ last. Remembers setting.now.earlier.file last parts.now.store) }
+    ensures { IfSome result (λ last. Remembers setting.now.env.file last parts.now.store) }
 {
     match checked {
         BodyChecked::Good(_) => Some(setting.entered),
@@ -232,7 +242,7 @@ fn run<L: Ledger>(
     requires fresh { parts.old.sorry ≡ false }
     ensures run { IsBodyRun (heading_for (machine_of setting.now parts.old)) bytes.now (body_from (plain (gaps_of setting.now.mode)) (tables_for (machine_of setting.now parts.old)) (heading_for (machine_of setting.now parts.old)) (length bytes.now) from bytes.now (machine_of setting.now parts.old).state) result }
     ensures steps { UnlessMem result (steps.new ≡ steps.old + body_steps_from (plain (gaps_of setting.now.mode)) (tables_for (machine_of setting.now parts.old)) (heading_for (machine_of setting.now parts.old)) (length bytes.now) from bytes.now (machine_of setting.now parts.old).state) }
-    ensures most { steps.new ≤ steps.old + length bytes.now * (length setting.now.earlier.file + 1) }
+    ensures most { steps.new ≤ steps.old + length bytes.now * (length setting.now.env.file + 1) }
     ensures nodes { UnlessMem result (OneACommand (length parts.old.store.entries) bytes.now (length parts.new.store.entries)) }
     ensures running { WhereGood result (IsRunning setting.now parts.new) }
 {

@@ -1,6 +1,6 @@
 //! The commands of a body.
 ghost use Rattle.std.specs.Prelude.{ℕ, ◌≡◌, IfSome, IfNone, Some, None};
-ghost use Rattle.mz_unify_theory.specs.Profile.{strict};
+ghost use Rattle.mz_machine_theory.specs.Profile.{strict};
 ghost use Rattle.mz_machine_theory.specs.Bodies.{stands_in, body_command, proves};
 ghost use Rattle.mz_machine_env.specs.OwnRow.{kind_of};
 ghost use Rattle.mz_machine.specs.OverStore.{code_of};

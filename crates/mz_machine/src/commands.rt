@@ -9,7 +9,7 @@ ghost use Rattle.mz_base.specs.Gaps.{gaps_of};
 ghost use Rattle.mz_store.specs.declared.item.Id.{Id};
 ghost use Rattle.mz_store.specs.declared.item.Item.TheVariants.{Proof};
 ghost use Rattle.mz_store.specs.declared.item.DepsMode.TheVariants.{All};
-ghost use Rattle.mz_unify_theory.specs.Profile.{plain, strict};
+ghost use Rattle.mz_machine_theory.specs.Profile.{plain, strict};
 ghost use Rattle.mz_machine_theory.specs.ProofMachine.{proof_step};
 ghost use Rattle.mz_machine_theory.specs.Bodies.{body_command, row_steps};
 ghost use Rattle.mz_machine_env.specs.Before.{tables_of, signatures_of};
@@ -28,7 +28,7 @@ use gaps::gap;
 use heap::{conv_refer, dummy, hyp, refer, save};
 use mz_base::Mode;
 use mz_cmd::{Cmd, K, Steps};
-use mz_machine_env::{BodyKind, Converting, Earlier, Heap, Making, Spare};
+use mz_machine_env::{BodyKind, CommandBuffers, Converting, Environment, Heap, Making};
 use mz_store::{Id, Item, Store};
 use mz_unify::{Stop, push};
 use std::sync::ledger::Ledger;
@@ -37,35 +37,35 @@ use terms::{build, cite};
 /// Executes a command that makes an expression or a proof.
 #[inline(always)]
 fn make<L: Ledger>(
-    earlier: &Earlier,
+    env: &Environment,
     command: Making,
     value: u32,
     store: &mut Store,
     heap: &mut Heap,
     stack: &mut Vec<Item>,
-    spare: &mut Spare,
+    spare: &mut CommandBuffers,
     steps: &mut Steps<L>,
 ) -> Result<(), Stop>
-    requires ready { IsReady (signatures_of earlier.now) store.old heap.old.items stack.old.items }
+    requires ready { IsReady (signatures_of env.now) store.old heap.old.items stack.old.items }
     requires mode { IsTrue (cites command) → store.old.mode ≡ All }
-    ensures done { (hyps : List Id) → AreHyps store.old hyps → Executes (signatures_of earlier.now) (λ at. proof_step strict (tables_of earlier.now) at (code_of_making command) value (state_at store.old heap.old.items stack.old.items hyps)) ⊥ store.old store.new heap.new.items stack.old.items stack.new.items hyps (vec_capacity stack.old) (vec_capacity stack.new) (λ _. None) result }
-    ensures steps { (hyps : List Id) → Counts result steps.old steps.new (row_steps strict (tables_of earlier.now) (code_of_making command) value (state_at store.old heap.old.items stack.old.items hyps)) (length earlier.now.file) }
+    ensures done { (hyps : List Id) → AreHyps store.old hyps → Executes (signatures_of env.now) (λ at. proof_step strict (tables_of env.now) at (code_of_making command) value (state_at store.old heap.old.items stack.old.items hyps)) ⊥ store.old store.new heap.new.items stack.old.items stack.new.items hyps (vec_capacity stack.old) (vec_capacity stack.new) (λ _. None) result }
+    ensures steps { (hyps : List Id) → Counts result steps.old steps.new (row_steps strict (tables_of env.now) (code_of_making command) value (state_at store.old heap.old.items stack.old.items hyps)) (length env.now.file) }
     ensures nodes { length store.new.entries ≤ length store.old.entries + 1 }
 {
     match command {
-        Making::Term => match build(earlier, value, store, stack, &mut spare.operands) {
+        Making::Term => match build(env, value, store, stack, &mut spare.operands) {
             Ok(made) => push(stack, Item::Expr(made)),
             Err(stop) => Err(stop),
         },
-        Making::TermSave => match build(earlier, value, store, stack, &mut spare.operands) {
+        Making::TermSave => match build(env, value, store, stack, &mut spare.operands) {
             Ok(made) => push_both(heap, stack, Item::Expr(made)),
             Err(stop) => Err(stop),
         },
-        Making::Thm => match cite(earlier, value, store, stack, spare, steps) {
+        Making::Thm => match cite(env, value, store, stack, spare, steps) {
             Ok(proved) => push(stack, Item::Proof(proved)),
             Err(stop) => Err(stop),
         },
-        Making::ThmSave => match cite(earlier, value, store, stack, spare, steps) {
+        Making::ThmSave => match cite(env, value, store, stack, spare, steps) {
             Ok(proved) => push_both(heap, stack, Item::Proof(proved)),
             Err(stop) => Err(stop),
         },
@@ -98,7 +98,7 @@ fn push_both(heap: &mut Heap, stack: &mut Vec<Item>, item: Item) -> Result<(), S
 /// Executes a command over the heap.
 #[inline(always)]
 pub(crate) fn keep(
-    earlier: &Earlier,
+    env: &Environment,
     command: Keeping,
     value: u32,
     store: &mut Store,
@@ -106,19 +106,19 @@ pub(crate) fn keep(
     stack: &mut Vec<Item>,
     hyps: &mut Vec<Id>,
 ) -> Result<(), Stop>
-    requires ready { IsReady (signatures_of earlier.now) store.old heap.old.items stack.old.items }
+    requires ready { IsReady (signatures_of env.now) store.old heap.old.items stack.old.items }
     requires hyps { AreHyps store.old hyps.old.items }
-    ensures done { Executes (signatures_of earlier.now) (λ at. proof_step strict (tables_of earlier.now) at (code_of_keeping command) value (state_at store.old heap.old.items stack.old.items hyps.old.items)) (IsTrue (takes_none (code_of_keeping command) value (state_at store.old heap.old.items stack.old.items hyps.old.items))) store.old store.new heap.new.items stack.old.items stack.new.items hyps.new.items (vec_capacity stack.old) (vec_capacity stack.new) (λ _. None) result }
+    ensures done { Executes (signatures_of env.now) (λ at. proof_step strict (tables_of env.now) at (code_of_keeping command) value (state_at store.old heap.old.items stack.old.items hyps.old.items)) (IsTrue (takes_none (code_of_keeping command) value (state_at store.old heap.old.items stack.old.items hyps.old.items))) store.old store.new heap.new.items stack.old.items stack.new.items hyps.new.items (vec_capacity stack.old) (vec_capacity stack.new) (λ _. None) result }
     ensures nodes { length store.new.entries ≤ length store.old.entries + 1 }
 {
     match command {
         Keeping::Ref => refer(store, value, heap.as_slice(), stack),
         Keeping::ConvRef => by_rule(conv_refer(store, value, heap.as_slice(), stack)),
-        Keeping::Dummy => match dummy(earlier, value, store) {
+        Keeping::Dummy => match dummy(env, value, store) {
             Ok(made) => push_both(heap, stack, Item::Expr(made)),
             Err(stop) => Err(stop),
         },
-        Keeping::Hyp => match hyp(earlier, store, stack) {
+        Keeping::Hyp => match hyp(env, store, stack) {
             Ok(claim) => take_hyp(claim, heap, hyps),
             Err(rule) => Err(Stop::Rule(rule)),
         },
@@ -177,26 +177,26 @@ pub fn by_rule(answer: Result<(), K>) -> Result<(), Stop>
 
 /// Executes a command on conversions other than Cong. A gap is refused.
 fn convert<L: Ledger>(
-    earlier: &Earlier,
+    env: &Environment,
     command: Converting,
     store: &Store,
     heap: &mut Heap,
     stack: &mut Vec<Item>,
-    spare: &mut Spare,
+    spare: &mut CommandBuffers,
     steps: &mut Steps<L>,
 ) -> Result<(), Stop>
-    requires ready { IsReady (signatures_of earlier.now) store.now heap.old.items stack.old.items }
+    requires ready { IsReady (signatures_of env.now) store.now heap.old.items stack.old.items }
     requires mode { store.now.mode ≡ All }
     requires other { command ≡ Cong → ⊥ }
-    ensures done { (value : ℕ) (hyps : List Id) → AreHyps store.now hyps → Executes (signatures_of earlier.now) (λ at. proof_step strict (tables_of earlier.now) at (code_of_converting command) value (state_at store.now heap.old.items stack.old.items hyps)) (IsTrue (takes_none (code_of_converting command) value (state_at store.now heap.old.items stack.old.items hyps))) store.now store.now heap.new.items stack.old.items stack.new.items hyps (vec_capacity stack.old) (vec_capacity stack.new) (λ _. None) result }
-    ensures steps { (value : ℕ) (hyps : List Id) → Counts result steps.old steps.new (row_steps strict (tables_of earlier.now) (code_of_converting command) value (state_at store.now heap.old.items stack.old.items hyps)) (length earlier.now.file) }
+    ensures done { (value : ℕ) (hyps : List Id) → AreHyps store.now hyps → Executes (signatures_of env.now) (λ at. proof_step strict (tables_of env.now) at (code_of_converting command) value (state_at store.now heap.old.items stack.old.items hyps)) (IsTrue (takes_none (code_of_converting command) value (state_at store.now heap.old.items stack.old.items hyps))) store.now store.now heap.new.items stack.old.items stack.new.items hyps (vec_capacity stack.old) (vec_capacity stack.new) (λ _. None) result }
+    ensures steps { (value : ℕ) (hyps : List Id) → Counts result steps.old steps.new (row_steps strict (tables_of env.now) (code_of_converting command) value (state_at store.now heap.old.items stack.old.items hyps)) (length env.now.file) }
 {
     match command {
         Converting::Conv => by_rule(conv(store, stack)),
         Converting::Refl => by_rule(refl(store, stack)),
         Converting::Symm => by_rule(symm(store, stack)),
         Converting::Cong => unreachable!(),
-        Converting::Unfold => unfold(earlier, store, stack, spare, steps),
+        Converting::Unfold => unfold(env, store, stack, spare, steps),
         Converting::ConvCut => conv_cut(store, stack),
         Converting::ConvSave => match conv_save(store, stack) {
             Ok(item) => put(heap, item),
@@ -241,7 +241,7 @@ fn opens(answer: Result<(Id, Id), K>) -> Result<Option<(Id, Id)>, Stop>
 /// obligations between the operands are still to be put on the stack.
 #[inline(always)]
 pub(crate) fn obey<L: Ledger>(
-    earlier: &Earlier,
+    env: &Environment,
     mode: Mode,
     kind: BodyKind,
     cmd: Cmd,
@@ -249,15 +249,15 @@ pub(crate) fn obey<L: Ledger>(
     heap: &mut Heap,
     stack: &mut Vec<Item>,
     hyps: &mut Vec<Id>,
-    spare: &mut Spare,
+    spare: &mut CommandBuffers,
     steps: &mut Steps<L>,
 ) -> Result<Option<(Id, Id)>, Stop>
     requires code { cmd.code ≡ 0 → ⊥ }
-    requires ready { IsReady (signatures_of earlier.now) store.old heap.old.items stack.old.items }
+    requires ready { IsReady (signatures_of env.now) store.old heap.old.items stack.old.items }
     requires told { store.old.mode ≡ mode_for (kind_of kind) }
     requires hyps { AreHyps store.old hyps.old.items }
-    ensures done { Executes (signatures_of earlier.now) (λ at. row_by (gaps_of mode) (tables_of earlier.now) at (state_at store.old heap.old.items stack.old.items hyps.old.items) (body_command (plain (gaps_of mode)) (kind_of kind) cmd.code cmd.value)) (TakesNone (state_at store.old heap.old.items stack.old.items hyps.old.items) (body_command (plain (gaps_of mode)) (kind_of kind) cmd.code cmd.value)) store.old store.new heap.new.items stack.old.items stack.new.items hyps.new.items (vec_capacity stack.old) (vec_capacity stack.new) (λ opened. opened) result }
-    ensures steps { Counts result steps.old steps.new (steps_by (gaps_of mode) (tables_of earlier.now) (state_at store.old heap.old.items stack.old.items hyps.old.items) (body_command (plain (gaps_of mode)) (kind_of kind) cmd.code cmd.value)) (1 + length earlier.now.file) }
+    ensures done { Executes (signatures_of env.now) (λ at. row_by (gaps_of mode) (tables_of env.now) at (state_at store.old heap.old.items stack.old.items hyps.old.items) (body_command (plain (gaps_of mode)) (kind_of kind) cmd.code cmd.value)) (TakesNone (state_at store.old heap.old.items stack.old.items hyps.old.items) (body_command (plain (gaps_of mode)) (kind_of kind) cmd.code cmd.value)) store.old store.new heap.new.items stack.old.items stack.new.items hyps.new.items (vec_capacity stack.old) (vec_capacity stack.new) (λ opened. opened) result }
+    ensures steps { Counts result steps.old steps.new (steps_by (gaps_of mode) (tables_of env.now) (state_at store.old heap.old.items stack.old.items hyps.old.items) (body_command (plain (gaps_of mode)) (kind_of kind) cmd.code cmd.value)) (1 + length env.now.file) }
     ensures nodes { length store.new.entries ≤ length store.old.entries + 1 }
 {
     steps.tick();
@@ -265,21 +265,21 @@ pub(crate) fn obey<L: Ledger>(
         return Err(Stop::Rule(K::Command));
     };
     if leaves_gap(mode, command) {
-        return opens_none(by_rule(gap(earlier, store, stack)));
+        return opens_none(by_rule(gap(env, store, stack)));
     }
     let value = cmd.value;
     match command {
         Command::Makes(making) => opens_none(make(
-            earlier, making, value, store, heap, stack, spare, steps,
+            env, making, value, store, heap, stack, spare, steps,
         )),
         Command::Keeps(keeping) => {
-            opens_none(keep(earlier, keeping, value, store, heap, stack, hyps))
+            opens_none(keep(env, keeping, value, store, heap, stack, hyps))
         }
         Command::Converts(converting) => {
             if is_cong(converting) {
                 return opens(cong(store, stack));
             }
-            opens_none(convert(earlier, converting, store, heap, stack, spare, steps))
+            opens_none(convert(env, converting, store, heap, stack, spare, steps))
         }
     }
 }

@@ -2,7 +2,7 @@
 ghost use Rattle.std.specs.Prelude.{◌≡◌, ◌<◌, ◌≤◌, ◌+◌, ◌++◌, ◌∷◌, ◌↔◌, [], None, List, IfSome, IsTrue, MatchResult, Some, length, slice_get, reverse, vec_len, vec_capacity};
 ghost use Rattle.mz_store.specs.Sharing.{IsIn};
 ghost use Rattle.mz_logic_theory.specs.Tree.{Tree};
-ghost use Rattle.mz_unify_theory.specs.Profile.{Item as UnifyItem};
+ghost use Rattle.mz_machine_theory.specs.Profile.{Item as UnifyItem};
 ghost use Rattle.mz_unify.specs.Stored.{items_at, item_at, AreItemsIn, IsItemIn};
 ghost use Rattle.mz_machine.specs.Executing.{WantsUnless};
 ghost use Rattle.mz_machine.specs.OpenEquations.{stored, IsBarrier, IsOpen, AllOpen, AreOpen, AreSettled, IsInHand, whole_stack, opened_on, to_come, after, many_at, many_to_come};
@@ -97,7 +97,7 @@ fn settle(store: &Store, stack: &mut Vec<Item>, equations: &mut Vec<Equation>) -
 
 /// Puts an equation at the end, where there is room.
 fn keep(equations: &mut Vec<Equation>, equation: Equation)
-    requires room { vec_len equations.old < vec_capacity equations.old }
+    requires scratch { vec_len equations.old < vec_capacity equations.old }
     ensures { equations.new.items ≡ equations.old.items ++ equation ∷ [] }
 {
     let Ok(()) = equations.push(equation) else {

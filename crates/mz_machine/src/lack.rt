@@ -11,14 +11,14 @@ use crate::equations::{Equation, reach};
 use mz_cmd::{Cmd, K};
 use mz_layout_tables::Row;
 use mz_logic_theory::Terms;
-use mz_machine_env::{BodyKind, Earlier, Making};
+use mz_machine_env::{BodyKind, Environment, Making};
 use mz_store::Store;
 
 /// The rule that refuses a command which asks for more items than are written out, where obligations
 /// are still to come.
 #[inline(always)]
 pub(crate) fn lack(
-    earlier: &Earlier,
+    env: &Environment,
     kind: BodyKind,
     cmd: Cmd,
     store: &Store,
@@ -27,18 +27,18 @@ pub(crate) fn lack(
 ) -> Option<K>
     requires code { cmd.code ≡ 0 → ⊥ }
     requires standing { AllOpen (stored store.now) equations.now }
-    ensures some { IfSome result (λ rule. IsLack (tables_of earlier.now) (kind_of kind) cmd (stored store.now) written equations.now rule) }
-    ensures none { IfNone result (IsNoLack (tables_of earlier.now) (kind_of kind) cmd written equations.now) }
+    ensures some { IfSome result (λ rule. IsLack (tables_of env.now) (kind_of kind) cmd (stored store.now) written equations.now rule) }
+    ensures none { IfNone result (IsNoLack (tables_of env.now) (kind_of kind) cmd written equations.now) }
 {
     if equations.is_empty() {
         return None;
     }
-    lack_where_open(earlier, kind, cmd, store, written, equations)
+    lack_where_open(env, kind, cmd, store, written, equations)
 }
 
 /// The same where an equation is open.
 fn lack_where_open(
-    earlier: &Earlier,
+    env: &Environment,
     kind: BodyKind,
     cmd: Cmd,
     store: &Store,
@@ -47,13 +47,13 @@ fn lack_where_open(
 ) -> Option<K>
     requires code { cmd.code ≡ 0 → ⊥ }
     requires standing { AllOpen (stored store.now) equations.now }
-    ensures some { IfSome result (λ rule. IsLack (tables_of earlier.now) (kind_of kind) cmd (stored store.now) written equations.now rule) }
-    ensures none { IfNone result (IsNoLack (tables_of earlier.now) (kind_of kind) cmd written equations.now) }
+    ensures some { IfSome result (λ rule. IsLack (tables_of env.now) (kind_of kind) cmd (stored store.now) written equations.now rule) }
+    ensures none { IfNone result (IsNoLack (tables_of env.now) (kind_of kind) cmd written equations.now) }
 {
     let Some(command) = decoded(kind, cmd.code) else {
         return None;
     };
-    let asked = asked_by(earlier, command, cmd.value);
+    let asked = asked_by(env, command, cmd.value);
     if asked <= written {
         return None;
     }
@@ -65,42 +65,42 @@ fn lack_where_open(
 }
 
 /// How many items a command asks for before it looks at one.
-fn asked_by(earlier: &Earlier, command: Command, value: u32) -> usize
-    ensures { result ≡ asked_by (tables_of earlier.now) (code_of command) value }
+fn asked_by(env: &Environment, command: Command, value: u32) -> usize
+    ensures { result ≡ asked_by (tables_of env.now) (code_of command) value }
 {
     match command {
-        Command::Makes(making) => asked_by_making(earlier, making, value),
+        Command::Makes(making) => asked_by_making(env, making, value),
         Command::Keeps(_) | Command::Converts(_) => 0,
     }
 }
 
 /// How many items a command that makes something asks for.
-pub fn asked_by_making(earlier: &Earlier, command: Making, value: u32) -> usize
-    ensures { result ≡ asked_by (tables_of earlier.now) (code_of_making command) value }
+pub fn asked_by_making(env: &Environment, command: Making, value: u32) -> usize
+    ensures { result ≡ asked_by (tables_of env.now) (code_of_making command) value }
 {
     match command {
-        Making::Term | Making::TermSave => asked_by_term(earlier, value),
-        Making::Thm | Making::ThmSave => asked_by_thm(earlier, value),
+        Making::Term | Making::TermSave => asked_by_term(env, value),
+        Making::Thm | Making::ThmSave => asked_by_thm(env, value),
     }
 }
 
 /// The operands of a term.
-fn asked_by_term(earlier: &Earlier, t: u32) -> usize
-    ensures { result ≡ many_of_term (slice_get (tables_of earlier.now).terms t) }
+fn asked_by_term(env: &Environment, t: u32) -> usize
+    ensures { result ≡ many_of_term (slice_get (tables_of env.now).terms t) }
 {
-    if t < earlier.terms() {
-        earlier.arity_of(Row::Term(t)) as usize
+    if t < env.terms() {
+        env.arity_of(Row::Term(t)) as usize
     } else {
         0
     }
 }
 
 /// What an axiom or theorem is cited for, and its operands.
-fn asked_by_thm(earlier: &Earlier, t: u32) -> usize
-    ensures { result ≡ many_of_thm (slice_get (tables_of earlier.now).thms t) }
+fn asked_by_thm(env: &Environment, t: u32) -> usize
+    ensures { result ≡ many_of_thm (slice_get (tables_of env.now).thms t) }
 {
-    if t < earlier.thms() {
-        earlier.arity_of(Row::Thm(t)) as usize + 1
+    if t < env.thms() {
+        env.arity_of(Row::Thm(t)) as usize + 1
     } else {
         0
     }

@@ -3,7 +3,7 @@ ghost use Rattle.std.specs.Prelude.{◌≡◌, ◌≤◌, ◌<◌, ◌+◌, ◌^
 ghost use Rattle.mz_base.specs.Gaps.{gaps_of};
 ghost use Rattle.mz_cmd.specs.Codes.{proof_code};
 ghost use Rattle.mz_store.specs.Bits.{bound_vars};
-ghost use Rattle.mz_unify_theory.specs.Profile.{plain};
+ghost use Rattle.mz_machine_theory.specs.Profile.{plain};
 ghost use Rattle.mz_unify.specs.Stored.{items_at};
 ghost use Rattle.mz_machine_theory.specs.Bodies.{body_command};
 ghost use Rattle.mz_machine_env.specs.OwnRow.{MayRun, byte_of, kind_of, mode_for};
@@ -27,7 +27,7 @@ use mz_base::Mode;
 use mz_cmd::{Cmd, K, ProofCode, Steps};
 use mz_layout_tables::{Mmb, Rows};
 use mz_logic_theory::Word;
-use mz_machine_env::{BodyKind, Earlier, Heap, Spare, kind_by};
+use mz_machine_env::{BodyKind, CommandBuffers, Environment, Heap, kind_by};
 use mz_store::{Id, Item, Seed, Store};
 use mz_unify::Stop;
 use std::alloc::{AllocError, Global};
@@ -40,7 +40,7 @@ const MOST_KEPT: usize = 1_000;
 /// The statement whose body runs, and the rows before it.
 #[derive(Drop)]
 pub(crate) struct Setting<'a> {
-    earlier: Earlier<'a>,
+    env: Environment<'a>,
     mode: Mode,
     kind: BodyKind,
     row: u32,
@@ -56,7 +56,7 @@ pub(crate) struct Parts {
     equations: Vec<Equation>,
     hyps: Vec<Id>,
     sorry: bool,
-    spare: Spare,
+    spare: CommandBuffers,
 }
 
 /// A machine between two commands of a body. Its meaning is the state to which they have led, over
@@ -192,7 +192,7 @@ impl Parts {
             equations: Vec::new(alloc),
             hyps: Vec::new(alloc),
             sorry: false,
-            spare: Spare::new(alloc),
+            spare: CommandBuffers::new(alloc),
         }
     }
 
@@ -228,15 +228,15 @@ impl<'a> Setting<'a> {
     {
         // That the file is a binary, so that no row has too many words, is reported by the call.
         let _ = mmb.file();
-        let earlier = Earlier::new(mmb, before);
-        let entered = enter(&earlier, kind, row, last, words, &mut parts.store)?;
+        let env = Environment::new(mmb, before);
+        let entered = enter(&env, kind, row, last, words, &mut parts.store)?;
         parts.heap.begin(entered.params as usize)?;
         parts.stack.clear();
         parts.equations.clear();
         parts.hyps.clear();
         parts.sorry = false;
         Ok(Setting {
-            earlier,
+            env,
             mode,
             kind,
             row,
@@ -256,13 +256,13 @@ impl<'a> Setting<'a> {
         requires running { IsRunning self.now parts.old }
         ensures running { OnOk result (IsRunning self.now parts.new) }
         ensures row { (at : ℕ) → IsStepped (machine_of self.now parts.old) cmd at (stepped_to (machine_of self.now parts.new) result) }
-        ensures steps { OrMem result (steps.new ≡ steps.old + steps_for (gaps_of self.now.mode) (tables_of self.now.earlier) (heading_for (machine_of self.now parts.old)) (machine_of self.now parts.old).state cmd) }
-        ensures most { steps.new ≤ steps.old + (1 + length self.now.earlier.file) }
+        ensures steps { OrMem result (steps.new ≡ steps.old + steps_for (gaps_of self.now.mode) (tables_of self.now.env) (heading_for (machine_of self.now parts.old)) (machine_of self.now parts.old).state cmd) }
+        ensures most { steps.new ≤ steps.old + (1 + length self.now.env.file) }
         ensures nodes { length parts.new.store.entries ≤ length parts.old.store.entries + 1 }
     {
         note_gap(&mut parts.sorry, cmd.code);
         proceed(
-            &self.earlier,
+            &self.env,
             self.mode,
             self.kind,
             cmd,
@@ -287,13 +287,13 @@ impl<'a> Setting<'a> {
         requires { IsRunning self.now parts.old }
         ensures running { OnOk result (IsRunning self.now parts.new) }
         ensures row { (at len : ℕ) → IsStepped (machine_of self.now parts.old) (reference place len) at (stepped_to (machine_of self.now parts.new) result) }
-        ensures steps { (len : ℕ) → OrMem result (steps.new ≡ steps.old + steps_for (gaps_of self.now.mode) (tables_of self.now.earlier) (heading_for (machine_of self.now parts.old)) (machine_of self.now parts.old).state (reference place len)) }
-        ensures most { steps.new ≤ steps.old + (1 + length self.now.earlier.file) }
+        ensures steps { (len : ℕ) → OrMem result (steps.new ≡ steps.old + steps_for (gaps_of self.now.mode) (tables_of self.now.env) (heading_for (machine_of self.now parts.old)) (machine_of self.now parts.old).state (reference place len)) }
+        ensures most { steps.new ≤ steps.old + (1 + length self.now.env.file) }
         ensures nodes { length parts.new.store.entries ≤ length parts.old.store.entries + 1 }
     {
         steps.tick();
         match opens_none(keep(
-            &self.earlier,
+            &self.env,
             Keeping::Ref,
             place,
             &mut parts.store,
@@ -310,14 +310,14 @@ impl<'a> Setting<'a> {
     pub(crate) fn finish<L: Ledger>(&self, parts: &mut Parts, steps: &mut Steps<L>) -> Finished
         requires { IsRunning self.now parts.old }
         ensures run { IsFinished (machine_of self.now parts.old) result }
-        ensures steps { UnlessEndMem result (steps.new ≡ steps.old + end_steps (gaps_of self.now.mode) (tables_of self.now.earlier) (heading_for (machine_of self.now parts.old)) (machine_of self.now parts.old).state) }
-        ensures most { steps.new ≤ steps.old + (1 + length self.now.earlier.file) }
+        ensures steps { UnlessEndMem result (steps.new ≡ steps.old + end_steps (gaps_of self.now.mode) (tables_of self.now.env) (heading_for (machine_of self.now parts.old)) (machine_of self.now parts.old).state) }
+        ensures most { steps.new ≤ steps.old + (1 + length self.now.env.file) }
         ensures store { parts.new.store ≡ parts.old.store }
         ensures running { IsRunning self.now parts.new }
     {
         steps.tick();
         match end(
-            &self.earlier,
+            &self.env,
             self.kind,
             self.row,
             self.entered.params,
@@ -343,7 +343,7 @@ impl<'a> Setting<'a> {
 /// are written out, and the obligations still to come. Behind it the obligation in hand is written out.
 #[inline(always)]
 fn proceed<L: Ledger>(
-    earlier: &Earlier,
+    env: &Environment,
     mode: Mode,
     kind: BodyKind,
     cmd: Cmd,
@@ -352,25 +352,23 @@ fn proceed<L: Ledger>(
     stack: &mut Vec<Item>,
     equations: &mut Vec<Equation>,
     hyps: &mut Vec<Id>,
-    spare: &mut Spare,
+    spare: &mut CommandBuffers,
     steps: &mut Steps<L>,
 ) -> Result<(), Stop>
     requires code { cmd.code ≡ 0 → ⊥ }
-    requires ready { IsReady (signatures_of earlier.now) store.old heap.old.items stack.old.items }
+    requires ready { IsReady (signatures_of env.now) store.old heap.old.items stack.old.items }
     requires told { store.old.mode ≡ mode_for (kind_of kind) }
     requires settled { AreSettled (stored store.old) (reverse equations.old.items) (items_at store.old stack.old.items) }
     requires hyps { AreHyps store.old hyps.old.items }
-    ensures done { MatchResult result (λ _. Proceeds (signatures_of earlier.now) (λ at. row_by (gaps_of mode) (tables_of earlier.now) at (whole_state store.old heap.old.items equations.old.items stack.old.items hyps.old.items) (body_command (plain (gaps_of mode)) (kind_of kind) cmd.code cmd.value)) store.old store.new heap.new.items equations.new.items stack.new.items hyps.new.items) (StopsAs (λ at. row_by (gaps_of mode) (tables_of earlier.now) at (whole_state store.old heap.old.items equations.old.items stack.old.items hyps.old.items) (body_command (plain (gaps_of mode)) (kind_of kind) cmd.code cmd.value)) (TakesNone (whole_state store.old heap.old.items equations.old.items stack.old.items hyps.old.items) (body_command (plain (gaps_of mode)) (kind_of kind) cmd.code cmd.value))) }
-    ensures steps { Counts result steps.old steps.new (steps_by (gaps_of mode) (tables_of earlier.now) (whole_state store.old heap.old.items equations.old.items stack.old.items hyps.old.items) (body_command (plain (gaps_of mode)) (kind_of kind) cmd.code cmd.value)) (1 + length earlier.now.file) }
+    ensures done { MatchResult result (λ _. Proceeds (signatures_of env.now) (λ at. row_by (gaps_of mode) (tables_of env.now) at (whole_state store.old heap.old.items equations.old.items stack.old.items hyps.old.items) (body_command (plain (gaps_of mode)) (kind_of kind) cmd.code cmd.value)) store.old store.new heap.new.items equations.new.items stack.new.items hyps.new.items) (StopsAs (λ at. row_by (gaps_of mode) (tables_of env.now) at (whole_state store.old heap.old.items equations.old.items stack.old.items hyps.old.items) (body_command (plain (gaps_of mode)) (kind_of kind) cmd.code cmd.value)) (TakesNone (whole_state store.old heap.old.items equations.old.items stack.old.items hyps.old.items) (body_command (plain (gaps_of mode)) (kind_of kind) cmd.code cmd.value))) }
+    ensures steps { Counts result steps.old steps.new (steps_by (gaps_of mode) (tables_of env.now) (whole_state store.old heap.old.items equations.old.items stack.old.items hyps.old.items) (body_command (plain (gaps_of mode)) (kind_of kind) cmd.code cmd.value)) (1 + length env.now.file) }
     ensures nodes { length store.new.entries ≤ length store.old.entries + 1 }
 {
-    if let Some(rule) = lack(earlier, kind, cmd, store, stack.len(), equations) {
+    if let Some(rule) = lack(env, kind, cmd, store, stack.len(), equations) {
         steps.tick();
         return Err(Stop::Rule(rule));
     }
-    match obey(
-        earlier, mode, kind, cmd, store, heap, stack, hyps, spare, steps,
-    ) {
+    match obey(env, mode, kind, cmd, store, heap, stack, hyps, spare, steps) {
         Ok(opened) => resume(store, stack, equations, opened),
         Err(stop) => Err(stop),
     }

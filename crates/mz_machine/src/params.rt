@@ -5,7 +5,7 @@ ghost use Rattle.mz_machine_env.specs.OwnRow.{IsNextRow, kind_of, mode_for, own_
 ghost use Rattle.mz_machine.specs.Parameters.{AreEntered, IsOwn, Remembers};
 
 use mz_logic_theory::Word;
-use mz_machine_env::{BodyKind, Earlier, deps_mode, own_arity, own_words_at, read_words};
+use mz_machine_env::{BodyKind, Environment, deps_mode, own_arity, own_words_at, read_words};
 use mz_store::{DepsMode, Store};
 use std::alloc::AllocError;
 
@@ -22,16 +22,16 @@ pub(crate) struct Entered {
 
 impl Entered {
     /// Whether a body of the next row of the kind, whose words begin at a place, begins with the same.
-    fn is_of(self, earlier: &Earlier, kind: BodyKind, row: u32, at: u32) -> bool
-        requires next { IsNextRow earlier.now.file earlier.now.rows row (kind_of kind) }
-        requires at { own_words earlier.now.file row (kind_of kind) ≡ words_from earlier.now.file at (length (own_words earlier.now.file row (kind_of kind))) }
-        ensures { IsTrue result → (own_words earlier.now.file row (kind_of kind) ≡ words_from earlier.now.file self.at self.params) × (self.mode ≡ mode_for (kind_of kind)) }
+    fn is_of(self, env: &Environment, kind: BodyKind, row: u32, at: u32) -> bool
+        requires next { IsNextRow env.now.file env.now.rows row (kind_of kind) }
+        requires at { own_words env.now.file row (kind_of kind) ≡ words_from env.now.file at (length (own_words env.now.file row (kind_of kind))) }
+        ensures { IsTrue result → (own_words env.now.file row (kind_of kind) ≡ words_from env.now.file self.at self.params) × (self.mode ≡ mode_for (kind_of kind)) }
     {
         // Only of a row that shares its words the file is asked how many they are.
         if self.mode != deps_mode(kind) || self.at != at {
             return false;
         }
-        self.params == own_arity(earlier, kind, row)
+        self.params == own_arity(env, kind, row)
     }
 }
 
@@ -42,28 +42,28 @@ impl Entered {
 ///
 /// Where there is no memory.
 pub(crate) fn enter(
-    earlier: &Earlier,
+    env: &Environment,
     kind: BodyKind,
     row: u32,
     last: Option<Entered>,
     words: &mut Vec<Word>,
     store: &mut Store,
 ) -> Result<Entered, AllocError>
-    requires next { IsNextRow earlier.now.file earlier.now.rows row (kind_of kind) }
-    requires bits { BitsRight (own_words earlier.now.file row (kind_of kind)) }
-    requires few { length (own_words earlier.now.file row (kind_of kind)) < 2 ^ 32 }
-    requires last { IfSome last (λ last. Remembers earlier.now.file last store.old) }
-    ensures entered { OnOk result (AreEntered (own_words earlier.now.file row (kind_of kind)) (mode_for (kind_of kind)) store.new) }
-    ensures own { IfOk result (IsOwn earlier.now.file row (kind_of kind)) }
+    requires next { IsNextRow env.now.file env.now.rows row (kind_of kind) }
+    requires bits { BitsRight (own_words env.now.file row (kind_of kind)) }
+    requires few { length (own_words env.now.file row (kind_of kind)) < 2 ^ 32 }
+    requires last { IfSome last (λ last. Remembers env.now.file last store.old) }
+    ensures entered { OnOk result (AreEntered (own_words env.now.file row (kind_of kind)) (mode_for (kind_of kind)) store.new) }
+    ensures own { IfOk result (IsOwn env.now.file row (kind_of kind)) }
 {
-    let at = own_words_at(earlier, kind, row);
+    let at = own_words_at(env, kind, row);
     if let Some(last) = last {
-        if last.is_of(earlier, kind, row, at) {
+        if last.is_of(env, kind, row, at) {
             store.restart(last.params, last.bound);
             return Ok(last);
         }
     }
-    read_words(words, earlier, kind, row)?;
+    read_words(words, env, kind, row)?;
     let mode = deps_mode(kind);
     store.begin(words.as_slice(), mode)?;
     let params = store.len() as u32;

@@ -1,6 +1,6 @@
-//! Room that one body leaves to the next.
+//! Scratch buffers that one body leaves to the next.
 ghost use Rattle.std.specs.Prelude.{◌≡◌, ℕ, List, IfOk, None, Some};
-ghost use Rattle.mz_machine.specs.Rooms.{IsTidy, IsTidyDesk};
+ghost use Rattle.mz_machine.specs.Tidiness.{IsTidy, AreTidyBuffers};
 
 use crate::machine::Parts;
 use crate::params::Entered;
@@ -10,53 +10,56 @@ use std::alloc::{AllocError, Global};
 
 /// What bodies have taken of memory, kept for the next one. What lies there changes no answer.
 #[derive(Drop)]
-pub struct Room {
+pub struct BodyScratch {
     seed: Seed,
-    desk: Option<Box<Desk>>,
+    buffers: Option<Box<Buffers>>,
 }
 
 /// What a body's commands change, and whose parameters its store begins with, where the body has run.
 #[derive(Drop)]
-pub(crate) struct Desk {
+pub(crate) struct Buffers {
     pub(crate) words: Vec<Word>,
     pub(crate) parts: Parts,
     pub(crate) last: Option<Entered>,
 }
 
-impl Room {
-    /// No room yet. The bodies' terms are numbered with the seed.
-    pub fn new(seed: Seed) -> Room
+impl BodyScratch {
+    /// Nothing kept yet. The bodies' terms are numbered with the seed.
+    pub fn new(seed: Seed) -> BodyScratch
         ensures { (file : List ℕ) → IsTidy file result }
     {
-        Room { seed, desk: None }
+        BodyScratch {
+            seed,
+            buffers: None,
+        }
     }
 
-    /// The desk of the last body, or a new one where that one is large.
-    pub(crate) fn take(&mut self, alloc: Global) -> Result<Box<Desk>, AllocError>
-        ensures tidy { IfOk result (λ desk. (file : List ℕ) → IsTidy file self.old → IsTidyDesk file desk.value) }
-        ensures empty { self.new.desk ≡ None }
+    /// The buffers of the last body, or new ones where those are large.
+    pub(crate) fn take(&mut self, alloc: Global) -> Result<Box<Buffers>, AllocError>
+        ensures tidy { IfOk result (λ buffers. (file : List ℕ) → IsTidy file self.old → AreTidyBuffers file buffers.value) }
+        ensures empty { self.new.buffers ≡ None }
     {
-        if let Some(desk) = self.desk.take() {
-            if desk.parts.are_few(desk.words.len()) {
-                return Ok(desk);
+        if let Some(buffers) = self.buffers.take() {
+            if buffers.parts.are_few(buffers.words.len()) {
+                return Ok(buffers);
             }
         }
-        Ok(Box::new(alloc, Desk::new(alloc, self.seed))?)
+        Ok(Box::new(alloc, Buffers::new(alloc, self.seed))?)
     }
 
-    /// Keeps a desk for the next body.
-    pub(crate) fn keep(&mut self, desk: Box<Desk>)
-        ensures { self.new.desk ≡ Some desk }
+    /// Keeps the buffers for the next body.
+    pub(crate) fn keep(&mut self, buffers: Box<Buffers>)
+        ensures { self.new.buffers ≡ Some buffers }
     {
-        self.desk = Some(desk);
+        self.buffers = Some(buffers);
     }
 }
 
-impl Desk {
-    fn new(alloc: Global, seed: Seed) -> Desk
-        ensures { (file : List ℕ) → IsTidyDesk file result }
+impl Buffers {
+    fn new(alloc: Global, seed: Seed) -> Buffers
+        ensures { (file : List ℕ) → AreTidyBuffers file result }
     {
-        Desk {
+        Buffers {
             words: Vec::new(alloc),
             parts: Parts::new(alloc, seed),
             last: None,

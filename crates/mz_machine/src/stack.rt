@@ -15,7 +15,7 @@ pub(crate) fn pop(store: &Store, stack: &mut Vec<Item>) -> Result<Item, K>
     ensures ids { IfOk result (λ item. IsItemIn store.now item × AreItemsIn store.now stack.new.items) }
     ensures items { IfOk result (λ item. stack.old.items ≡ stack.new.items ++ item ∷ []) }
     ensures taken { GivesRule (pop (items_at store.now stack.old.items)) result (λ item. (item_at store.now item, items_at store.now stack.new.items)) }
-    ensures room { OnOk result (vec_len stack.new + 1 ≤ vec_len stack.old) }
+    ensures scratch { OnOk result (vec_len stack.new + 1 ≤ vec_len stack.old) }
     ensures capacity { vec_capacity stack.new ≡ vec_capacity stack.old }
 {
     match stack.pop() {
@@ -30,7 +30,7 @@ pub(crate) fn pop_expr(store: &Store, stack: &mut Vec<Item>) -> Result<Id, K>
     requires { AreItemsIn store.now stack.old.items }
     ensures ids { IfOk result (λ id. IsIn store.now id.0 × AreItemsIn store.now stack.new.items) }
     ensures taken { GivesRule (pop_expr (items_at store.now stack.old.items)) result (λ id. (tree_of store.now id.0, items_at store.now stack.new.items)) }
-    ensures room { OnOk result (vec_len stack.new + 1 ≤ vec_len stack.old) }
+    ensures scratch { OnOk result (vec_len stack.new + 1 ≤ vec_len stack.old) }
     ensures capacity { vec_capacity stack.new ≡ vec_capacity stack.old }
 {
     match stack.pop() {
@@ -46,7 +46,7 @@ pub(crate) fn pop_proof(store: &Store, stack: &mut Vec<Item>) -> Result<Id, K>
     requires { AreItemsIn store.now stack.old.items }
     ensures ids { IfOk result (λ id. IsIn store.now id.0 × AreItemsIn store.now stack.new.items) }
     ensures taken { GivesRule (pop_proof (items_at store.now stack.old.items)) result (λ id. (tree_of store.now id.0, items_at store.now stack.new.items)) }
-    ensures room { OnOk result (vec_len stack.new + 1 ≤ vec_len stack.old) }
+    ensures scratch { OnOk result (vec_len stack.new + 1 ≤ vec_len stack.old) }
     ensures capacity { vec_capacity stack.new ≡ vec_capacity stack.old }
 {
     match stack.pop() {
@@ -62,7 +62,7 @@ pub(crate) fn pop_obligation(store: &Store, stack: &mut Vec<Item>) -> Result<(Id
     ensures ids { IfOk result (λ ids. IsIn store.now ids.0.0 × IsIn store.now ids.1.0 × AreItemsIn store.now stack.new.items) }
     ensures items { IfOk result (λ ids. stack.old.items ≡ stack.new.items ++ Obligation ids.0 ids.1 ∷ []) }
     ensures taken { GivesRule (pop_obligation (items_at store.now stack.old.items)) result (λ ids. (tree_of store.now ids.0.0, tree_of store.now ids.1.0, items_at store.now stack.new.items)) }
-    ensures room { OnOk result (vec_len stack.new + 1 ≤ vec_len stack.old) }
+    ensures scratch { OnOk result (vec_len stack.new + 1 ≤ vec_len stack.old) }
     ensures capacity { vec_capacity stack.new ≡ vec_capacity stack.old }
 {
     match stack.pop() {
@@ -77,7 +77,7 @@ pub(crate) fn pop_conversion(store: &Store, stack: &mut Vec<Item>) -> Result<(Id
     requires { AreItemsIn store.now stack.old.items }
     ensures ids { IfOk result (λ ids. IsIn store.now ids.0.0 × IsIn store.now ids.1.0 × AreItemsIn store.now stack.new.items) }
     ensures taken { GivesRule (pop_conversion (items_at store.now stack.old.items)) result (λ ids. (tree_of store.now ids.0.0, tree_of store.now ids.1.0, items_at store.now stack.new.items)) }
-    ensures room { OnOk result (vec_len stack.new + 1 ≤ vec_len stack.old) }
+    ensures scratch { OnOk result (vec_len stack.new + 1 ≤ vec_len stack.old) }
     ensures capacity { vec_capacity stack.new ≡ vec_capacity stack.old }
 {
     match stack.pop() {

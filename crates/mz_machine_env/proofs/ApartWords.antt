@@ -1,4 +1,4 @@
--- Operands that are apart, by the words of their variables.
+-- Operands that are disjoint, by the words of their variables.
 use Rattle.std.proofs.Common.{◌≡◌, ℕ, Bool, true, false, eqb, List, [], length, Some, Ok, refl, sym, ap, ◌∙◌, subst, arith, eq-eqb}
 use Rattle.std.specs.Prelude.{slice_get, not, bit_and, if◌then◌else◌}
 use Rattle.std.proofs.lemmas.Bool.{eqb-true}
@@ -14,11 +14,11 @@ use Rattle.mz_store.specs.Bits.{Tells, bound_vars}
 use Rattle.mz_store.specs.declared.item.Id.{Id}
 use Rattle.mz_store.specs.declared.item.DepsMode.TheVariants.{All}
 use Rattle.mz_store.proofs.Offered.{bits-meet}
-use Rattle.mz_unify_theory.specs.Tests.{is_bound_var, in_v, var_within}
-use Rattle.mz_unify_theory.proofs.Offered.{some_is, bound-is, in-v-true, v-in}
+use Rattle.mz_machine_theory.specs.Tests.{is_bound_var, in_v, var_within}
+use Rattle.mz_machine_theory.proofs.Offered.{some_is, bound-is, in-v-true, v-in}
 use Rattle.mz_machine_theory.specs.Premises.{operands_fit}
 use Rattle.mz_machine_env.specs.OperandRows.{AreAmong}
-use Rattle.mz_machine_env.proofs.ApartPlaces.{place-below, place-fits, apart-none, whole_row, decides-first}
+use Rattle.mz_machine_env.proofs.DisjointPlaces.{place-below, place-fits, apart-none, whole_row, decides-first}
 
 -- the word names all variables of the expression
 abbrev pub TellsV : List Binder → ℕ → Tree → Type 0
@@ -57,7 +57,7 @@ apart-word ctx e f v w told own bd none = not-true (var_within ctx f e) (sym (ap
 module _ (sigs : List Signature) (ctx : List Binder) (ids : List Id) (es : List Tree) (tree : Id → Tree) (word : Id → ℕ)
     (tree-at : (k : ℕ) (id : Id) → slice_get ids k ≡ Some id → slice_get es k ≡ Some (tree id))
     (told : (k : ℕ) (id : Id) → slice_get ids k ≡ Some id → TellsV ctx (word id) (tree id)) where
-  -- an operand that shares no variable with any of the bound parameters' is apart
+  -- an operand that shares no variable with any of the bound parameters' is disjoint
   pub apart-at-once : (ws : List Word) → length ids ≡ length ws → length es ≡ length ws → operands_fit sigs ctx es (binders_of ws) ≡ Ok tt
       → (places : List ℕ) → places ≡ bound_places 0 ws → (all : ℕ) → AreAmong word ids places all
       → (i : ℕ) (id : Id) (w : Word) → slice_get ids i ≡ Some id → slice_get ws i ≡ Some w → bit_and (word id) all ≡ 0 → whole_row ctx es ws i w (tree id) ≡ true

@@ -13,7 +13,7 @@ use Rattle.mz_layout_tables.specs.Tables.{term_row, term_count, thm_count, term_
 use Rattle.mz_layout_tables.specs.declared.row.Row.{Row}
 use Rattle.mz_layout_tables.specs.declared.row.Row.TheVariants.{Term, Thm}
 use Rattle.mz_layout_tables.proofs.Offered.{length-term_words, term_at-words, length-first_sorts}
-use Rattle.mz_unify_theory.specs.Spells.{SpelledTerm}
+use Rattle.mz_machine_theory.specs.Spells.{SpelledTerm}
 use Rattle.mz_machine_theory.specs.FileRows.{term_of_file, thm_of_file}
 use Rattle.mz_machine_env.specs.Before.{Before, AreWithin, tables_of, signatures_of, words_before, sorts_before}
 use Rattle.mz_machine_env.specs.OperandRows.{IsBefore}

@@ -11,14 +11,13 @@ use Rattle.mz_cmd.specs.declared.command.CmdFault.{CmdFault}
 use Rattle.mz_cmd.specs.declared.code.ProofCode.{ProofCode}
 use Rattle.mz_cmd.specs.Codes.{proof_code}
 use Rattle.mz_cmd.specs.Reading.{first_command}
-use Rattle.mz_unify_theory.specs.Steps.{◌>>=◌, Turn, over, goes_on, goes_to}
-use Rattle.mz_unify_theory.specs.Profile.{Profile}
-use Rattle.mz_unify_theory.specs.UnifyMachine.{is_empty}
-use Rattle.mz_unify_theory.proofs.Offered.{command-long, drop-less}
+use Rattle.mz_machine_theory.specs.Steps.{◌>>=◌, Turn, over, goes_on, goes_to}
+use Rattle.mz_machine_theory.specs.Profile.{Profile}
+use Rattle.mz_machine_theory.specs.UnifyMachine.{is_empty}
+use Rattle.mz_machine_theory.proofs.Offered.{command-long, drop-less, bound-never-ends, count-is-whole}
 use Rattle.mz_machine_theory.specs.MachineState.{RowsBefore, State, Kind, Heading}
 use Rattle.mz_machine_theory.specs.ProofMachine.{proof_end, ends_with}
 use Rattle.mz_machine_theory.specs.Bodies.{BodyCommand, ends, proves, stands_in, if_allowed, body_command, body_turn_by, body_turn, body_from, match_steps, command_steps, body_steps_from}
-use Rattle.mz_machine_theory.proofs.Offered.{bound-never-ends, count-is-whole}
 use Rattle.mz_machine_env.specs.OneCommand.{row_in, steps_in}
 
 plus-zero : (n : ℕ) → n ≡ n + 0

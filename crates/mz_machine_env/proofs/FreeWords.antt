@@ -22,11 +22,10 @@ use Rattle.mz_base.specs.Checks.{AllHold}
 use Rattle.mz_layout_tables.specs.Tables.{term_row, TermRow}
 use Rattle.mz_store.specs.Bits.{Tells, bound_from, bound_vars}
 use Rattle.mz_store.proofs.Offered.{bound-once, set-from, bound-has, bound-at}
-use Rattle.mz_unify_theory.proofs.Offered.{not-both}
+use Rattle.mz_machine_theory.proofs.Offered.{not-both, in-fv-true, free-within}
 use Rattle.mz_machine_theory.specs.FreeVars.{in_fv, free_within}
 use Rattle.mz_machine_env.specs.Before.{Before, signatures_of, HasRightWords}
 use Rattle.mz_layout_tables.specs.RowWords.{bound_count, first_sorts, word_checks}
-use Rattle.mz_machine_theory.proofs.Offered.{in-fv-true, free-within}
 use Rattle.mz_layout_tables.proofs.Offered.{bound-many, result-right, right-words, term-params-right}
 
 -- ---- free variables are bound variables of the context

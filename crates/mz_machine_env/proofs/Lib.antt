@@ -1,6 +1,6 @@
 pub mod FromPlaces
 pub mod BeforeLaws
-pub mod ApartPlaces
+pub mod DisjointPlaces
 pub mod ApartWords
 pub mod BodyUnderway
 mod FreeWords

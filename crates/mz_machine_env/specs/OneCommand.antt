@@ -2,7 +2,7 @@
 use Rattle.std.specs.Prelude.{ℕ, suc, Option, Some, None, Result, Err}
 use Rattle.mz_cmd.specs.declared.rule.K.{K}
 use Rattle.mz_cmd.specs.declared.rule.K.TheVariants as k
-use Rattle.mz_unify_theory.specs.Profile.{Profile}
+use Rattle.mz_machine_theory.specs.Profile.{Profile}
 use Rattle.mz_machine_theory.specs.MachineState.{RowsBefore, State}
 use Rattle.mz_machine_theory.specs.ProofMachine.{proof_step}
 use Rattle.mz_machine_theory.specs.Bodies.{BodyCommand, ends, proves, row_steps}

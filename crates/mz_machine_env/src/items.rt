@@ -34,7 +34,7 @@ pub fn is_obligation(item: Item) -> bool
 /// Puts an item at the end, where there is room.
 #[inline(always)]
 pub fn put_back(items: &mut Vec<Item>, item: Item)
-    requires room { vec_len items.old < vec_capacity items.old }
+    requires scratch { vec_len items.old < vec_capacity items.old }
     ensures items { items.new.items ≡ items.old.items ++ item ∷ [] }
     ensures len { vec_len items.new ≡ vec_len items.old + 1 }
     ensures capacity { vec_capacity items.old ≤ vec_capacity items.new }

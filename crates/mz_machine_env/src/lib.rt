@@ -1,6 +1,6 @@
 //! The rows before a statement, and its own: read in place, for both proof machines.
 //!
-//! An [`Earlier`] is the file with counts of rows: so many sorts, terms and assertions have had their statement. It
+//! An [`Environment`] is the file with counts of rows: so many sorts, terms and assertions have had their statement. It
 //! lends their words and streams exactly as the file has them. For the store it is a table of terms. `own_arity`,
 //! `read_words` and `own_stream` do the same for the statement's own row.
 //!
@@ -27,5 +27,5 @@ pub use own::{
     own_words_at, read_words,
 };
 pub use places::{dependencies, may_meet};
-pub use rows_before::Earlier;
-pub use scratch::Spare;
+pub use rows_before::Environment;
+pub use scratch::CommandBuffers;

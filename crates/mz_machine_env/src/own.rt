@@ -4,7 +4,7 @@ ghost use Rattle.mz_store.specs.declared.item.Item.TheVariants.{Proof};
 ghost use Rattle.mz_machine_env.specs.OwnRow.{IsNextRow, kind_of, mode_for, own_words, own_proofs, first_ids, first_items, words_from};
 ghost use Rattle.mz_machine_theory.specs.Headings.{kind_at, heading_by};
 
-use crate::rows_before::Earlier;
+use crate::rows_before::Environment;
 use mz_logic_theory::Word;
 use mz_store::{DepsMode, Id, Item};
 use std::alloc::AllocError;
@@ -43,37 +43,37 @@ pub fn deps_mode(kind: BodyKind) -> DepsMode
 
 /// How many parameters the next row of the kind has.
 #[tactic(auto, using(crate::proofs::BeforeLaws::binders_many))]
-pub fn own_arity(earlier: &Earlier, kind: BodyKind, row: u32) -> u32
-    requires { IsNextRow earlier.now.file earlier.now.rows row (kind_of kind) }
-    ensures words { result ≡ length (own_words earlier.now.file row (kind_of kind)) }
-    ensures params { result ≡ length (heading_by earlier.now.file row (kind_of kind)).params }
+pub fn own_arity(env: &Environment, kind: BodyKind, row: u32) -> u32
+    requires { IsNextRow env.now.file env.now.rows row (kind_of kind) }
+    ensures words { result ≡ length (own_words env.now.file row (kind_of kind)) }
+    ensures params { result ≡ length (heading_by env.now.file row (kind_of kind)).params }
 {
     match kind {
-        BodyKind::Axiom | BodyKind::Theorem => earlier.own_thm_arity(row),
-        BodyKind::Definition => earlier.own_term_arity(row),
+        BodyKind::Axiom | BodyKind::Theorem => env.own_thm_arity(row),
+        BodyKind::Definition => env.own_term_arity(row),
     }
 }
 
 /// Where the words of its parameters begin in the file, in bytes.
-pub fn own_words_at(earlier: &Earlier, kind: BodyKind, row: u32) -> u32
-    requires { IsNextRow earlier.now.file earlier.now.rows row (kind_of kind) }
-    ensures { own_words earlier.now.file row (kind_of kind) ≡ words_from earlier.now.file result (length (own_words earlier.now.file row (kind_of kind))) }
+pub fn own_words_at(env: &Environment, kind: BodyKind, row: u32) -> u32
+    requires { IsNextRow env.now.file env.now.rows row (kind_of kind) }
+    ensures { own_words env.now.file row (kind_of kind) ≡ words_from env.now.file result (length (own_words env.now.file row (kind_of kind))) }
 {
     match kind {
-        BodyKind::Axiom | BodyKind::Theorem => earlier.own_thm_words_at(row),
-        BodyKind::Definition => earlier.own_term_words_at(row),
+        BodyKind::Axiom | BodyKind::Theorem => env.own_thm_words_at(row),
+        BodyKind::Definition => env.own_term_words_at(row),
     }
 }
 
 /// The word of its j-th parameter.
-fn own_word(earlier: &Earlier, kind: BodyKind, row: u32, j: u32) -> Word
-    requires row { IsNextRow earlier.now.file earlier.now.rows row (kind_of kind) }
-    requires place { j < length (own_words earlier.now.file row (kind_of kind)) }
-    ensures { slice_get (own_words earlier.now.file row (kind_of kind)) j ≡ Some result }
+fn own_word(env: &Environment, kind: BodyKind, row: u32, j: u32) -> Word
+    requires row { IsNextRow env.now.file env.now.rows row (kind_of kind) }
+    requires place { j < length (own_words env.now.file row (kind_of kind)) }
+    ensures { slice_get (own_words env.now.file row (kind_of kind)) j ≡ Some result }
 {
     match kind {
-        BodyKind::Axiom | BodyKind::Theorem => earlier.own_thm_param(row, j),
-        BodyKind::Definition => earlier.own_term_param(row, j),
+        BodyKind::Axiom | BodyKind::Theorem => env.own_thm_param(row, j),
+        BodyKind::Definition => env.own_term_param(row, j),
     }
 }
 
@@ -84,18 +84,18 @@ fn own_word(earlier: &Earlier, kind: BodyKind, row: u32, j: u32) -> Word
 /// Where there is no memory.
 pub fn read_words(
     words: &mut Vec<Word>,
-    earlier: &Earlier,
+    env: &Environment,
     kind: BodyKind,
     row: u32,
 ) -> Result<(), AllocError>
-    requires { IsNextRow earlier.now.file earlier.now.rows row (kind_of kind) }
-    ensures { OnOk result (words.new.items ≡ own_words earlier.now.file row (kind_of kind)) }
+    requires { IsNextRow env.now.file env.now.rows row (kind_of kind) }
+    ensures { OnOk result (words.new.items ≡ own_words env.now.file row (kind_of kind)) }
 {
-    let count = own_arity(earlier, kind, row);
+    let count = own_arity(env, kind, row);
     words.clear();
     words.reserve(count as usize)?;
     'params: for j in 0..count {
-        words.push(own_word(earlier, kind, row, j))?;
+        words.push(own_word(env, kind, row, j))?;
     }
     Ok(())
 }
@@ -162,14 +162,14 @@ fn proofs_of(items: &mut Vec<Item>, hyps: &[Id]) -> Result<(), AllocError>
 }
 
 /// The unify stream of the next row of the kind, from its first byte to the file's end.
-pub fn own_stream<'a>(earlier: &Earlier<'a>, kind: BodyKind, row: u32) -> &'a [u8]
-    requires { IsNextRow earlier.now.file earlier.now.rows row (kind_of kind) }
-    ensures stream { result.now ≡ (heading_by earlier.now.file row (kind_of kind)).stream }
+pub fn own_stream<'a>(env: &Environment<'a>, kind: BodyKind, row: u32) -> &'a [u8]
+    requires { IsNextRow env.now.file env.now.rows row (kind_of kind) }
+    ensures stream { result.now ≡ (heading_by env.now.file row (kind_of kind)).stream }
     ensures fits { length result.now < 2 ^ 32 }
-    ensures within { length result.now ≤ length earlier.now.file }
+    ensures within { length result.now ≤ length env.now.file }
 {
     match kind {
-        BodyKind::Axiom | BodyKind::Theorem => earlier.own_thm_stream(row),
-        BodyKind::Definition => earlier.own_term_stream(row),
+        BodyKind::Axiom | BodyKind::Theorem => env.own_thm_stream(row),
+        BodyKind::Definition => env.own_term_stream(row),
     }
 }

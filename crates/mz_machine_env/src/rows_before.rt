@@ -11,12 +11,12 @@ use std::marker::Model;
 
 /// The rows before a statement, read in place.
 #[derive(Drop)]
-pub struct Earlier<'a> {
+pub struct Environment<'a> {
     mmb: &'a Mmb<'a>,
     rows: Rows,
 }
 
-impl<'a> Model for Earlier<'a> {
+impl<'a> Model for Environment<'a> {
     ghost use Rattle.mz_machine_env.specs.Before.{Before, AreWithin, words_before, sorts_before};
     ghost use Rattle.mz_layout_tables.specs.Layout.{IsBinary};
 
@@ -28,16 +28,16 @@ impl<'a> Model for Earlier<'a> {
 }
 
 #[tactic(auto, using(crate::proofs::BeforeLaws::drop_fits, crate::proofs::BeforeLaws::before_facts, crate::proofs::BeforeLaws::own_facts))]
-impl<'a> Earlier<'a> {
+impl<'a> Environment<'a> {
     /// The rows before, of which the file has as many.
-    pub fn new(mmb: &'a Mmb<'a>, rows: Rows) -> Earlier<'a>
+    pub fn new(mmb: &'a Mmb<'a>, rows: Rows) -> Environment<'a>
         requires { AreWithin mmb.now rows }
         ensures file { result.file ≡ mmb.now }
         ensures rows { result.rows ≡ rows }
     {
         // That the file is a binary is reported by the call.
         let _ = mmb.file();
-        Earlier { mmb, rows }
+        Environment { mmb, rows }
     }
 
     /// How many axioms and theorems there are.
@@ -192,7 +192,7 @@ impl<'a> Earlier<'a> {
 }
 
 #[tactic(auto, using(crate::proofs::BeforeLaws::before_facts))]
-impl<'a> Terms for Earlier<'a> {
+impl<'a> Terms for Environment<'a> {
     ghost use Rattle.mz_logic_theory.specs.Words.{term_at};
 
     ghost all_sorts = { sorts_before };

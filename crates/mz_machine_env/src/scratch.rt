@@ -7,7 +7,7 @@ use std::alloc::Global;
 /// Lists that a command fills and no other command reads: each begins with whatever they hold. The first
 /// ids alone stay what they are.
 #[derive(Drop)]
-pub struct Spare {
+pub struct CommandBuffers {
     /// The operands of a row, with which the heap of its stream begins.
     pub operands: Vec<Id>,
     /// The ids with which the heap of the statement's own stream begins.
@@ -22,10 +22,10 @@ pub struct Spare {
     pub hyps: Vec<Item>,
 }
 
-impl Spare {
+impl CommandBuffers {
     /// Empty lists, which take no memory.
-    pub fn new(alloc: Global) -> Spare {
-        Spare {
+    pub fn new(alloc: Global) -> CommandBuffers {
+        CommandBuffers {
             operands: Vec::new(alloc),
             ids: FirstIds::new(alloc),
             saved: Vec::new(alloc),

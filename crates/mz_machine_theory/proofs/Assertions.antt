@@ -12,12 +12,15 @@ use Rattle.mz_logic_theory.specs.Derivations.{Uses, Derives}
 use Rattle.mz_logic_theory.specs.LegalLists.{IsProvedBy}
 use Rattle.mz_logic_theory.specs.declared.binder.Binder.{Binder}
 use Rattle.mz_logic_theory.proofs.Offered.{assertions_are_sorted, derived_has_provable}
-use Rattle.mz_unify_theory.specs.Streams.{of_assertion}
-use Rattle.mz_unify_theory.specs.Spells.{trees_of, variables_from, Text, SpellsThm}
-use Rattle.mz_unify_theory.specs.Profile.{plain, strict, Item, expr, proof}
-use Rattle.mz_unify_theory.specs.Sorted.{Sorted, AllSorted, ItemsSorted}
-use Rattle.mz_unify_theory.specs.UnifyMachine.{UnifyMode, at_end, Matching, UnifyState, unify}
-use Rattle.mz_unify_theory.proofs.Offered.{from_bind, from_need, rule_of-ok, taken-is, listed-trees_of, assertion-spelled, Below, EachBelow, text-met}
+use Rattle.mz_machine_theory.specs.Streams.{of_assertion}
+use Rattle.mz_machine_theory.specs.Spells.{trees_of, variables_from, Text, SpellsThm}
+use Rattle.mz_machine_theory.specs.Profile.{plain, strict, Item, expr, proof}
+use Rattle.mz_machine_theory.specs.Sorted.{Sorted, AllSorted, ItemsSorted}
+use Rattle.mz_machine_theory.specs.UnifyMachine.{UnifyMode, at_end, Matching, UnifyState, unify}
+use Rattle.mz_machine_theory.proofs.Inverting.{from_bind, from_need, rule_of-ok, taken-is}
+use Rattle.mz_machine_theory.proofs.Trees.{listed-trees_of}
+use Rattle.mz_machine_theory.proofs.OwnStream.{assertion-spelled}
+use Rattle.mz_machine_theory.proofs.Below.{Below, EachBelow, text-met}
 use Rattle.mz_machine_theory.specs.MachineState.{RowsBefore, signatures_in, State, Kind, is_axiom, is_theorem, Heading, Declares}
 use Rattle.mz_machine_theory.specs.ProofMachine.{last_item, ending, own_variables, own_stream, as_proofs, has_provable_sort, matched_by, ends_with, proof_end}
 use Rattle.mz_machine_theory.specs.Bodies.{body_run}

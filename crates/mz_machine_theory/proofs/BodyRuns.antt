@@ -8,15 +8,17 @@ use Rattle.mz_cmd.specs.declared.command.CmdFault.{CmdFault}
 use Rattle.mz_cmd.specs.declared.code.ProofCode.{ProofCode}
 use Rattle.mz_cmd.specs.declared.code.ProofCode.TheVariants as code
 use Rattle.mz_cmd.specs.Reading.{first_command}
-use Rattle.mz_unify_theory.specs.Steps.{◌>>=◌, ◌>>◌, need, Turn, over, goes_on}
-use Rattle.mz_unify_theory.specs.Profile.{Profile, Item}
-use Rattle.mz_unify_theory.specs.Spells.{SpelledTerm}
-use Rattle.mz_unify_theory.specs.UnifyMachine.{in_citation, at_end, in_definition, Matching, is_empty, at_start}
-use Rattle.mz_unify_theory.proofs.Offered.{command-long, follow-same, goes_to-le, if_read-le, goes_to-same, if_read-same, drop-less, from_bind, from_then, from_want, taken-is, steps-bounded}
+use Rattle.mz_machine_theory.specs.Steps.{◌>>=◌, ◌>>◌, need, Turn, over, goes_on}
+use Rattle.mz_machine_theory.specs.Profile.{Profile, Item}
+use Rattle.mz_machine_theory.specs.Spells.{SpelledTerm}
+use Rattle.mz_machine_theory.specs.UnifyMachine.{in_citation, at_end, in_definition, Matching, is_empty, at_start}
+use Rattle.mz_machine_theory.proofs.Turning.{command-long, follow-same, goes_to-le, if_read-le, goes_to-same, if_read-same, drop-less}
+use Rattle.mz_machine_theory.proofs.Inverting.{from_bind, from_then, from_want, taken-is}
+use Rattle.mz_machine_theory.proofs.UnifyRuns.{steps-bounded}
 use Rattle.mz_machine_theory.specs.MachineState.{RowsBefore, signatures_in, State, Kind, is_axiom, is_theorem, is_definition, Heading}
 use Rattle.mz_machine_theory.specs.Bodies.{BodyCommand, ends, proves, fst_of, body_command, body_turn_by, body_turn, body_from, match_steps, row_steps, command_steps, body_steps_from}
 use Rattle.mz_machine_theory.specs.ProofMachine.{proof_step, proof_end, citation, unfolding_of, stream_of, last_item, ending, own_stream, as_proofs, has_provable_sort, ends_with}
-use Rattle.mz_machine_theory.specs.Premises.{pop_expr, pop_operands, pop_sides, operands_fit, are_apart}
+use Rattle.mz_machine_theory.specs.Premises.{pop_expr, pop_operands, pop_sides, operands_fit, are_disjoint}
 use Rattle.mz_machine_theory.specs.FreeVars.{free_within}
 use Rattle.mz_logic_theory.specs.Legality.{sort_of}
 use Rattle.mz_machine_theory.specs.Laws.{StreamsWithin}
@@ -76,7 +78,7 @@ module _ (P : Profile) (tables : RowsBefore) (h : Heading) where
       from_bind (pop_expr st.stack) _ m e2 λ x _ e3.
       from_bind (pop_operands (length row.params) x.1) _ m e3 λ es _ e4.
       from_then (operands_fit (signatures_in tables) st.ctx (map P.tree es.0) row.params) _ m e4 λ _ _ e5.
-      from_then (need (are_apart st.ctx (map P.tree es.0) row.params) k.Disjoint) _ m e5 λ _ _ e6.
+      from_then (need (are_disjoint st.ctx (map P.tree es.0) row.params) k.Disjoint) _ m e5 λ _ _ e6.
       let is : row.stream ≡ m.stream = ap (λ (z : Matching P.T). z.stream) (taken-is (record { mode = in_citation; stream = row.stream; operands = es.0; target = x.0; items = es.1 }) m e6) in
       subst (λ (z : List ℕ). length z ≤ n) is (within.of_thms t row row-at)
 

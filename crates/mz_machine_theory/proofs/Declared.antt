@@ -3,7 +3,7 @@ use Rattle.std.proofs.Common.{◌≡◌, ℕ, zero, suc, List, [], ◌∷◌, ma
 use Rattle.std.specs.Prelude.{slice_get}
 use Rattle.mz_logic_theory.specs.Signature.{Signature}
 use Rattle.mz_logic_theory.specs.Declaration.{Term, Declaration, sort_decl, term_decl, assertion_decl, terms, signatures}
-use Rattle.mz_unify_theory.specs.Spells.{SpelledTerm, SpellsTerm}
+use Rattle.mz_machine_theory.specs.Spells.{SpelledTerm, SpellsTerm}
 use Rattle.mz_machine_theory.specs.MachineState.{RowsBefore, signatures_in, Pairwise, Declares}
 
 pub pair-at : {A B : Type 0} (R : A → B → Type 0) (xs : List A) (ys : List B) → Pairwise R xs ys → (i : ℕ) (x : A) → slice_get xs i ≡ Some x → (y : B) × (slice_get ys i ≡ Some y) × R x y

@@ -18,12 +18,20 @@ use Rattle.mz_logic_theory.specs.LegalLists.{AreDummies}
 use Rattle.mz_logic_theory.specs.declared.binder.Binder.{Binder}
 use Rattle.mz_logic_theory.specs.declared.binder.SortMods.{SortMods}
 use Rattle.mz_logic_theory.proofs.Offered.{split_at, all_from_each, terms_are_sorted, sort_is, range_of_sort, DepsInside, free_below}
-use Rattle.mz_unify_theory.specs.Streams.{of_definition}
-use Rattle.mz_unify_theory.specs.Spells.{trees_of, dummy_of, variables_from, SpellsTerm}
-use Rattle.mz_unify_theory.specs.Profile.{plain, strict, Item, expr}
-use Rattle.mz_unify_theory.specs.Sorted.{Sorted, ItemsSorted}
-use Rattle.mz_unify_theory.specs.UnifyMachine.{in_definition, UnifyState, unify}
-use Rattle.mz_unify_theory.proofs.Offered.{from_need, some_is, taken-is, operand-trees_of, followed-by-variables, fresh-at, distinct, in-some, get-mapped, FreshList, unfolding-is, place_from, renamed, definition-spelled, Below, text-met, length-params}
+use Rattle.mz_machine_theory.specs.Streams.{of_definition}
+use Rattle.mz_machine_theory.specs.Spells.{trees_of, dummy_of, variables_from, SpellsTerm}
+use Rattle.mz_machine_theory.specs.Profile.{plain, strict, Item, expr}
+use Rattle.mz_machine_theory.specs.Sorted.{Sorted, ItemsSorted}
+use Rattle.mz_machine_theory.specs.UnifyMachine.{in_definition, UnifyState, unify}
+use Rattle.mz_machine_theory.proofs.Inverting.{from_need, some_is, taken-is}
+use Rattle.mz_machine_theory.proofs.Trees.{operand-trees_of, followed-by-variables}
+use Rattle.mz_machine_theory.proofs.FreshVars.{fresh-at, distinct, in-some, get-mapped}
+use Rattle.mz_machine_theory.proofs.Matching.{FreshList}
+use Rattle.mz_machine_theory.proofs.Unfolding.{unfolding-is}
+use Rattle.mz_machine_theory.proofs.Spelled.{place_from, renamed}
+use Rattle.mz_machine_theory.proofs.OwnStream.{definition-spelled}
+use Rattle.mz_machine_theory.proofs.Below.{Below, text-met}
+use Rattle.mz_machine_theory.proofs.Citations.{length-params}
 use Rattle.mz_machine_theory.specs.MachineState.{RowsBefore, signatures_in, State, Kind, is_definition, Heading, Declares}
 use Rattle.mz_machine_theory.specs.FreeVars.{free_within}
 use Rattle.mz_machine_theory.specs.ProofMachine.{last_item, ending, own_stream}

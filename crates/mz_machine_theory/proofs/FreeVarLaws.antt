@@ -7,8 +7,8 @@ use Rattle.mz_logic_theory.specs.Tree.{Tree, Trees, var, app, none, more, operan
 use Rattle.mz_logic_theory.specs.Signature.{Signature}
 use Rattle.mz_logic_theory.specs.Variables.{InFV, InSomeFV, IsBoundAt, IsOperandAt, is_member}
 use Rattle.mz_logic_theory.specs.declared.binder.Binder.{Binder}
-use Rattle.mz_unify_theory.specs.Tests.{is_bound_at}
-use Rattle.mz_unify_theory.proofs.Offered.{not-both, member-contains, in-v-true, v-in}
+use Rattle.mz_machine_theory.specs.Tests.{is_bound_at}
+use Rattle.mz_machine_theory.proofs.TestLaws.{not-both, member-contains, in-v-true, v-in}
 use Rattle.mz_machine_theory.specs.FreeVars.{is_var, named_at, in_result, params_of, in_fv, in_some_fv, free_within}
 
 is-var-true : (x : ℕ) (e : Tree) → is_var x e ≡ true → e ≡ var x

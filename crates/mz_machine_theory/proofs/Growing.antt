@@ -3,8 +3,8 @@ use Rattle.std.proofs.Common.{◌≡◌, List, [], ◌∷◌, ◌++◌, refl, sy
 use Rattle.mz_logic_theory.specs.Declaration.{Term, Assertion, Declaration, sort_decl, term_decl, assertion_decl, sorts, terms, signatures, assertions}
 use Rattle.mz_logic_theory.specs.declared.binder.SortMods.{SortMods}
 use Rattle.mz_logic_theory.proofs.Offered.{Extends, env_extends_append, sorts-append, terms-append, assertions-append}
-use Rattle.mz_unify_theory.specs.Spells.{SpelledTerm, SpelledThm, SpellsTerm, SpellsThm}
-use Rattle.mz_unify_theory.proofs.Offered.{assertion-longer, term-longer}
+use Rattle.mz_machine_theory.specs.Spells.{SpelledTerm, SpelledThm, SpellsTerm, SpellsThm}
+use Rattle.mz_machine_theory.proofs.OneSpelling.{assertion-longer, term-longer}
 use Rattle.mz_machine_theory.specs.MachineState.{RowsBefore, Pairwise, Declares}
 use Rattle.mz_machine_theory.specs.Laws.{with_sort, with_term, with_thm}
 

@@ -2,8 +2,8 @@
 use Rattle.std.proofs.Common.{◌≡◌, ℕ, zero, suc, ◌+◌, ◌*◌, ◌≤◌, Bool, List, [], ◌∷◌, length, Option, Some, None, refl, ap, subst, ◌∙◌, ◌⊎◌, inl, inr, arith, suc-mul, mul-suc}
 use Rattle.std.specs.Prelude.{slice_get}
 use Rattle.mz_logic_theory.proofs.Offered.{split_at}
-use Rattle.mz_unify_theory.specs.Profile.{plain}
-use Rattle.mz_unify_theory.specs.Spells.{SpelledTerm, SpelledThm}
+use Rattle.mz_machine_theory.specs.Profile.{plain}
+use Rattle.mz_machine_theory.specs.Spells.{SpelledTerm, SpelledThm}
 use Rattle.mz_machine_theory.specs.MachineState.{RowsBefore, Heading}
 use Rattle.mz_machine_theory.specs.Bodies.{body_start, body_steps}
 use Rattle.mz_machine_theory.specs.Laws.{no_tables}

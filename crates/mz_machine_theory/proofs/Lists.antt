@@ -9,8 +9,8 @@ use Rattle.mz_logic_theory.specs.LegalLists.{Statement, IsProvedBy, IsLegalState
 use Rattle.mz_logic_theory.specs.declared.binder.Binder.{Binder}
 use Rattle.mz_logic_theory.specs.declared.binder.SortMods.{SortMods}
 use Rattle.mz_logic_theory.proofs.Offered.{cites_more, legal_push, terms_are_sorted}
-use Rattle.mz_unify_theory.specs.Spells.{SpelledTerm, SpelledThm, SpellsForm, SpellsTerm}
-use Rattle.mz_unify_theory.proofs.Offered.{one-assertion, one-term}
+use Rattle.mz_machine_theory.specs.Spells.{SpelledTerm, SpelledThm, SpellsForm, SpellsTerm}
+use Rattle.mz_machine_theory.proofs.OneSpelling.{one-assertion, one-term}
 use Rattle.mz_machine_theory.specs.MachineState.{RowsBefore, Declares}
 use Rattle.mz_machine_theory.specs.Laws.{no_tables}
 use Rattle.mz_machine_theory.specs.Sound.{AreRowParams, IsRowResult, used_by, cites_as}

@@ -3,7 +3,7 @@ use Rattle.std.proofs.Common.{◌≡◌, ℕ, List, Result, Ok, Err, refl, sym, 
 use Rattle.std.specs.Prelude.{◌↔◌}
 use Rattle.mz_base.specs.Checks.{AllHold, FailsFirst, AreDecided}
 use Rattle.mz_cmd.specs.declared.rule.K.{K}
-use Rattle.mz_unify_theory.specs.Profile.{Profile}
+use Rattle.mz_machine_theory.specs.Profile.{Profile}
 use Rattle.mz_machine_theory.specs.MachineState.{RowsBefore, Heading}
 use Rattle.mz_machine_theory.specs.Bodies.{body_run, Runs, Stops, checks_of}
 use Rattle.mz_machine_theory.specs.Laws.{OneOutcome, BodiesAreChecked}

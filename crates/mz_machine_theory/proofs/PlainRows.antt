@@ -8,10 +8,10 @@ use Rattle.mz_cmd.specs.declared.code.ProofCode.TheVariants as code
 use Rattle.mz_logic_theory.specs.Tree.{Tree, var}
 use Rattle.mz_logic_theory.specs.Legality.{sort_of}
 use Rattle.mz_logic_theory.specs.declared.binder.Binder.{Binder}
-use Rattle.mz_unify_theory.specs.Steps.{◌>>=◌, ◌>>◌, need, want, rule_of}
-use Rattle.mz_unify_theory.specs.Profile.{plain, strict, Item, expr, proof, obligation, conversion}
-use Rattle.mz_unify_theory.specs.UnifyMachine.{UnifyMode, Matching}
-use Rattle.mz_unify_theory.proofs.Offered.{bind-same, bind-first, unify-plain}
+use Rattle.mz_machine_theory.specs.Steps.{◌>>◌, need, want, rule_of}
+use Rattle.mz_machine_theory.specs.Profile.{plain, strict, Item, expr, proof, obligation, conversion}
+use Rattle.mz_machine_theory.specs.UnifyMachine.{UnifyMode, Matching}
+use Rattle.mz_machine_theory.proofs.PlainRuns.{bind-same, bind-first, unify-plain}
 use Rattle.mz_machine_theory.specs.MachineState.{RowsBefore, signatures_in, State, Kind, is_axiom, is_theorem, is_definition, Heading}
 use Rattle.mz_machine_theory.specs.FreeVars.{free_within}
 use Rattle.mz_machine_theory.specs.Premises.{pop_expr, pop_sides, is_conversion}

@@ -8,8 +8,9 @@ use Rattle.mz_logic_theory.specs.Sorts.{IsBoundVar, HasSort, Fits}
 use Rattle.mz_logic_theory.specs.Variables.{InV, InFV, InSomeFV, IsOperandAt}
 use Rattle.mz_logic_theory.specs.declared.binder.Binder.{Binder}
 use Rattle.mz_logic_theory.proofs.Offered.{extends_append, same-variable}
-use Rattle.mz_unify_theory.specs.Spells.{trees_of, variables_from}
-use Rattle.mz_unify_theory.proofs.Offered.{some_is, Below, AllBelow}
+use Rattle.mz_machine_theory.specs.Spells.{trees_of, variables_from}
+use Rattle.mz_machine_theory.proofs.Inverting.{some_is}
+use Rattle.mz_machine_theory.proofs.Below.{Below, AllBelow}
 
 pub no-app : (t : ℕ) (es : Trees) (x : ℕ) → app t es ≡ var x → ⊥
 no-app t es x e = cc

@@ -13,22 +13,25 @@ use Rattle.mz_logic_theory.specs.Signature.{Signature}
 use Rattle.mz_logic_theory.specs.Declaration.{Form, plain_form, abstract_form, defined, Declaration, sorts, terms, signatures, assertions}
 use Rattle.mz_logic_theory.specs.Modifiers.{MayBeDummySort}
 use Rattle.mz_logic_theory.specs.Sorts.{HasSort, Fits, HasProvable}
-use Rattle.mz_logic_theory.specs.Variables.{Apart}
+use Rattle.mz_logic_theory.specs.Variables.{AreDisjoint}
 use Rattle.mz_logic_theory.specs.Legality.{sort_of, IsDummy}
 use Rattle.mz_logic_theory.specs.Conversions.{refl_conv, sym_conv, cong_conv, unfold_conv, gap_conv, Between, AreFresh}
 use Rattle.mz_logic_theory.specs.Derivations.{hypothesis, cite, convert, gap, Uses, AllDerive}
 use Rattle.mz_logic_theory.specs.LegalLists.{AreDummies}
 use Rattle.mz_logic_theory.specs.declared.binder.Binder.{Binder}
-use Rattle.mz_logic_theory.proofs.Offered.{extends_itself, sort_extends, fits_extends, apart_extends, fresh_extends, split_at, sort_is}
-use Rattle.mz_unify_theory.specs.Streams.{of_definition}
-use Rattle.mz_unify_theory.specs.Spells.{trees_of, dummy_of, Text, SpelledTerm, SpellsForm, SpellsTerm, SpellsThm}
-use Rattle.mz_unify_theory.specs.Profile.{plain, strict, tree_parts, Item, expr, proof, obligation, conversion}
-use Rattle.mz_unify_theory.specs.Sorted.{Sorted, ItemSorted, ItemsSorted}
-use Rattle.mz_unify_theory.specs.Tests.{same_tree}
-use Rattle.mz_unify_theory.specs.UnifyMachine.{in_citation, in_definition, Matching, UnifyState, unify}
-use Rattle.mz_unify_theory.proofs.Offered.{from_bind, from_then, from_need, from_want, rule_of-ok, some_is, taken, taken-is, same_tree-true, parts-are, operands-sorted, citation-is, unfolding-is}
+use Rattle.mz_logic_theory.proofs.Offered.{extends_itself, sort_extends, fits_extends, disjoint_extends, fresh_extends, split_at, sort_is}
+use Rattle.mz_machine_theory.specs.Streams.{of_definition}
+use Rattle.mz_machine_theory.specs.Spells.{trees_of, dummy_of, Text, SpelledTerm, SpellsForm, SpellsTerm, SpellsThm}
+use Rattle.mz_machine_theory.specs.Profile.{plain, strict, tree_parts, Item, expr, proof, obligation, conversion}
+use Rattle.mz_machine_theory.specs.Sorted.{Sorted, ItemSorted, ItemsSorted}
+use Rattle.mz_machine_theory.specs.Tests.{same_tree}
+use Rattle.mz_machine_theory.specs.UnifyMachine.{in_citation, in_definition, Matching, UnifyState, unify}
+use Rattle.mz_machine_theory.proofs.Inverting.{from_bind, from_then, from_need, from_want, rule_of-ok, some_is, taken, taken-is}
+use Rattle.mz_machine_theory.proofs.Trees.{same_tree-true, parts-are, operands-sorted}
+use Rattle.mz_machine_theory.proofs.Citations.{citation-is}
+use Rattle.mz_machine_theory.proofs.Unfolding.{unfolding-is}
 use Rattle.mz_machine_theory.specs.MachineState.{RowsBefore, signatures_in, State, Declares}
-use Rattle.mz_machine_theory.specs.Premises.{pop, pop_expr, pop_proof, pop_obligation, pop_conversion, pop_operands, pop_sides, is_conversion, is_obligation, may_be_dummy_sort, is_provable_sort, bound_count, operands_fit, are_apart}
+use Rattle.mz_machine_theory.specs.Premises.{pop, pop_expr, pop_proof, pop_obligation, pop_conversion, pop_operands, pop_sides, is_conversion, is_obligation, may_be_dummy_sort, is_provable_sort, bound_count, operands_fit, are_disjoint}
 use Rattle.mz_machine_theory.specs.ProofMachine.{built, citation, matched_by, cited, referred, sides, same_term, stream_of, unfolding_of, gapped, has_provable_sort, proof_step}
 use Rattle.mz_machine_theory.specs.Invariant.{Derivable, Convertible, Holds, StackHolds, IsFront, AreProvableClaims, Fact, Keeps}
 use Rattle.mz_machine_theory.proofs.Declared.{pair-at, signatures-are, signature-at}
@@ -374,7 +377,7 @@ module _ (P : Uses) (tables : RowsBefore) (env : List Declaration) (declares : D
       from_bind (pop_expr st.stack) _ m e2 λ x popping e3.
       from_bind (pop_operands (length row.params) x.1) _ m e3 λ es popping-es e4.
       from_then (operands_fit (signatures_in tables) st.ctx (map (λ z. z) es.0) row.params) _ m e4 λ u1 fit e5.
-      from_need (are_apart st.ctx (map (λ z. z) es.0) row.params) k.Disjoint _ m e5 λ apart e6.
+      from_need (are_disjoint st.ctx (map (λ z. z) es.0) row.params) k.Disjoint _ m e5 λ apart e6.
       let made : Matching Tree = record { mode = in_citation; stream = row.stream; operands = es.0; target = x.0; items = es.1 } in
       let m-is : made ≡ m = taken-is made m e6 in
       let run-is : unify strict Sigs st.ctx made ≡ Ok u =
@@ -386,9 +389,9 @@ module _ (P : Uses) (tables : RowsBefore) (env : List Declaration) (declares : D
       let (hs, hs-are, x-is, items-are) = citation-is Sigs st.ctx row a spells es.0 x.0 es.1 u len x-sorted rest-sorted run-is in
       let fit' : operands_fit Sigs st.ctx es.0 row.params ≡ Ok u1 = subst (λ (z : List Signature). operands_fit z st.ctx es.0 row.params ≡ Ok u1) (signatures-are tables env declares) (rw map-id at fit) in
       let fits : Fits Sigs st.ctx (trees_of es.0) row.params = fits-from Sigs st.ctx es.0 row.params u1 fit' len sorted in
-      let is-apart : Apart st.ctx (trees_of es.0) row.params = apart-from-test st.ctx es.0 row.params len (rw map-id at apart) in
+      let is-apart : AreDisjoint st.ctx (trees_of es.0) row.params = apart-from-test st.ctx es.0 row.params len (rw map-id at apart) in
       let fits-full : Fits Sigs full (trees_of es.0) a.params = subst (Fits Sigs full (trees_of es.0)) spells.0 (fits_extends Sigs Sigs st.ctx full (extends_itself Sigs) front (trees_of es.0) row.params fits) in
-      let apart-full : Apart full (trees_of es.0) a.params = subst (Apart full (trees_of es.0)) spells.0 (apart_extends Sigs st.ctx full front (trees_of es.0) row.params fits is-apart) in
+      let apart-full : AreDisjoint full (trees_of es.0) a.params = subst (AreDisjoint full (trees_of es.0)) spells.0 (disjoint_extends Sigs st.ctx full front (trees_of es.0) row.params fits is-apart) in
       let (each, below) = proofs-below P env full st.hyps (reverse hs) u.items (subst (StackHolds P env full st.hyps) items-are rest-holds) in
       let (ds, cite-all, all) = derive-all P env full st.hyps hs (each-reverse P env full st.hyps hs each) in
       let all-hyps : AllDerive env full (trees_of st.hyps) ds (instances (trees_of es.0) a.hyps) = subst (AllDerive env full (trees_of st.hyps) ds) hs-are all in

@@ -9,11 +9,12 @@ use Rattle.mz_logic_theory.specs.Sorts.{HasProvable}
 use Rattle.mz_logic_theory.specs.Conversions.{Conversions, no_convs, more_convs, AllBetween, AllGapsOnly}
 use Rattle.mz_logic_theory.specs.Derivations.{Derivation, Derivations, hypothesis, cite, convert, gap, no_derivs, more_derivs, Derives, AllDerive, Uses, AllCiteOnly}
 use Rattle.mz_logic_theory.specs.declared.binder.Binder.{Binder}
-use Rattle.mz_unify_theory.specs.Spells.{trees_of}
-use Rattle.mz_unify_theory.specs.Profile.{strict, Item, expr, proof, obligation, conversion}
-use Rattle.mz_unify_theory.specs.Sorted.{Sorted, AllSorted, ItemSorted, ItemsSorted}
-use Rattle.mz_unify_theory.specs.Tests.{same_tree}
-use Rattle.mz_unify_theory.proofs.Offered.{from_bind, from_need, taken-is, listed-trees_of}
+use Rattle.mz_machine_theory.specs.Spells.{trees_of}
+use Rattle.mz_machine_theory.specs.Profile.{strict, Item, expr, proof, obligation, conversion}
+use Rattle.mz_machine_theory.specs.Sorted.{Sorted, AllSorted, ItemSorted, ItemsSorted}
+use Rattle.mz_machine_theory.specs.Tests.{same_tree}
+use Rattle.mz_machine_theory.proofs.Inverting.{from_bind, from_need, taken-is}
+use Rattle.mz_machine_theory.proofs.Trees.{listed-trees_of}
 use Rattle.mz_machine_theory.specs.Premises.{pop_expr, pop_proof, pop_obligation, pop_conversion, pop_exprs, pop_operands, pop_sides}
 use Rattle.mz_machine_theory.specs.ProofMachine.{sides}
 use Rattle.mz_machine_theory.specs.Invariant.{Derivable, Convertible, Holds, HeapHolds, StackHolds, AreProvableClaims}

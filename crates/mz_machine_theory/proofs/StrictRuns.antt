@@ -9,10 +9,10 @@ use Rattle.mz_cmd.specs.declared.code.ProofCode.TheVariants as code
 use Rattle.mz_cmd.specs.Codes.{proof_code}
 use Rattle.mz_cmd.specs.Reading.{first_command}
 use Rattle.mz_logic_theory.specs.Tree.{Tree}
-use Rattle.mz_unify_theory.specs.Steps.{◌>>=◌, ◌>>◌, need, at_place, Turn, over, goes_on, follow}
-use Rattle.mz_unify_theory.specs.Profile.{plain, strict, expr}
-use Rattle.mz_unify_theory.specs.UnifyMachine.{is_empty}
-use Rattle.mz_unify_theory.proofs.Offered.{from_bind}
+use Rattle.mz_machine_theory.specs.Steps.{◌>>=◌, ◌>>◌, need, at_place, Turn, over, goes_on, follow}
+use Rattle.mz_machine_theory.specs.Profile.{plain, strict, expr}
+use Rattle.mz_machine_theory.specs.UnifyMachine.{is_empty}
+use Rattle.mz_machine_theory.proofs.Inverting.{from_bind}
 use Rattle.mz_machine_theory.specs.MachineState.{RowsBefore, State, Kind, is_axiom, is_theorem, is_definition, Heading}
 use Rattle.mz_machine_theory.specs.ProofMachine.{proof_step}
 use Rattle.mz_machine_theory.specs.Bodies.{BodyCommand, ends, proves, stands_in, if_allowed, body_command, body_turn, body_turn_by, body_from, body_start}

@@ -12,11 +12,11 @@ use Rattle.mz_logic_theory.specs.Tree.{Tree}
 use Rattle.mz_logic_theory.specs.Declaration.{Declaration, signatures, assertions}
 use Rattle.mz_logic_theory.specs.Derivations.{Uses}
 use Rattle.mz_logic_theory.specs.declared.binder.Binder.{Binder}
-use Rattle.mz_unify_theory.specs.Steps.{◌>>◌, need, at_place, Turn, over, goes_on, follow}
-use Rattle.mz_unify_theory.specs.Profile.{plain, strict, expr}
-use Rattle.mz_unify_theory.specs.Sorted.{ItemsSorted}
-use Rattle.mz_unify_theory.specs.UnifyMachine.{is_empty}
-use Rattle.mz_unify_theory.proofs.Offered.{from_bind, from_need, place-ok, taken, taken-is}
+use Rattle.mz_machine_theory.specs.Steps.{◌>>◌, need, at_place, Turn, over, goes_on, follow}
+use Rattle.mz_machine_theory.specs.Profile.{plain, strict, expr}
+use Rattle.mz_machine_theory.specs.Sorted.{ItemsSorted}
+use Rattle.mz_machine_theory.specs.UnifyMachine.{is_empty}
+use Rattle.mz_machine_theory.proofs.Inverting.{from_bind, from_need, place-ok, taken, taken-is}
 use Rattle.mz_machine_theory.specs.MachineState.{RowsBefore, State, Heading, Declares}
 use Rattle.mz_machine_theory.specs.ProofMachine.{proof_step, proof_end, ends_with, matched_by, own_variables}
 use Rattle.mz_machine_theory.specs.Bodies.{BodyCommand, ends, proves, stands_in, if_allowed, body_command, body_turn, body_turn_by, body_from, body_run, body_start}

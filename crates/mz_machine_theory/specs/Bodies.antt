@@ -9,9 +9,9 @@ use Rattle.mz_cmd.specs.declared.code.ProofCode.{ProofCode}
 use Rattle.mz_cmd.specs.declared.code.ProofCode.TheVariants as code
 use Rattle.mz_cmd.specs.Codes.{proof_code}
 use Rattle.mz_cmd.specs.Reading.{first_command}
-use Rattle.mz_unify_theory.specs.Steps.{◌>>=◌, ◌>>◌, need, at_place, Turn, over, goes_on, follow, goes_to, if_read}
-use Rattle.mz_unify_theory.specs.Profile.{Profile, expr}
-use Rattle.mz_unify_theory.specs.UnifyMachine.{Matching, is_empty, unify_steps}
+use Rattle.mz_machine_theory.specs.Steps.{◌>>=◌, ◌>>◌, need, at_place, Turn, over, goes_on, follow, goes_to, if_read}
+use Rattle.mz_machine_theory.specs.Profile.{Profile, expr}
+use Rattle.mz_machine_theory.specs.UnifyMachine.{Matching, is_empty, unify_steps}
 use Rattle.mz_machine_theory.specs.MachineState.{RowsBefore, signatures_in, State, Kind, is_axiom, is_theorem, is_definition, Heading}
 use Rattle.mz_machine_theory.specs.ProofMachine.{citation, unfolding_of, proof_step, own_variables, ends_with, proof_end}
 

@@ -4,8 +4,8 @@ use Rattle.mz_cmd.specs.declared.rule.K.{K}
 use Rattle.mz_cmd.specs.declared.rule.K.TheVariants as k
 use Rattle.mz_logic_theory.specs.declared.binder.Binder.{Binder}
 use Rattle.mz_logic_theory.specs.declared.binder.ResultType.{ResultType}
-use Rattle.mz_unify_theory.specs.Profile.{strict, draft}
-use Rattle.mz_unify_theory.specs.Spells.{SpelledTerm, SpelledThm}
+use Rattle.mz_machine_theory.specs.Profile.{strict, draft}
+use Rattle.mz_machine_theory.specs.Spells.{SpelledTerm, SpelledThm}
 use Rattle.mz_machine_theory.specs.MachineState.{RowsBefore, is_axiom, is_theorem, is_definition, Heading}
 use Rattle.mz_machine_theory.specs.Bodies.{body_run}
 

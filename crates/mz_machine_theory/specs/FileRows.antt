@@ -6,7 +6,7 @@ use Rattle.mz_logic_theory.specs.Declaration.{Declaration, sorts, terms, asserti
 use Rattle.mz_logic_theory.specs.Words.{binders_of, signature_of}
 use Rattle.mz_logic_theory.specs.declared.binder.SortMods.{SortMods}
 use Rattle.mz_layout_tables.specs.Tables.{TermRow, term_row, thm_row}
-use Rattle.mz_unify_theory.specs.Spells.{SpelledTerm, SpelledThm}
+use Rattle.mz_machine_theory.specs.Spells.{SpelledTerm, SpelledThm}
 use Rattle.mz_machine_theory.specs.MachineState.{RowsBefore}
 
 -- a definition's stream follows its words; a plain term has none

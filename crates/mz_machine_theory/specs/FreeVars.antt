@@ -4,7 +4,7 @@ use Rattle.mz_logic_theory.specs.Tree.{Tree, Trees, var, app, none, more, operan
 use Rattle.mz_logic_theory.specs.Signature.{Signature}
 use Rattle.mz_logic_theory.specs.declared.binder.Binder.{Binder}
 use Rattle.mz_logic_theory.specs.Variables.{is_member}
-use Rattle.mz_unify_theory.specs.Tests.{is_bound_at, in_var}
+use Rattle.mz_machine_theory.specs.Tests.{is_bound_at, in_var}
 
 -- the expression is the variable x
 abbrev pub is_var : ℕ → Tree → Bool

@@ -7,9 +7,9 @@ use Rattle.mz_logic_theory.specs.Conversions.{Conversion, Between, GapsOnly}
 use Rattle.mz_logic_theory.specs.Derivations.{Derivation, Derives, Uses, CitesOnly}
 use Rattle.mz_logic_theory.specs.LegalLists.{AreDummies}
 use Rattle.mz_logic_theory.specs.declared.binder.Binder.{Binder}
-use Rattle.mz_unify_theory.specs.Spells.{trees_of}
-use Rattle.mz_unify_theory.specs.Sorted.{ItemsSorted}
-use Rattle.mz_unify_theory.specs.Profile.{Item, expr, proof, obligation, conversion}
+use Rattle.mz_machine_theory.specs.Spells.{trees_of}
+use Rattle.mz_machine_theory.specs.Sorted.{ItemsSorted}
+use Rattle.mz_machine_theory.specs.Profile.{Item, expr, proof, obligation, conversion}
 use Rattle.mz_machine_theory.specs.MachineState.{State}
 
 -- each has a provable sort

@@ -4,8 +4,8 @@ use Rattle.mz_base.specs.Checks.{AllHold, FailsFirst, AreDecided}
 use Rattle.mz_cmd.specs.declared.rule.K.{K}
 use Rattle.mz_logic_theory.specs.Declaration.{Term, Assertion, Declaration, sort_decl, term_decl, assertion_decl, signatures}
 use Rattle.mz_logic_theory.specs.declared.binder.SortMods.{SortMods}
-use Rattle.mz_unify_theory.specs.Profile.{Profile, plain, strict}
-use Rattle.mz_unify_theory.specs.Spells.{SpelledTerm, SpelledThm, SpellsTerm, SpellsThm}
+use Rattle.mz_machine_theory.specs.Profile.{Profile, plain, strict}
+use Rattle.mz_machine_theory.specs.Spells.{SpelledTerm, SpelledThm, SpellsTerm, SpellsThm}
 use Rattle.mz_machine_theory.specs.MachineState.{RowsBefore, Heading, State, Declares}
 use Rattle.mz_machine_theory.specs.Bodies.{body_from, Runs, Stops, body_steps_from, body_checks}
 

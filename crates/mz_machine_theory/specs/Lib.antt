@@ -12,3 +12,11 @@ pub mod Examples
 pub mod WorkedRuns
 pub mod FileRows
 pub mod Headings
+pub mod Steps
+pub mod Streams
+pub mod Spells
+pub mod Profile
+pub mod Tests
+pub mod UnifyMachine
+pub mod Sorted
+pub mod UnifyLaws

@@ -5,8 +5,8 @@ use Rattle.mz_logic_theory.specs.Signature.{Signature}
 use Rattle.mz_logic_theory.specs.Declaration.{Term, Assertion, Declaration, sort_decl, term_decl, assertion_decl, signatures}
 use Rattle.mz_logic_theory.specs.LegalLists.{Statement, IsProvedBy, LegalBy, allowed_with}
 use Rattle.mz_logic_theory.specs.declared.binder.SortMods.{SortMods}
-use Rattle.mz_unify_theory.specs.Profile.{plain}
-use Rattle.mz_unify_theory.specs.Spells.{SpelledTerm, SpelledThm, SpellsTerm, SpellsThm}
+use Rattle.mz_machine_theory.specs.Profile.{plain}
+use Rattle.mz_machine_theory.specs.Spells.{SpelledTerm, SpelledThm, SpellsTerm, SpellsThm}
 use Rattle.mz_machine_theory.specs.MachineState.{RowsBefore, Kind, is_axiom, is_theorem, is_definition, Heading}
 use Rattle.mz_machine_theory.specs.Bodies.{Runs, body_steps}
 use Rattle.mz_machine_theory.specs.Laws.{no_tables, with_sort, with_term, with_thm}

@@ -9,9 +9,9 @@ use Rattle.mz_logic_theory.specs.Legality.{sort_of}
 use Rattle.mz_logic_theory.specs.declared.binder.Binder.{Binder}
 use Rattle.mz_logic_theory.specs.declared.binder.SortMods.{SortMods}
 use Rattle.mz_logic_theory.specs.Variables.{is_member}
-use Rattle.mz_unify_theory.specs.Steps.{◌>>=◌, ◌>>◌, need}
-use Rattle.mz_unify_theory.specs.Profile.{Profile, Item, expr, proof, obligation, conversion}
-use Rattle.mz_unify_theory.specs.Tests.{has_bit, is_bound_var, var_within}
+use Rattle.mz_machine_theory.specs.Steps.{◌>>=◌, ◌>>◌, need}
+use Rattle.mz_machine_theory.specs.Profile.{Profile, Item, expr, proof, obligation, conversion}
+use Rattle.mz_machine_theory.specs.Tests.{has_bit, is_bound_var, var_within}
 
 -- ---- the stack
 
@@ -101,18 +101,18 @@ operands_fit sigs ctx (e ∷ es) (p ∷ ps) =
 
 -- e, the operand at place i whose parameter has these dependencies, holds the variable of no bound
 -- parameter from place j on, but of those on which it depends and its own
-abbrev pub apart_from : List Binder → ℕ → List ℕ → Tree → ℕ → List Tree → List Binder → Bool
-apart_from ctx i deps e j [] ps = true
-apart_from ctx i deps e j (f ∷ fs) [] = true
-apart_from ctx i deps e j (f ∷ fs) (q ∷ qs) =
-    (not q.bound || i == j || is_member j deps || not (var_within ctx f e)) && apart_from ctx i deps e (j + 1) fs qs
+abbrev pub disjoint_from : List Binder → ℕ → List ℕ → Tree → ℕ → List Tree → List Binder → Bool
+disjoint_from ctx i deps e j [] ps = true
+disjoint_from ctx i deps e j (f ∷ fs) [] = true
+disjoint_from ctx i deps e j (f ∷ fs) (q ∷ qs) =
+    (not q.bound || i == j || is_member j deps || not (var_within ctx f e)) && disjoint_from ctx i deps e (j + 1) fs qs
 
 abbrev pub apart_at : List Binder → List Tree → List Binder → ℕ → List Tree → List Binder → Bool
 apart_at ctx all params i [] ps = true
 apart_at ctx all params i (e ∷ es) [] = true
 apart_at ctx all params i (e ∷ es) (p ∷ ps) =
-    apart_from ctx i p.deps e 0 all params && apart_at ctx all params (i + 1) es ps
+    disjoint_from ctx i p.deps e 0 all params && apart_at ctx all params (i + 1) es ps
 
--- `Apart`: whichever of the two operands comes first
-abbrev pub are_apart : List Binder → List Tree → List Binder → Bool
-are_apart ctx es params = apart_at ctx es params 0 es params
+-- `AreDisjoint`: whichever of the two operands comes first
+abbrev pub are_disjoint : List Binder → List Tree → List Binder → Bool
+are_disjoint ctx es params = apart_at ctx es params 0 es params

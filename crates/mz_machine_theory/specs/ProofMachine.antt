@@ -6,13 +6,13 @@ use Rattle.mz_cmd.specs.declared.code.ProofCode.{ProofCode}
 use Rattle.mz_cmd.specs.declared.code.ProofCode.TheVariants as code
 use Rattle.mz_logic_theory.specs.Legality.{sort_of}
 use Rattle.mz_logic_theory.specs.declared.binder.Binder.{Binder}
-use Rattle.mz_unify_theory.specs.Steps.{◌>>=◌, ◌>>◌, need, want, rule_of}
-use Rattle.mz_unify_theory.specs.Profile.{Profile, Item, expr, proof, obligation, conversion}
-use Rattle.mz_unify_theory.specs.Spells.{SpelledTerm, dummy_of}
-use Rattle.mz_unify_theory.specs.UnifyMachine.{UnifyMode, in_citation, at_end, in_definition, Matching, UnifyState, unify}
+use Rattle.mz_machine_theory.specs.Steps.{◌>>=◌, ◌>>◌, need, want, rule_of}
+use Rattle.mz_machine_theory.specs.Profile.{Profile, Item, expr, proof, obligation, conversion}
+use Rattle.mz_machine_theory.specs.Spells.{SpelledTerm, dummy_of}
+use Rattle.mz_machine_theory.specs.UnifyMachine.{UnifyMode, in_citation, at_end, in_definition, Matching, UnifyState, unify}
 use Rattle.mz_machine_theory.specs.MachineState.{RowsBefore, signatures_in, State, Kind, is_axiom, is_theorem, is_definition, Heading}
 use Rattle.mz_machine_theory.specs.FreeVars.{free_within}
-use Rattle.mz_machine_theory.specs.Premises.{pop, pop_expr, pop_proof, pop_obligation, pop_conversion, pop_operands, pop_sides, is_conversion, is_obligation, may_be_dummy_sort, is_provable_sort, bound_count, operands_fit, are_apart}
+use Rattle.mz_machine_theory.specs.Premises.{pop, pop_expr, pop_proof, pop_obligation, pop_conversion, pop_operands, pop_sides, is_conversion, is_obligation, may_be_dummy_sort, is_provable_sort, bound_count, operands_fit, are_disjoint}
 
 -- ---- expressions and citations
 
@@ -39,7 +39,7 @@ citation P tables t st = do
   e ← pop_expr st.stack
   es ← pop_operands (length row.params) e.1
   operands_fit (signatures_in tables) st.ctx (map P.tree es.0) row.params
-  need (are_apart st.ctx (map P.tree es.0) row.params) k.Disjoint
+  need (are_disjoint st.ctx (map P.tree es.0) row.params) k.Disjoint
   Ok (record { mode = in_citation; stream = row.stream; operands = es.0; target = e.0; items = es.1 })
 
 -- the stream runs; a rule that fails in it is the command's

@@ -4,7 +4,7 @@ use Rattle.std.specs.Prelude.{◌≡◌, ℕ, ◌+◌, ◌-◌, List, [], ◌∷
 use Rattle.mz_cmd.specs.declared.rule.K.{K}
 use Rattle.mz_cmd.specs.declared.rule.K.TheVariants as k
 use Rattle.mz_logic_theory.specs.declared.binder.Binder.{Binder}
-use Rattle.mz_unify_theory.specs.Profile.{strict}
+use Rattle.mz_machine_theory.specs.Profile.{strict}
 use Rattle.mz_machine_theory.specs.MachineState.{RowsBefore, Heading}
 use Rattle.mz_machine_theory.specs.Bodies.{body_steps}
 use Rattle.mz_machine_theory.specs.Examples.{verdict, regular, bound, of_sort, assertion, definition, axiom_body, theorem_body, definition_body, ax_1_stream, ax_mp_stream, a1i_stream, before_ax_1, before_ax_mp, before_a1i, ax_v_stream, gen_stream, before_gen, negation, nn_stream, fold_stream, before_nn, before_fold, two_bound, one_dummy_stream, before_dummy, dummy_body}

@@ -1,7 +1,7 @@
 // Laws on the definitions: the contract of each function is one, and its body is empty.
 ghost use Rattle.mz_machine_theory.specs.Lists.{StepsOfLists};
 ghost use Rattle.mz_machine_theory.specs.Laws.{BodiesAreChecked, BoundNeverEnds, CountsAreWhole, NothingAtFirst, OneOutcome, SortsGrow, StepsBounded, StrictRunsWithGaps, TermsGrow, ThmsGrow};
-ghost use Rattle.mz_unify_theory.specs.Profile.{plain};
+ghost use Rattle.mz_machine_theory.specs.Profile.{plain};
 ghost use Rattle.std.specs.Prelude.{Bool};
 
 /// A body runs to its END, or stops at one place by one rule.

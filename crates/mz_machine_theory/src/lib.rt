@@ -1,20 +1,24 @@
-//! The proof machine as a definition: one clause a command, and why what it accepts is proved.
+//! The unify machine and the proof machine as definitions: one clause a command, and why what they accept is proved.
 //!
-//! `specs/ProofMachine.antt` has one clause a command: its premises in order, each with its rule, and the next state.
-//! `specs/Bodies.antt` has whole bodies. A body runs, or stops at one place by one rule. `specs/Invariant.antt` is
-//! the fact that each command keeps, and the heart of the soundness of `mz`: PROOFS tells how it goes.
+//! A stream of unify commands spells expressions in preorder (`specs/Streams.antt`, `specs/Spells.antt`).
+//! `specs/UnifyMachine.antt` has three modes: a citation, an assertion's own END, a definition. What varies between
+//! machines is a profile (`specs/Profile.antt`). The law `matches_are_exact`: a stream runs on a target exactly where the
+//! target is an instance of what it spells, with fresh variables for dummies.
 //!
-//! The laws (`specs/Sound.antt`): where a body runs, its row spells a legal declaration. A theorem has a derivation
-//! that cites only what the body cites, and has a gap only where the body leaves one. A body of m bytes executes at
-//! most m * (n + 1) commands, beside streams of n bytes (`steps_bounded`). `worked_bodies` are computed examples.
+//! `specs/ProofMachine.antt` has one clause a proof command: its premises in order, each with its rule, and the next
+//! state; `specs/Bodies.antt` whole bodies. `specs/Invariant.antt` is the fact that each command keeps, and the heart of
+//! the soundness of `mz`: PROOFS tells how it goes. The laws (`specs/Sound.antt`): where a body runs, its row spells a
+//! legal declaration, and a theorem has a derivation that cites only what the body cites. Steps are bounded
+//! (`steps_bounded`).
 //!
-//! Nothing here runs and nothing knows a store: `mz_machine` does. All is said over a profile, so that the machine by
-//! identity and drafts are other values of it.
+//! Nothing here runs and nothing knows a store: `mz_unify` and `mz_machine` do, and the machine by identity is another
+//! value of the profile.
 #![tactic(auto)]
 
 mod examples;
 mod laws;
 mod soundness;
+mod unify_laws;
 
 pub use examples::{changed_bodies, counted_steps, worked_bodies};
 pub use laws::{
@@ -24,4 +28,8 @@ pub use laws::{
 pub use soundness::{
     axioms_are_legal, definitions_are_legal, good_entries_are_legal, rows_keep_the_fact,
     theorems_are_proved, ungapped_are_proved,
+};
+pub use unify_laws::{
+    gaps_dont_matter, longer_spell_the_same, matches_are_exact, one_spelling, one_step_a_byte,
+    only_what_was_met, own_streams_are_spelled, stream_bound_never_ends, streams_that_run_spell,
 };

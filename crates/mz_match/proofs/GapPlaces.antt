@@ -21,8 +21,7 @@ use Rattle.mz_spec_proved_theory.specs.Match.{publics}
 use Rattle.mz_match.specs.Reported.{IsMatched}
 use Rattle.mz_match.proofs.UnnamedFollow.{unnamed-follow}
 use Rattle.mz_match_theory.specs.Verdict.{AcceptsBy, IsDifferenceAt, IsVerdictBy}
-use Rattle.mz_binary_theory.specs.declared.standard.Standard.{Standard}
-use Rattle.mz_binary_theory.specs.Standards.{lets_gaps, draft_standard}
+use Rattle.mz_binary_theory.specs.Standards.{Standard, lets_gaps, draft_standard}
 
 -- ---- one statement more at the end
 

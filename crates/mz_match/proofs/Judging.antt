@@ -1,7 +1,7 @@
 -- What follows of the answer that hands on what was read.
 use Rattle.std.proofs.Common.{◌≡◌, ◌⊎◌, ℕ, List, Result, Ok, Err, refl}
 use Rattle.std.specs.Prelude.{MatchResult}
-use Rattle.mz_binary_theory.specs.declared.standard.Standard.{Standard}
+use Rattle.mz_binary_theory.specs.Standards.{Standard}
 use Rattle.mz_match.specs.declared.accepted.Accepted.{Accepted}
 use Rattle.mz_match.specs.Judged.{IsAccepted, IsRefused, verdict_in}
 use Rattle.mz_match_theory.specs.declared.verdict.Counts.{Counts}

@@ -12,7 +12,7 @@ use Rattle.mz_cmd.specs.Reading.{first_command}
 use Rattle.mz_logic_theory.specs.Declaration.{Declaration, sort_decl, term_decl, assertion_decl, assertions}
 use Rattle.mz_logic_theory.specs.LegalLists.{Statement, declarations}
 use Rattle.mz_logic_theory.proofs.Offered.{one_at}
-use Rattle.mz_unify_theory.proofs.Offered.{cmd-is}
+use Rattle.mz_machine_theory.proofs.Offered.{cmd-is}
 use Rattle.mz_machine_theory.specs.Sound.{CitesWithin, GapsWithin, HasGap}
 use Rattle.mz_binary_theory.specs.Gapped.{AssertionBody, bodies_of, IsTheoremBody, IsGapped, leaves_gap, rests_on, GappedIn}
 use Rattle.mz_binary_theory.specs.Standards.{draft_standard}

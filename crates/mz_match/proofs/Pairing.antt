@@ -34,8 +34,7 @@ use Rattle.mz_match.specs.Reported.{IsReported, IsMatched}
 use Rattle.mz_match_theory.specs.Verdict.{IsDifferenceAt, TicksBy, counts_of, IsSoundIfAccepted, IsVerdict, IsVerdictBy}
 use Rattle.mz_spec_proved_theory.proofs.Offered.{publics-append, publics-local, publics-public, term_rows-append, drop-further, drop-past, kinds-total, length-declarations, length-env, leaves-nothing, leaves-local, leaves-public, partner-there}
 use Rattle.mz_match_theory.proofs.Offered.{accepted-sound}
-use Rattle.mz_binary_theory.specs.declared.standard.Standard.{Standard}
-use Rattle.mz_binary_theory.specs.Standards.{lets_gaps}
+use Rattle.mz_binary_theory.specs.Standards.{Standard, lets_gaps}
 
 abbrev assertion_code : Bool → ℕ
 assertion_code b = if b then 0x02 else 0x06

@@ -11,10 +11,10 @@ use Rattle.mz_logic_theory.specs.Words.{binders_of}
 use Rattle.mz_logic_theory.specs.declared.binder.Binder.{Binder}
 use Rattle.mz_logic_theory.proofs.Offered.{signatures-append, length-binders, length-signatures}
 use Rattle.mz_layout_tables.specs.Tables.{list_at, term_count, mods_of, term_row, thm_row}
-use Rattle.mz_unify_theory.specs.Streams.{StreamKind, of_assertion, of_definition, UnifyCommand, StreamIs}
-use Rattle.mz_unify_theory.specs.Spells.{Marks, SpellsText, Text, SpellsForm, at_first, variables_from}
+use Rattle.mz_machine_theory.specs.Streams.{StreamKind, of_assertion, of_definition, UnifyCommand, StreamIs}
+use Rattle.mz_machine_theory.specs.Spells.{Marks, SpellsText, Text, SpellsForm, at_first, variables_from}
 use Rattle.mz_layout_tables.proofs.Offered.{right-words}
-use Rattle.mz_unify_theory.proofs.Offered.{length-params}
+use Rattle.mz_machine_theory.proofs.Offered.{length-params}
 use Rattle.mz_machine_theory.specs.FileRows.{stream_of, term_of_file}
 use Rattle.mz_binary_theory.specs.declared.statement.Statement.{Statement as Reported}
 use Rattle.mz_binary_theory.specs.Chains.{GoodTo}
@@ -26,7 +26,7 @@ use Rattle.mz_match_rows.specs.Streams.{AreMarks, HypsAreSaid}
 use Rattle.mz_match_rows.specs.ReportedRow.{SaysFirst, SaysForm, SaysClaims, IsTermRow, IsThmRow, IsRowOf, assertion_code}
 use Rattle.mz_match.specs.Reported.{IsReported}
 use Rattle.mz_match_rows.proofs.Offered.{command-takes, few-dummies, joined, Grows, Segment, append-none, grows-not, hyps-grow, spelled-said, hyps-said}
-use Rattle.mz_binary_theory.specs.declared.standard.Standard.{Standard}
+use Rattle.mz_binary_theory.specs.Standards.{Standard}
 
 -- ---- the signatures of what was declared are those of the rows
 

@@ -5,7 +5,7 @@ use Rattle.mz_logic_theory.specs.Declaration.{Declaration, Assertion, assertions
 use Rattle.mz_logic_theory.specs.LegalLists.{Statement, declarations, DraftLegal}
 use Rattle.mz_logic_theory.proofs.Offered.{closed_unless}
 use Rattle.mz_binary_theory.specs.Gapped.{GappedIn, AreFreeUnlessGapped}
-use Rattle.mz_spec_proved_theory.specs.Headline.{stated}
+use Rattle.mz_spec_proved_theory.specs.Proved.{stated}
 use Rattle.mz_spec_proved_theory.specs.Match.{publics, Agrees}
 use Rattle.mz_spec_proved_theory.proofs.Offered.{ungapped-proved}
 use Rattle.mz_match.specs.Drafts.{IsGapHere, ListsGaps, ListsGapsOf, UnnamedFollow}

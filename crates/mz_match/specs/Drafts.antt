@@ -13,8 +13,7 @@ use Rattle.mz_match_theory.specs.declared.verdict.Verdict.TheVariants as verdict
 use Rattle.mz_spec_proved_theory.specs.Proved.{ProvesUngapped}
 use Rattle.mz_spec_proved_theory.specs.Match.{publics, Agrees}
 use Rattle.mz_match_theory.specs.Verdict.{AcceptsBy, IsVerdictBy, counts_of}
-use Rattle.mz_binary_theory.specs.declared.standard.Standard.{Standard}
-use Rattle.mz_binary_theory.specs.Standards.{lets_gaps, draft_standard}
+use Rattle.mz_binary_theory.specs.Standards.{Standard, lets_gaps, draft_standard}
 
 -- ---- which theorems rest on a gap
 

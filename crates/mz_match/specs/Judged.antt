@@ -1,8 +1,7 @@
 -- What judging a specification and a binary answers (this project's own).
 use Rattle.std.specs.Prelude.{◌≡◌, ℕ, true, List, Result, Ok, Err}
 use Rattle.mz_spec.specs.Named.{IsNamed}
-use Rattle.mz_binary_theory.specs.declared.standard.Standard.{Standard}
-use Rattle.mz_binary_theory.specs.Standards.{lets_gaps}
+use Rattle.mz_binary_theory.specs.Standards.{Standard, lets_gaps}
 use Rattle.mz_match.specs.declared.accepted.Accepted.{Accepted}
 use Rattle.mz_match.specs.Drafts.{ListsGapsOf}
 use Rattle.mz_match_theory.specs.declared.verdict.Counts.{Counts}

@@ -10,7 +10,7 @@ use Rattle.mz_binary.specs.Judging.{Passes}
 use Rattle.mz_layout_tables.specs.Layout.{Layout}
 use Rattle.mz_match.specs.declared.progress.Matching.{Matching}
 use Rattle.mz_spec_proved_theory.specs.Match.{Leaves, publics, term_rows}
-use Rattle.mz_binary_theory.specs.declared.standard.Standard.{Standard}
+use Rattle.mz_binary_theory.specs.Standards.{Standard}
 
 -- after these good statements, whose public terms have these rows, it is this one
 pub record IsReported (standard : Standard) (bin rows : List ℕ) (told : Reported) (ss : List Statement) (env : List Declaration) (s : Statement) (next : ℕ) : Type 0 where

@@ -7,7 +7,7 @@ ghost use Rattle.mz_logic_theory.specs.DeclView.{assertion_of, assertion_view, d
 ghost use Rattle.mz_logic_theory.specs.LegalLists.{Statement as Declared};
 ghost use Rattle.mz_spec_theory.specs.State.{env_of};
 ghost use Rattle.mz_layout_tables.specs.Tables.{term_row};
-ghost use Rattle.mz_binary_theory.specs.declared.standard.Standard.{Standard};
+ghost use Rattle.mz_binary_theory.specs.Standards.{Standard};
 ghost use Rattle.mz_spec_proved_theory.specs.Match.{assertion_checks, form_checks, is_plain as plain_lem, match_checks, partner_checks, partner_of};
 ghost use Rattle.mz_match_rows.specs.ReportedRow.{IsRowOf, IsTermRow, IsThmRow, assertion_code};
 ghost use Rattle.mz_match.specs.Reported.{IsReported};

@@ -13,8 +13,8 @@ use Rattle.mz_logic_theory.specs.declared.decl.TermForm.TheVariants.{Plain, Abst
 use Rattle.mz_layout_tables.specs.Tables.{term_row}
 use Rattle.mz_spec_proved_theory.specs.declared.rule.M.TheVariants as rules
 use Rattle.mz_spec_proved_theory.specs.Match.{form_checks}
-use Rattle.mz_unify_theory.specs.Spells.{Marks, trees_of}
-use Rattle.mz_unify_theory.proofs.Offered.{trees_of-listed}
+use Rattle.mz_machine_theory.specs.Spells.{Marks, trees_of}
+use Rattle.mz_machine_theory.proofs.Offered.{trees_of-listed}
 use Rattle.mz_match_rows.specs.declared.expression.Sides.{Sides}
 use Rattle.mz_spec_proved_theory.specs.AlphaTrees.{SameTrees, SameBody}
 use Rattle.mz_match_rows.specs.ReportedRow.{SaysFirst, SaysForm, SaysClaims, IsTermRow}

@@ -6,7 +6,7 @@ use Rattle.mz_cmd.specs.declared.code.UnifyCode.{UnifyCode}
 use Rattle.mz_cmd.specs.declared.code.UnifyCode.TheVariants as codes
 use Rattle.mz_logic_theory.specs.Tree.{Tree, Trees, var, app, none, more, listed}
 use Rattle.mz_layout_tables.specs.Tables.{term_row}
-use Rattle.mz_unify_theory.specs.Spells.{Marks, dummy_of}
+use Rattle.mz_machine_theory.specs.Spells.{Marks, dummy_of}
 use Rattle.mz_match_rows.specs.declared.stream.Step.{Step}
 use Rattle.mz_match_rows.specs.declared.stream.Cursor.{Cursor}
 use Rattle.mz_match_rows.specs.Streams.{step_at, Says, HasArity, IsSaid, AreSaid, IsMade, IsMarkAt, AreMarks}

@@ -20,12 +20,12 @@ use Rattle.mz_logic_theory.specs.Conversions.{AreFresh}
 use Rattle.mz_logic_theory.specs.Words.{binders_of}
 use Rattle.mz_logic_theory.specs.declared.binder.Binder.{Binder}
 use Rattle.mz_layout_tables.specs.Tables.{list_at, term_row}
-use Rattle.mz_unify_theory.specs.Steps.{◌>>◌, need, at_place, Turn, over, goes_on, follow}
-use Rattle.mz_unify_theory.specs.Streams.{of_definition}
-use Rattle.mz_unify_theory.specs.Spells.{trees_of, dummy_of, variables_from, SpellsForm}
-use Rattle.mz_unify_theory.specs.Profile.{plain, strict, Item, expr, proof, obligation, conversion}
-use Rattle.mz_unify_theory.specs.UnifyMachine.{in_definition, is_empty}
-use Rattle.mz_unify_theory.proofs.Offered.{from_bind, from_need, from_want, taken, taken-is, place-ok, place_from, renamed, definition-spelled, unfolding-is, one-text, length-params}
+use Rattle.mz_machine_theory.specs.Steps.{◌>>◌, need, at_place, Turn, over, goes_on, follow}
+use Rattle.mz_machine_theory.specs.Streams.{of_definition}
+use Rattle.mz_machine_theory.specs.Spells.{trees_of, dummy_of, variables_from, SpellsForm}
+use Rattle.mz_machine_theory.specs.Profile.{plain, strict, Item, expr, proof, obligation, conversion}
+use Rattle.mz_machine_theory.specs.UnifyMachine.{in_definition, is_empty}
+use Rattle.mz_machine_theory.proofs.Offered.{from_bind, from_need, from_want, taken, taken-is, place-ok, place_from, renamed, definition-spelled, unfolding-is, one-text, length-params, body-fact, end-ran, own-run, last-expr}
 use Rattle.mz_machine_theory.specs.MachineState.{RowsBefore, signatures_in, State, Kind, is_definition, Heading, Declares}
 use Rattle.mz_logic_theory.specs.Legality.{sort_of}
 use Rattle.mz_machine_theory.specs.FreeVars.{free_within}
@@ -36,15 +36,13 @@ use Rattle.mz_layout_tables.specs.Heads.{body_bytes}
 use Rattle.mz_machine_theory.specs.FileRows.{taken_by, rows_taken, term_of_file}
 use Rattle.mz_machine_theory.specs.ProofMachine.{ends_with, matched_by, built, referred, proof_step, proof_end, last_item, ending, own_stream}
 use Rattle.mz_machine_theory.specs.Bodies.{BodyCommand, ends, proves, stands_in, if_allowed, body_command, body_turn, body_turn_by, body_from, body_start, Runs}
-use Rattle.mz_machine_theory.proofs.Offered.{bodies-checked, body-fact, end-ran, own-run, last-expr}
 use Rattle.mz_layout_tables.proofs.Offered.{right-words}
 use Rattle.mz_binary_theory.specs.Chains.{IsGoodStatement, GoodTo}
 use Rattle.mz_binary_theory.specs.Checking.{checks_of, kind_checks, term_checks, term_body_checks}
 use Rattle.mz_binary_theory.specs.Laws.{HasRow}
 use Rattle.mz_binary_theory.specs.Spelling.{IsKindOf, SpellsRow}
 use Rattle.mz_binary_theory.proofs.Offered.{well-chain, good-rows, runs-by-table, Among, fresh-fewer, words-bound}
-use Rattle.mz_binary_theory.specs.Standards.{lets_gaps, profile_of}
-use Rattle.mz_binary_theory.specs.declared.standard.Standard.{Standard}
+use Rattle.mz_binary_theory.specs.Standards.{lets_gaps, Standard}
 
 -- ---- the commands of a definition's body add at most one bound variable, where there are fewer than 55
 
@@ -252,7 +250,6 @@ few-dummies standard file ss env at s next t dummies body before good d-is form-
     go None is = absurd (subst (λ (o : Option (List ℕ)). SpellsForm (signatures env) (term_of_file file r).signature.params o (defined dummies body)) is spelled)
     go (Some stream) is =
         let runs = runs-by-table standard (rows_taken file (taken_by env)) (definition_of (term_of_file file r) stream) good.spelled.body (body_bytes file good.spelled.body next)
-        ((bodies-checked (profile_of standard) (rows_taken file (taken_by env)) (definition_of (term_of_file file r) stream) good.spelled.body (body_bytes file good.spelled.body next)).0.0
-        (subst (λ (o : Option (List ℕ)). AllHold (term_body_checks standard file (taken_by env) at good.spelled.body next o)) is asked)) in
+        (subst (λ (o : Option (List ℕ)). AllHold (term_body_checks standard file (taken_by env) at good.spelled.body next o)) is asked) in
         run-few (lets_gaps standard) (rows_taken file (taken_by env)) env declares (definition_of (term_of_file file r) stream) good.spelled.body (body_bytes file good.spelled.body next) refl enough runs dummies body
         (subst (λ (o : Option (List ℕ)). SpellsForm (signatures env) (term_of_file file r).signature.params o (defined dummies body)) is spelled)

@@ -6,7 +6,7 @@ use Rattle.mz_base.proofs.Offered.{slice_get-append}
 use Rattle.mz_logic_theory.specs.Tree.{Tree, Trees, var, app, none, more, listed}
 use Rattle.mz_logic_theory.specs.declared.binder.Binder.{Binder}
 use Rattle.mz_logic_theory.proofs.Offered.{same-first, same-rest}
-use Rattle.mz_unify_theory.specs.Spells.{Marks, dummy_of}
+use Rattle.mz_machine_theory.specs.Spells.{Marks, dummy_of}
 use Rattle.mz_spec_proved_theory.specs.AlphaTrees.{SameTree, SameTrees}
 use Rattle.mz_match_rows.specs.declared.by_number.SaidTree.{SaidTree}
 use Rattle.mz_match_rows.specs.declared.expression.Sides.{Sides}

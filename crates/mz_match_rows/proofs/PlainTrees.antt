@@ -7,7 +7,7 @@ use Rattle.mz_cmd.specs.declared.code.UnifyCode.{UnifyCode}
 use Rattle.mz_cmd.specs.declared.code.UnifyCode.TheVariants as codes
 use Rattle.mz_logic_theory.specs.Tree.{Tree, Trees, var, app, none, more}
 use Rattle.mz_logic_theory.specs.View.{tree, trees}
-use Rattle.mz_unify_theory.specs.Spells.{Marks, dummy_of, trees_of}
+use Rattle.mz_machine_theory.specs.Spells.{Marks, dummy_of, trees_of}
 use Rattle.mz_match_rows.specs.declared.stream.Cursor.{Cursor}
 use Rattle.mz_match_rows.specs.Streams.{step_at, Says, Passes, IsSaid, AreSaid, IsMade, AreMarks, HypsAreSaid}
 use Rattle.mz_spec_proved_theory.specs.AlphaTrees.{SameOver, AllSameOver, SameTree, SameTrees, Pairs, IsPaired}

@@ -9,8 +9,8 @@ use Rattle.mz_logic_theory.specs.Tree.{Tree, Trees, var, app, none, more}
 use Rattle.mz_logic_theory.specs.Signature.{Signature}
 use Rattle.mz_logic_theory.specs.declared.binder.Binder.{Binder}
 use Rattle.mz_layout_tables.specs.Tables.{term_count, term_row}
-use Rattle.mz_unify_theory.specs.Streams.{StreamKind, of_assertion, of_definition, UnifyCommand, u_term, u_term_save, u_ref, u_dummy, u_hyp, u_end, command_in, IsEnd, StreamIs}
-use Rattle.mz_unify_theory.specs.Spells.{Marks, marked, with_dummy, dummy_of, HasOperands, Spells, SpellsAll, SpellsHyps}
+use Rattle.mz_machine_theory.specs.Streams.{StreamKind, of_assertion, of_definition, UnifyCommand, u_term, u_term_save, u_ref, u_dummy, u_hyp, u_end, command_in, IsEnd, StreamIs}
+use Rattle.mz_machine_theory.specs.Spells.{Marks, marked, with_dummy, dummy_of, HasOperands, Spells, SpellsAll, SpellsHyps}
 use Rattle.mz_match_rows.specs.declared.stream.Cursor.{Cursor}
 use Rattle.mz_match_rows.specs.Streams.{step_of, step_by, step_at, Says, makes_mark, dummies_in, mark_by, mark_here, mark_from, HasArity, IsSaid, AreSaid, IsMade, HypsAreSaid}
 

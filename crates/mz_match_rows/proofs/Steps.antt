@@ -6,7 +6,7 @@ use Rattle.mz_cmd.specs.declared.code.UnifyCode.{UnifyCode}
 use Rattle.mz_cmd.specs.declared.code.UnifyCode.TheVariants as codes
 use Rattle.mz_cmd.specs.Codes.{unify_code}
 use Rattle.mz_cmd.specs.Reading.{command_at}
-use Rattle.mz_unify_theory.proofs.Offered.{command-long}
+use Rattle.mz_machine_theory.proofs.Offered.{command-long}
 use Rattle.mz_match_rows.specs.declared.stream.Step.{Step}
 use Rattle.mz_match_rows.specs.declared.stream.Cursor.{Cursor}
 use Rattle.mz_match_rows.specs.Streams.{step_of, step_by, step_at, makes_mark, dummies_in, mark_by, mark_here, mark_from, Passes, Says}

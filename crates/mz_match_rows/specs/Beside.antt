@@ -1,7 +1,7 @@
 -- A unify stream of a binary beside expressions of a specification.
 use Rattle.std.specs.Prelude.{◌≡◌, ◌≤◌, ℕ, List, [], length, Some, slice_get}
 use Rattle.mz_logic_theory.specs.Tree.{Tree, Trees, listed}
-use Rattle.mz_unify_theory.specs.Spells.{Marks}
+use Rattle.mz_machine_theory.specs.Spells.{Marks}
 use Rattle.mz_match_rows.specs.declared.expression.Sides.{Sides}
 use Rattle.mz_match_rows.specs.declared.stream.Cursor.{Cursor}
 use Rattle.mz_match_rows.specs.Marks.{AreKept}

@@ -1,7 +1,7 @@
 -- Trees by numbers, and what a stream says by them.
 use Rattle.std.specs.Prelude.{◌≡◌, ◌<◌, ℕ, List, Option, Some, MatchOption, slice_get}
 use Rattle.mz_logic_theory.specs.Tree.{Tree, Trees, var, app, none, more, listed}
-use Rattle.mz_unify_theory.specs.Spells.{Marks}
+use Rattle.mz_machine_theory.specs.Spells.{Marks}
 use Rattle.mz_match_rows.specs.declared.by_number.SaidTree.{SaidTree}
 use Rattle.mz_match_rows.specs.declared.expression.Sides.{Sides}
 use Rattle.mz_match_rows.specs.declared.formulas.Formulas.{Formulas}

@@ -7,7 +7,7 @@ use Rattle.mz_logic_theory.specs.Tree.{Tree, listed}
 use Rattle.mz_logic_theory.specs.Declaration.{Declaration, sort_decl, term_decl, assertion_decl, Term, Assertion, Form, plain_form, abstract_form, defined, is_defined}
 use Rattle.mz_logic_theory.specs.Words.{binders_of, signature_of}
 use Rattle.mz_layout_tables.specs.Tables.{sort_count, term_count, thm_count, mods_of, term_row, thm_row}
-use Rattle.mz_unify_theory.specs.Spells.{Marks}
+use Rattle.mz_machine_theory.specs.Spells.{Marks}
 use Rattle.mz_layout_tables.specs.RowWords.{bound_count}
 use Rattle.mz_binary_theory.specs.declared.statement.Statement.{Statement as Reported}
 use Rattle.mz_match_rows.specs.declared.stream.Cursor.{Cursor}

@@ -8,7 +8,7 @@ use Rattle.mz_cmd.specs.Codes.{unify_code}
 use Rattle.mz_cmd.specs.Reading.{command_at}
 use Rattle.mz_logic_theory.specs.Tree.{Tree, Trees, var, app, none, more, listed}
 use Rattle.mz_layout_tables.specs.Tables.{term_count, term_row}
-use Rattle.mz_unify_theory.specs.Spells.{Marks, dummy_of}
+use Rattle.mz_machine_theory.specs.Spells.{Marks, dummy_of}
 use Rattle.mz_match_rows.specs.declared.stream.Step.{Step}
 use Rattle.mz_match_rows.specs.declared.stream.Cursor.{Cursor}
 

@@ -2,7 +2,7 @@
 // it is one comparison; else what it is made of is gone over, and its number is known from then on.
 ghost use Rattle.std.specs.Prelude.{◌≡◌, ◌≤◌, ◌⊎◌, ◌++◌, ◌∷◌, ◌↔◌, [], ℕ, Some, IsTrue, MatchOption, length, slice_get};
 ghost use Rattle.mz_logic_theory.specs.Tree.{Tree, Trees, listed};
-ghost use Rattle.mz_unify_theory.specs.Spells.{Marks};
+ghost use Rattle.mz_machine_theory.specs.Spells.{Marks};
 ghost use Rattle.mz_match_rows.specs.Beside.{IsPlainStream};
 ghost use Rattle.mz_match_rows.specs.Numbers.{AreNumbered, AreSaidTrees, IsNumbered, TellsAllSame, TellsSame};
 ghost use Rattle.mz_match_rows.specs.Streams.{AreSaid, IsMade, IsSaid, step_at as step_lem};

@@ -4,7 +4,7 @@ ghost use Rattle.std.specs.Prelude.{◌≡◌, ◌≤◌, ◌<◌, ◌-◌, ◌^
 ghost use Rattle.mz_logic_theory.specs.Tree.{Tree, Trees, listed, var};
 ghost use Rattle.mz_logic_theory.specs.View.{tree};
 ghost use Rattle.mz_layout_tables.specs.Tables.{term_count, term_row};
-ghost use Rattle.mz_unify_theory.specs.Spells.{Marks, trees_of};
+ghost use Rattle.mz_machine_theory.specs.Spells.{Marks, trees_of};
 ghost use Rattle.mz_match_rows.specs.Streams.{mark_from, step_at as step_lem};
 ghost use Rattle.mz_spec_proved_theory.specs.AlphaTrees.{SameBody, SameTree, SameTrees};
 ghost use Rattle.mz_spec_proved_theory.specs.Comparison.{all_none, all_compared, compared, dummy_compared, has_sort as sort_lem, is_taken as taken_lem, is_number as number_lem, paired};
@@ -59,7 +59,7 @@ pub fn same_body(sides: &Sides, body: &Expr) -> bool
         at: sides.start,
         dummies: 0,
     };
-    same_at(sides, &body.lent(), start, &mut pairs).is_some()
+    same_at(sides, &body.borrowed(), start, &mut pairs).is_some()
 }
 
 /// Whether the expression is the one that the stream says first.
@@ -174,7 +174,7 @@ fn same_tree(sides: &Sides, expr: &Expr, from: Cursor) -> bool
 {
     // an assertion has no dummies to pair
     let mut pairs: [Option<u32>; 0] = [];
-    same_at(sides, &expr.lent(), from, &mut pairs).is_some()
+    same_at(sides, &expr.borrowed(), from, &mut pairs).is_some()
 }
 
 fn no_pairs() -> [Option<u32>; 55]

@@ -45,15 +45,15 @@ impl Formulas {
         ensures kept { result ≡ self.new.number }
     {
         // Where each formula is of one hypothesis, no two share one.
-        let are_apart = hyps.formulas().len() == hyps.len();
-        if are_apart || !hyps.shares_with_previous(i) {
+        let are_disjoint = hyps.formulas().len() == hyps.len();
+        if are_disjoint || !hyps.shares_with_previous(i) {
             self.number = None;
             return None;
         }
         if let Some(number) = self.number {
             return Some(number);
         }
-        let number = self.pieces.enter(publics, &hyps.at(i - 1).lent());
+        let number = self.pieces.enter(publics, &hyps.at(i - 1).borrowed());
         self.number = number;
         number
     }

@@ -29,6 +29,11 @@ pub struct Pieces {
     items: Vec<Piece>,
     // what is found here is asked of the pieces, so that nothing need be known of the map
     numbers: BTreeMap<Piece, usize>,
+    // by a number, that of the last piece of which it is the newest part: along a path of coercions each
+    // is found here
+    above: Vec<usize>,
+    // where the list of no trees was last
+    empty: usize,
 }
 
 impl Model for Pieces {
@@ -48,6 +53,8 @@ impl Pieces {
         Pieces {
             items: Vec::new(alloc),
             numbers: BTreeMap::new(alloc),
+            above: Vec::new(alloc),
+            empty: 0,
         }
     }
 
@@ -78,7 +85,7 @@ impl Pieces {
         ensures grows { (more : List Piece) × (self.new ≡ self.old ++ more) }
         ensures number { IfSome result (λ i. (fs : Trees) × SameTrees publics.now exprs.now fs × AreNumbered self.new fs i) }
     {
-        let Some(empty) = self.number(Piece::Empty) else {
+        let Some(empty) = self.number_of_empty() else {
             return None;
         };
         let mut list = empty;
@@ -96,11 +103,25 @@ impl Pieces {
         Some(list)
     }
 
+    fn number_of_empty(&mut self) -> Option<usize>
+        ensures grows { (more : List Piece) × (self.new ≡ self.old ++ more) }
+        ensures number { IfSome result (λ i. slice_get self.new i ≡ Some Piece.Empty) }
+    {
+        if self.is_empty_list(self.empty) {
+            return Some(self.empty);
+        }
+        let Some(number) = self.number(Piece::Empty) else {
+            return None;
+        };
+        self.empty = number;
+        Some(number)
+    }
+
     fn number_of_application(&mut self, term: u32, operands: usize) -> Option<usize>
         ensures grows { (more : List Piece) × (self.new ≡ self.old ++ more) }
         ensures number { IfSome result (λ i. (slice_get self.new i ≡ Some (Piece.Application term operands)) × (operands < i)) }
     {
-        let Some(number) = self.number(Piece::Application(term, operands)) else {
+        let Some(number) = self.number_over(operands, Piece::Application(term, operands)) else {
             return None;
         };
         // it always is, but nothing is said of the order of those that were there before
@@ -115,13 +136,48 @@ impl Pieces {
         ensures grows { (more : List Piece) × (self.new ≡ self.old ++ more) }
         ensures number { IfSome result (λ i. (slice_get self.new i ≡ Some (Piece.Listed first rest)) × (first < i) × (rest < i)) }
     {
-        let Some(number) = self.number(Piece::Listed(first, rest)) else {
+        let newest = if first < rest { rest } else { first };
+        let Some(number) = self.number_over(newest, Piece::Listed(first, rest)) else {
             return None;
         };
         if first < number && rest < number {
             Some(number)
         } else {
             None
+        }
+    }
+
+    /// The number of a piece of which this is the newest part.
+    fn number_over(&mut self, part: usize, piece: Piece) -> Option<usize>
+        ensures grows { (more : List Piece) × (self.new ≡ self.old ++ more) }
+        ensures number { IfSome result (λ i. slice_get self.new i ≡ Some piece) }
+    {
+        if let Some(number) = self.find_above(part, piece) {
+            return Some(number);
+        }
+        let Some(number) = self.number(piece) else {
+            return None;
+        };
+        self.note(part, number);
+        Some(number)
+    }
+
+    /// The piece's number, where it is the last one made of this part.
+    fn find_above(&self, part: usize, piece: Piece) -> Option<usize>
+        ensures { IfSome result (λ i. slice_get self.now i ≡ Some piece) }
+    {
+        let Some(number) = self.above.get(part).copied() else {
+            return None;
+        };
+        self.found_at(number, piece)
+    }
+
+    /// Notes the last piece made of a part, where there is room for it.
+    fn note(&mut self, part: usize, number: usize)
+        ensures { self.new ≡ self.old }
+    {
+        if part < self.above.len() {
+            self.above[part] = number;
         }
     }
 
@@ -137,8 +193,9 @@ impl Pieces {
         let Ok(()) = self.items.push(piece) else {
             return None;
         };
-        // where this fails the piece is put in again when it is met
+        // where these fail the piece is put in again when it is met
         let _ = self.numbers.insert(piece, number);
+        let _ = self.above.push(0);
         Some(number)
     }
 
@@ -148,6 +205,13 @@ impl Pieces {
         let Some(number) = self.numbers.get(&piece).copied() else {
             return None;
         };
+        self.found_at(number, piece)
+    }
+
+    /// The number, where it is the piece's.
+    fn found_at(&self, number: usize, piece: Piece) -> Option<usize>
+        ensures { IfSome result (λ i. slice_get self.now i ≡ Some piece) }
+    {
         let Some(found) = self.items.get(number).copied() else {
             return None;
         };

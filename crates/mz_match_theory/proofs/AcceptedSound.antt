@@ -1,23 +1,25 @@
 -- What is accepted is sound, and its specification is proved.
-use Rattle.std.proofs.Common.{ℕ, List, [], ◌∷◌, ◌++◌, Option, Some, None, length}
+use Rattle.std.proofs.Common.{◌≡◌, ℕ, false, List, [], ◌∷◌, ◌++◌, Option, Some, None, slice_get, length, subst}
 use Rattle.std.specs.List.{All}
 use Rattle.std.proofs.lemmas.List.Elements.{All-nil, All-cons}
-use Rattle.mz_logic_theory.specs.Declaration.{Declaration, signatures, terms, Form, plain_form, abstract_form, defined, sort_decl, term_decl, assertion_decl}
+use Rattle.mz_logic_theory.specs.Declaration.{Declaration, Assertion, signatures, terms, Form, plain_form, abstract_form, defined, sort_decl, term_decl, assertion_decl}
 use Rattle.mz_logic_theory.specs.Signature.{Signature}
 use Rattle.mz_logic_theory.specs.declared.binder.Binder.{Binder}
 use Rattle.mz_logic_theory.specs.LegalLists.{Statement, Legal}
 use Rattle.mz_logic_theory.proofs.Offered.{legal_list_is_closed}
 use Rattle.mz_layout_tables.specs.Tables.{list_at}
-use Rattle.mz_unify_theory.specs.Spells.{SpellsForm}
+use Rattle.mz_machine_theory.specs.Spells.{SpellsForm}
 use Rattle.mz_machine_theory.specs.FileRows.{term_of_file}
 use Rattle.mz_binary_theory.specs.Spelling.{SpellsRow}
 use Rattle.mz_binary_theory.specs.Chains.{SpelledTo, Statements}
 use Rattle.mz_binary_theory.proofs.Offered.{good-legal, good-spelled}
 use Rattle.mz_spec_theory.specs.Spec.{SpecOf}
 use Rattle.mz_spec_proved_theory.specs.Match.{publics, Agrees}
-use Rattle.mz_spec_proved_theory.specs.Headline.{IsConcreteForm, IsConcrete, Proves}
+use Rattle.mz_spec_proved_theory.specs.ByItself.{IsConcreteForm, IsConcrete}
+use Rattle.mz_spec_proved_theory.specs.Headline.{Proves}
+use Rattle.mz_spec_proved_theory.specs.Proved.{Follows}
 use Rattle.mz_match_theory.specs.Verdict.{Accepts, IsSound}
-use Rattle.mz_spec_proved_theory.proofs.Offered.{theorems-proved}
+use Rattle.mz_spec_proved_theory.proofs.Offered.{agree, concrete-list, declare, formed-list, legal-list, specifies, specifies-one, theorems-proved}
 use Rattle.mz_binary_theory.specs.Standards.{strict_standard}
 
 -- ---- a row spells no abstract definition
@@ -59,28 +61,29 @@ accepted-sound spec bin a = record {
   agrees = a.agrees;
 }
 
--- a legal list that agrees with a specification proves it
-pub list-proves : (spec : List ℕ) (ds : List Declaration) (ss : List Statement) → SpecOf spec ds → Legal ss → All (λ s. IsConcrete s.decl) ss → Agrees ds (publics ss) → Proves spec
-list-proves spec ds ss is legal concrete agrees = record {
-  declared = ds;
-  statements = ss;
-  is_spec = is;
-  legal = legal;
-  concrete = concrete;
-  agrees = agrees;
-  theorems = λ i a at theorem. (theorems-proved ds ss legal agrees i a at theorem).follows;
-}
-
 pub sound-proves : (spec bin : List ℕ) → IsSound spec bin → Proves spec
 sound-proves spec bin s = record {
   declared = s.declared;
   statements = s.statements;
-  is_spec = s.is_spec;
-  legal = s.legal;
-  concrete = statements-concrete bin s.statements s.spelled;
-  agrees = s.agrees;
-  theorems = λ i a at theorem. (s.theorems i a at theorem).follows;
+  is_spec = specifies spec s.declared s.is_spec;
+  legal = formed-list [] s.statements s.legal (statements-concrete bin s.statements s.spelled);
+  agrees = declare [] s.declared s.statements s.agrees;
 }
 
 pub accepted-proves : (spec bin : List ℕ) → Accepts spec bin → Proves spec
 accepted-proves spec bin a = sound-proves spec bin (accepted-sound spec bin a)
+
+-- each theorem of a specification that is proved follows
+pub theorem-follows : (spec : List ℕ) (p : Proves spec) (i : ℕ) (a : Assertion) → slice_get p.declared i ≡ Some (assertion_decl a) → a.is_axiom ≡ false
+    → Follows p.declared p.statements i a
+theorem-follows spec p i a at theorem =
+    (theorems-proved p.declared p.statements (legal-list [] p.statements p.legal) (agree [] p.declared p.statements p.agrees) i a at theorem).follows
+
+-- and by the rules its list is legal, with all bodies, and agrees
+pub checked-list : (spec : List ℕ) (ds : List Declaration) → SpecOf spec ds → Proves spec → (ss : List Statement) × Legal ss × All (λ s. IsConcrete s.decl) ss × Agrees ds (publics ss)
+checked-list spec ds is p = (
+  p.statements,
+  legal-list [] p.statements p.legal,
+  concrete-list [] p.statements p.legal,
+  subst (λ es. Agrees es (publics p.statements)) (specifies-one spec ds p.declared is p.is_spec) (agree [] p.declared p.statements p.agrees),
+)

@@ -24,8 +24,7 @@ use Rattle.mz_match_theory.specs.declared.verdict.Verdict.TheVariants as verdict
 use Rattle.mz_spec_proved_theory.specs.Match.{partner_of, publics_after, publics, match_checks, Agrees, Leaves, partner_checks, end_checks}
 use Rattle.mz_match_theory.specs.Verdict.{counts_of, AcceptsBy, AcceptsWith, AcceptsWithBy, BinaryFails, Differs, MatchFails, FirstRefusal, FirstRefusalBy, IsVerdictBy}
 use Rattle.mz_spec_proved_theory.proofs.Offered.{publics-append, publics-public, left-same, left-next}
-use Rattle.mz_binary_theory.specs.declared.standard.Standard.{Standard}
-use Rattle.mz_binary_theory.specs.Standards.{strict_standard}
+use Rattle.mz_binary_theory.specs.Standards.{Standard, strict_standard}
 
 module _ (standard : Standard) where
   -- ---- two chains from one place

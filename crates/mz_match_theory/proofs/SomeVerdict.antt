@@ -30,7 +30,7 @@ use Rattle.mz_match_theory.specs.declared.verdict.Verdict.TheVariants as verdict
 use Rattle.mz_spec_proved_theory.specs.Match.{Partner, partner_of, publics, number_of, kind_of, form_checks, assertion_checks, part_checks, Agrees, Leaves, partner_checks}
 use Rattle.mz_match_theory.specs.Verdict.{counts_of, AcceptsWithBy, MatchFails, FirstRefusalBy}
 use Rattle.mz_spec_proved_theory.proofs.Offered.{same-tree-decided, same-trees-decided, same-body-decided, leaves-nothing, leaves-local, leaves-public, partner-there}
-use Rattle.mz_binary_theory.specs.declared.standard.Standard.{Standard}
+use Rattle.mz_binary_theory.specs.Standards.{Standard}
 
 -- ---- whether a declaration and its partner agree can be found out
 

@@ -21,8 +21,7 @@ use Rattle.mz_binary_theory.specs.RefusalLine.{refusal_line}
 use Rattle.mz_match_theory.specs.Lines.{accepted_line, spec_line, match_line}
 use Rattle.mz_spec_proved_theory.specs.Match.{partner_of, publics, kind_of, is_kind, Agrees, Leaves, partner_checks, end_checks}
 use Rattle.mz_spec_proved_theory.specs.Proved.{TheoremsAreProved}
-use Rattle.mz_binary_theory.specs.declared.standard.Standard.{Standard}
-use Rattle.mz_binary_theory.specs.Standards.{strict_standard}
+use Rattle.mz_binary_theory.specs.Standards.{Standard, strict_standard}
 
 -- ---- accepted
 

@@ -1,5 +1,5 @@
 // Laws of pairs of files.
-ghost use Rattle.std.specs.Prelude.{◌≡◌, ◌⊎◌, ◌↔◌, ℕ, false, List, Some, slice_get, take};
+ghost use Rattle.std.specs.Prelude.{◌≡◌, ◌⊎◌, ◌↔◌, ℕ, false, List, [], Some, slice_get, take};
 ghost use Rattle.std.specs.List.{All};
 ghost use Rattle.mz_logic_theory.specs.Tree.{none};
 ghost use Rattle.mz_logic_theory.specs.Declaration.{Assertion, Declaration, assertion_decl};
@@ -9,9 +9,10 @@ ghost use Rattle.mz_spec_theory.specs.Spec.{SpecOf};
 ghost use Rattle.mz_match_theory.specs.declared.verdict.Counts.{Counts};
 ghost use Rattle.mz_match_theory.specs.declared.verdict.Verdict.{Verdict};
 ghost use Rattle.mz_spec_proved_theory.specs.declared.kind.Kind.TheVariants as kinds;
+ghost use Rattle.mz_spec_proved_theory.specs.ByItself.{BarsDummies, IsConcrete};
+ghost use Rattle.mz_spec_proved_theory.specs.Headline.{Proves};
 ghost use Rattle.mz_spec_proved_theory.specs.Match.{kind_of, publics, Agrees};
-ghost use Rattle.mz_spec_proved_theory.specs.Headline.{IsConcrete, Proves};
-ghost use Rattle.mz_spec_proved_theory.specs.ByItself.{BarsDummies};
+ghost use Rattle.mz_spec_proved_theory.specs.Proved.{Follows};
 ghost use Rattle.mz_binary_theory.specs.Gapped.{NoneIsGapped};
 ghost use Rattle.mz_binary_theory.specs.Standards.{draft_standard};
 ghost use Rattle.mz_match_theory.specs.Verdict.{Accepts, AcceptsBy, AcceptsWith, AcceptsWithBy, FirstRefusal, FirstRefusalBy, IsSound, counts_of};
@@ -45,14 +46,16 @@ pub fn accepted_pairs_are_sound()
     ensures { (spec bin : List ℕ) → Accepts spec bin → IsSound spec bin }
 {}
 
-/// Where a binary is accepted, the specification is proved, which says nothing of the binary. It is
-/// proved exactly where a legal list of statements, in which each definition has its body, has just its
-/// declarations for public ones; and a theorem without hypotheses is, only where an axiom is declared before it.
-/// Where, before a theorem, each sort is strict or free and each definition has its body in the specification, the
-/// theorem follows from the specification's own declarations alone: no definition of a binary is needed.
+/// Where a binary is accepted, the specification is proved, which says nothing of the binary. Each theorem of a specification that
+/// is proved follows from the axioms declared before it. By the rules that are checked it is proved in just the same cases. A
+/// theorem without hypotheses is, only where an axiom is declared before it. Where, before a
+/// theorem, each sort is strict or free and each definition has its body in the specification, the theorem follows from the
+/// specification's own declarations alone: no definition of a binary is needed.
 pub fn accepted_pairs_prove()
     ensures accepted { (spec bin : List ℕ) → Accepts spec bin → Proves spec }
-    ensures exact { (spec : List ℕ) → Proves spec ↔ ((ds : List Declaration) × (ss : List Statement) × SpecOf spec ds × Legal ss × All (λ s. IsConcrete s.decl) ss × Agrees ds (publics ss)) }
+    ensures follows { (spec : List ℕ) (p : Proves spec) (i : ℕ) (a : Assertion) → slice_get p.declared i ≡ Some (assertion_decl a) → a.is_axiom ≡ false
+        → Follows p.declared p.statements i a }
+    ensures checked { (spec : List ℕ) (ds : List Declaration) → SpecOf spec ds → Proves spec ↔ ((ss : List Statement) × Legal ss × All (λ s. IsConcrete s.decl) ss × Agrees ds (publics ss)) }
     ensures grounded { (spec : List ℕ) (p : Proves spec) (i : ℕ) (a : Assertion) → slice_get p.declared i ≡ Some (assertion_decl a) → a.is_axiom ≡ false → a.hyps ≡ none
         → (k : ℕ) × (d : Declaration) × (slice_get (take i p.declared) k ≡ Some d) × (kind_of d ≡ kinds.Axiom) }
     ensures itself { (spec : List ℕ) (p : Proves spec) (i : ℕ) (a : Assertion) → slice_get p.declared i ≡ Some (assertion_decl a) → a.is_axiom ≡ false

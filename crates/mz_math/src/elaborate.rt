@@ -180,7 +180,7 @@ pub fn coerced(
     ensures built { IsBuilt (signatures env.now) coercions.now ctx.now (tree_lem tree) most result }
 {
     if !are_none(coercions) {
-        return build(alloc, env, coercions, paths, ctx, &tree.lent(), most);
+        return build(alloc, env, coercions, paths, ctx, &tree.borrowed(), most);
     }
     if is_low(&tree, most) {
         return Built::Tree(tree);

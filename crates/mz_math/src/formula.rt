@@ -137,7 +137,7 @@ fn meaning_of(
     ensures { IsJudged (record { env = env.now; table = notations.now; scope = scope.now }) wanted (tree syntax) result }
 {
     let mut paths = Paths::new(alloc);
-    meaning_along(
+    let made = meaning_along(
         alloc,
         env,
         notations.coercions(),
@@ -145,7 +145,9 @@ fn meaning_of(
         ctx,
         syntax,
         wanted,
-    )
+    );
+    drop(paths);
+    made
 }
 
 /// The same, with the paths found so far.
@@ -162,7 +164,15 @@ fn meaning_along(
     requires found { AreFound coercions.now paths.old }
     ensures { IsJudgedOver env.now coercions.now ctx.now wanted (tree syntax) result }
 {
-    match root_of(alloc, env, coercions, paths, ctx, &syntax.lent(), wanted) {
+    match root_of(
+        alloc,
+        env,
+        coercions,
+        paths,
+        ctx,
+        &syntax.borrowed(),
+        wanted,
+    ) {
         Err(answer) => answer,
         Ok(root) => made_of(alloc, env, coercions, paths, ctx, syntax, root, wanted),
     }

@@ -3,11 +3,9 @@ ghost use Rattle.std.specs.Prelude.{List, IfOk, IfSome};
 ghost use Rattle.mz_math_theory.specs.declared.coercion.Coercion.{Coercion};
 ghost use Rattle.mz_math_coercions.specs.Found.{AreFound, AreTermsOf};
 
+use indexmap::IndexMap;
 use mz_logic_theory::TermPath;
 use std::alloc::{AllocError, Global};
-
-/// At most so many are kept: to go along all of them takes no longer than to go along a path in a binary.
-const MOST: usize = 128;
 
 /// The terms of the path from a sort to another.
 #[derive(Drop)]
@@ -21,6 +19,8 @@ pub struct FoundPath {
 #[derive(Drop)]
 pub struct Paths {
     found: Vec<FoundPath>,
+    // by two sorts; what is found here is asked of the paths, so that nothing need be known of the map
+    places: IndexMap<u64, usize>,
 }
 
 impl Paths {
@@ -30,6 +30,7 @@ impl Paths {
     {
         Paths {
             found: Vec::new(alloc),
+            places: IndexMap::new(alloc),
         }
     }
 
@@ -41,11 +42,15 @@ impl Paths {
     pub fn get(&self, from: u32, to: u32) -> Result<Option<TermPath>, AllocError>
         ensures { (cs : List Coercion) → AreFound cs self.now → IfOk result (λ o. IfSome o (λ terms. AreTermsOf cs from to terms)) }
     {
-        'paths: for i in 0..self.found.len() {
-            let path = &self.found[i];
-            if path.from == from && path.to == to {
-                return Ok(Some(path.terms.share()?));
-            }
+        let Some(place) = self.places.get(&pair_of(from, to)).copied() else {
+            return Ok(None);
+        };
+        if place >= self.found.len() {
+            return Ok(None);
+        }
+        let path = &self.found[place];
+        if path.from == from && path.to == to {
+            return Ok(Some(path.terms.share()?));
         }
         Ok(None)
     }
@@ -58,18 +63,14 @@ impl Paths {
     pub fn keep(&mut self, from: u32, to: u32, terms: TermPath) -> Result<(), AllocError>
         ensures { (cs : List Coercion) → AreFound cs self.old → AreTermsOf cs from to terms → AreFound cs self.new }
     {
-        self.make_room();
+        let place = self.found.len();
         self.found.push(FoundPath { from, to, terms })?;
+        self.places.insert(pair_of(from, to), place)?;
         Ok(())
     }
+}
 
-    /// Gives up all that are kept, where they are as many as may be.
-    fn make_room(&mut self)
-        ensures { (cs : List Coercion) → AreFound cs self.old → AreFound cs self.new }
-    {
-        if self.found.len() < MOST {
-            return;
-        }
-        self.found.clear();
-    }
+/// Two sorts as one number.
+fn pair_of(from: u32, to: u32) -> u64 {
+    u64::from(from) << 32 | u64::from(to)
 }

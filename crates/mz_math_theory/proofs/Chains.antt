@@ -4,10 +4,10 @@ use Rattle.std.proofs.lemmas.Bool.{ne_eqb}
 use Rattle.std.proofs.lemmas.List.{append-nil}
 use Rattle.mz_math_theory.specs.Notation.{max_level, above}
 use Rattle.mz_math_theory.specs.declared.notation.Notation.{Notation}
-use Rattle.mz_math_theory.specs.Grammar.{Head, Parse, Parts, headed, joined, level_of, last_level, tokens_of, part_tokens, Words, IsExp, CanLead}
+use Rattle.mz_math_theory.specs.Grammar.{ParseHead, Parse, Parts, headed, joined, level_of, last_level, tokens_of, part_tokens, Words, IsExp, CanLead}
 use Rattle.mz_math_theory.specs.Reading.{Step, build, step_tokens}
 
-abbrev pub base : Parse → Head
+abbrev pub base : Parse → ParseHead
 base (headed h ps) = h
 base (joined k p ps) = base p
 

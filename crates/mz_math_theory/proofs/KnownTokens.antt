@@ -10,7 +10,7 @@ use Rattle.mz_math_theory.specs.declared.notation.Notation.{Notation}
 use Rattle.mz_lex.specs.MathTokens.{token_texts}
 use Rattle.mz_lex.specs.declared.tokens.MathToken.{MathToken}
 use Rattle.mz_math_theory.specs.Formula.{known_checks}
-use Rattle.mz_math_theory.specs.Grammar.{Item, token, expr, items, operands_at_max, Head, variable, parens, applied, notated, head_items, behind_first, last_level, infix_items, Parse, Parts, headed, joined, end, word, part, tokens_of, part_tokens, Words, IsHead, IsExp, AreParts, Exp, IsKnown}
+use Rattle.mz_math_theory.specs.Grammar.{Item, token, expr, items, operands_at_max, ParseHead, variable, parens, applied, notated, head_items, behind_first, last_level, infix_items, Parse, Parts, headed, joined, end, word, part, tokens_of, part_tokens, Words, IsHead, IsExp, AreParts, Exp, IsKnown}
 use Rattle.mz_math_theory.proofs.Knowing.{known-constant, known-name}
 
 abbrev pub AllKnown : Words → List (List ℕ) → Type 0
@@ -44,7 +44,7 @@ items-known ws (fixed w q ∷ ls) last known = (
 )
 items-known ws (slot i ∷ ls) last known = items-known ws ls last (λ v p there. known v p (contains_tail (slot i) (fixed v p) ls there))
 
-head-known : (ws : Words) (h : Head) → IsHead ws h → AreKnown ws (head_items h)
+head-known : (ws : Words) (h : ParseHead) → IsHead ws h → AreKnown ws (head_items h)
 head-known ws (variable name x) is = (inl (is.0, contains_at ws.variables x name is.1), tt)
 head-known ws parens is = (inr (inl refl), (inr (inr (inl refl)), tt))
 head-known ws (applied name t n) is = (known-name ws name (is.0.0, is.0.1, is.0.2), operands-known ws n)

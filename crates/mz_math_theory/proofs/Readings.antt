@@ -14,7 +14,7 @@ use Rattle.mz_math_theory.specs.declared.notation.Element.{Element}
 use Rattle.mz_math_theory.specs.declared.notation.Element.TheVariants.{Fixed as fixed, Slot as slot}
 use Rattle.mz_math_theory.specs.declared.notation.Notation.{Notation}
 use Rattle.mz_math_theory.specs.Clear.{LedBy, JoinedBy}
-use Rattle.mz_math_theory.specs.Grammar.{Item, token, expr, items, level_before, operands_at_max, Head, variable, parens, applied, notated, Parse, Parts, headed, joined, end, word, part, level_of, head_level, head_items, infix_items, tokens_of, part_tokens, tree_of, part_trees, Words, Exp, IsTermName, IsVariable, last_level, behind_first, IsHead, IsExp, AreParts, CanLead, notated_tree}
+use Rattle.mz_math_theory.specs.Grammar.{Item, token, expr, items, level_before, operands_at_max, ParseHead, variable, parens, applied, notated, Parse, Parts, headed, joined, end, word, part, level_of, head_level, head_items, infix_items, tokens_of, part_tokens, tree_of, part_trees, Words, Exp, IsTermName, IsVariable, last_level, behind_first, IsHead, IsExp, AreParts, CanLead, notated_tree}
 use Rattle.mz_math_theory.specs.Readable.{IsReadable}
 use Rattle.mz_math_theory.specs.Reading.{NotJoined, Before, Spaced, Step, build, step_tokens, Reads, NoReading, GoesOn, IsBegun, ArePartsRead, NoParts, IsRead}
 use Rattle.mz_math_theory.proofs.Chains.{base, base_parts, steps_of, rebuilt, tokens-build, inner, level-falls}
@@ -128,20 +128,20 @@ module _ (ws : Words) (right : IsReadable ws) where
   no-tokens level p xs reads = let first = first-of level [] p xs reads in nil-cons first.tokens_are
 
   -- never form begins with the token
-  pub no-word : (level : ℕ) (w : List ℕ) (rest : List (List ℕ)) → ((h : Head) → IsHead ws h → BeginsWith ws right h w → ⊥) → NoReading ws level (w ∷ rest)
+  pub no-word : (level : ℕ) (w : List ℕ) (rest : List (List ℕ)) → ((h : ParseHead) → IsHead ws h → BeginsWith ws right h w → ⊥) → NoReading ws level (w ∷ rest)
   no-word level w rest never p xs reads =
       let first = first-of level (w ∷ rest) p xs reads in
       never (base p) first.is (subst (BeginsWith ws right (base p)) (sym (cons_head first.tokens_are)) first.begins)
 
   -- the form that begins with the token is not there
-  pub no-head : (level : ℕ) (h : Head) (w : List ℕ) (rest : List (List ℕ)) → IsHead ws h → BeginsWith ws right h w → NoParts ws (head_items h) (w ∷ rest) → NoReading ws level (w ∷ rest)
+  pub no-head : (level : ℕ) (h : ParseHead) (w : List ℕ) (rest : List (List ℕ)) → IsHead ws h → BeginsWith ws right h w → NoParts ws (head_items h) (w ∷ rest) → NoReading ws level (w ∷ rest)
   no-head level h w rest is begins never p xs reads =
       let first = first-of level (w ∷ rest) p xs reads in
       let same : base p ≡ h = same-head ws right (base p) h w first.is is (subst (BeginsWith ws right (base p)) (sym (cons_head first.tokens_are)) first.begins) begins in
       never (base_parts p) (step_tokens (steps_of p) ++ xs) (subst (λ g. AreParts ws (head_items g) (base_parts p)) same first.are)
       (subst (λ g. Spaced ws (head_items g) (step_tokens (steps_of p) ++ xs)) same first.spaced) first.whole
 
-  head-goes_on : (level : ℕ) (h : Head) (w : List ℕ) (ps : Parts) (tail rest : List (List ℕ)) → IsHead ws h → BeginsWith ws right h w → AreParts ws (head_items h) ps
+  head-goes_on : (level : ℕ) (h : ParseHead) (w : List ℕ) (ps : Parts) (tail rest : List (List ℕ)) → IsHead ws h → BeginsWith ws right h w → AreParts ws (head_items h) ps
       → Spaced ws (head_items h) rest → part_tokens ps ++ rest ≡ w ∷ tail → GoesOn ws level (w ∷ tail) (headed h ps) rest
   head-goes_on level h w ps tail rest is begins are sp e p xs reads =
       let first = first-of level (w ∷ tail) p xs reads in
@@ -152,7 +152,7 @@ module _ (ws : Words) (right : IsReadable ws) where
       (steps_of p, sym (rebuilt p) ∙ ap₂ (λ g qs. build (headed g qs) (steps_of p)) same parts.0, parts.1)
 
   -- a form at an operand's place stands first
-  pub head-begun : (level : ℕ) (h : Head) (w : List ℕ) (ps : Parts) (tail rest : List (List ℕ)) (tree : Tree) → IsHead ws h → BeginsWith ws right h w → AreParts ws (head_items h) ps
+  pub head-begun : (level : ℕ) (h : ParseHead) (w : List ℕ) (ps : Parts) (tail rest : List (List ℕ)) (tree : Tree) → IsHead ws h → BeginsWith ws right h w → AreParts ws (head_items h) ps
       → Spaced ws (head_items h) rest → part_tokens ps ++ rest ≡ w ∷ tail → tree_of (headed h ps) ≡ tree → level ≤ head_level h
       → IsBegun ws level (w ∷ tail) rest tree (head_level h) false
   head-begun level h w ps tail rest tree is begins are sp e tree_is le = record {
@@ -166,7 +166,7 @@ module _ (ws : Words) (right : IsReadable ws) where
     goes_on = head-goes_on level h w ps tail rest is begins are sp e;
   }
 
-  pub head-low : (level : ℕ) (h : Head) (w : List ℕ) (ps : Parts) (tail rest : List (List ℕ)) → IsHead ws h → BeginsWith ws right h w → AreParts ws (head_items h) ps
+  pub head-low : (level : ℕ) (h : ParseHead) (w : List ℕ) (ps : Parts) (tail rest : List (List ℕ)) → IsHead ws h → BeginsWith ws right h w → AreParts ws (head_items h) ps
       → Spaced ws (head_items h) rest → part_tokens ps ++ rest ≡ w ∷ tail → head_level h < level → NoReading ws level (w ∷ tail)
   head-low level h w ps tail rest is begins are sp e low p xs reads =
       let on = head-goes_on level h w ps tail rest is begins are sp e p xs reads in
@@ -265,7 +265,7 @@ module _ (ws : Words) (right : IsReadable ws) where
   pub none-begins : (level : ℕ) (tokens rest : List (List ℕ)) (w : List ℕ) → tokens ≡ w ∷ rest → NoVariable ws w → NoLeading ws w → NoTermName ws w → w ≢ codes "(" → NoReading ws level tokens
   none-begins level tokens rest w is variables leading terms bracket = subst (NoReading ws level) (sym is) (no-word level w rest go)
     where
-      go : (h : Head) → IsHead ws h → BeginsWith ws right h w → ⊥
+      go : (h : ParseHead) → IsHead ws h → BeginsWith ws right h w → ⊥
       go (variable name x) (some, at) begins = variables (subst (λ v. v ≢ []) begins some, (x, slice_get_within ws.variables x w (at ∙ ap Some begins), get_or_from_slice_get ws.variables x w w (at ∙ ap Some begins)))
       go parens is_h begins = bracket (sym begins)
       go (applied name t n) is_h begins = terms t n (subst (λ v. IsTermName ws v t n) begins is_h.0)

@@ -8,7 +8,7 @@ use Rattle.mz_math_theory.specs.declared.notation.Element.{Element}
 use Rattle.mz_math_theory.specs.declared.notation.Element.TheVariants.{Fixed as fixed, Slot as slot}
 use Rattle.mz_math_theory.specs.declared.notation.Notation.{Notation}
 use Rattle.mz_math_theory.specs.Clear.{IsOne, LedBy, JoinedBy, HasConstant}
-use Rattle.mz_math_theory.specs.Grammar.{Item, token, expr, items, level_before, operands_at_max, Head, variable, parens, applied, notated, Parse, Parts, headed, joined, end, word, part, level_of, head_level, head_items, infix_items, behind_first, last_level, tokens_of, part_tokens, Words, IsHead, IsTermName, IsNamed, IsVariable, IsExp, AreParts, CanLead}
+use Rattle.mz_math_theory.specs.Grammar.{Item, token, expr, items, level_before, operands_at_max, ParseHead, variable, parens, applied, notated, Parse, Parts, headed, joined, end, word, part, level_of, head_level, head_items, infix_items, behind_first, last_level, tokens_of, part_tokens, Words, IsHead, IsTermName, IsNamed, IsVariable, IsExp, AreParts, CanLead}
 use Rattle.mz_math_theory.specs.Readable.{IsReadable}
 use Rattle.mz_math_theory.specs.Reading as Reading
 use Rattle.mz_math_theory.specs.Reading.{Step, build, step_tokens}
@@ -89,7 +89,7 @@ module _ (ws : Words) (right : IsReadable ws) where
   pub in-elements : (ks : List Notation) (k : Notation) → Contains ks k → (c : List ℕ) (q : ℕ) → Contains k.elements (fixed c q) → HasConstant ks c q
   in-elements ks k in_k c q at = (k, in_k, at)
 
-  pub spaced-head : (h : Head) (xs : List (List ℕ)) → IsHead ws h → NotJoined (head_level h) xs → Spaced (head_items h) xs
+  pub spaced-head : (h : ParseHead) (xs : List (List ℕ)) → IsHead ws h → NotJoined (head_level h) xs → Spaced (head_items h) xs
   spaced-head (variable name x) xs is not = tt
   spaced-head parens xs is not = (λ k in_k by. absurd (right.no_infix k in_k by), tt)
   spaced-head (applied name t n) xs is not = spaced-max n xs
@@ -145,13 +145,13 @@ module _ (ws : Words) (right : IsReadable ws) where
   token-first c its (word w ps) (same, are) = (ps, ap (λ v. word v ps) same)
   token-first c its (part p ps) are = absurd are
 
-  abbrev pub BeginsWith : Head → List ℕ → Type 0
+  abbrev pub BeginsWith : ParseHead → List ℕ → Type 0
   BeginsWith (variable name x) w = name ≡ w
   BeginsWith parens w = codes "(" ≡ w
   BeginsWith (applied name t n) w = name ≡ w
   BeginsWith (notated k) w = LedBy k w
 
-  pub head-begins : (h : Head) (ps : Parts) → IsHead ws h → AreParts ws (head_items h) ps → (w : List ℕ) × (rest : Parts) × BeginsWith h w × (ps ≡ word w rest)
+  pub head-begins : (h : ParseHead) (ps : Parts) → IsHead ws h → AreParts ws (head_items h) ps → (w : List ℕ) × (rest : Parts) × BeginsWith h w × (ps ≡ word w rest)
   head-begins (variable name x) ps is are = let first = token-first name [] ps are in (name, first.0, refl, first.1)
   head-begins parens ps is are = let first = token-first (codes "(") (expr 0 ∷ token (codes ")") ∷ []) ps are in (codes "(", first.0, refl, first.1)
   head-begins (applied name t n) ps is are = let first = token-first name (operands_at_max n) ps are in (name, first.0, refl, first.1)
@@ -182,7 +182,7 @@ module _ (ws : Words) (right : IsReadable ws) where
       sym many_d ∙ ap (λ s. length s.params) same ∙ many_e
 
   -- a token is first a variable, then a leading constant, then a term's name
-  pub same-head : (h g : Head) (w : List ℕ) → IsHead ws h → IsHead ws g → BeginsWith h w → BeginsWith g w → h ≡ g
+  pub same-head : (h g : ParseHead) (w : List ℕ) → IsHead ws h → IsHead ws g → BeginsWith h w → BeginsWith g w → h ≡ g
   same-head (variable name x) (variable other y) w is_h is_g b_h b_g =
       let same = b_h ∙ sym b_g in
       let place : x ≡ y = right.variables x y name is_h.0 is_h.1 (is_g.1 ∙ ap Some (sym same)) in ap₂ variable same place
@@ -285,7 +285,7 @@ module _ (ws : Words) (right : IsReadable ws) where
 
   -- ---- one expression
 
-  same-base : (h : Head) (ps qs : Parts) (ss ts : List Step) (n : ℕ) (xs ys : List (List ℕ)) → AreUnique ps → GoodSteps ss
+  same-base : (h : ParseHead) (ps qs : Parts) (ss ts : List Step) (n : ℕ) (xs ys : List (List ℕ)) → AreUnique ps → GoodSteps ss
       → IsExp ws (build (headed h ps) ss) → IsExp ws (build (headed h qs) ts) → n ≤ level_of (build (headed h ps) ss) → n ≤ level_of (build (headed h qs) ts)
       → NotJoined n xs → NotJoined n ys → part_tokens ps ++ (step_tokens ss ++ xs) ≡ part_tokens qs ++ (step_tokens ts ++ ys)
       → (build (headed h ps) ss ≡ build (headed h qs) ts) × (xs ≡ ys)
@@ -300,7 +300,7 @@ module _ (ws : Words) (right : IsReadable ws) where
       (subst (λ rs. n ≤ level_of (build (headed h rs) ts)) back le_q) not_x not_y parts.1 in
       (ap₂ (λ rs us. build (headed h rs) us) parts.0 rest.0, rest.1)
 
-  pub any-base : (h g : Head) (ps qs : Parts) (ss ts : List Step) (n : ℕ) (xs ys : List (List ℕ)) → AreUnique ps → GoodSteps ss
+  pub any-base : (h g : ParseHead) (ps qs : Parts) (ss ts : List Step) (n : ℕ) (xs ys : List (List ℕ)) → AreUnique ps → GoodSteps ss
       → IsExp ws (build (headed h ps) ss) → IsExp ws (build (headed g qs) ts) → n ≤ level_of (build (headed h ps) ss) → n ≤ level_of (build (headed g qs) ts)
       → NotJoined n xs → NotJoined n ys → part_tokens ps ++ (step_tokens ss ++ xs) ≡ part_tokens qs ++ (step_tokens ts ++ ys)
       → (build (headed h ps) ss ≡ build (headed g qs) ts) × (xs ≡ ys)

@@ -32,19 +32,19 @@ operands_at_max (suc n) = expr max_level ∷ operands_at_max n
 -- ---- the forms at an operand's place
 
 -- a variable, by name and place; parentheses; a term by its name, with its number of parameters; a notation
-pub data Head : Type 0 where
-  variable : List ℕ → ℕ → Head
-  parens : Head
-  applied : List ℕ → ℕ → ℕ → Head
-  notated : Notation → Head
+pub data ParseHead : Type 0 where
+  variable : List ℕ → ℕ → ParseHead
+  parens : ParseHead
+  applied : List ℕ → ℕ → ℕ → ParseHead
+  notated : Notation → ParseHead
 
-abbrev pub head_items : Head → List Item
+abbrev pub head_items : ParseHead → List Item
 head_items (variable name x) = token name ∷ []
 head_items parens = token (codes "(") ∷ expr 0 ∷ token (codes ")") ∷ []
 head_items (applied name t n) = token name ∷ operands_at_max n
 head_items (notated k) = items k.elements k.level
 
-abbrev pub head_level : Head → ℕ
+abbrev pub head_level : ParseHead → ℕ
 head_level (variable name x) = max_level
 head_level parens = max_level
 head_level (applied name t zero) = max_level
@@ -67,7 +67,7 @@ infix_items k = items (behind_first k.elements) (last_level k)
 
 mutual
   pub data Parse : Type 0 where
-    headed : Head → Parts → Parse
+    headed : ParseHead → Parts → Parse
     joined : Notation → Parse → Parts → Parse
 
   pub data Parts : Type 0 where
@@ -106,7 +106,7 @@ arranged js es from (suc n) = more (operand_for js es from) (arranged js es (fro
 abbrev pub notated_tree : Notation → Trees → Tree
 notated_tree k es = app k.term (arranged (places k.elements) es 0 (length (places k.elements)))
 
-abbrev pub head_tree : Head → Trees → Tree
+abbrev pub head_tree : ParseHead → Trees → Tree
 head_tree (variable name x) es = var x
 head_tree parens es = operand es 0
 head_tree (applied name t n) es = app t es
@@ -148,7 +148,7 @@ IsTermName ws w t n = (a : TermName) × Contains ws.names a × (a.name ≡ w) ×
     × ((d : Signature) × (slice_get ws.signatures t ≡ Some d) × (length d.params ≡ n))
 
 -- a token is first a variable, then a leading constant, then a term's name
-abbrev pub IsHead : Words → Head → Type 0
+abbrev pub IsHead : Words → ParseHead → Type 0
 IsHead ws (variable name x) = (name ≢ []) × (slice_get ws.variables x ≡ Some name)
 IsHead ws parens = ⊤
 IsHead ws (applied name t n) = IsTermName ws name t n × (IsVariable ws name → ⊥) × (IsLeading ws name → ⊥)

@@ -13,17 +13,13 @@ use Rattle.mz_mmu_theory.specs.Stops.{Stops}
 use Rattle.mz_mmu_theory.proofs.Offered.{list_of}
 
 pub local_other : (k : Kind) (at : ℕ) (names : Names) (ns : Nodes) → (k ≡ def_kind → ⊥) → (k ≡ theorem_kind → ⊥) → local_asked k at names ns ≡ never at U.Form
-local_other sort_kind at names ns p q = refl
-local_other term_kind at names ns p q = refl
-local_other axiom_kind at names ns p q = refl
 local_other def_kind at names ns p q = absurd (p refl)
 local_other theorem_kind at names ns p q = absurd (q refl)
-local_other no_kind at names ns p q = refl
+local_other _ at names ns p q = refl
 
 pub statement_empty : (names : Names) (m : Node) (s : Stop) → parts m ≡ no_nodes → Stops s (never (place m) U.Form) → Stops s (statement_asked names m)
-statement_empty names (atom at w) s e h = h
-statement_empty names (list at no_nodes) s e h = h
 statement_empty names (list at (node n ns)) s e h = absurd (let f : no_nodes ≡ node n ns = sym e in cc)
+statement_empty names _ s e h = h
 
 module _ (names : Names) (m h : Node) (ns : Nodes) (k : Kind) (is : parts m ≡ node h ns) (public : is_local_word h ≡ false) (kind : k ≡ kind_of h) where
   pub statement_public : (s : Statement) → s.is_local ≡ false → IsDeclared names k ns s → IsStatement names m s

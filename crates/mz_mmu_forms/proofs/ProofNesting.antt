@@ -161,9 +161,6 @@ module _ (sc : Scope) (hyps : List (List ℕ)) (all : Nodes) (lets : List (List 
   module _ (Is : Proof → Type 0) (asked : Checks Fault) (T : ℕ) (es : Trees) (ps : List Kept) (left : Option ℕ) where
     pub next_proof_says : (step : ProofStep) → IsCitedSoFar sc hyps all Is asked lets T es ps left → IsThere all left → length lets + nodes_size (nodes_from all left) < 2 ^ 32
         → IsNextProof all T es ps left step → ProofSays sc hyps all Is asked lets lets step
-    next_proof_says (steps.Inner (outers.Conv e c) n) u there few h = absurd h
-    next_proof_says (steps.Inner (outers.Let w second) n) u there few h = absurd h
-    next_proof_says (steps.Inner (outers.Scope p) n) u there few h = absurd h
     next_proof_says (steps.Inner (outers.Cite U fs qs behind) n) u there few (is, stands, same_T, same_es, same_ps) =
         let more = stepped all left n behind is stands in
         let p = node_at all n in
@@ -190,6 +187,7 @@ module _ (sc : Scope) (hyps : List (List ℕ)) (all : Nodes) (lets : List (List 
       subst Is (sym (is ∙ sym (ap (by_citation T es) (proofs_then_none ps))))
           (u.made no_proofs (subst (λ l. AreProofs sc hyps lets (nodes_from all l) no_proofs) (sym none_left) refl)),
     )
+    next_proof_says _ u there few h = absurd h
 
   module _ (Is : Proof → Type 0) (asked : Checks Fault) (inner : Node) where
     -- a proof that has been read is put to those before it
@@ -277,13 +275,11 @@ module _ (ns behind : Nodes) (x : Node) (is : ns ≡ node x behind) where
 
 pub next_proof_fewer : (all : Nodes) (T : ℕ) (es : Trees) (ps : List Kept) (left : Option ℕ) (step : ProofStep) → IsNextProof all T es ps left step
     → proof_turns all step < 2 * nodes_size (nodes_from all left) + 2
-next_proof_fewer all T es ps left (steps.Inner (outers.Conv e c) n) h = absurd h
-next_proof_fewer all T es ps left (steps.Inner (outers.Let w second) n) h = absurd h
-next_proof_fewer all T es ps left (steps.Inner (outers.Scope p) n) h = absurd h
 next_proof_fewer all T es ps left (steps.Inner (outers.Cite U fs qs behind) n) (is, stands, same_T, same_es, same_ps) =
     let sizes : nodes_size (nodes_from all left) ≡ node_size (node_at all n) + nodes_size (nodes_from all behind) = ap nodes_size (stepped all left n behind is stands) in
     omega (arith, sizes)
 next_proof_fewer all T es ps left (steps.Whole p) (none_left, is) = omega arith
+next_proof_fewer all T es ps left _ h = absurd h
 
 -- ---- proofs within one another
 
@@ -307,13 +303,12 @@ module _ (sc : Scope) (hyps : List (List ℕ)) (all : Nodes) where
   waits_stops m inner (outers.Cite T es ps left) stop (same, w) h = w.stops stop (subst (λ ls. Stops stop (proof_asked sc hyps ls inner.here)) same h)
 
   can_go : (m inner : Form) (o : ProofOuter) → ProofWaitsAt sc hyps all m inner o → CanGoOn all inner.lets o
-  can_go m inner (outers.Conv e c) w = tt
   can_go m inner (outers.Let x second) (same, w) =
       let lengths = ap length same in
       let few = w.few in
       (w.name, subst (λ ls. IsNew ls x.now) (sym same) w.new, omega (arith, lengths, few))
-  can_go m inner (outers.Scope p) w = tt
   can_go m inner (outers.Cite T es ps left) (same, w) = w.there
+  can_go m inner _ w = tt
 
   pub can_go_on : (m inner : Form) (o : ProofOuter) (now : List (List ℕ)) → now ≡ inner.lets → ProofWaitsAt sc hyps all m inner o → CanGoOn all now o
   can_go_on m inner o now same w = subst (λ ls. CanGoOn all ls o) (sym same) (can_go m inner o w)

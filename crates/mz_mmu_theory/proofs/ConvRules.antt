@@ -20,9 +20,8 @@ use Rattle.mz_mmu_theory.specs.Names.{ConvThere, ConvsThere}
 use Rattle.mz_mmu_theory.proofs.ExprRules.{checks_by_fits, checks_by_sort, fits_by_checks, operands_by_fits, sort_by_checks}
 
 pub defined_is : (f : Form) → IsTrue (is_defined f) → f ≡ defined (dummies_of f) (body_tree f)
-defined_is plain_form h = absurd (true≢false (sym h))
-defined_is abstract_form h = absurd (true≢false (sym h))
 defined_is (defined ds e) h = refl
+defined_is _ h = absurd (true≢false (sym h))
 
 module _ (env : List Declaration) (ctx : List Binder) where
   abbrev pub sigs : List Signature
@@ -31,9 +30,8 @@ module _ (env : List Declaration) (ctx : List Binder) where
   fresh_by_checks : (es : Trees) (ys : List ℕ) (ns : Nodes) (bs : List Binder) → length ys ≡ length bs
       → AllHold (variable_rules ctx ys ns bs) → AreNew ctx es ys → AreFresh ctx es ys bs
   fresh_by_checks es [] ns [] many all new = tt
-  fresh_by_checks es [] ns (b ∷ bs) many all new = absurd (omega arith)
-  fresh_by_checks es (y ∷ ys) ns [] many all new = absurd (omega arith)
   fresh_by_checks es (y ∷ ys) ns (b ∷ bs) many (is, all) (out, differs, new) = (is, out, differs, fresh_by_checks es ys (rest ns) bs (omega arith) all new)
+  fresh_by_checks es _ ns _ many all new = absurd (omega arith)
 
   mutual
     pub between_by_checks : (c : Conversion) (n : Node) → ConvThere (length sigs) (length ctx) c → AllHold (conv_rules env ctx c n) → Between env ctx c (left c) (right c)
@@ -92,14 +90,13 @@ module _ (env : List Declaration) (ctx : List Binder) where
     fits_by_sides : (cs : Conversions) (ns : Nodes) (ps : List Binder) → AllBetween env ctx cs (lefts cs) (rights cs) → conv_count cs ≡ length ps
         → AllHold (side_rules sigs ctx cs ns ps) → Fits sigs ctx (lefts cs) ps × Fits sigs ctx (rights cs) ps
     fits_by_sides no_convs ns [] h many all = (tt, tt)
-    fits_by_sides no_convs ns (p ∷ ps) h many all = absurd (omega arith)
-    fits_by_sides (more_convs c cs) ns [] h many all = absurd (omega arith)
     fits_by_sides (more_convs c cs) ns (p ∷ ps) (here, h) many (is, (bd, all)) =
         let s = sorted_sides env ctx c (left c) (right c) here in
         let f = fits_by_sides cs (rest ns) ps h (omega arith) all in (
           (subst (HasSort sigs ctx (left c)) (sym (sort_is sigs ctx (left c) _ s.0.1) ∙ is.0) s.0.1, λ b. (bd b).0, f.0),
           (subst (HasSort sigs ctx (right c)) (sym (sort_is sigs ctx (right c) _ s.1.1) ∙ is.1) s.1.1, λ b. (bd b).1, f.1),
         )
+    fits_by_sides _ ns _ h many all = absurd (omega arith)
 
   -- ---- the other way
 
@@ -114,32 +111,27 @@ module _ (env : List Declaration) (ctx : List Binder) where
 
     pub all_sides_are : (cs : Conversions) (ls rs : Trees) → AllBetween env ctx cs ls rs → (ls ≡ lefts cs) × (rs ≡ rights cs)
     all_sides_are no_convs none none h = (refl, refl)
-    all_sides_are no_convs none (more r rs) h = absurd h
-    all_sides_are no_convs (more l ls) rs h = absurd h
-    all_sides_are (more_convs c cs) none rs h = absurd h
-    all_sides_are (more_convs c cs) (more l ls) none h = absurd h
     all_sides_are (more_convs c cs) (more l ls) (more r rs) (here, h) =
         let j = sides_are c l r here in
         let k = all_sides_are cs ls rs h in
         (ap (λ x. more x ls) j.0 ∙ ap (more (left c)) k.0, ap (λ x. more x rs) j.1 ∙ ap (more (right c)) k.1)
+    all_sides_are _ _ _ h = absurd h
 
   conv_count_is : (cs : Conversions) → length (listed (lefts cs)) ≡ conv_count cs
   conv_count_is no_convs = refl
   conv_count_is (more_convs c cs) = ap suc (conv_count_is cs)
 
   sides_by_fits : (cs : Conversions) (ns : Nodes) (ps : List Binder) → Fits sigs ctx (lefts cs) ps → Fits sigs ctx (rights cs) ps → AllHold (side_rules sigs ctx cs ns ps)
-  sides_by_fits no_convs ns ps f g = tt
-  sides_by_fits (more_convs c cs) ns [] f g = tt
   sides_by_fits (more_convs c cs) ns (p ∷ ps) (h, bd, f) (k, bd', g) =
       ((sort_is sigs ctx (left c) p.sort h, sort_is sigs ctx (right c) p.sort k), ((λ b. (bd b, bd' b)), sides_by_fits cs (rest ns) ps f g))
+  sides_by_fits _ ns _ f g = tt
 
   variables_by_fresh : (es : Trees) (ys : List ℕ) (ns : Nodes) (bs : List Binder) → AreFresh ctx es ys bs
       → AllHold (variable_rules ctx ys ns bs) × AreNew ctx es ys × (length ys ≡ length bs)
   variables_by_fresh es [] ns [] h = (tt, tt, refl)
-  variables_by_fresh es [] ns (b ∷ bs) h = absurd h
-  variables_by_fresh es (y ∷ ys) ns [] h = absurd h
   variables_by_fresh es (y ∷ ys) ns (b ∷ bs) (is, out, differs, h) =
       let k = variables_by_fresh es ys (rest ns) bs h in ((is, k.0), (out, differs, k.1), ap suc k.2)
+  variables_by_fresh es _ ns _ h = absurd h
 
   unfold_by_fresh : (d : Term) (ds : List Binder) (body : Tree) (es : Trees) (ys : List ℕ) (l : Tree) (n : Node) → d.form ≡ defined ds body
       → Fits sigs ctx es d.signature.params → AreFresh ctx es ys ds → l ≡ instance (followed_by es (variables ys)) body
@@ -183,7 +175,6 @@ module _ (env : List Declaration) (ctx : List Binder) where
 
     pub all_checks_by_between : (cs : Conversions) (ns : Nodes) (ls rs : Trees) → AllBetween env ctx cs ls rs → AllHold (convs_rules env ctx cs ns)
     all_checks_by_between no_convs ns ls rs h = tt
-    all_checks_by_between (more_convs c cs) ns none rs h = absurd h
-    all_checks_by_between (more_convs c cs) ns (more l ls) none h = absurd h
     all_checks_by_between (more_convs c cs) ns (more l ls) (more r rs) (here, h) =
         all_hold-both (conv_rules env ctx c (first ns)) _ (checks_by_between c (first ns) l r here) (all_checks_by_between cs (rest ns) ls rs h)
+    all_checks_by_between (more_convs c cs) ns _ _ h = absurd h

@@ -36,13 +36,12 @@ module _ (sigs : List Signature) (ctx : List Binder) where
     pub fits_by_checks : (es : Trees) (ns ms : Nodes) (ps : List Binder) → AreThere es → AllHold (exprs_rules sigs ctx es ns)
         → length (listed es) ≡ length ps → AllHold (operand_rules sigs ctx es ms ps) → Fits sigs ctx es ps
     fits_by_checks none ns ms [] inner all many own = tt
-    fits_by_checks none ns ms (p ∷ ps) inner all many own = absurd (omega arith)
-    fits_by_checks (more e es) ns ms [] inner all many own = absurd (omega arith)
     fits_by_checks (more e es) ns ms (p ∷ ps) (here, inner) all many (is, (bd, own)) = (
       subst (HasSort sigs ctx e) is (sort_by_checks e (first ns) here (all_hold-first (expr_rules sigs ctx e (first ns)) _ all)),
       bd,
       fits_by_checks es (rest ns) (rest ms) ps inner (all_hold-rest (expr_rules sigs ctx e (first ns)) _ all) (omega arith) own,
     )
+    fits_by_checks _ ns ms _ inner all many own = absurd (omega arith)
 
   mutual
     pub checks_by_sort : (e : Tree) (n : Node) (s : ℕ) → HasSort sigs ctx e s → AllHold (expr_rules sigs ctx e n)
@@ -60,9 +59,8 @@ module _ (sigs : List Signature) (ctx : List Binder) where
         all_hold-both (expr_rules sigs ctx e (first ns)) _ (checks_by_sort e (first ns) p.sort h) (checks_by_fits es (rest ns) ps fits)
 
     pub operands_by_fits : (es : Trees) (ns : Nodes) (ps : List Binder) → Fits sigs ctx es ps → AllHold (operand_rules sigs ctx es ns ps)
-    operands_by_fits none ns ps fits = tt
-    operands_by_fits (more e es) ns [] fits = tt
     operands_by_fits (more e es) ns (p ∷ ps) (h, bd, fits) = (sort_is sigs ctx e p.sort h, (bd, operands_by_fits es (rest ns) ps fits))
+    operands_by_fits _ ns _ fits = tt
 
 -- ---- hypotheses, conclusions and gaps
 

@@ -101,9 +101,6 @@ deps_found vars n a =
     (deps.0, (xs.0, xs.1, deps.1))
 
 param_found : (names : Names) (vars : List (List ℕ)) (n : Node) → AllHold (param_asked names vars n) → (b : Binder) × IsParam names vars n (first_word (parts n)) b
-param_found names vars (atom at w) a = absurd a.0
-param_found names vars (list at no_nodes) a = absurd a.0
-param_found names vars (list at (node x no_nodes)) a = absurd a.0
 param_found names vars (list at (node x (node s no_nodes))) a =
     let k = known_found names.sorts s (all_hold-rest (param_name_asked vars x) (known_asked names.sorts s) a) in
     (record { sort = k.0; bound = true; deps = [] }, (param_name_found vars x (all_hold-first (param_name_asked vars x) (known_asked names.sorts s) a), k.1, refl, refl))
@@ -114,16 +111,13 @@ param_found names vars (list at (node x (node s (node ds no_nodes)))) a =
     let k = known_found names.sorts s (all_hold-first K D later) in
     let deps = deps_found vars ds (all_hold-rest K D later) in
     (record { sort = k.0; bound = false; deps = deps.0 }, (param_name_found vars x (all_hold-first (param_name_asked vars x) (K >> D) a), k.1, refl, deps.1))
-param_found names vars (list at (node x (node s (node ds (node _ _))))) a = absurd a.0
+param_found names vars _ a = absurd a.0
 
 dummy_found : (names : Names) (vars : List (List ℕ)) (n : Node) → AllHold (dummy_asked names vars n) → (b : Binder) × IsDummy names vars n (first_word (parts n)) b
-dummy_found names vars (atom at w) a = absurd a.0
-dummy_found names vars (list at no_nodes) a = absurd a.0
-dummy_found names vars (list at (node x no_nodes)) a = absurd a.0
 dummy_found names vars (list at (node x (node s no_nodes))) a =
     let k = known_found names.sorts s (all_hold-rest (new_asked vars x) (known_asked names.sorts s) a) in
     (record { sort = k.0; bound = true; deps = [] }, (new_found vars x (all_hold-first (new_asked vars x) (known_asked names.sorts s) a), k.1, refl, refl))
-dummy_found names vars (list at (node x (node s (node _ _)))) a = absurd a.0
+dummy_found names vars _ a = absurd a.0
 
 module _ (Is : List (List ℕ) → Node → List ℕ → Binder → Type 0) (asked : List (List ℕ) → Node → Checks Fault)
     (found : (vars : List (List ℕ)) (n : Node) → AllHold (asked vars n) → (b : Binder) × Is vars n (first_word (parts n)) b) where
@@ -145,16 +139,13 @@ dummies_found names vars (atom at w) a = absurd a.0
 dummies_found names vars (list at ns) a = binders_found (IsDummy names) (dummy_asked names) (dummy_found names) vars ns a
 
 pub result_found : (names : Names) (vars : List (List ℕ)) (n : Node) → AllHold (result_asked names vars n) → (r : ResultType) × IsResult names vars n r
-result_found names vars (atom at w) a = absurd a.0
-result_found names vars (list at no_nodes) a = absurd a.0
-result_found names vars (list at (node s no_nodes)) a = absurd a.0
 result_found names vars (list at (node s (node ds no_nodes))) a =
     let K = known_asked names.sorts s in
     let D = variable_list_asked vars ds in
     let k = known_found names.sorts s (all_hold-first K D a) in
     let deps = deps_found vars ds (all_hold-rest K D a) in
     (record { sort = k.0; deps = deps.0 }, (k.1, deps.1))
-result_found names vars (list at (node s (node ds (node _ _)))) a = absurd a.0
+result_found names vars _ a = absurd a.0
 
 -- ---- conversions
 
@@ -166,16 +157,8 @@ module _ (sc : Scope) where
     conv_found (list at (node h ns)) a = conv_found_by (conv_keyword h) at h ns a
 
     conv_found_by : (k : Keyword) (at : ℕ) (h : Node) (ns : Nodes) → AllHold (conv_asked_by sc k at h ns) → (c : Conversion) × IsConvBy sc k h ns c
-    conv_found_by refl_word at h no_nodes a = absurd a.0
     conv_found_by refl_word at h (node n no_nodes) a = let e = expr_found sc n a in (refl_conv e.0, (e.0, e.1, refl))
-    conv_found_by refl_word at h (node n (node _ _)) a = absurd a.0
-    conv_found_by sym_word at h no_nodes a = absurd a.0
     conv_found_by sym_word at h (node n no_nodes) a = let c = conv_found n a in (sym_conv c.0, (c.0, c.1, refl))
-    conv_found_by sym_word at h (node n (node _ _)) a = absurd a.0
-    conv_found_by unfold_word at h no_nodes a = absurd a.0
-    conv_found_by unfold_word at h (node t no_nodes) a = absurd a.0
-    conv_found_by unfold_word at h (node t (node es no_nodes)) a = absurd a.0
-    conv_found_by unfold_word at h (node t (node es (node ys no_nodes))) a = absurd a.0
     conv_found_by unfold_word at h (node t (node es (node ys (node n no_nodes)))) a =
         let T = known_asked sc.names.terms t in
         let E = expr_list_asked sc es in
@@ -188,16 +171,10 @@ module _ (sc : Scope) where
         let zs = variable_list_found sc.vars ys (all_hold-first Y C later) in
         let c = conv_found n (all_hold-rest Y C later) in
         (unfold_conv u.0 fs.0 zs.0 c.0, (u.0, fs.0, zs.0, c.0, u.1, fs.1, zs.1, c.1, refl))
-    conv_found_by unfold_word at h (node t (node es (node ys (node n (node _ _))))) a = absurd a.0
-    conv_found_by sorry_word at h no_nodes a = absurd a.1.0
-    conv_found_by sorry_word at h (node l no_nodes) a = absurd a.1.0
     conv_found_by sorry_word at h (node l (node r no_nodes)) (may, a) =
         let f = expr_found sc l (all_hold-first (expr_asked sc l) (expr_asked sc r) a) in
         let g = expr_found sc r (all_hold-rest (expr_asked sc l) (expr_asked sc r) a) in
         (gap_conv f.0 g.0, (f.0, g.0, may, f.1, g.1, refl))
-    conv_found_by sorry_word at h (node l (node r (node _ _))) a = absurd a.1.0
-    conv_found_by conv_word at h ns a = absurd a.0
-    conv_found_by let_word at h ns a = absurd a.0
     conv_found_by no_word at h no_nodes a = let t = known_found sc.names.terms h a in (cong_conv t.0 no_convs, (t.0, t.1, refl))
     conv_found_by no_word at h (node n ns) a =
         let T = known_asked sc.names.terms h in
@@ -206,6 +183,8 @@ module _ (sc : Scope) where
         let c = conv_found n (all_hold-first (conv_asked sc n) (convs_asked sc ns) later) in
         let cs = convs_found ns (all_hold-rest (conv_asked sc n) (convs_asked sc ns) later) in
         (cong_conv t.0 (more_convs c.0 cs.0), (t.0, c.0, cs.0, t.1, c.1, cs.1, refl))
+    conv_found_by sorry_word at h _ a = absurd a.1.0
+    conv_found_by _ at h _ a = absurd a.0
 
     convs_found : (ns : Nodes) → AllHold (convs_asked sc ns) → (cs : Conversions) × AreConvs sc ns cs
     convs_found no_nodes a = (no_convs, refl)
@@ -230,9 +209,6 @@ module _ (sc : Scope) (hyps : List (List ℕ)) where
 
     proof_found_by : (lets : List (List ℕ)) (k : Keyword) (at : ℕ) (h : Node) (ns : Nodes) → AllHold (proof_asked_by sc hyps lets k at h ns)
         → (p : Proof) × IsProofBy sc hyps lets k h ns p
-    proof_found_by lets conv_word at h no_nodes a = absurd a.0
-    proof_found_by lets conv_word at h (node e no_nodes) a = absurd a.0
-    proof_found_by lets conv_word at h (node e (node c no_nodes)) a = absurd a.0
     proof_found_by lets conv_word at h (node e (node c (node q no_nodes))) a =
         let E = expr_asked sc e in
         let C = conv_asked sc c in
@@ -242,10 +218,6 @@ module _ (sc : Scope) (hyps : List (List ℕ)) where
         let d = conv_found sc c (all_hold-first C Q later) in
         let r = proof_found lets q (all_hold-rest C Q later) in
         (by_conv f.0 d.0 r.0, (f.0, d.0, r.0, f.1, d.1, r.1, refl))
-    proof_found_by lets conv_word at h (node e (node c (node q (node _ _)))) a = absurd a.0
-    proof_found_by lets let_word at h no_nodes a = absurd a.0
-    proof_found_by lets let_word at h (node x no_nodes) a = absurd a.0
-    proof_found_by lets let_word at h (node x (node q no_nodes)) a = absurd a.0
     proof_found_by lets let_word at h (node x (node q (node q' no_nodes))) a =
         let X = new_asked (hyps ++ lets) x in
         let P = proof_asked sc hyps lets q in
@@ -254,14 +226,7 @@ module _ (sc : Scope) (hyps : List (List ℕ)) where
         let r = proof_found lets q (all_hold-first P Q later) in
         let r' = proof_found (lets ++ word x ∷ []) q' (all_hold-rest P Q later) in
         (by_let r.0 r'.0, (word x, r.0, r'.0, new_found (hyps ++ lets) x (all_hold-first X (P >> Q) a), r.1, r'.1, refl))
-    proof_found_by lets let_word at h (node x (node q (node q' (node _ _)))) a = absurd a.0
-    proof_found_by lets sorry_word at h no_nodes a = absurd a.1.0
     proof_found_by lets sorry_word at h (node e no_nodes) (may, a) = let f = expr_found sc e a in (by_gap f.0, (f.0, may, f.1, refl))
-    proof_found_by lets sorry_word at h (node e (node _ _)) a = absurd a.1.0
-    proof_found_by lets refl_word at h ns a = absurd a.0
-    proof_found_by lets sym_word at h ns a = absurd a.0
-    proof_found_by lets unfold_word at h ns a = absurd a.0
-    proof_found_by lets no_word at h no_nodes a = absurd a.0
     proof_found_by lets no_word at h (node es ns) a =
         let T = known_asked sc.names.assertions h in
         let E = expr_list_asked sc es in
@@ -271,6 +236,8 @@ module _ (sc : Scope) (hyps : List (List ℕ)) where
         let fs = expr_list_found sc es (all_hold-first E Q later) in
         let rs = proofs_found lets ns (all_hold-rest E Q later) in
         (by_citation t.0 fs.0 rs.0, (t.0, fs.0, rs.0, t.1, fs.1, rs.1, refl))
+    proof_found_by lets sorry_word at h _ a = absurd a.1.0
+    proof_found_by lets _ at h _ a = absurd a.0
 
     proofs_found : (lets : List (List ℕ)) (ns : Nodes) → AllHold (proofs_asked sc hyps lets ns) → (ps : Proofs) × AreProofs sc hyps lets ns ps
     proofs_found lets no_nodes a = (no_proofs, refl)

@@ -31,13 +31,10 @@ modifiers_found m (node (atom at w) ns) (next, later) =
 modifiers_found m (node (list at _) ns) (next, later) = absurd (let f : None ≡ Some next.0 = next.1 in cc)
 
 hyp_found : (sc : Scope) (taken : List (List ℕ)) (n : Node) → AllHold (hyp_asked sc taken n) → (e : Tree) × IsHyp sc taken n (first_word (parts n)) e
-hyp_found sc taken (atom at w) a = absurd a.0
-hyp_found sc taken (list at no_nodes) a = absurd a.0
-hyp_found sc taken (list at (node x no_nodes)) a = absurd a.0
 hyp_found sc taken (list at (node x (node e no_nodes))) a =
     let f = expr_found sc e (all_hold-rest (new_asked taken x) (expr_asked sc e) a) in
     (f.0, (new_found taken x (all_hold-first (new_asked taken x) (expr_asked sc e) a), f.1))
-hyp_found sc taken (list at (node x (node e (node _ _)))) a = absurd a.0
+hyp_found sc taken _ a = absurd a.0
 
 hyps_found_from : (sc : Scope) (taken : List (List ℕ)) (ns : Nodes) → AllHold (binders_asked (hyp_asked sc) taken ns) → (es : Trees) × AreHyps sc taken ns es (taken ++ names_of ns)
 hyps_found_from sc taken no_nodes a = (none, (refl, append-nil taken))
@@ -85,14 +82,10 @@ theorem_stated mark names x ps hs e ds q params vars hyps labels conclusion dumm
     (s, (params, vars, hyps, labels, conclusion, all, proof, n, p, h, c, d, r, refl, refl), refl)
 
 declared_found : (mark : Bool) (k : Kind) (at : ℕ) (names : Names) (ns : Nodes) → AllHold (declared_asked k at names ns) → Found mark (IsDeclared names k ns)
-declared_found mark sort_kind at names no_nodes a = absurd a.0
 declared_found mark sort_kind at names (node x ms) a =
     let m = modifiers_found no_modifiers ms (all_hold-rest (new_asked names.sorts x) (modifiers_asked no_modifiers ms) a) in
     let s : Statement = record { is_local = mark; name = word x; decl = sort_decl (record { 0 = modifier_bits m.0 }); dummies = []; proof = None } in
     (s, (m.0, new_found names.sorts x (all_hold-first (new_asked names.sorts x) (modifiers_asked no_modifiers ms) a), m.1, refl, refl, refl), refl)
-declared_found mark term_kind at names no_nodes a = absurd a.0
-declared_found mark term_kind at names (node x no_nodes) a = absurd a.0
-declared_found mark term_kind at names (node x (node ps no_nodes)) a = absurd a.0
 declared_found mark term_kind at names (node x (node ps (node r no_nodes))) a =
     let V = names_of (parts ps) in
     let X = new_asked names.terms x in
@@ -109,11 +102,6 @@ declared_found mark term_kind at names (node x (node ps (node r no_nodes))) a =
       proof = None;
     } in
     (s, (params.0, V, result.0, new_found names.terms x (all_hold-first X (P >> R) a), params.1, result.1, refl, refl, refl), refl)
-declared_found mark term_kind at names (node x (node ps (node r (node _ _)))) a = absurd a.0
-declared_found mark axiom_kind at names no_nodes a = absurd a.0
-declared_found mark axiom_kind at names (node x no_nodes) a = absurd a.0
-declared_found mark axiom_kind at names (node x (node ps no_nodes)) a = absurd a.0
-declared_found mark axiom_kind at names (node x (node ps (node hs no_nodes))) a = absurd a.0
 declared_found mark axiom_kind at names (node x (node ps (node hs (node e no_nodes)))) a =
     let V = names_of (parts ps) in
     let sc = scope_of names V in
@@ -134,12 +122,6 @@ declared_found mark axiom_kind at names (node x (node ps (node hs (node e no_nod
       proof = None;
     } in
     (s, (params.0, V, hyps.0, conclusion.0, new_found names.assertions x (all_hold-first X (P >> H >> C) a), params.1, hyps.1, conclusion.1, refl, refl, refl), refl)
-declared_found mark axiom_kind at names (node x (node ps (node hs (node e (node _ _))))) a = absurd a.0
-declared_found mark def_kind at names no_nodes a = absurd a.0
-declared_found mark def_kind at names (node x no_nodes) a = absurd a.0
-declared_found mark def_kind at names (node x (node ps no_nodes)) a = absurd a.0
-declared_found mark def_kind at names (node x (node ps (node r no_nodes))) a = absurd a.0
-declared_found mark def_kind at names (node x (node ps (node r (node ds no_nodes)))) a = absurd a.0
 declared_found mark def_kind at names (node x (node ps (node r (node ds (node e no_nodes))))) a =
     let V = names_of (parts ps) in
     let all = V ++ names_of (parts ds) in
@@ -157,13 +139,6 @@ declared_found mark def_kind at names (node x (node ps (node r (node ds (node e 
     let body = expr_found (scope_of names all) e (all_hold-rest D B from_dummies) in
     def_stated mark names x ps r ds e params.0 V result.0 dummies.0 all body.0
     (new_found names.terms x (all_hold-first X (P >> R >> D >> B) a)) params.1 result.1 dummies.1 body.1
-declared_found mark def_kind at names (node x (node ps (node r (node ds (node e (node _ _)))))) a = absurd a.0
-declared_found mark theorem_kind at names no_nodes a = absurd a.0
-declared_found mark theorem_kind at names (node x no_nodes) a = absurd a.0
-declared_found mark theorem_kind at names (node x (node ps no_nodes)) a = absurd a.0
-declared_found mark theorem_kind at names (node x (node ps (node hs no_nodes))) a = absurd a.0
-declared_found mark theorem_kind at names (node x (node ps (node hs (node e no_nodes)))) a = absurd a.0
-declared_found mark theorem_kind at names (node x (node ps (node hs (node e (node ds no_nodes))))) a = absurd a.0
 declared_found mark theorem_kind at names (node x (node ps (node hs (node e (node ds (node q no_nodes)))))) a =
     let V = names_of (parts ps) in
     let labels = names_of (parts hs) in
@@ -186,16 +161,12 @@ declared_found mark theorem_kind at names (node x (node ps (node hs (node e (nod
     let proof = proof_found (scope_of names all) labels [] q (all_hold-rest D Q from_dummies) in
     theorem_stated mark names x ps hs e ds q params.0 V hyps.0 labels conclusion.0 dummies.0 all proof.0
     (new_found names.assertions x (all_hold-first X (P >> H >> C >> D >> Q) a)) params.1 hyps.1 conclusion.1 dummies.1 proof.1
-declared_found mark theorem_kind at names (node x (node ps (node hs (node e (node ds (node q (node _ _))))))) a = absurd a.0
-declared_found mark no_kind at names ns a = absurd a.0
+declared_found mark _ at names _ a = absurd a.0
 
 local_found : (k : Kind) (at : ℕ) (names : Names) (ns : Nodes) → AllHold (local_asked k at names ns) → Found true (IsLocal names k ns)
-local_found sort_kind at names ns a = absurd a.0
-local_found term_kind at names ns a = absurd a.0
-local_found axiom_kind at names ns a = absurd a.0
 local_found def_kind at names ns a = declared_found true def_kind at names ns a
 local_found theorem_kind at names ns a = declared_found true theorem_kind at names ns a
-local_found no_kind at names ns a = absurd a.0
+local_found _ at names ns a = absurd a.0
 
 marked_found : (b : Bool) (at : ℕ) (names : Names) (k : Node) (ns : Nodes) → AllHold (marked_asked b at names k ns) → (s : Statement) × IsMarked b names k ns s
 marked_found false at names k ns a = let s = declared_found false (kind_of k) at names ns a in (s.0, (s.2, s.1))
@@ -203,9 +174,8 @@ marked_found true at names k no_nodes a = absurd a.0
 marked_found true at names k (node k' ns) a = let s = local_found (kind_of k') at names ns a in (s.0, (s.2, s.1))
 
 statement_found : (names : Names) (n : Node) → AllHold (statement_asked names n) → (s : Statement) × IsStatement names n s
-statement_found names (atom at w) a = absurd a.0
-statement_found names (list at no_nodes) a = absurd a.0
 statement_found names (list at (node k ns)) a = marked_found (is_local_word k) at names k ns a
+statement_found names _ a = absurd a.0
 
 -- ---- the whole text
 

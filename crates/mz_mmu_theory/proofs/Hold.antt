@@ -66,42 +66,32 @@ pub deps_hold : (vars : List (List ℕ)) (n : Node) (xs : List ℕ) → AreDeps 
 deps_hold vars n deps (xs, h, a) = variable_list_holds vars n xs h
 
 pub param_holds : (names : Names) (vars : List (List ℕ)) (n : Node) (w : List ℕ) (b : Binder) → IsParam names vars n w b → AllHold (param_asked names vars n)
-param_holds names vars (atom at w) x b h = absurd h
-param_holds names vars (list at no_nodes) x b h = absurd h
-param_holds names vars (list at (node y no_nodes)) x b h = absurd h
 param_holds names vars (list at (node y (node s no_nodes))) x b (h, k, r, d) =
     all_hold-both (param_name_asked vars y) (known_asked names.sorts s) (param_name_holds vars y x h) (known_holds names.sorts s b.sort k)
 param_holds names vars (list at (node y (node s (node ds no_nodes)))) x b (h, k, r, d) =
     all_hold-both (param_name_asked vars y) (known_asked names.sorts s >> variable_list_asked vars ds) (param_name_holds vars y x h)
     (all_hold-both (known_asked names.sorts s) (variable_list_asked vars ds) (known_holds names.sorts s b.sort k) (deps_hold vars ds b.deps d))
-param_holds names vars (list at (node y (node s (node ds (node _ _))))) x b h = absurd h
+param_holds names vars _ x b h = absurd h
 
 pub dummy_holds : (names : Names) (vars : List (List ℕ)) (n : Node) (w : List ℕ) (b : Binder) → IsDummy names vars n w b → AllHold (dummy_asked names vars n)
-dummy_holds names vars (atom at w) x b h = absurd h
-dummy_holds names vars (list at no_nodes) x b h = absurd h
-dummy_holds names vars (list at (node y no_nodes)) x b h = absurd h
 dummy_holds names vars (list at (node y (node s no_nodes))) x b (h, k, r, d) =
     all_hold-both (new_asked vars y) (known_asked names.sorts s) (new_holds vars y x h) (known_holds names.sorts s b.sort k)
-dummy_holds names vars (list at (node y (node s (node _ _)))) x b h = absurd h
+dummy_holds names vars _ x b h = absurd h
 
 -- the name that a parameter or a dummy has is its first atom
 pub param_word : (names : Names) (vars : List (List ℕ)) (n : Node) (w : List ℕ) (b : Binder) → IsParam names vars n w b → w ≡ first_word (parts n)
-param_word names vars (atom at w) x b h = absurd h
-param_word names vars (list at no_nodes) x b h = absurd h
-param_word names vars (list at (node y no_nodes)) x b h = absurd h
 param_word names vars (list at (node (atom _ _) (node s no_nodes))) x b h = h.0.0
 param_word names vars (list at (node (list _ _) (node s no_nodes))) x b h = absurd h.0
 param_word names vars (list at (node (atom _ _) (node s (node ds no_nodes)))) x b h = h.0.0
 param_word names vars (list at (node (list _ _) (node s (node ds no_nodes)))) x b h = absurd h.0
 param_word names vars (list at (node y (node s (node ds (node _ _))))) x b h = absurd h
+param_word names vars _ x b h = absurd h
 
 pub dummy_word : (names : Names) (vars : List (List ℕ)) (n : Node) (w : List ℕ) (b : Binder) → IsDummy names vars n w b → w ≡ first_word (parts n)
-dummy_word names vars (atom at w) x b h = absurd h
-dummy_word names vars (list at no_nodes) x b h = absurd h
-dummy_word names vars (list at (node y no_nodes)) x b h = absurd h
 dummy_word names vars (list at (node (atom _ _) (node s no_nodes))) x b h = h.0.0
 dummy_word names vars (list at (node (list _ _) (node s no_nodes))) x b h = absurd h.0
 dummy_word names vars (list at (node y (node s (node _ _)))) x b h = absurd h
+dummy_word names vars _ x b h = absurd h
 
 module _ (Is : List (List ℕ) → Node → List ℕ → Binder → Type 0) (asked : List (List ℕ) → Node → Checks Fault)
     (holds : (vars : List (List ℕ)) (n : Node) (w : List ℕ) (b : Binder) → Is vars n w b → AllHold (asked vars n))
@@ -133,12 +123,9 @@ dummies_hold names vars (list at ns) bs after h = (
 )
 
 pub result_holds : (names : Names) (vars : List (List ℕ)) (n : Node) (r : ResultType) → IsResult names vars n r → AllHold (result_asked names vars n)
-result_holds names vars (atom at w) r h = absurd h
-result_holds names vars (list at no_nodes) r h = absurd h
-result_holds names vars (list at (node s no_nodes)) r h = absurd h
 result_holds names vars (list at (node s (node ds no_nodes))) r (k, d) =
     all_hold-both (known_asked names.sorts s) (variable_list_asked vars ds) (known_holds names.sorts s r.sort k) (deps_hold vars ds r.deps d)
-result_holds names vars (list at (node s (node ds (node _ _)))) r h = absurd h
+result_holds names vars _ r h = absurd h
 
 -- ---- conversions
 
@@ -149,32 +136,19 @@ mutual
   conv_holds sc (list at (node h ns)) c r = conv_holds_by sc (conv_keyword h) at h ns c r
 
   pub conv_holds_by : (sc : Scope) (k : Keyword) (at : ℕ) (h : Node) (ns : Nodes) (c : Conversion) → IsConvBy sc k h ns c → AllHold (conv_asked_by sc k at h ns)
-  conv_holds_by sc refl_word at h no_nodes c r = absurd r
   conv_holds_by sc refl_word at h (node n no_nodes) c (e, r, is) = expr_holds sc n e r
-  conv_holds_by sc refl_word at h (node n (node _ _)) c r = absurd r
-  conv_holds_by sc sym_word at h no_nodes c r = absurd r
   conv_holds_by sc sym_word at h (node n no_nodes) c (d, r, is) = conv_holds sc n d r
-  conv_holds_by sc sym_word at h (node n (node _ _)) c r = absurd r
-  conv_holds_by sc unfold_word at h no_nodes c r = absurd r
-  conv_holds_by sc unfold_word at h (node t no_nodes) c r = absurd r
-  conv_holds_by sc unfold_word at h (node t (node es no_nodes)) c r = absurd r
-  conv_holds_by sc unfold_word at h (node t (node es (node ys no_nodes))) c r = absurd r
   conv_holds_by sc unfold_word at h (node t (node es (node ys (node n no_nodes)))) c (u, fs, zs, d, k, e, v, r, is) =
       all_hold-both (known_asked sc.names.terms t) (expr_list_asked sc es >> variable_list_asked sc.vars ys >> conv_asked sc n) (known_holds sc.names.terms t u k)
       (all_hold-both (expr_list_asked sc es) (variable_list_asked sc.vars ys >> conv_asked sc n) (expr_list_holds sc es fs e)
       (all_hold-both (variable_list_asked sc.vars ys) (conv_asked sc n) (variable_list_holds sc.vars ys zs v) (conv_holds sc n d r)))
-  conv_holds_by sc unfold_word at h (node t (node es (node ys (node n (node _ _))))) c r = absurd r
-  conv_holds_by sc sorry_word at h no_nodes c r = absurd r
-  conv_holds_by sc sorry_word at h (node l no_nodes) c r = absurd r
   conv_holds_by sc sorry_word at h (node l (node m no_nodes)) c (f, g, may, x, y, is) =
       (may, all_hold-both (expr_asked sc l) (expr_asked sc m) (expr_holds sc l f x) (expr_holds sc m g y))
-  conv_holds_by sc sorry_word at h (node l (node m (node _ _))) c r = absurd r
-  conv_holds_by sc conv_word at h ns c r = absurd r
-  conv_holds_by sc let_word at h ns c r = absurd r
   conv_holds_by sc no_word at h no_nodes c (t, k, is) = known_holds sc.names.terms h t k
   conv_holds_by sc no_word at h (node n ns) c (t, d, ds, k, r, rs, is) =
       all_hold-both (known_asked sc.names.terms h) (conv_asked sc n >> convs_asked sc ns) (known_holds sc.names.terms h t k)
       (all_hold-both (conv_asked sc n) (convs_asked sc ns) (conv_holds sc n d r) (convs_hold sc ns ds rs))
+  conv_holds_by sc _ at h _ c r = absurd r
 
   pub convs_hold : (sc : Scope) (ns : Nodes) (cs : Conversions) → AreConvs sc ns cs → AllHold (convs_asked sc ns)
   convs_hold sc no_nodes cs r = tt
@@ -191,32 +165,20 @@ mutual
 
   pub proof_holds_by : (sc : Scope) (hyps lets : List (List ℕ)) (k : Keyword) (at : ℕ) (h : Node) (ns : Nodes) (p : Proof) → IsProofBy sc hyps lets k h ns p
       → AllHold (proof_asked_by sc hyps lets k at h ns)
-  proof_holds_by sc hyps lets conv_word at h no_nodes p r = absurd r
-  proof_holds_by sc hyps lets conv_word at h (node e no_nodes) p r = absurd r
-  proof_holds_by sc hyps lets conv_word at h (node e (node c no_nodes)) p r = absurd r
   proof_holds_by sc hyps lets conv_word at h (node e (node c (node q no_nodes))) p (f, d, s, x, y, z, is) =
       all_hold-both (expr_asked sc e) (conv_asked sc c >> proof_asked sc hyps lets q) (expr_holds sc e f x)
       (all_hold-both (conv_asked sc c) (proof_asked sc hyps lets q) (conv_holds sc c d y) (proof_holds sc hyps lets q s z))
-  proof_holds_by sc hyps lets conv_word at h (node e (node c (node q (node _ _)))) p r = absurd r
-  proof_holds_by sc hyps lets let_word at h no_nodes p r = absurd r
-  proof_holds_by sc hyps lets let_word at h (node x no_nodes) p r = absurd r
-  proof_holds_by sc hyps lets let_word at h (node x (node q no_nodes)) p r = absurd r
   proof_holds_by sc hyps lets let_word at h (node (list _ _) (node q (node q' no_nodes))) p (w, s, s', n, y, z, is) = absurd n
   proof_holds_by sc hyps lets let_word at h (node (atom i v) (node q (node q' no_nodes))) p (w, s, s', n, y, z, is) =
       all_hold-both (new_asked (hyps ++ lets) (atom i v)) (proof_asked sc hyps lets q >> proof_asked sc hyps (lets ++ v ∷ []) q') (new_holds (hyps ++ lets) (atom i v) w n)
       (all_hold-both (proof_asked sc hyps lets q) (proof_asked sc hyps (lets ++ v ∷ []) q') (proof_holds sc hyps lets q s y)
       (proof_holds sc hyps (lets ++ v ∷ []) q' s' (subst (λ u. IsProof sc hyps (lets ++ u ∷ []) q' s') n.0 z)))
-  proof_holds_by sc hyps lets let_word at h (node x (node q (node q' (node _ _)))) p r = absurd r
-  proof_holds_by sc hyps lets sorry_word at h no_nodes p r = absurd r
   proof_holds_by sc hyps lets sorry_word at h (node e no_nodes) p (f, may, x, is) = (may, expr_holds sc e f x)
-  proof_holds_by sc hyps lets sorry_word at h (node e (node _ _)) p r = absurd r
-  proof_holds_by sc hyps lets refl_word at h ns p r = absurd r
-  proof_holds_by sc hyps lets sym_word at h ns p r = absurd r
-  proof_holds_by sc hyps lets unfold_word at h ns p r = absurd r
-  proof_holds_by sc hyps lets no_word at h no_nodes p r = absurd r
   proof_holds_by sc hyps lets no_word at h (node es ns) p (T, fs, rs, k, e, ps, is) =
       all_hold-both (known_asked sc.names.assertions h) (expr_list_asked sc es >> proofs_asked sc hyps lets ns) (known_holds sc.names.assertions h T k)
       (all_hold-both (expr_list_asked sc es) (proofs_asked sc hyps lets ns) (expr_list_holds sc es fs e) (proofs_hold sc hyps lets ns rs ps))
+  proof_holds_by sc hyps lets let_word at h (node x (node q (node q' (node _ _)))) p r = absurd r
+  proof_holds_by sc hyps lets _ at h _ p r = absurd r
 
   pub proofs_hold : (sc : Scope) (hyps lets : List (List ℕ)) (ns : Nodes) (ps : Proofs) → AreProofs sc hyps lets ns ps → AllHold (proofs_asked sc hyps lets ns)
   proofs_hold sc hyps lets no_nodes ps r = tt
@@ -230,11 +192,8 @@ new_name_is xs (atom at v) w h = (subst IsName (sym h.0) h.1, subst (IsNew xs) (
 new_name_is xs (list at ns) w h = absurd h
 
 pub dummy_new : (names : Names) (vars : List (List ℕ)) (n : Node) (w : List ℕ) (b : Binder) → IsDummy names vars n w b → IsName w × IsNew vars w
-dummy_new names vars (atom at w) x b h = absurd h
-dummy_new names vars (list at no_nodes) x b h = absurd h
-dummy_new names vars (list at (node y no_nodes)) x b h = absurd h
 dummy_new names vars (list at (node y (node s no_nodes))) x b h = new_name_is vars y x h.0
-dummy_new names vars (list at (node y (node s (node _ _)))) x b h = absurd h
+dummy_new names vars _ x b h = absurd h
 
 param_name_new : (xs : List (List ℕ)) (n : Node) (w : List ℕ) → IsParamName xs n w → (w ≡ hidden) ⊎ (IsName w × IsNew xs w)
 param_name_new xs (atom at v) w (e, inl h) = inl (e ∙ h)
@@ -242,12 +201,9 @@ param_name_new xs (atom at v) w (e, inr h) = inr (subst IsName (sym e) h.0, subs
 param_name_new xs (list at ns) w h = absurd h
 
 pub param_new : (names : Names) (vars : List (List ℕ)) (n : Node) (w : List ℕ) (b : Binder) → IsParam names vars n w b → (w ≡ hidden) ⊎ (IsName w × IsNew vars w)
-param_new names vars (atom at w) x b h = absurd h
-param_new names vars (list at no_nodes) x b h = absurd h
-param_new names vars (list at (node y no_nodes)) x b h = absurd h
 param_new names vars (list at (node y (node s no_nodes))) x b h = param_name_new vars y x h.0
 param_new names vars (list at (node y (node s (node ds no_nodes)))) x b h = param_name_new vars y x h.0
-param_new names vars (list at (node y (node s (node ds (node _ _))))) x b h = absurd h
+param_new names vars _ x b h = absurd h
 
 -- ---- names in two lists
 

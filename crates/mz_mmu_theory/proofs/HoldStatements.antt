@@ -26,19 +26,14 @@ modifiers_hold m after (node (atom at w) ns) (next, is, r) =
 modifiers_hold m after (node (list at _) ns) h = absurd h
 
 pub hyp_holds : (sc : Scope) (taken : List (List ℕ)) (n : Node) (w : List ℕ) (e : Tree) → IsHyp sc taken n w e → AllHold (hyp_asked sc taken n)
-hyp_holds sc taken (atom at w) x e h = absurd h
-hyp_holds sc taken (list at no_nodes) x e h = absurd h
-hyp_holds sc taken (list at (node y no_nodes)) x e h = absurd h
 hyp_holds sc taken (list at (node y (node f no_nodes))) x e (h, r) = all_hold-both (new_asked taken y) (expr_asked sc f) (new_holds taken y x h) (expr_holds sc f e r)
-hyp_holds sc taken (list at (node y (node f (node _ _)))) x e h = absurd h
+hyp_holds sc taken _ x e h = absurd h
 
 pub hyp_word : (sc : Scope) (taken : List (List ℕ)) (n : Node) (w : List ℕ) (e : Tree) → IsHyp sc taken n w e → w ≡ first_word (parts n)
-hyp_word sc taken (atom at w) x e h = absurd h
-hyp_word sc taken (list at no_nodes) x e h = absurd h
-hyp_word sc taken (list at (node y no_nodes)) x e h = absurd h
 hyp_word sc taken (list at (node (atom _ _) (node f no_nodes))) x e h = h.0.0
 hyp_word sc taken (list at (node (list _ _) (node f no_nodes))) x e h = absurd h.0
 hyp_word sc taken (list at (node y (node f (node _ _)))) x e h = absurd h
+hyp_word sc taken _ x e h = absurd h
 
 hyps_hold_from : (sc : Scope) (taken : List (List ℕ)) (ns : Nodes) (es : Trees) (after : List (List ℕ)) → AreHyps sc taken ns es after → AllHold (binders_asked (hyp_asked sc) taken ns)
 hyps_hold_from sc taken no_nodes es after h = tt
@@ -56,11 +51,8 @@ hyps_hold sc (atom at w) es after h = absurd h
 hyps_hold sc (list at ns) es after h = (hyps_hold_from sc [] ns es after h, hyps_named_from sc [] ns es after h)
 
 pub hyp_new : (sc : Scope) (taken : List (List ℕ)) (n : Node) (w : List ℕ) (e : Tree) → IsHyp sc taken n w e → IsName w × IsNew taken w
-hyp_new sc taken (atom at w) x e h = absurd h
-hyp_new sc taken (list at no_nodes) x e h = absurd h
-hyp_new sc taken (list at (node y no_nodes)) x e h = absurd h
 hyp_new sc taken (list at (node y (node f no_nodes))) x e h = new_name_is taken y x h.0
-hyp_new sc taken (list at (node y (node f (node _ _)))) x e h = absurd h
+hyp_new sc taken _ x e h = absurd h
 
 -- ---- modifiers, one after another
 

@@ -55,28 +55,15 @@ module _ (sc : Scope) (many : length sc.names.constants ≡ length sc.names.term
     conv_there (list _ (node h ns)) c g = conv_there_by (conv_keyword h) h ns c g
 
     conv_there_by : (k : Keyword) (h : Node) (ns : Nodes) (c : Conversion) → IsConvBy sc k h ns c → ConvThere ts vs c
-    conv_there_by refl_word h no_nodes c g = absurd g
     conv_there_by refl_word h (node n no_nodes) c (e, g, is) = subst (ConvThere ts vs) (sym is) (expr_there n e g)
-    conv_there_by refl_word h (node n (node _ _)) c g = absurd g
-    conv_there_by sym_word h no_nodes c g = absurd g
     conv_there_by sym_word h (node n no_nodes) c (d, g, is) = subst (ConvThere ts vs) (sym is) (conv_there n d g)
-    conv_there_by sym_word h (node n (node _ _)) c g = absurd g
-    conv_there_by unfold_word h no_nodes c g = absurd g
-    conv_there_by unfold_word h (node t no_nodes) c g = absurd g
-    conv_there_by unfold_word h (node t (node es no_nodes)) c g = absurd g
-    conv_there_by unfold_word h (node t (node es (node ys no_nodes))) c g = absurd g
     conv_there_by unfold_word h (node t (node es (node ys (node n no_nodes)))) c (u, fs, zs, d, has, are, _, g, is) =
         subst (ConvThere ts vs) (sym is) (number_there sc.names.terms t u has, expr_list_there es fs are, conv_there n d g)
-    conv_there_by unfold_word h (node t (node es (node ys (node n (node _ _))))) c g = absurd g
     conv_there_by no_word h no_nodes c (t, has, is) = subst (ConvThere ts vs) (sym is) (number_there sc.names.terms h t has, tt)
     conv_there_by no_word h (node n ns) c (t, d, ds, has, g, gs, is) =
         subst (ConvThere ts vs) (sym is) (number_there sc.names.terms h t has, (conv_there n d g, convs_there ns ds gs))
-    conv_there_by conv_word h ns c g = absurd g
-    conv_there_by let_word h ns c g = absurd g
-    conv_there_by sorry_word h no_nodes c g = absurd g
-    conv_there_by sorry_word h (node l no_nodes) c g = absurd g
     conv_there_by sorry_word h (node l (node r no_nodes)) c (e, f, _, g, k, is) = subst (ConvThere ts vs) (sym is) (expr_there l e g, expr_there r f k)
-    conv_there_by sorry_word h (node l (node r (node _ _))) c g = absurd g
+    conv_there_by _ h _ c g = absurd g
 
     pub convs_there : (ns : Nodes) (cs : Conversions) → AreConvs sc ns cs → ConvsThere ts vs cs
     convs_there no_nodes cs is = subst (ConvsThere ts vs) (sym is) tt
@@ -102,30 +89,17 @@ module _ (sc : Scope) (many : length sc.names.constants ≡ length sc.names.term
       proof_there lets (list _ (node h ns)) p g = proof_there_by lets (proof_keyword h) h ns p g
 
       proof_there_by : (lets : List (List ℕ)) (k : Keyword) (h : Node) (ns : Nodes) (p : Proof) → IsProofBy sc hyps lets k h ns p → Fits lets p
-      proof_there_by lets conv_word h no_nodes p g = absurd g
-      proof_there_by lets conv_word h (node e no_nodes) p g = absurd g
-      proof_there_by lets conv_word h (node e (node c no_nodes)) p g = absurd g
       proof_there_by lets conv_word h (node e (node c (node q no_nodes))) p (f, d, r, he, hc, hq, is) =
           subst (Fits lets) (sym is) (expr_there e f he, conv_there c d hc, proof_there lets q r hq)
-      proof_there_by lets conv_word h (node e (node c (node q (node _ _)))) p g = absurd g
-      proof_there_by lets let_word h no_nodes p g = absurd g
-      proof_there_by lets let_word h (node x no_nodes) p g = absurd g
-      proof_there_by lets let_word h (node x (node q no_nodes)) p g = absurd g
       proof_there_by lets let_word h (node x (node q (node q' no_nodes))) p (w, r, r', _, hq, hq', is) =
           subst (Fits lets) (sym is) (
             proof_there lets q r hq,
             subst (λ l. ProofThere ts vs (length sc.names.assertions) (length hyps) l r') (one_more lets w) (proof_there (lets ++ w ∷ []) q' r' hq'),
           )
-      proof_there_by lets let_word h (node x (node q (node q' (node _ _)))) p g = absurd g
-      proof_there_by lets no_word h no_nodes p g = absurd g
       proof_there_by lets no_word h (node es ns) p (T, fs, rs, has, are, hs, is) =
           subst (Fits lets) (sym is) (number_there sc.names.assertions h T has, expr_list_there es fs are, proofs_there lets ns rs hs)
-      proof_there_by lets refl_word h ns p g = absurd g
-      proof_there_by lets sym_word h ns p g = absurd g
-      proof_there_by lets unfold_word h ns p g = absurd g
-      proof_there_by lets sorry_word h no_nodes p g = absurd g
       proof_there_by lets sorry_word h (node e no_nodes) p (f, _, g, is) = subst (Fits lets) (sym is) (expr_there e f g)
-      proof_there_by lets sorry_word h (node e (node _ _)) p g = absurd g
+      proof_there_by lets _ h _ p g = absurd g
 
       pub proofs_there : (lets : List (List ℕ)) (ns : Nodes) (ps : Proofs) → AreProofs sc hyps lets ns ps → AllFit lets ps
       proofs_there lets no_nodes ps is = subst (AllFit lets) (sym is) tt

@@ -79,22 +79,16 @@ binder_is b c sorts bounds deps =
     ap (λ s. record b { sort = s }) sorts ∙ ap (λ x. record b { sort = c.sort; bound = x }) bounds ∙ ap (λ xs. record c { deps = xs }) deps
 
 param_once : (names : Names) (vars : List (List ℕ)) (n : Node) (v w : List ℕ) (b c : Binder) → IsParam names vars n v b → IsParam names vars n w c → (v ≡ w) × (b ≡ c)
-param_once names vars (atom at u) v w b c h k = absurd h
-param_once names vars (list at no_nodes) v w b c h k = absurd h
-param_once names vars (list at (node x no_nodes)) v w b c h k = absurd h
 param_once names vars (list at (node x (node s no_nodes))) v w b c (x1, s1, b1, d1) (x2, s2, b2, d2) =
     (param_name_once vars x v w x1 x2, binder_is b c (number_once names.sorts s b.sort c.sort s1 s2) (b1 ∙ sym b2) (d1 ∙ sym d2))
 param_once names vars (list at (node x (node s (node ds no_nodes)))) v w b c (x1, s1, b1, d1) (x2, s2, b2, d2) =
     (param_name_once vars x v w x1 x2, binder_is b c (number_once names.sorts s b.sort c.sort s1 s2) (b1 ∙ sym b2) (deps_once vars ds b.deps c.deps d1 d2))
-param_once names vars (list at (node x (node s (node ds (node _ _))))) v w b c h k = absurd h
+param_once names vars _ v w b c h k = absurd h
 
 dummy_once : (names : Names) (vars : List (List ℕ)) (n : Node) (v w : List ℕ) (b c : Binder) → IsDummy names vars n v b → IsDummy names vars n w c → (v ≡ w) × (b ≡ c)
-dummy_once names vars (atom at u) v w b c h k = absurd h
-dummy_once names vars (list at no_nodes) v w b c h k = absurd h
-dummy_once names vars (list at (node x no_nodes)) v w b c h k = absurd h
 dummy_once names vars (list at (node x (node s no_nodes))) v w b c (x1, s1, b1, d1) (x2, s2, b2, d2) =
     (new_name_once vars x v w x1 x2, binder_is b c (number_once names.sorts s b.sort c.sort s1 s2) (b1 ∙ sym b2) (d1 ∙ sym d2))
-dummy_once names vars (list at (node x (node s (node _ _)))) v w b c h k = absurd h
+dummy_once names vars _ v w b c h k = absurd h
 
 module _ (Is : List (List ℕ) → Node → List ℕ → Binder → Type 0)
     (once : (vars : List (List ℕ)) (n : Node) (v w : List ℕ) (b c : Binder) → Is vars n v b → Is vars n w c → (v ≡ w) × (b ≡ c)) where
@@ -116,12 +110,9 @@ dummies_once names vars (atom at w) bs cs after after' h k = absurd h
 dummies_once names vars (list at ns) bs cs after after' h k = binders_once (IsDummy names) (dummy_once names) vars ns bs cs after after' h k
 
 pub result_once : (names : Names) (vars : List (List ℕ)) (n : Node) (q r : ResultType) → IsResult names vars n q → IsResult names vars n r → q ≡ r
-result_once names vars (atom at w) q r h k = absurd h
-result_once names vars (list at no_nodes) q r h k = absurd h
-result_once names vars (list at (node s no_nodes)) q r h k = absurd h
 result_once names vars (list at (node s (node ds no_nodes))) q r (s1, d1) (s2, d2) =
     ap (λ s. record q { sort = s }) (number_once names.sorts s q.sort r.sort s1 s2) ∙ ap (λ xs. record r { deps = xs }) (deps_once vars ds q.deps r.deps d1 d2)
-result_once names vars (list at (node s (node ds (node _ _)))) q r h k = absurd h
+result_once names vars _ q r h k = absurd h
 
 -- ---- conversions
 
@@ -133,31 +124,18 @@ module _ (sc : Scope) where
     conv_once (list at (node m ns)) c d h k = conv_once_by (conv_keyword m) m ns c d h k
 
     conv_once_by : (key : Keyword) (m : Node) (ns : Nodes) (c d : Conversion) → IsConvBy sc key m ns c → IsConvBy sc key m ns d → c ≡ d
-    conv_once_by refl_word m no_nodes c d h k = absurd h
     conv_once_by refl_word m (node n no_nodes) c d (e, h, is) (f, k, is') = is ∙ ap refl_conv (expr_once sc n e f h k) ∙ sym is'
-    conv_once_by refl_word m (node n (node _ _)) c d h k = absurd h
-    conv_once_by sym_word m no_nodes c d h k = absurd h
     conv_once_by sym_word m (node n no_nodes) c d (c', h, is) (d', k, is') = is ∙ ap sym_conv (conv_once n c' d' h k) ∙ sym is'
-    conv_once_by sym_word m (node n (node _ _)) c d h k = absurd h
-    conv_once_by unfold_word m no_nodes c d h k = absurd h
-    conv_once_by unfold_word m (node t no_nodes) c d h k = absurd h
-    conv_once_by unfold_word m (node t (node es no_nodes)) c d h k = absurd h
-    conv_once_by unfold_word m (node t (node es (node ys no_nodes))) c d h k = absurd h
     conv_once_by unfold_word m (node t (node es (node ys (node n no_nodes)))) c d (u, fs, zs, c', h1, h2, h3, h4, is) (u', fs', zs', d', k1, k2, k3, k4, is') =
         is ∙ ap (λ x. unfold_conv x fs zs c') (number_once sc.names.terms t u u' h1 k1) ∙ ap (λ x. unfold_conv u' x zs c') (expr_list_once sc es fs fs' h2 k2)
         ∙ ap (λ x. unfold_conv u' fs' x c') (variable_list_once sc.vars ys zs zs' h3 k3) ∙ ap (unfold_conv u' fs' zs') (conv_once n c' d' h4 k4) ∙ sym is'
-    conv_once_by unfold_word m (node t (node es (node ys (node n (node _ _))))) c d h k = absurd h
-    conv_once_by sorry_word m no_nodes c d h k = absurd h
-    conv_once_by sorry_word m (node l no_nodes) c d h k = absurd h
     conv_once_by sorry_word m (node l (node r no_nodes)) c d (f, g, may, h1, h2, is) (f', g', may', k1, k2, is') =
         is ∙ ap (λ x. gap_conv x g) (expr_once sc l f f' h1 k1) ∙ ap (gap_conv f') (expr_once sc r g g' h2 k2) ∙ sym is'
-    conv_once_by sorry_word m (node l (node r (node _ _))) c d h k = absurd h
-    conv_once_by conv_word m ns c d h k = absurd h
-    conv_once_by let_word m ns c d h k = absurd h
     conv_once_by no_word m no_nodes c d (t, h, is) (u, k, is') = is ∙ ap (λ x. cong_conv x no_convs) (number_once sc.names.terms m t u h k) ∙ sym is'
     conv_once_by no_word m (node n ns) c d (t, c', cs, h1, h2, h3, is) (u, d', ds, k1, k2, k3, is') =
         is ∙ ap (λ x. cong_conv x (more_convs c' cs)) (number_once sc.names.terms m t u h1 k1) ∙ ap (λ x. cong_conv u (more_convs x cs)) (conv_once n c' d' h2 k2)
         ∙ ap (λ x. cong_conv u (more_convs d' x)) (convs_once ns cs ds h3 k3) ∙ sym is'
+    conv_once_by _ m _ c d h k = absurd h
 
     convs_once : (ns : Nodes) (cs ds : Conversions) → AreConvs sc ns cs → AreConvs sc ns ds → cs ≡ ds
     convs_once no_nodes cs ds h k = h ∙ sym k
@@ -180,30 +158,17 @@ module _ (sc : Scope) (hyps : List (List ℕ)) where
     proof_once lets (list at (node m ns)) p q h k = proof_once_by lets (proof_keyword m) m ns p q h k
 
     proof_once_by : (lets : List (List ℕ)) (key : Keyword) (m : Node) (ns : Nodes) (p q : Proof) → IsProofBy sc hyps lets key m ns p → IsProofBy sc hyps lets key m ns q → p ≡ q
-    proof_once_by lets conv_word m no_nodes p q h k = absurd h
-    proof_once_by lets conv_word m (node e no_nodes) p q h k = absurd h
-    proof_once_by lets conv_word m (node e (node c no_nodes)) p q h k = absurd h
     proof_once_by lets conv_word m (node e (node c (node n no_nodes))) p q (f, d, r, h1, h2, h3, is) (f', d', r', k1, k2, k3, is') =
         is ∙ ap (λ x. by_conv x d r) (expr_once sc e f f' h1 k1) ∙ ap (λ x. by_conv f' x r) (conv_once sc c d d' h2 k2) ∙ ap (by_conv f' d') (proof_once lets n r r' h3 k3) ∙ sym is'
-    proof_once_by lets conv_word m (node e (node c (node n (node _ _)))) p q h k = absurd h
-    proof_once_by lets let_word m no_nodes p q h k = absurd h
-    proof_once_by lets let_word m (node x no_nodes) p q h k = absurd h
-    proof_once_by lets let_word m (node x (node n no_nodes)) p q h k = absurd h
     proof_once_by lets let_word m (node x (node n (node n' no_nodes))) p q (v, r, s, h1, h2, h3, is) (w, r', s', k1, k2, k3, is') =
         let same = new_name_once (hyps ++ lets) x v w h1 k1 in
         is ∙ ap (λ y. by_let y s) (proof_once lets n r r' h2 k2)
         ∙ ap (by_let r') (proof_once (lets ++ v ∷ []) n' s s' h3 (subst (λ u. IsProof sc hyps (lets ++ u ∷ []) n' s') (sym same) k3)) ∙ sym is'
-    proof_once_by lets let_word m (node x (node n (node n' (node _ _)))) p q h k = absurd h
-    proof_once_by lets sorry_word m no_nodes p q h k = absurd h
     proof_once_by lets sorry_word m (node e no_nodes) p q (f, may, h, is) (f', may', k, is') = is ∙ ap by_gap (expr_once sc e f f' h k) ∙ sym is'
-    proof_once_by lets sorry_word m (node e (node _ _)) p q h k = absurd h
-    proof_once_by lets refl_word m ns p q h k = absurd h
-    proof_once_by lets sym_word m ns p q h k = absurd h
-    proof_once_by lets unfold_word m ns p q h k = absurd h
-    proof_once_by lets no_word m no_nodes p q h k = absurd h
     proof_once_by lets no_word m (node es ns) p q (t, fs, rs, h1, h2, h3, is) (t', fs', rs', k1, k2, k3, is') =
         is ∙ ap (λ x. by_citation x fs rs) (number_once sc.names.assertions m t t' h1 k1) ∙ ap (λ x. by_citation t' x rs) (expr_list_once sc es fs fs' h2 k2)
         ∙ ap (by_citation t' fs') (proofs_once lets ns rs rs' h3 k3) ∙ sym is'
+    proof_once_by lets _ m _ p q h k = absurd h
 
     proofs_once : (lets : List (List ℕ)) (ns : Nodes) (ps qs : Proofs) → AreProofs sc hyps lets ns ps → AreProofs sc hyps lets ns qs → ps ≡ qs
     proofs_once lets no_nodes ps qs h k = h ∙ sym k

@@ -22,11 +22,8 @@ modifiers_once m (node (atom at w) ns) k l (next, is, r) (next', is', r') =
 modifiers_once m (node (list at _) ns) k l h h' = absurd h
 
 hyp_once : (sc : Scope) (taken : List (List ℕ)) (n : Node) (v w : List ℕ) (e f : Tree) → IsHyp sc taken n v e → IsHyp sc taken n w f → (v ≡ w) × (e ≡ f)
-hyp_once sc taken (atom at u) v w e f h k = absurd h
-hyp_once sc taken (list at no_nodes) v w e f h k = absurd h
-hyp_once sc taken (list at (node x no_nodes)) v w e f h k = absurd h
 hyp_once sc taken (list at (node x (node g no_nodes))) v w e f h k = (new_name_once taken x v w h.0 k.0, expr_once sc g e f h.1 k.1)
-hyp_once sc taken (list at (node x (node g (node _ _)))) v w e f h k = absurd h
+hyp_once sc taken _ v w e f h k = absurd h
 
 hyps_once_from : (sc : Scope) (taken : List (List ℕ)) (ns : Nodes) (es fs : Trees) (after after' : List (List ℕ)) → AreHyps sc taken ns es after → AreHyps sc taken ns fs after'
     → (es ≡ fs) × (after ≡ after')
@@ -159,12 +156,9 @@ declared_once names theorem_kind (node x (node ps (node hs (node c (node ds (nod
 declared_once names no_kind ns s t h h' = absurd h
 
 local_once : (names : Names) (k : Kind) (ns : Nodes) (s t : Statement) → IsLocal names k ns s → IsLocal names k ns t → Alike s t
-local_once names sort_kind ns s t h h' = absurd h
-local_once names term_kind ns s t h h' = absurd h
-local_once names axiom_kind ns s t h h' = absurd h
 local_once names def_kind ns s t h h' = declared_once names def_kind ns s t h h'
 local_once names theorem_kind ns s t h h' = declared_once names theorem_kind ns s t h h'
-local_once names no_kind ns s t h h' = absurd h
+local_once names _ ns s t h h' = absurd h
 
 marked_once : (b : Bool) (names : Names) (k : Node) (ns : Nodes) (s t : Statement) → IsMarked b names k ns s → IsMarked b names k ns t → s ≡ t
 marked_once false names k ns s t h h' = statement_is s t (h.0 ∙ sym h'.0) (declared_once names (kind_of k) ns s t h.1 h'.1)
@@ -172,9 +166,8 @@ marked_once true names k no_nodes s t h h' = absurd h
 marked_once true names k (node l ns) s t h h' = statement_is s t (h.0 ∙ sym h'.0) (local_once names (kind_of l) ns s t h.1 h'.1)
 
 statement_once : (names : Names) (n : Node) (s t : Statement) → IsStatement names n s → IsStatement names n t → s ≡ t
-statement_once names (atom at w) s t h h' = absurd h
-statement_once names (list at no_nodes) s t h h' = absurd h
 statement_once names (list at (node k ns)) s t h h' = marked_once (is_local_word k) names k ns s t h h'
+statement_once names _ s t h h' = absurd h
 
 pub statements_once : (names : Names) (ns : Nodes) (ss ts : List Statement) → AreStatements names ns ss → AreStatements names ns ts → ss ≡ ts
 statements_once names no_nodes ss ts h h' = h ∙ sym h'

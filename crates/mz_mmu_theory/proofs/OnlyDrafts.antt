@@ -28,26 +28,13 @@ module _ (sc : Scope) where
     conv_leaves (list at (node h ns)) c r = conv_leaves_by (conv_keyword h) h ns c r
 
     conv_leaves_by : (k : Keyword) (h : Node) (ns : Nodes) (c : Conversion) → IsConvBy sc k h ns c → GapsOnly (Allowed sc) c
-    conv_leaves_by refl_word h no_nodes c r = absurd r
     conv_leaves_by refl_word h (node n no_nodes) c (e, r, is) = subst (GapsOnly (Allowed sc)) (sym is) tt
-    conv_leaves_by refl_word h (node n (node _ _)) c r = absurd r
-    conv_leaves_by sym_word h no_nodes c r = absurd r
     conv_leaves_by sym_word h (node n no_nodes) c (d, r, is) = subst (GapsOnly (Allowed sc)) (sym is) (conv_leaves n d r)
-    conv_leaves_by sym_word h (node n (node _ _)) c r = absurd r
-    conv_leaves_by unfold_word h no_nodes c r = absurd r
-    conv_leaves_by unfold_word h (node t no_nodes) c r = absurd r
-    conv_leaves_by unfold_word h (node t (node es no_nodes)) c r = absurd r
-    conv_leaves_by unfold_word h (node t (node es (node ys no_nodes))) c r = absurd r
     conv_leaves_by unfold_word h (node t (node es (node ys (node n no_nodes)))) c (u, fs, zs, d, k, e, v, r, is) = subst (GapsOnly (Allowed sc)) (sym is) (conv_leaves n d r)
-    conv_leaves_by unfold_word h (node t (node es (node ys (node n (node _ _))))) c r = absurd r
-    conv_leaves_by sorry_word h no_nodes c r = absurd r
-    conv_leaves_by sorry_word h (node l no_nodes) c r = absurd r
     conv_leaves_by sorry_word h (node l (node m no_nodes)) c (f, g, may, x, y, is) = subst (GapsOnly (Allowed sc)) (sym is) may
-    conv_leaves_by sorry_word h (node l (node m (node _ _))) c r = absurd r
-    conv_leaves_by conv_word h ns c r = absurd r
-    conv_leaves_by let_word h ns c r = absurd r
     conv_leaves_by no_word h no_nodes c (t, k, is) = subst (GapsOnly (Allowed sc)) (sym is) tt
     conv_leaves_by no_word h (node n ns) c (t, d, ds, k, r, rs, is) = subst (GapsOnly (Allowed sc)) (sym is) (conv_leaves n d r, convs_leave ns ds rs)
+    conv_leaves_by _ h _ c r = absurd r
 
     convs_leave : (ns : Nodes) (cs : Conversions) → AreConvs sc ns cs → AllGapsOnly (Allowed sc) cs
     convs_leave no_nodes cs r = subst (AllGapsOnly (Allowed sc)) (sym r) tt
@@ -64,26 +51,13 @@ module _ (sc : Scope) (hyps : List (List ℕ)) where
     proof_leaves lets (list at (node h ns)) p r = proof_leaves_by lets (proof_keyword h) h ns p r
 
     proof_leaves_by : (lets : List (List ℕ)) (k : Keyword) (h : Node) (ns : Nodes) (p : Proof) → IsProofBy sc hyps lets k h ns p → LeavesOnly (Allowed sc) p
-    proof_leaves_by lets conv_word h no_nodes p r = absurd r
-    proof_leaves_by lets conv_word h (node e no_nodes) p r = absurd r
-    proof_leaves_by lets conv_word h (node e (node c no_nodes)) p r = absurd r
     proof_leaves_by lets conv_word h (node e (node c (node q no_nodes))) p (f, d, s, x, y, z, is) =
         subst (LeavesOnly (Allowed sc)) (sym is) (conv_leaves sc c d y, proof_leaves lets q s z)
-    proof_leaves_by lets conv_word h (node e (node c (node q (node _ _)))) p r = absurd r
-    proof_leaves_by lets let_word h no_nodes p r = absurd r
-    proof_leaves_by lets let_word h (node x no_nodes) p r = absurd r
-    proof_leaves_by lets let_word h (node x (node q no_nodes)) p r = absurd r
     proof_leaves_by lets let_word h (node x (node q (node q' no_nodes))) p (w, s, s', n, y, z, is) =
         subst (LeavesOnly (Allowed sc)) (sym is) (proof_leaves lets q s y, proof_leaves (lets ++ w ∷ []) q' s' z)
-    proof_leaves_by lets let_word h (node x (node q (node q' (node _ _)))) p r = absurd r
-    proof_leaves_by lets sorry_word h no_nodes p r = absurd r
     proof_leaves_by lets sorry_word h (node e no_nodes) p (f, may, x, is) = subst (LeavesOnly (Allowed sc)) (sym is) may
-    proof_leaves_by lets sorry_word h (node e (node _ _)) p r = absurd r
-    proof_leaves_by lets refl_word h ns p r = absurd r
-    proof_leaves_by lets sym_word h ns p r = absurd r
-    proof_leaves_by lets unfold_word h ns p r = absurd r
-    proof_leaves_by lets no_word h no_nodes p r = absurd r
     proof_leaves_by lets no_word h (node es ns) p (T, fs, rs, k, e, ps, is) = subst (LeavesOnly (Allowed sc)) (sym is) (proofs_leave lets ns rs ps)
+    proof_leaves_by lets _ h _ p r = absurd r
 
     proofs_leave : (lets : List (List ℕ)) (ns : Nodes) (ps : Proofs) → AreProofs sc hyps lets ns ps → AllLeaveOnly (Allowed sc) ps
     proofs_leave lets no_nodes ps r = subst (AllLeaveOnly (Allowed sc)) (sym r) tt
@@ -98,44 +72,18 @@ no_proof : (names : Names) (s : Statement) → s.proof ≡ None → Leaves names
 no_proof names s is = subst (SomeLeavesOnly (names.gaps ≡ true)) (sym is) tt
 
 declared_leaves : (names : Names) (k : Kind) (ns : Nodes) (s : Statement) → IsDeclared names k ns s → Leaves names s
-declared_leaves names sort_kind no_nodes s h = absurd h
 declared_leaves names sort_kind (node x ms) s (m, n, r, e, i, j) = no_proof names s j
-declared_leaves names term_kind no_nodes s h = absurd h
-declared_leaves names term_kind (node x no_nodes) s h = absurd h
-declared_leaves names term_kind (node x (node ps no_nodes)) s h = absurd h
 declared_leaves names term_kind (node x (node ps (node r no_nodes))) s (params, vars, result, n, p, q, e, i, j) = no_proof names s j
-declared_leaves names term_kind (node x (node ps (node r (node _ _)))) s h = absurd h
-declared_leaves names axiom_kind no_nodes s h = absurd h
-declared_leaves names axiom_kind (node x no_nodes) s h = absurd h
-declared_leaves names axiom_kind (node x (node ps no_nodes)) s h = absurd h
-declared_leaves names axiom_kind (node x (node ps (node hs no_nodes))) s h = absurd h
 declared_leaves names axiom_kind (node x (node ps (node hs (node c no_nodes)))) s (params, vars, hyps, conclusion, n, p, q, r, e, i, j) = no_proof names s j
-declared_leaves names axiom_kind (node x (node ps (node hs (node c (node _ _))))) s h = absurd h
-declared_leaves names def_kind no_nodes s h = absurd h
-declared_leaves names def_kind (node x no_nodes) s h = absurd h
-declared_leaves names def_kind (node x (node ps no_nodes)) s h = absurd h
-declared_leaves names def_kind (node x (node ps (node r no_nodes))) s h = absurd h
-declared_leaves names def_kind (node x (node ps (node r (node ds no_nodes)))) s h = absurd h
 declared_leaves names def_kind (node x (node ps (node r (node ds (node b no_nodes))))) s (params, vars, result, dummies, all, body, n, p, q, d, f, e, i, j) = no_proof names s j
-declared_leaves names def_kind (node x (node ps (node r (node ds (node b (node _ _)))))) s h = absurd h
-declared_leaves names theorem_kind no_nodes s h = absurd h
-declared_leaves names theorem_kind (node x no_nodes) s h = absurd h
-declared_leaves names theorem_kind (node x (node ps no_nodes)) s h = absurd h
-declared_leaves names theorem_kind (node x (node ps (node hs no_nodes))) s h = absurd h
-declared_leaves names theorem_kind (node x (node ps (node hs (node c no_nodes)))) s h = absurd h
-declared_leaves names theorem_kind (node x (node ps (node hs (node c (node ds no_nodes))))) s h = absurd h
 declared_leaves names theorem_kind (node x (node ps (node hs (node c (node ds (node q no_nodes)))))) s (params, vars, hyps, labels, conclusion, all, proof, n, p, h, f, d, r, e, j) =
     subst (SomeLeavesOnly (names.gaps ≡ true)) (sym j) (proof_leaves (scope_of names all) labels [] q proof r)
-declared_leaves names theorem_kind (node x (node ps (node hs (node c (node ds (node q (node _ _))))))) s h = absurd h
-declared_leaves names no_kind ns s h = absurd h
+declared_leaves names _ _ s h = absurd h
 
 local_leaves : (names : Names) (k : Kind) (ns : Nodes) (s : Statement) → IsLocal names k ns s → Leaves names s
-local_leaves names sort_kind ns s h = absurd h
-local_leaves names term_kind ns s h = absurd h
-local_leaves names axiom_kind ns s h = absurd h
 local_leaves names def_kind ns s h = declared_leaves names def_kind ns s h
 local_leaves names theorem_kind ns s h = declared_leaves names theorem_kind ns s h
-local_leaves names no_kind ns s h = absurd h
+local_leaves names _ ns s h = absurd h
 
 marked_leaves : (b : Bool) (names : Names) (k : Node) (ns : Nodes) (s : Statement) → IsMarked b names k ns s → Leaves names s
 marked_leaves false names k ns s (unset, h) = declared_leaves names (kind_of k) ns s h
@@ -143,15 +91,13 @@ marked_leaves true names k no_nodes s h = absurd h
 marked_leaves true names k (node l ns) s (is, h) = local_leaves names (kind_of l) ns s h
 
 statement_leaves : (names : Names) (n : Node) (s : Statement) → IsStatement names n s → Leaves names s
-statement_leaves names (atom at w) s h = absurd h
-statement_leaves names (list at no_nodes) s h = absurd h
 statement_leaves names (list at (node k ns)) s h = marked_leaves (is_local_word k) names k ns s h
+statement_leaves names _ s h = absurd h
 
 -- what a statement adds to the names lets no gap in
 gaps_stay : (names : Names) (w : List ℕ) (d : Declaration) → (names_with names w d).gaps ≡ names.gaps
 gaps_stay names w (sort_decl m) = refl
-gaps_stay names w (term_decl t) = refl
-gaps_stay names w (assertion_decl a) = refl
+gaps_stay names w _ = refl
 
 pub only_drafts : (names : Names) (ns : Nodes) → OnlyDraftsHaveGaps names ns
 only_drafts names no_nodes ss h = subst (All (Leaves names)) (sym h) (All-nil (Leaves names))

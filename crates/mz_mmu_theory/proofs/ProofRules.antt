@@ -37,16 +37,14 @@ module _ (env : List Declaration) (ctx : List Binder) (hyps : Trees) where
 
   let_derives : (ds : Derivations) (lets : Trees) (i : ℕ) → LetsHold ds lets → i < length (listed lets) → Derives env ctx hyps (derivation_at ds i) (operand lets i)
   let_derives no_derivs none i h below = absurd (not-suc-le-zero below)
-  let_derives no_derivs (more e es) i h below = absurd h
-  let_derives (more_derivs d ds) none i h below = absurd h
   let_derives (more_derivs d ds) (more e es) zero (here, h) below = here
   let_derives (more_derivs d ds) (more e es) (suc i) (here, h) below = let_derives ds es i h (le_of_suc-le-suc below)
+  let_derives _ _ i h below = absurd h
 
   lets_more : (ds : Derivations) (lets : Trees) (d : Derivation) (e : Tree) → LetsHold ds lets → Derives env ctx hyps d e → LetsHold (then_deriv ds d) (with_fact lets e)
   lets_more no_derivs none d e h k = (k, tt)
-  lets_more no_derivs (more f fs) d e h k = absurd h
-  lets_more (more_derivs c ds) none d e h k = absurd h
   lets_more (more_derivs c ds) (more f fs) d e (here, h) k = (here, lets_more ds fs d e h k)
+  lets_more _ _ d e h k = absurd h
 
   abbrev pub IsThere : Trees → Proof → Type 0
   IsThere lets p = ProofThere (length (signatures env)) (length ctx) (length (assertions env)) (length (listed hyps)) (length (listed lets)) p
@@ -62,10 +60,9 @@ module _ (env : List Declaration) (ctx : List Binder) (hyps : Trees) where
   hyps_by_checks : (ps : Proofs) (ds : Derivations) (lets : Trees) (ns : Nodes) (hs : Trees) → EachDerives ps ds lets → length (listed (all_proved env hyps lets ps)) ≡ length (listed hs)
       → AllHold (subproof_rules (all_proved env hyps lets ps) ns hs) → AllDerive env ctx hyps (derivations ds ps) hs
   hyps_by_checks no_proofs ds lets ns none h many all = tt
-  hyps_by_checks no_proofs ds lets ns (more e hs) h many all = absurd (omega arith)
-  hyps_by_checks (more_proofs p ps) ds lets ns none h many all = absurd (omega arith)
   hyps_by_checks (more_proofs p ps) ds lets ns (more e hs) (here, h) many (is, all) =
       (subst (Derives env ctx hyps (derivation ds p)) is here, hyps_by_checks ps ds lets (rest ns) hs h (omega arith) all)
+  hyps_by_checks _ ds lets ns _ h many all = absurd (omega arith)
 
   mutual
     pub derives_by_checks : (p : Proof) (ds : Derivations) (lets : Trees) (n : Node) → LetsHold ds lets → IsThere lets p → AllHold (proof_rules env ctx hyps lets p n)
@@ -182,9 +179,8 @@ module _ (env : List Declaration) (ctx : List Binder) (hyps : Trees) where
         → AllDerive env ctx hyps (derivations ds ps) hs → AllLetsDerive env ctx hyps ds ps
         → AllHold (proofs_rules env ctx hyps lets ps ns) × AllHold (subproof_rules (all_proved env hyps lets ps) ns hs) × (length (listed (all_proved env hyps lets ps)) ≡ length (listed hs))
     all_checks_by_derives no_proofs ds lets ns none h there d l = (tt, tt, refl)
-    all_checks_by_derives no_proofs ds lets ns (more e hs) h there d l = absurd d
-    all_checks_by_derives (more_proofs p ps) ds lets ns none h there d l = absurd d
     all_checks_by_derives (more_proofs p ps) ds lets ns (more e hs) h (there, inner) (here, d) (l, m) =
         let j = checks_by_derives p ds lets (first ns) e h there here l in
         let k = all_checks_by_derives ps ds lets (rest ns) hs h inner d m in
         (all_hold-both (proof_rules env ctx hyps lets p (first ns)) _ j.0 k.0, (j.1, k.1), ap suc k.2)
+    all_checks_by_derives _ ds lets ns _ h there d l = absurd d

@@ -75,28 +75,19 @@ variable_list vars (atom at w) = no-decided
 variable_list vars (list at ns) = variables vars ns
 
 param : (names : Names) (vars : List (List ℕ)) (n : Node) → AreDecided (param_asked names vars n)
-param names vars (atom at w) = no-decided
-param names vars (list at no_nodes) = no-decided
-param names vars (list at (node x no_nodes)) = no-decided
 param names vars (list at (node x (node s no_nodes))) = are_decided-both (param_name_asked vars x) (known_asked names.sorts s) (param_name vars x) (λ _. known names.sorts s)
 param names vars (list at (node x (node s (node ds no_nodes)))) =
     are_decided-both (param_name_asked vars x) (known_asked names.sorts s >> variable_list_asked vars ds) (param_name vars x)
     (λ _. are_decided-both (known_asked names.sorts s) (variable_list_asked vars ds) (known names.sorts s) (λ _. variable_list vars ds))
-param names vars (list at (node x (node s (node ds (node _ _))))) = no-decided
+param names vars _ = no-decided
 
 dummy : (names : Names) (vars : List (List ℕ)) (n : Node) → AreDecided (dummy_asked names vars n)
-dummy names vars (atom at w) = no-decided
-dummy names vars (list at no_nodes) = no-decided
-dummy names vars (list at (node x no_nodes)) = no-decided
 dummy names vars (list at (node x (node s no_nodes))) = are_decided-both (new_asked vars x) (known_asked names.sorts s) (new vars x) (λ _. known names.sorts s)
-dummy names vars (list at (node x (node s (node _ _)))) = no-decided
+dummy names vars _ = no-decided
 
 hyp : (sc : Scope) (taken : List (List ℕ)) (n : Node) → AreDecided (hyp_asked sc taken n)
-hyp sc taken (atom at w) = no-decided
-hyp sc taken (list at no_nodes) = no-decided
-hyp sc taken (list at (node x no_nodes)) = no-decided
 hyp sc taken (list at (node x (node e no_nodes))) = are_decided-both (new_asked taken x) (expr_asked sc e) (new taken x) (λ _. expr sc e)
-hyp sc taken (list at (node x (node e (node _ _)))) = no-decided
+hyp sc taken _ = no-decided
 
 module _ (asked : List (List ℕ) → Node → Checks Fault) (one : (vars : List (List ℕ)) (n : Node) → AreDecided (asked vars n)) where
   binders : (vars : List (List ℕ)) (ns : Nodes) → AreDecided (binders_asked asked vars ns)
@@ -117,11 +108,8 @@ hyps_of sc (atom at w) = no-decided
 hyps_of sc (list at ns) = binders (hyp_asked sc) (hyp sc) [] ns
 
 result : (names : Names) (vars : List (List ℕ)) (n : Node) → AreDecided (result_asked names vars n)
-result names vars (atom at w) = no-decided
-result names vars (list at no_nodes) = no-decided
-result names vars (list at (node s no_nodes)) = no-decided
 result names vars (list at (node s (node ds no_nodes))) = are_decided-both (known_asked names.sorts s) (variable_list_asked vars ds) (known names.sorts s) (λ _. variable_list vars ds)
-result names vars (list at (node s (node ds (node _ _)))) = no-decided
+result names vars _ = no-decided
 
 -- ---- conversions
 
@@ -133,31 +121,19 @@ module _ (sc : Scope) where
     conv (list at (node h ns)) = conv_by (conv_keyword h) at h ns
 
     conv_by : (k : Keyword) (at : ℕ) (h : Node) (ns : Nodes) → AreDecided (conv_asked_by sc k at h ns)
-    conv_by refl_word at h no_nodes = no-decided
     conv_by refl_word at h (node n no_nodes) = expr sc n
-    conv_by refl_word at h (node n (node _ _)) = no-decided
-    conv_by sym_word at h no_nodes = no-decided
     conv_by sym_word at h (node n no_nodes) = conv n
-    conv_by sym_word at h (node n (node _ _)) = no-decided
-    conv_by unfold_word at h no_nodes = no-decided
-    conv_by unfold_word at h (node t no_nodes) = no-decided
-    conv_by unfold_word at h (node t (node es no_nodes)) = no-decided
-    conv_by unfold_word at h (node t (node es (node ys no_nodes))) = no-decided
     conv_by unfold_word at h (node t (node es (node ys (node n no_nodes)))) =
         are_decided-both (known_asked sc.names.terms t) (expr_list_asked sc es >> variable_list_asked sc.vars ys >> conv_asked sc n) (known sc.names.terms t)
         (λ _. are_decided-both (expr_list_asked sc es) (variable_list_asked sc.vars ys >> conv_asked sc n) (expr_list sc es)
         (λ _. are_decided-both (variable_list_asked sc.vars ys) (conv_asked sc n) (variable_list sc.vars ys) (λ _. conv n)))
-    conv_by unfold_word at h (node t (node es (node ys (node n (node _ _))))) = no-decided
-    conv_by sorry_word at h no_nodes = (true-decided sc.names.gaps, λ _. no-decided)
-    conv_by sorry_word at h (node l no_nodes) = (true-decided sc.names.gaps, λ _. no-decided)
     conv_by sorry_word at h (node l (node r no_nodes)) = (true-decided sc.names.gaps, λ _. are_decided-both (expr_asked sc l) (expr_asked sc r) (expr sc l) (λ _. expr sc r))
-    conv_by sorry_word at h (node l (node r (node _ _))) = (true-decided sc.names.gaps, λ _. no-decided)
-    conv_by conv_word at h ns = no-decided
-    conv_by let_word at h ns = no-decided
     conv_by no_word at h no_nodes = known sc.names.terms h
     conv_by no_word at h (node n ns) =
         are_decided-both (known_asked sc.names.terms h) (conv_asked sc n >> convs_asked sc ns) (known sc.names.terms h)
         (λ _. are_decided-both (conv_asked sc n) (convs_asked sc ns) (conv n) (λ _. convs ns))
+    conv_by sorry_word at h _ = (true-decided sc.names.gaps, λ _. no-decided)
+    conv_by _ at h _ = no-decided
 
     convs : (ns : Nodes) → AreDecided (convs_asked sc ns)
     convs no_nodes = tt
@@ -176,30 +152,18 @@ module _ (sc : Scope) (hyps : List (List ℕ)) where
     proof lets (list at (node h ns)) = proof_by lets (proof_keyword h) at h ns
 
     proof_by : (lets : List (List ℕ)) (k : Keyword) (at : ℕ) (h : Node) (ns : Nodes) → AreDecided (proof_asked_by sc hyps lets k at h ns)
-    proof_by lets conv_word at h no_nodes = no-decided
-    proof_by lets conv_word at h (node e no_nodes) = no-decided
-    proof_by lets conv_word at h (node e (node c no_nodes)) = no-decided
     proof_by lets conv_word at h (node e (node c (node q no_nodes))) =
         are_decided-both (expr_asked sc e) (conv_asked sc c >> proof_asked sc hyps lets q) (expr sc e)
         (λ _. are_decided-both (conv_asked sc c) (proof_asked sc hyps lets q) (conv sc c) (λ _. proof lets q))
-    proof_by lets conv_word at h (node e (node c (node q (node _ _)))) = no-decided
-    proof_by lets let_word at h no_nodes = no-decided
-    proof_by lets let_word at h (node x no_nodes) = no-decided
-    proof_by lets let_word at h (node x (node q no_nodes)) = no-decided
     proof_by lets let_word at h (node x (node q (node q' no_nodes))) =
         are_decided-both (new_asked (hyps ++ lets) x) (proof_asked sc hyps lets q >> proof_asked sc hyps (lets ++ word x ∷ []) q') (new (hyps ++ lets) x)
         (λ _. are_decided-both (proof_asked sc hyps lets q) (proof_asked sc hyps (lets ++ word x ∷ []) q') (proof lets q) (λ _. proof (lets ++ word x ∷ []) q'))
-    proof_by lets let_word at h (node x (node q (node q' (node _ _)))) = no-decided
-    proof_by lets sorry_word at h no_nodes = (true-decided sc.names.gaps, λ _. no-decided)
     proof_by lets sorry_word at h (node e no_nodes) = (true-decided sc.names.gaps, λ _. expr sc e)
-    proof_by lets sorry_word at h (node e (node _ _)) = (true-decided sc.names.gaps, λ _. no-decided)
-    proof_by lets refl_word at h ns = no-decided
-    proof_by lets sym_word at h ns = no-decided
-    proof_by lets unfold_word at h ns = no-decided
-    proof_by lets no_word at h no_nodes = no-decided
     proof_by lets no_word at h (node es ns) =
         are_decided-both (known_asked sc.names.assertions h) (expr_list_asked sc es >> proofs_asked sc hyps lets ns) (known sc.names.assertions h)
         (λ _. are_decided-both (expr_list_asked sc es) (proofs_asked sc hyps lets ns) (expr_list sc es) (λ _. proofs lets ns))
+    proof_by lets sorry_word at h _ = (true-decided sc.names.gaps, λ _. no-decided)
+    proof_by lets _ at h _ = no-decided
 
     proofs : (lets : List (List ℕ)) (ns : Nodes) → AreDecided (proofs_asked sc hyps lets ns)
     proofs lets no_nodes = tt
@@ -212,31 +176,16 @@ modifiers m no_nodes = tt
 modifiers m (node n ns) = (some-decided (with_modifier m (word n)), λ _. modifiers (unwrap_or (with_modifier m (word n)) m) ns)
 
 declared : (k : Kind) (at : ℕ) (names : Names) (ns : Nodes) → AreDecided (declared_asked k at names ns)
-declared sort_kind at names no_nodes = no-decided
 declared sort_kind at names (node x ms) = are_decided-both (new_asked names.sorts x) (modifiers_asked no_modifiers ms) (new names.sorts x) (λ _. modifiers no_modifiers ms)
-declared term_kind at names no_nodes = no-decided
-declared term_kind at names (node x no_nodes) = no-decided
-declared term_kind at names (node x (node ps no_nodes)) = no-decided
 declared term_kind at names (node x (node ps (node r no_nodes))) =
     let V = names_of (parts ps) in
     are_decided-both (new_asked names.terms x) (params_asked names ps >> result_asked names V r) (new names.terms x)
     (λ _. are_decided-both (params_asked names ps) (result_asked names V r) (params names ps) (λ _. result names V r))
-declared term_kind at names (node x (node ps (node r (node _ _)))) = no-decided
-declared axiom_kind at names no_nodes = no-decided
-declared axiom_kind at names (node x no_nodes) = no-decided
-declared axiom_kind at names (node x (node ps no_nodes)) = no-decided
-declared axiom_kind at names (node x (node ps (node hs no_nodes))) = no-decided
 declared axiom_kind at names (node x (node ps (node hs (node e no_nodes)))) =
     let sc = scope_of names (names_of (parts ps)) in
     are_decided-both (new_asked names.assertions x) (params_asked names ps >> expr_list_asked sc hs >> expr_asked sc e) (new names.assertions x)
     (λ _. are_decided-both (params_asked names ps) (expr_list_asked sc hs >> expr_asked sc e) (params names ps)
     (λ _. are_decided-both (expr_list_asked sc hs) (expr_asked sc e) (expr_list sc hs) (λ _. expr sc e)))
-declared axiom_kind at names (node x (node ps (node hs (node e (node _ _))))) = no-decided
-declared def_kind at names no_nodes = no-decided
-declared def_kind at names (node x no_nodes) = no-decided
-declared def_kind at names (node x (node ps no_nodes)) = no-decided
-declared def_kind at names (node x (node ps (node r no_nodes))) = no-decided
-declared def_kind at names (node x (node ps (node r (node ds no_nodes)))) = no-decided
 declared def_kind at names (node x (node ps (node r (node ds (node e no_nodes))))) =
     let V = names_of (parts ps) in
     let D = dummies_asked names V ds in
@@ -245,13 +194,6 @@ declared def_kind at names (node x (node ps (node r (node ds (node e no_nodes)))
     (λ _. are_decided-both (params_asked names ps) (result_asked names V r >> D >> B) (params names ps)
     (λ _. are_decided-both (result_asked names V r) (D >> B) (result names V r)
     (λ _. are_decided-both D B (dummies names V ds) (λ _. expr (scope_of names (V ++ names_of (parts ds))) e))))
-declared def_kind at names (node x (node ps (node r (node ds (node e (node _ _)))))) = no-decided
-declared theorem_kind at names no_nodes = no-decided
-declared theorem_kind at names (node x no_nodes) = no-decided
-declared theorem_kind at names (node x (node ps no_nodes)) = no-decided
-declared theorem_kind at names (node x (node ps (node hs no_nodes))) = no-decided
-declared theorem_kind at names (node x (node ps (node hs (node e no_nodes)))) = no-decided
-declared theorem_kind at names (node x (node ps (node hs (node e (node ds no_nodes))))) = no-decided
 declared theorem_kind at names (node x (node ps (node hs (node e (node ds (node q no_nodes)))))) =
     let V = names_of (parts ps) in
     let sc = scope_of names V in
@@ -263,16 +205,12 @@ declared theorem_kind at names (node x (node ps (node hs (node e (node ds (node 
     (λ _. are_decided-both (hyps_asked sc hs) (expr_asked sc e >> D >> Q) (hyps_of sc hs)
     (λ _. are_decided-both (expr_asked sc e) (D >> Q) (expr sc e)
     (λ _. are_decided-both D Q (dummies names V ds) (λ _. proof all (names_of (parts hs)) [] q)))))
-declared theorem_kind at names (node x (node ps (node hs (node e (node ds (node q (node _ _))))))) = no-decided
-declared no_kind at names ns = no-decided
+declared _ at names _ = no-decided
 
 local_decided : (k : Kind) (at : ℕ) (names : Names) (ns : Nodes) → AreDecided (local_asked k at names ns)
-local_decided sort_kind at names ns = no-decided
-local_decided term_kind at names ns = no-decided
-local_decided axiom_kind at names ns = no-decided
 local_decided def_kind at names ns = declared def_kind at names ns
 local_decided theorem_kind at names ns = declared theorem_kind at names ns
-local_decided no_kind at names ns = no-decided
+local_decided _ at names ns = no-decided
 
 marked : (b : Bool) (at : ℕ) (names : Names) (k : Node) (ns : Nodes) → AreDecided (marked_asked b at names k ns)
 marked false at names k ns = declared (kind_of k) at names ns
@@ -280,9 +218,8 @@ marked true at names k no_nodes = no-decided
 marked true at names k (node k' ns) = local_decided (kind_of k') at names ns
 
 statement : (names : Names) (n : Node) → AreDecided (statement_asked names n)
-statement names (atom at w) = no-decided
-statement names (list at no_nodes) = no-decided
 statement names (list at (node k ns)) = marked (is_local_word k) at names k ns
+statement names _ = no-decided
 
 -- ---- the whole text
 

@@ -32,10 +32,9 @@ use Rattle.mz_mmu_theory.proofs.TypesDecided.{tree-decided, all-decided, claim_s
 
 module _ (sigs : List Signature) (ctx : List Binder) where
   operands : (es : Trees) (ns : Nodes) (ps : List Binder) → AreDecided (operand_rules sigs ctx es ns ps)
-  operands none ns ps = tt
-  operands (more e es) ns [] = tt
   operands (more e es) ns (p ∷ ps) =
       (cases_eq (sort_of sigs ctx e) p.sort, λ _. (implied-decided (true-decided p.bound) (bound_var-decided ctx e), λ _. operands es (rest ns) ps))
+  operands _ ns _ = tt
 
   mutual
     pub expr : (e : Tree) (n : Node) → AreDecided (expr_rules sigs ctx e n)
@@ -49,8 +48,6 @@ module _ (sigs : List Signature) (ctx : List Binder) where
     exprs (more e es) ns = are_decided-both (expr_rules sigs ctx e (first ns)) _ (expr e (first ns)) (λ _. exprs es (rest ns))
 
   sides : (cs : Conversions) (ns : Nodes) (ps : List Binder) → AreDecided (side_rules sigs ctx cs ns ps)
-  sides no_convs ns ps = tt
-  sides (more_convs c cs) ns [] = tt
   sides (more_convs c cs) ns (p ∷ ps) = (
     both-decided (cases_eq (sort_of sigs ctx (left c)) p.sort) (cases_eq (sort_of sigs ctx (right c)) p.sort),
     λ _. (
@@ -58,11 +55,11 @@ module _ (sigs : List Signature) (ctx : List Binder) where
       λ _. sides cs (rest ns) ps,
     ),
   )
+  sides _ ns _ = tt
 
   fresh_variables : (ys : List ℕ) (ns : Nodes) (bs : List Binder) → AreDecided (variable_rules ctx ys ns bs)
-  fresh_variables [] ns bs = tt
-  fresh_variables (y ∷ ys) ns [] = tt
   fresh_variables (y ∷ ys) ns (b ∷ bs) = (bound_of-decided ctx y b.sort, λ _. fresh_variables ys (rest ns) bs)
+  fresh_variables _ ns _ = tt
 
   unfold_decided : (d : Term) (es : Trees) (ys : List ℕ) (l : Tree) (n : Node) → AreDecided (unfold_rules sigs ctx d es ys l n)
   unfold_decided d es ys l n = (
@@ -104,9 +101,8 @@ module _ (env : List Declaration) (ctx : List Binder) where
 
   module _ (hyps : Trees) where
     subproofs : (claims : Trees) (ns : Nodes) (hs : Trees) → AreDecided (subproof_rules claims ns hs)
-    subproofs none ns hs = tt
-    subproofs (more e es) ns none = tt
     subproofs (more e es) ns (more h hs) = (tree-decided e h, λ _. subproofs es (rest ns) hs)
+    subproofs _ ns _ = tt
 
     citation : (a : Assertion) (es claims : Trees) (n : Node) → AreDecided (citation_rules (signatures env) ctx a es claims n)
     citation a es claims n = (
@@ -117,8 +113,6 @@ module _ (env : List Declaration) (ctx : List Binder) where
 
     mutual
       proof : (lets : Trees) (p : Proof) (n : Node) → AreDecided (proof_rules env ctx hyps lets p n)
-      proof lets (by_hyp i) n = tt
-      proof lets (by_name i) n = tt
       proof lets (by_citation T es ps) n =
           are_decided-both (exprs_rules (signatures env) ctx es (parts (part (parts n) 1))) _ (exprs (signatures env) ctx es (parts (part (parts n) 1)))
           (λ _. are_decided-both (proofs_rules env ctx hyps lets ps (after 2 (parts n))) _ (proofs lets ps (after 2 (parts n))) (λ _. citation (assertion_at env T) es (all_proved env hyps lets ps) n))
@@ -131,6 +125,7 @@ module _ (env : List Declaration) (ctx : List Binder) where
           are_decided-both (proof_rules env ctx hyps lets p (part (parts n) 2)) _ (proof lets p (part (parts n) 2))
           (λ _. proof (with_fact lets (proved env hyps lets p)) q (part (parts n) 3))
       proof lets (by_gap e) n = claim e (part (parts n) 1)
+      proof lets _ n = tt
 
       proofs : (lets : Trees) (ps : Proofs) (ns : Nodes) → AreDecided (proofs_rules env ctx hyps lets ps ns)
       proofs lets no_proofs ns = tt
@@ -174,8 +169,6 @@ module _ (env : List Declaration) where
 
   body : (d : Signature) (F : Form) (ps : Nodes) → AreParams (sorts env) d.params → All IsDummy (dummies_of F)
       → ExprsThere (length (signatures env)) (length (d.params ++ dummies_of F)) (body_of F) → AreDecided (body_rules env d F ps)
-  body d plain_form ps right dummies there = tt
-  body d abstract_form ps right dummies there = tt
   body d (defined ds e) ps right dummies (there, _) =
       are_decided-both (dummy_rules env ds (parts (part ps 4))) _ (dummies_decided ds (parts (part ps 4)))
       (λ _. are_decided-both (expr_rules (signatures env) (d.params ++ ds) e (part ps 5)) _ (expr (signatures env) (d.params ++ ds) e (part ps 5))
@@ -184,6 +177,7 @@ module _ (env : List Declaration) where
             (range_of_sort (signatures env) (d.params ++ ds) e _ (sort_by_checks (signatures env) (d.params ++ ds) e (part ps 5) there all)),
         λ _. (cases_eq (sort_of (signatures env) (d.params ++ ds) e) d.result.sort, λ _. tt),
       )))
+  body d _ ps right dummies there = tt
 
   theorem : (a : Assertion) (ds : List Binder) (p : Option Proof) (ps : Nodes) → AreDecided (theorem_rules env a ds p ps)
   theorem a ds None ps = tt

@@ -80,8 +80,6 @@ module _ (env : List Declaration) (sig : Signature) where
 
   body_from : (F : Form) (ps : Nodes) → DummiesThere env (dummies_of F) → ExprsThere (length (signatures env)) (length (sig.params ++ dummies_of F)) (body_of F)
       → AllHold (body_rules env sig F ps) → BodyRight F
-  body_from plain_form ps dummies there all = (λ i b at. absurd (none-some _ at), tt)
-  body_from abstract_form ps dummies there all = (λ i b at. absurd (none-some _ at), tt)
   body_from (defined ds e) ps dummies (there, _) all =
       let ctx = sig.params ++ ds in
       let A = dummy_rules env ds (parts (part ps 4)) in
@@ -97,14 +95,14 @@ module _ (env : List Declaration) (sig : Signature) where
           tt,
         ),
       )
+  body_from _ ps dummies there all = (λ i b at. absurd (none-some _ at), tt)
 
   body_to : (F : Form) (ps : Nodes) → BodyRight F → AllHold (body_rules env sig F ps)
-  body_to plain_form ps h = tt
-  body_to abstract_form ps h = tt
   body_to (defined ds e) ps (right, ((h, fv), _)) =
       all_hold-both (dummy_rules env ds (parts (part ps 4))) _ (dummy_rules_hold env ds (parts (part ps 4)) right)
       (all_hold-both (expr_rules (signatures env) (sig.params ++ ds) e (part ps 5)) _ (checks_by_sort (signatures env) (sig.params ++ ds) e (part ps 5) _ h)
       (fv, (sort_is (signatures env) (sig.params ++ ds) e _ h, tt)))
+  body_to _ ps h = tt
 
 -- ---- proofs of theorems
 
@@ -163,10 +161,9 @@ legal_by_checks env (assertion_decl a) ds p ps (sorts_there, hyps_there, concl_t
 
 proved_by_checks : (gaps : Bool) (env : List Declaration) (d : Declaration) (ds : List Binder) (p : Option Proof) (ps : Nodes) → DeclThere env d ds p → SomeLeavesOnly (gaps ≡ true) p
     → AllHold (decl_rules env d ds p ps) → IsProvedAsStated gaps env d ds p
-proved_by_checks gaps env (sort_decl m) ds p ps there leaves all = tt
-proved_by_checks gaps env (term_decl d) ds p ps there leaves all = tt
 proved_by_checks gaps env (assertion_decl a) ds p ps (_, _, _, proof_there) leaves all =
     proof_from gaps env a ds p ps proof_there leaves (all_hold-rest (assertion_rules env a ps) _ all)
+proved_by_checks gaps env _ ds p ps there leaves all = tt
 
 checks_by_legal : (gaps : Bool) (env : List Declaration) (d : Declaration) (ds : List Binder) (p : Option Proof) (ps : Nodes) → DeclThere env d ds p
     → IsLegalDecl env d → IsProvedAsStated gaps env d ds p → AllHold (decl_rules env d ds p ps)

@@ -29,19 +29,13 @@ pub record Matches (names : Names) (env : List Declaration) : Type 0 where
 
 module _ (names : Names) where
   param_sort : (vars : List (List ℕ)) (n : Node) (x : List ℕ) (b : Binder) → IsParamNode names vars n x b → b.sort < length names.sorts
-  param_sort vars (atom _ _) x b h = absurd h
-  param_sort vars (list _ no_nodes) x b h = absurd h
-  param_sort vars (list _ (node y no_nodes)) x b h = absurd h
   param_sort vars (list _ (node y (node s no_nodes))) x b h = number_there names.sorts s b.sort h.1
   param_sort vars (list _ (node y (node s (node ds no_nodes)))) x b h = number_there names.sorts s b.sort h.1
-  param_sort vars (list _ (node y (node s (node ds (node _ _))))) x b h = absurd h
+  param_sort vars _ x b h = absurd h
 
   dummy_shape : (vars : List (List ℕ)) (n : Node) (x : List ℕ) (b : Binder) → IsDummyNode names vars n x b → (b.sort < length names.sorts) × IsDummy b
-  dummy_shape vars (atom _ _) x b h = absurd h
-  dummy_shape vars (list _ no_nodes) x b h = absurd h
-  dummy_shape vars (list _ (node y no_nodes)) x b h = absurd h
   dummy_shape vars (list _ (node y (node s no_nodes))) x b h = (number_there names.sorts s b.sort h.1, (h.2, h.3))
-  dummy_shape vars (list _ (node y (node s (node _ _)))) x b h = absurd h
+  dummy_shape vars _ x b h = absurd h
 
 module _ (Is : List (List ℕ) → Node → List ℕ → Binder → Type 0) where
   binders_many : (vars : List (List ℕ)) (ns : Nodes) (bs : List Binder) (after : List (List ℕ)) → AreBinders Is vars ns bs after → length after ≡ length vars + length bs
@@ -95,11 +89,8 @@ module _ (names : Names) (env : List Declaration) (m : Matches names env) where
   all_here vars k es is h = subst (λ t. ExprsThere t k es) m.terms_many (subst (λ n. ExprsThere (length names.terms) n es) is h)
 
   hyp_there : (vars : List (List ℕ)) (taken : List (List ℕ)) (n : Node) (w : List ℕ) (f : Tree) → IsHyp (scope_of names vars) taken n w f → ExprThere (length names.terms) (length vars) f
-  hyp_there vars taken (atom _ _) w f h = absurd h
-  hyp_there vars taken (list _ no_nodes) w f h = absurd h
-  hyp_there vars taken (list _ (node x no_nodes)) w f h = absurd h
   hyp_there vars taken (list _ (node x (node e no_nodes))) w f h = expr_there (scope_of names vars) m.constants_many e f h.1
-  hyp_there vars taken (list _ (node x (node e (node _ _)))) w f h = absurd h
+  hyp_there vars taken _ w f h = absurd h
 
   hyps_there : (vars : List (List ℕ)) (taken : List (List ℕ)) (ns : Nodes) (es : Trees) (after : List (List ℕ)) → AreHyps (scope_of names vars) taken ns es after
       → ExprsThere (length names.terms) (length vars) es × (length after ≡ length taken + length (listed es))
@@ -135,18 +126,9 @@ module _ (names : Names) (env : List Declaration) (m : Matches names env) where
   There d s = DeclThere env d s.dummies s.proof
 
   declared_there : (k : Kind) (ns : Nodes) (s : Statement) → IsDeclared names k ns s → There s.decl s
-  declared_there sort_kind no_nodes s h = absurd h
   declared_there sort_kind (node x ms) s (_, _, _, is, _, _) = subst (λ d. There d s) (sym is) tt
-  declared_there term_kind no_nodes s h = absurd h
-  declared_there term_kind (node x no_nodes) s h = absurd h
-  declared_there term_kind (node x (node ps no_nodes)) s h = absurd h
   declared_there term_kind (node x (node ps (node r no_nodes))) s (params, vars, result, _, ps_are, _, is, _, _) =
       subst (λ d. There d s) (sym is) ((params_there ps params vars ps_are).0, ((λ k d below. absurd (omega arith)), (λ k d below. absurd (omega arith))), tt)
-  declared_there term_kind (node x (node ps (node r (node _ _)))) s h = absurd h
-  declared_there axiom_kind no_nodes s h = absurd h
-  declared_there axiom_kind (node x no_nodes) s h = absurd h
-  declared_there axiom_kind (node x (node ps no_nodes)) s h = absurd h
-  declared_there axiom_kind (node x (node ps (node hs no_nodes))) s h = absurd h
   declared_there axiom_kind (node x (node ps (node hs (node e no_nodes)))) s (params, vars, hyps, conclusion, _, ps_are, hs_are, e_is, is, _, unproved) =
       let p = params_there ps params vars ps_are in
       subst (λ d. There d s) (sym is) (
@@ -155,12 +137,6 @@ module _ (names : Names) (env : List Declaration) (m : Matches names env) where
         here vars (length params) conclusion p.1 (expr_there (scope_of names vars) m.constants_many e conclusion e_is),
         subst (StatedProofThere env (record { is_axiom = true; params = params; hyps = hyps; conclusion = conclusion }) s.dummies) (sym unproved) refl,
       )
-  declared_there axiom_kind (node x (node ps (node hs (node e (node _ _))))) s h = absurd h
-  declared_there def_kind no_nodes s h = absurd h
-  declared_there def_kind (node x no_nodes) s h = absurd h
-  declared_there def_kind (node x (node ps no_nodes)) s h = absurd h
-  declared_there def_kind (node x (node ps (node r no_nodes))) s h = absurd h
-  declared_there def_kind (node x (node ps (node r (node ds no_nodes)))) s h = absurd h
   declared_there def_kind (node x (node ps (node r (node ds (node e no_nodes))))) s (params, vars, result, dummies, all, body, _, ps_are, _, ds_are, e_is, is, _, _) =
       let p = params_there ps params vars ps_are in
       let q = dummies_there vars ds dummies all ds_are in
@@ -169,13 +145,6 @@ module _ (names : Names) (env : List Declaration) (m : Matches names env) where
         q.0,
         (here all (length (params ++ dummies)) body (context_many vars all params dummies p.1 q.1) (expr_there (scope_of names all) m.constants_many e body e_is), tt),
       )
-  declared_there def_kind (node x (node ps (node r (node ds (node e (node _ _)))))) s h = absurd h
-  declared_there theorem_kind no_nodes s h = absurd h
-  declared_there theorem_kind (node x no_nodes) s h = absurd h
-  declared_there theorem_kind (node x (node ps no_nodes)) s h = absurd h
-  declared_there theorem_kind (node x (node ps (node hs no_nodes))) s h = absurd h
-  declared_there theorem_kind (node x (node ps (node hs (node e no_nodes)))) s h = absurd h
-  declared_there theorem_kind (node x (node ps (node hs (node e (node ds no_nodes))))) s h = absurd h
   declared_there theorem_kind (node x (node ps (node hs (node e (node ds (node q no_nodes)))))) s (params, vars, hyps, labels, conclusion, all, proof, _, ps_are, hs_are, e_is, ds_are, q_is, is, proved) =
       let p = params_there ps params vars ps_are in
       let d = dummies_there vars ds s.dummies all ds_are in
@@ -191,35 +160,18 @@ module _ (names : Names) (env : List Declaration) (m : Matches names env) where
               (proof_there (scope_of names all) m.constants_many labels [] q proof q_is),
         ),
       )
-  declared_there theorem_kind (node x (node ps (node hs (node e (node ds (node q (node _ _))))))) s h = absurd h
-  declared_there no_kind ns s h = absurd h
+  declared_there _ _ s h = absurd h
 
   -- only definitions and theorems may be local
   local_may_be : (k : Kind) (ns : Nodes) (s : Statement) → IsLocal names k ns s → MayBeLocal s.decl × There s.decl s
-  local_may_be def_kind no_nodes s h = absurd h
-  local_may_be def_kind (node x no_nodes) s h = absurd h
-  local_may_be def_kind (node x (node ps no_nodes)) s h = absurd h
-  local_may_be def_kind (node x (node ps (node r no_nodes))) s h = absurd h
-  local_may_be def_kind (node x (node ps (node r (node ds no_nodes)))) s h = absurd h
   local_may_be def_kind (node x (node ps (node r (node ds (node e no_nodes))))) s h =
       (subst MayBeLocal (sym h.11) has_body, declared_there def_kind (node x (node ps (node r (node ds (node e no_nodes))))) s h)
     where
       has_body : more h.5 none ≡ none → ⊥
       has_body is = cc
-  local_may_be def_kind (node x (node ps (node r (node ds (node e (node _ _)))))) s h = absurd h
-  local_may_be theorem_kind no_nodes s h = absurd h
-  local_may_be theorem_kind (node x no_nodes) s h = absurd h
-  local_may_be theorem_kind (node x (node ps no_nodes)) s h = absurd h
-  local_may_be theorem_kind (node x (node ps (node hs no_nodes))) s h = absurd h
-  local_may_be theorem_kind (node x (node ps (node hs (node e no_nodes)))) s h = absurd h
-  local_may_be theorem_kind (node x (node ps (node hs (node e (node ds no_nodes))))) s h = absurd h
   local_may_be theorem_kind (node x (node ps (node hs (node e (node ds (node q no_nodes)))))) s h =
       (subst MayBeLocal (sym h.13) refl, declared_there theorem_kind (node x (node ps (node hs (node e (node ds (node q no_nodes)))))) s h)
-  local_may_be theorem_kind (node x (node ps (node hs (node e (node ds (node q (node _ _))))))) s h = absurd h
-  local_may_be sort_kind ns s h = absurd h
-  local_may_be term_kind ns s h = absurd h
-  local_may_be axiom_kind ns s h = absurd h
-  local_may_be no_kind ns s h = absurd h
+  local_may_be _ _ s h = absurd h
 
   marked_there : (b : Bool) (k : Node) (ns : Nodes) (s : Statement) → IsMarked b names k ns s → StatementThere env s
   marked_there false k ns s (is, h) = (declared_there (kind_of k) ns s h, λ loc. absurd (true≢false (sym loc ∙ is)))
@@ -227,9 +179,8 @@ module _ (names : Names) (env : List Declaration) (m : Matches names env) where
   marked_there true k (node k' ns) s (is, h) = let r = local_may_be (kind_of k') ns s h in (r.1, λ _. r.0)
 
   statement_there : (n : Node) (s : Statement) → IsStatement names n s → StatementThere env s
-  statement_there (atom _ _) s h = absurd h
-  statement_there (list _ no_nodes) s h = absurd h
   statement_there (list _ (node k ns)) s h = marked_there (is_local_word k) k ns s h
+  statement_there _ s h = absurd h
 
 -- ---- all statements
 

@@ -57,9 +57,8 @@ each_typed_or_refused gaps ns ss read = record {
 -- ---- legal by the stated proofs is legal
 
 proved_if_theorem : (gaps : Bool) (env : List Declaration) (d : Declaration) (ds : List Binder) (p : Option Proof) → IsProvedAsStated gaps env d ds p → IsProvedIfTheorem (allowed_with gaps) env d
-proved_if_theorem gaps env (sort_decl m) ds p h = tt
-proved_if_theorem gaps env (term_decl d) ds p h = tt
 proved_if_theorem gaps env (assertion_decl a) ds p h = λ thm. let k = h thm in (ds, k.0, (derivation no_derivs k.1.0, k.1.2.2, k.1.2.0))
+proved_if_theorem gaps env _ ds p h = tt
 
 legal_list : (gaps : Bool) (env : List Declaration) (ss : List Statement) → LegalAsStatedAfter gaps env ss → LegalAfter (allowed_with gaps) env (marked ss)
 legal_list gaps env [] h = tt

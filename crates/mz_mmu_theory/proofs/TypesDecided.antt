@@ -8,7 +8,7 @@ use Rattle.mz_logic_theory.specs.Tree.{Tree, Trees, var, app, none, more, operan
 use Rattle.mz_logic_theory.specs.Signature.{Signature}
 use Rattle.mz_logic_theory.specs.Modifiers.{IsPure, IsStrict, IsProvable, IsFree, MayBeResultSort, MayBeBoundSort, MayBeDummySort, MayBeClaimSort}
 use Rattle.mz_logic_theory.specs.Sorts.{IsBoundVar}
-use Rattle.mz_logic_theory.specs.Variables.{InV, InSomeV, InFV, InSomeFV, IsBoundAt, IsOperandAt, Apart}
+use Rattle.mz_logic_theory.specs.Variables.{InV, InSomeV, InFV, InSomeFV, IsBoundAt, IsOperandAt, AreDisjoint}
 use Rattle.mz_logic_theory.specs.Legality.{IsParam, InRange}
 use Rattle.mz_logic_theory.specs.Conversions.{IsBoundOf}
 use Rattle.mz_logic_theory.specs.declared.binder.Binder.{Binder}
@@ -81,17 +81,15 @@ all_below-decided (suc n) P one = same-decided to (λ h. (h n (omega arith), λ 
 mutual
   pub tree-decided : (e f : Tree) → Decided (e ≡ f)
   tree-decided (var x) (var y) = same-decided (ap var) (same-variable x y) (cases_eq x y)
-  tree-decided (var x) (app u fs) = inr (λ h. cc)
-  tree-decided (app t es) (var y) = inr (λ h. cc)
   tree-decided (app t es) (app u fs) =
       same-decided (λ (h, k). ap (λ x. app x es) h ∙ ap (app u) k) (λ h. (same-term t u es fs h, same-operands t u es fs h)) (both-decided (cases_eq t u) (trees-decided es fs))
+  tree-decided _ _ = inr (λ h. cc)
 
   pub trees-decided : (es fs : Trees) → Decided (es ≡ fs)
   trees-decided none none = inl refl
-  trees-decided none (more f fs) = inr (λ h. cc)
-  trees-decided (more e es) none = inr (λ h. cc)
   trees-decided (more e es) (more f fs) =
       same-decided (λ (h, k). ap (λ x. more x es) h ∙ ap (more f) k) (λ h. (same-first e f es fs h, same-rest e f es fs h)) (both-decided (tree-decided e f) (trees-decided es fs))
+  trees-decided _ _ = inr (λ h. cc)
 
 -- ---- sorts and binders
 
@@ -173,13 +171,13 @@ free_vars-decided sigs ctx e places inside range =
     same-decided (λ h x free. h x (free_below sigs ctx inside x e range free) free) (λ h x below free. h x free)
     (all_below-decided (length ctx) (λ x. InFV sigs ctx x e → Contains places x) (λ x. implied-decided (in_fv-decided sigs ctx x e) (contains-decided places x)))
 
--- ---- apartness
+-- ---- disjointness
 
-abbrev IsApartFrom : List Binder → Trees → ℕ → Binder → ℕ → Binder → Type 0
-IsApartFrom ctx es i p j q = q.bound ≡ true → (x : ℕ) → operand es j ≡ var x → InV ctx x (operand es i) → (i ≡ j) ⊎ Contains p.deps j
+abbrev IsDisjointFrom : List Binder → Trees → ℕ → Binder → ℕ → Binder → Type 0
+IsDisjointFrom ctx es i p j q = q.bound ≡ true → (x : ℕ) → operand es j ≡ var x → InV ctx x (operand es i) → (i ≡ j) ⊎ Contains p.deps j
 
-apart_from-decided : (ctx : List Binder) (es : Trees) (i : ℕ) (p : Binder) (j : ℕ) (q : Binder) → Decided (IsApartFrom ctx es i p j q)
-apart_from-decided ctx es i p j q = implied-decided (true-decided q.bound) (go (operand es j) refl)
+disjoint_from-decided : (ctx : List Binder) (es : Trees) (i : ℕ) (p : Binder) (j : ℕ) (q : Binder) → Decided (IsDisjointFrom ctx es i p j q)
+disjoint_from-decided ctx es i p j q = implied-decided (true-decided q.bound) (go (operand es j) refl)
   where
     go : (o : Tree) → operand es j ≡ o → Decided ((x : ℕ) → operand es j ≡ var x → InV ctx x (operand es i) → (i ≡ j) ⊎ Contains p.deps j)
     go (app t fs) is = inl (λ x is'. absurd (let e : app t fs ≡ var x = sym is ∙ is' in cc))
@@ -187,8 +185,8 @@ apart_from-decided ctx es i p j q = implied-decided (true-decided q.bound) (go (
         same-decided (λ h x is' has. h (subst (λ z. InV ctx z (operand es i)) (same-variable x y (sym is' ∙ is)) has)) (λ h has. h y is has)
         (implied-decided (in_v-decided ctx y (operand es i)) (either-decided (cases_eq i j) (contains-decided p.deps j)))
 
-pub apart-decided : (ctx : List Binder) (es : Trees) (params : List Binder) → Decided (Apart ctx es params)
+pub apart-decided : (ctx : List Binder) (es : Trees) (params : List Binder) → Decided (AreDisjoint ctx es params)
 apart-decided ctx es params =
     same-decided (λ h i j x p q at at' bd is has. h i p at j q at' bd x is has) (λ h i p at j q at' bd x is has. h i j x p q at at' bd is has)
-    (each-decided params (λ i p. (j : ℕ) (q : Binder) → slice_get params j ≡ Some q → IsApartFrom ctx es i p j q)
-    (λ i p. each-decided params (λ j q. IsApartFrom ctx es i p j q) (λ j q. apart_from-decided ctx es i p j q)))
+    (each-decided params (λ i p. (j : ℕ) (q : Binder) → slice_get params j ≡ Some q → IsDisjointFrom ctx es i p j q)
+    (λ i p. each-decided params (λ j q. IsDisjointFrom ctx es i p j q) (λ j q. disjoint_from-decided ctx es i p j q)))

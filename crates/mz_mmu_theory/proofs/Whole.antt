@@ -24,19 +24,13 @@ deps_ascend : (vars : List (List ℕ)) (n : Node) (xs : List ℕ) → AreDeps va
 deps_ascend vars n xs (zs, h, rise) = rise.0
 
 param_ascends : (names : Names) (vars : List (List ℕ)) (n : Node) (w : List ℕ) (b : Binder) → IsParam names vars n w b → IsStrictlyIncreasing b.deps
-param_ascends names vars (atom at u) w b h = absurd h
-param_ascends names vars (list at no_nodes) w b h = absurd h
-param_ascends names vars (list at (node x no_nodes)) w b h = absurd h
 param_ascends names vars (list at (node x (node s no_nodes))) w b h = none_ascends b.deps h.3
 param_ascends names vars (list at (node x (node s (node ds no_nodes)))) w b h = deps_ascend vars ds b.deps h.3
-param_ascends names vars (list at (node x (node s (node ds (node _ _))))) w b h = absurd h
+param_ascends names vars _ w b h = absurd h
 
 dummy_ascends : (names : Names) (vars : List (List ℕ)) (n : Node) (w : List ℕ) (b : Binder) → IsDummy names vars n w b → IsStrictlyIncreasing b.deps
-dummy_ascends names vars (atom at u) w b h = absurd h
-dummy_ascends names vars (list at no_nodes) w b h = absurd h
-dummy_ascends names vars (list at (node x no_nodes)) w b h = absurd h
 dummy_ascends names vars (list at (node x (node s no_nodes))) w b h = none_ascends b.deps h.3
-dummy_ascends names vars (list at (node x (node s (node _ _)))) w b h = absurd h
+dummy_ascends names vars _ w b h = absurd h
 
 module _ (Is : List (List ℕ) → Node → List ℕ → Binder → Type 0)
     (one : (vars : List (List ℕ)) (n : Node) (w : List ℕ) (b : Binder) → Is vars n w b → IsStrictlyIncreasing b.deps) where
@@ -54,11 +48,8 @@ dummies_ascend names vars (atom at w) bs after h = absurd h
 dummies_ascend names vars (list at ns) bs after h = binders_ascend (IsDummy names) (dummy_ascends names) vars ns bs after h
 
 result_ascends : (names : Names) (vars : List (List ℕ)) (n : Node) (r : ResultType) → IsResult names vars n r → IsStrictlyIncreasing r.deps
-result_ascends names vars (atom at w) r h = absurd h
-result_ascends names vars (list at no_nodes) r h = absurd h
-result_ascends names vars (list at (node s no_nodes)) r h = absurd h
 result_ascends names vars (list at (node s (node ds no_nodes))) r h = deps_ascend vars ds r.deps h.1
-result_ascends names vars (list at (node s (node ds (node _ _)))) r h = absurd h
+result_ascends names vars _ r h = absurd h
 
 -- ---- statements
 
@@ -69,74 +60,37 @@ no_dummies : (s : Statement) → s.dummies ≡ [] → DepsAscend s.dummies
 no_dummies s is = subst DepsAscend (sym is) (All-nil (λ b. IsStrictlyIncreasing b.deps))
 
 declared_parts : (names : Names) (k : Kind) (ns : Nodes) (s : Statement) → IsDeclared names k ns s → HasParts s
-declared_parts names sort_kind no_nodes s h = absurd h
 declared_parts names sort_kind (node x ms) s (m, n, r, e, i, j) = (subst Ascends (sym e) tt, no_dummies s i, subst (λ d. HasItsProof d s) (sym e) (i, j))
-declared_parts names term_kind no_nodes s h = absurd h
-declared_parts names term_kind (node x no_nodes) s h = absurd h
-declared_parts names term_kind (node x (node ps no_nodes)) s h = absurd h
 declared_parts names term_kind (node x (node ps (node r no_nodes))) s (params, vars, result, n, p, q, e, i, j) = (
   subst Ascends (sym e) (params_ascend names ps params vars p, result_ascends names vars r result q, All-nil (λ b. IsStrictlyIncreasing b.deps)),
   no_dummies s i,
   subst (λ d. HasItsProof d s) (sym e) (i, j),
 )
-declared_parts names term_kind (node x (node ps (node r (node _ _)))) s h = absurd h
-declared_parts names axiom_kind no_nodes s h = absurd h
-declared_parts names axiom_kind (node x no_nodes) s h = absurd h
-declared_parts names axiom_kind (node x (node ps no_nodes)) s h = absurd h
-declared_parts names axiom_kind (node x (node ps (node hs no_nodes))) s h = absurd h
 declared_parts names axiom_kind (node x (node ps (node hs (node c no_nodes)))) s (params, vars, hyps, conclusion, n, p, q, r, e, i, j) =
     (subst Ascends (sym e) (params_ascend names ps params vars p), no_dummies s i, subst (λ d. HasItsProof d s) (sym e) (i, j))
-declared_parts names axiom_kind (node x (node ps (node hs (node c (node _ _))))) s h = absurd h
-declared_parts names def_kind no_nodes s h = absurd h
-declared_parts names def_kind (node x no_nodes) s h = absurd h
-declared_parts names def_kind (node x (node ps no_nodes)) s h = absurd h
-declared_parts names def_kind (node x (node ps (node r no_nodes))) s h = absurd h
-declared_parts names def_kind (node x (node ps (node r (node ds no_nodes)))) s h = absurd h
 declared_parts names def_kind (node x (node ps (node r (node ds (node b no_nodes))))) s (params, vars, result, dummies, all, body, n, p, q, d, f, e, i, j) = (
   subst Ascends (sym e) (params_ascend names ps params vars p, result_ascends names vars r result q, dummies_ascend names vars ds dummies all d),
   no_dummies s i,
   subst (λ c. HasItsProof c s) (sym e) (i, j),
 )
-declared_parts names def_kind (node x (node ps (node r (node ds (node b (node _ _)))))) s h = absurd h
-declared_parts names theorem_kind no_nodes s h = absurd h
-declared_parts names theorem_kind (node x no_nodes) s h = absurd h
-declared_parts names theorem_kind (node x (node ps no_nodes)) s h = absurd h
-declared_parts names theorem_kind (node x (node ps (node hs no_nodes))) s h = absurd h
-declared_parts names theorem_kind (node x (node ps (node hs (node c no_nodes)))) s h = absurd h
-declared_parts names theorem_kind (node x (node ps (node hs (node c (node ds no_nodes))))) s h = absurd h
 declared_parts names theorem_kind (node x (node ps (node hs (node c (node ds (node q no_nodes)))))) s (params, vars, hyps, labels, conclusion, all, proof, n, p, h, f, d, r, e, j) =
     (subst Ascends (sym e) (params_ascend names ps params vars p), dummies_ascend names vars ds s.dummies all d, subst (λ c. HasItsProof c s) (sym e) (proof, j))
-declared_parts names theorem_kind (node x (node ps (node hs (node c (node ds (node q (node _ _))))))) s h = absurd h
-declared_parts names no_kind ns s h = absurd h
+declared_parts names _ _ s h = absurd h
 
 def_is_local : (names : Names) (ns : Nodes) (s : Statement) → IsDeclared names def_kind ns s → MayBeLocal s.decl
-def_is_local names no_nodes s h = absurd h
-def_is_local names (node x no_nodes) s h = absurd h
-def_is_local names (node x (node ps no_nodes)) s h = absurd h
-def_is_local names (node x (node ps (node r no_nodes))) s h = absurd h
-def_is_local names (node x (node ps (node r (node ds no_nodes)))) s h = absurd h
 def_is_local names (node x (node ps (node r (node ds (node b no_nodes))))) s (params, vars, result, dummies, all, body, n, p, q, d, f, e, i, j) =
     subst MayBeLocal (sym e) (λ no. let g : more body none ≡ none = no in cc)
-def_is_local names (node x (node ps (node r (node ds (node b (node _ _)))))) s h = absurd h
+def_is_local names _ s h = absurd h
 
 theorem_is_local : (names : Names) (ns : Nodes) (s : Statement) → IsDeclared names theorem_kind ns s → MayBeLocal s.decl
-theorem_is_local names no_nodes s h = absurd h
-theorem_is_local names (node x no_nodes) s h = absurd h
-theorem_is_local names (node x (node ps no_nodes)) s h = absurd h
-theorem_is_local names (node x (node ps (node hs no_nodes))) s h = absurd h
-theorem_is_local names (node x (node ps (node hs (node c no_nodes)))) s h = absurd h
-theorem_is_local names (node x (node ps (node hs (node c (node ds no_nodes))))) s h = absurd h
 theorem_is_local names (node x (node ps (node hs (node c (node ds (node q no_nodes)))))) s (params, vars, hyps, labels, conclusion, all, proof, n, p, h, f, d, r, e, j) =
     subst MayBeLocal (sym e) refl
-theorem_is_local names (node x (node ps (node hs (node c (node ds (node q (node _ _))))))) s h = absurd h
+theorem_is_local names _ s h = absurd h
 
 local_parts : (names : Names) (k : Kind) (ns : Nodes) (s : Statement) → IsLocal names k ns s → HasParts s × MayBeLocal s.decl
-local_parts names sort_kind ns s h = absurd h
-local_parts names term_kind ns s h = absurd h
-local_parts names axiom_kind ns s h = absurd h
 local_parts names def_kind ns s h = (declared_parts names def_kind ns s h, def_is_local names ns s h)
 local_parts names theorem_kind ns s h = (declared_parts names theorem_kind ns s h, theorem_is_local names ns s h)
-local_parts names no_kind ns s h = absurd h
+local_parts names _ ns s h = absurd h
 
 whole : (s : Statement) → HasParts s → (s.is_local ≡ true → MayBeLocal s.decl) → IsWhole s
 whole s (a, d, p) mark = record { ascend = a; dummies_ascend = d; has_proof = p; mark = mark }
@@ -147,9 +101,8 @@ marked_whole true names k no_nodes s h = absurd h
 marked_whole true names k (node l ns) s (is, h) = let p = local_parts names (kind_of l) ns s h in whole s p.0 (λ _. p.1)
 
 statement_whole : (names : Names) (n : Node) (s : Statement) → IsStatement names n s → IsWhole s
-statement_whole names (atom at w) s h = absurd h
-statement_whole names (list at no_nodes) s h = absurd h
 statement_whole names (list at (node k ns)) s h = marked_whole (is_local_word k) names k ns s h
+statement_whole names _ s h = absurd h
 
 pub are_whole : (names : Names) (ns : Nodes) → AreWhole names ns
 are_whole names no_nodes ss h = subst (All IsWhole) (sym h) (All-nil IsWhole)

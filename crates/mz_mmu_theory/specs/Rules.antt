@@ -11,7 +11,7 @@ use Rattle.mz_logic_theory.specs.Signature.{Signature}
 use Rattle.mz_logic_theory.specs.Declaration.{Form, plain_form, abstract_form, defined, Term, Assertion, Declaration, sort_decl, term_decl, assertion_decl, dummies_of, sorts, signatures, is_defined, body_tree}
 use Rattle.mz_logic_theory.specs.Modifiers.{MayBeResultSort, MayBeDummySort}
 use Rattle.mz_logic_theory.specs.Sorts.{IsBoundVar}
-use Rattle.mz_logic_theory.specs.Variables.{InSomeV, InFV, IsBoundAt, Apart}
+use Rattle.mz_logic_theory.specs.Variables.{InSomeV, InFV, IsBoundAt, AreDisjoint}
 use Rattle.mz_logic_theory.specs.Legality.{signature_at, sort_of, IsParam, IsClaim}
 use Rattle.mz_logic_theory.specs.Conversions.{Conversion, Conversions, refl_conv, sym_conv, cong_conv, unfold_conv, gap_conv, no_convs, more_convs, IsBoundOf}
 use Rattle.mz_logic_theory.specs.declared.binder.Binder.{Binder}
@@ -131,7 +131,7 @@ abbrev pub citation_rules : List Signature → List Binder → Assertion → Tre
 citation_rules sigs ctx a es claims n =
     demand (fault (place n) U.Arity) ((length (listed es) ≡ length a.params) × (length (listed claims) ≡ length (listed a.hyps)))
     >> operand_rules sigs ctx es (parts (part (parts n) 1)) a.params
-    >> demand (fault (place n) U.Disjoint) (Apart ctx es a.params)
+    >> demand (fault (place n) U.Disjoint) (AreDisjoint ctx es a.params)
     >> subproof_rules claims (after 2 (parts n)) (instances es a.hyps)
 
 abbrev mutual

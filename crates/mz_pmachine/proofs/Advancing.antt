@@ -27,23 +27,23 @@ one-more : (s s' : Numbering) → KeepsIds s s' → length s'.entries ≤ length
 one-more s s' (last, is, few) = (let len : length s'.entries ≡ length s.entries + length last = ap length is ∙ length-append s.entries last in omega (arith, len, few))
 
 module _ (t : Setting) (p q : Parts) where
-  row-kind : (heading_of t.earlier.file (byte_of t.kind) t.row).kind ≡ kind_of t.kind
-  row-kind = kind-is t.earlier.file t.row (kind_at (byte_of t.kind)) ∙ kind-byte t.kind
+  row-kind : (heading_of t.env.file (byte_of t.kind) t.row).kind ≡ kind_of t.kind
+  row-kind = kind-is t.env.file t.row (kind_at (byte_of t.kind)) ∙ kind-byte t.kind
 
   module _ (c : Cmd) where
     abbrev by_kind : ℕ → Kind → Result (State Numbered) K
-    by_kind at k = row_by (tables_of t.earlier) at (machine_of t p).state (body_command portable k c.code c.value)
+    by_kind at k = row_by (tables_of t.env) at (machine_of t p).state (body_command portable k c.code c.value)
 
     -- it is of a body of its row's kind
-    its-kind : (at : ℕ) (r : Result (State Numbered) K) → by_kind at (kind_of t.kind) ≡ r → by_kind at (heading_of t.earlier.file (byte_of t.kind) t.row).kind ≡ r
+    its-kind : (at : ℕ) (r : Result (State Numbered) K) → by_kind at (kind_of t.kind) ≡ r → by_kind at (heading_of t.env.file (byte_of t.kind) t.row).kind ≡ r
     its-kind at r is = subst (λ (k : Kind). by_kind at k ≡ r) (sym row-kind) is
 
     abbrev Moved : {A : Type 0} → ℕ → Result A Stop → Type 0
-    Moved at result = Proceeds (signatures_of t.earlier) at (by_kind at (kind_of t.kind)) p.nodes q.nodes q.heap.items q.equations.items q.stack.items q.hyps.items result
+    Moved at result = Proceeds (signatures_of t.env) at (by_kind at (kind_of t.kind)) p.nodes q.nodes q.heap.items q.equations.items q.stack.items q.hyps.items result
 
     pub keeps : {A : Type 0} (at : ℕ) (result : Result A Stop) → IsRunning t p → Moved at result → OnOk result (IsRunning t q)
     keeps at (Ok x) was moved =
-        (goes-on t.earlier.file (byte_of t.kind) t.row t.earlier.rows p.nodes q.nodes p.heap.items p.stack.items q.heap.items q.stack.items p.hyps.items q.hyps.items was.0 moved.grows moved.heap_in moved.stack_in moved.hyps_in moved.few_hyps, was.1, moved.settled)
+        (goes-on t.env.file (byte_of t.kind) t.row t.env.rows p.nodes q.nodes p.heap.items p.stack.items q.heap.items q.stack.items p.hyps.items q.hyps.items was.0 moved.grows moved.heap_in moved.stack_in moved.hyps_in moved.few_hyps, was.1, moved.settled)
     keeps at (Err stop) was moved = tt
 
     pub stepped : {A : Type 0} (at : ℕ) (result : Result A Stop) → Moved at result → IsStepped (machine_of t p) c at (machine_of t q) result
@@ -51,7 +51,7 @@ module _ (t : Setting) (p q : Parts) where
     stepped at (Err (Rule k)) moved = its-kind at (Err k) moved
     stepped at (Err Mem) moved = tt
 
-    pub counted : {A : Type 0} (result : Result A Stop) (old new : ℕ) → UnlessMem result (new ≡ old + steps_by (tables_of t.earlier) (machine_of t p).state (body_command portable (kind_of t.kind) c.code c.value))
-        → UnlessMem result (new ≡ old + steps_for (tables_of t.earlier) (heading_for (machine_of t p)) (machine_of t p).state c)
+    pub counted : {A : Type 0} (result : Result A Stop) (old new : ℕ) → UnlessMem result (new ≡ old + steps_by (tables_of t.env) (machine_of t p).state (body_command portable (kind_of t.kind) c.code c.value))
+        → UnlessMem result (new ≡ old + steps_for (tables_of t.env) (heading_for (machine_of t p)) (machine_of t p).state c)
     counted result old new =
-        subst (λ (k : Kind). UnlessMem result (new ≡ old + steps_by (tables_of t.earlier) (machine_of t p).state (body_command portable k c.code c.value))) (sym row-kind)
+        subst (λ (k : Kind). UnlessMem result (new ≡ old + steps_by (tables_of t.env) (machine_of t p).state (body_command portable k c.code c.value))) (sym row-kind)

@@ -4,7 +4,7 @@ use Rattle.std.specs.List.{range_with_len}
 use Rattle.mz_logic_theory.specs.Words.{binders_of}
 use Rattle.mz_logic_theory.specs.declared.word.Word.{Word}
 use Rattle.mz_store.specs.declared.item.Item.TheVariants.{Expr}
-use Rattle.mz_unify_theory.specs.Profile.{Item, expr}
+use Rattle.mz_machine_theory.specs.Profile.{Item, expr}
 use Rattle.mz_machine_theory.specs.MachineState.{signatures_in}
 use Rattle.mz_machine_theory.specs.Bodies.{body_start}
 use Rattle.mz_machine_env.specs.OwnRow.{MayRun, mode_for, own_words, first_items}

@@ -3,7 +3,7 @@ use Rattle.std.proofs.Common.{◌≡◌, ℕ, false, refl}
 use Rattle.mz_cmd.specs.declared.code.ProofCode.TheVariants as code
 use Rattle.mz_machine_theory.specs.MachineState.{RowsBefore, State, Kind, is_axiom, is_theorem, is_definition}
 use Rattle.mz_machine_theory.specs.Bodies.{row_steps, stands_in}
-use Rattle.mz_unify_theory.specs.Profile.{Profile}
+use Rattle.mz_machine_theory.specs.Profile.{Profile}
 use Rattle.mz_pmachine.specs.declared.command.Keeping.{Keeping}
 use Rattle.mz_pmachine.specs.declared.command.Keeping.TheVariants as keeping
 use Rattle.mz_pmachine.specs.OverNodes.{code_of_keeping}

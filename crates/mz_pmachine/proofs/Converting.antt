@@ -5,11 +5,11 @@ use Rattle.mz_cmd.specs.declared.rule.K.TheVariants as k
 use Rattle.mz_pmachine_unify.specs.Numbering.{Numbering, exprs_of, operands_of}
 use Rattle.mz_store.specs.declared.item.Id.{Id}
 use Rattle.mz_store.specs.declared.item.Item.{Item as Kept}
-use Rattle.mz_unify_theory.specs.Steps.{◌>>=◌, ◌>>◌, need}
+use Rattle.mz_machine_theory.specs.Steps.{◌>>=◌, ◌>>◌, need}
 use Rattle.mz_pmachine_theory.specs.NodeIdentity.{Numbered, operand_list, equal, portable}
-use Rattle.mz_unify_theory.specs.Profile.{Item, expr, proof, obligation, conversion}
+use Rattle.mz_machine_theory.specs.Profile.{Item, expr, proof, obligation, conversion}
 use Rattle.mz_pmachine_unify.specs.Stored.{IsItemIn, AreItemsIn, exprs_at}
-use Rattle.mz_unify_theory.proofs.Offered.{taken-is}
+use Rattle.mz_machine_theory.proofs.Offered.{taken-is}
 use Rattle.mz_pmachine_unify.proofs.Offered.{items-in-both, listed-exprs, of-numbered}
 use Rattle.mz_machine_theory.specs.Premises.{pop_expr, pop_obligation, pop_sides}
 use Rattle.mz_machine.proofs.Offered.{same}

@@ -7,9 +7,9 @@ use Rattle.mz_store.specs.declared.item.Id.{Id}
 use Rattle.mz_store.specs.declared.item.Item.{Item as Kept}
 use Rattle.mz_store.specs.declared.item.Item.TheVariants.{Proof}
 use Rattle.mz_pmachine_theory.specs.NodeIdentity.{Numbered, a_variable, portable}
-use Rattle.mz_unify_theory.specs.Profile.{Item, proof}
+use Rattle.mz_machine_theory.specs.Profile.{Item, proof}
 use Rattle.mz_pmachine_unify.specs.Stored.{item_at, items_at, exprs_at, matching_at, AreItemsIn}
-use Rattle.mz_unify_theory.proofs.Offered.{map-reverse}
+use Rattle.mz_machine_theory.proofs.Offered.{map-reverse}
 use Rattle.mz_machine_theory.specs.MachineState.{State, Kind, is_axiom, is_theorem, is_definition, Heading}
 use Rattle.mz_machine_theory.specs.ProofMachine.{as_proofs}
 use Rattle.mz_machine_env.specs.OwnRow.{id_at, first_ids, own_proofs}

@@ -8,7 +8,7 @@ use Rattle.mz_pmachine_theory.specs.NodeIdentity.{Numbered}
 use Rattle.mz_pmachine_unify.specs.Numbering.{Numbering, expr_of}
 use Rattle.mz_store.specs.declared.item.Id.{Id}
 use Rattle.mz_store.specs.declared.item.Item.{Item as Kept}
-use Rattle.mz_unify_theory.specs.Profile.{Item, proof}
+use Rattle.mz_machine_theory.specs.Profile.{Item, proof}
 use Rattle.mz_pmachine_unify.specs.Stored.{exprs_at, item_at, items_at, IsItemIn, AreItemsIn}
 use Rattle.mz_pmachine_unify.proofs.Offered.{items-in-left, items-in-right, items-push}
 use Rattle.mz_pmachine.specs.OverNodes.{heap_at, state_at}

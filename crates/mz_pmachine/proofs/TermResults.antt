@@ -8,8 +8,8 @@ use Rattle.mz_pmachine_unify.specs.Numbering.{Numbering, Entry, expr_of, IsIn, A
 use Rattle.mz_store.specs.declared.item.Id.{Id}
 use Rattle.mz_store.specs.declared.item.Item.{Item as Kept}
 use Rattle.mz_store.specs.declared.item.Item.TheVariants.{Expr, Proof, Obligation, Conversion}
-use Rattle.mz_unify_theory.specs.Sorted.{AllSorted}
-use Rattle.mz_unify_theory.specs.Profile.{expr, proof}
+use Rattle.mz_machine_theory.specs.Sorted.{AllSorted}
+use Rattle.mz_machine_theory.specs.Profile.{expr, proof}
 use Rattle.mz_pmachine_unify.specs.Stored.{exprs_at, trees_at, item_at, items_at, IsItemIn, AreItemsIn}
 use Rattle.std.specs.Prelude.{reverse}
 use Rattle.std.proofs.lemmas.List.{append-nil, reverse-append}

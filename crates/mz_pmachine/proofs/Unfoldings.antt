@@ -11,7 +11,7 @@ use Rattle.mz_pmachine_unify.specs.Numbering.{Numbering, IsIn, IsOver, expr_of, 
 use Rattle.mz_store.specs.declared.item.Id.{Id}
 use Rattle.mz_store.specs.declared.item.Item.{Item as Kept}
 use Rattle.mz_pmachine_theory.specs.NodeIdentity.{Numbered, a_variable, an_application, operand_list, tree_of, portable}
-use Rattle.mz_unify_theory.specs.UnifyMachine.{in_definition, Matching, unify, unify_steps}
+use Rattle.mz_machine_theory.specs.UnifyMachine.{in_definition, Matching, unify, unify_steps}
 use Rattle.mz_pmachine_unify.specs.Stored.{IsItemIn, AreItemsIn, item_at, items_at, exprs_at, matching_at}
 use Rattle.mz_pmachine_unify.proofs.Offered.{items-push}
 use Rattle.mz_unify.specs.declared.unified.UnifyMode.TheVariants.{Body}

@@ -1,6 +1,6 @@
 -- The END of a body over nodes.
 use Rattle.std.specs.Prelude.{[]}
-use Rattle.mz_unify_theory.specs.UnifyMachine.{Matching, at_end, in_definition}
+use Rattle.mz_machine_theory.specs.UnifyMachine.{Matching, at_end, in_definition}
 use Rattle.mz_machine_theory.specs.MachineState.{State, Kind, is_axiom, is_theorem, is_definition, Heading}
 use Rattle.mz_machine_theory.specs.ProofMachine.{own_stream, as_proofs}
 use Rattle.mz_pmachine_theory.specs.NodeIdentity.{Numbered, portable}

@@ -4,5 +4,5 @@ pub mod BodyAnswers
 pub mod Endings
 pub mod Stepping
 pub mod Running
-pub mod Rooms
+pub mod Tidiness
 pub mod OpenNodes

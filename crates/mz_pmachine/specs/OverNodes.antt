@@ -8,8 +8,8 @@ use Rattle.mz_logic_theory.specs.Legality.{IsDummy}
 use Rattle.mz_logic_theory.specs.declared.binder.Binder.{Binder}
 use Rattle.mz_store.specs.declared.item.Id.{Id}
 use Rattle.mz_store.specs.declared.item.Item.{Item as Kept}
-use Rattle.mz_unify_theory.specs.Steps.{◌>>=◌}
-use Rattle.mz_unify_theory.specs.Profile.{Item}
+use Rattle.mz_machine_theory.specs.Steps.{◌>>=◌}
+use Rattle.mz_machine_theory.specs.Profile.{Item}
 use Rattle.mz_machine_theory.specs.MachineState.{State, signatures_in}
 use Rattle.mz_machine_theory.specs.Premises.{pop_expr, pop_sides}
 use Rattle.mz_machine_env.specs.OwnRow.{MayRun, mode_for}

@@ -13,10 +13,10 @@ use Rattle.mz_pmachine.specs.declared.machine.Parts.{Parts}
 
 -- the machine that both are
 abbrev pub machine_of : Setting → Parts → Underway
-machine_of t p = record { file = t.earlier.file; kind = byte_of t.kind; row = t.row; before = t.earlier.rows; state = whole_state p.nodes p.heap.items p.equations.items p.stack.items p.hyps.items; next = p.nodes.next; nodes = length p.nodes.entries }
+machine_of t p = record { file = t.env.file; kind = byte_of t.kind; row = t.row; before = t.env.rows; state = whole_state p.nodes p.heap.items p.equations.items p.stack.items p.hyps.items; next = p.nodes.next; nodes = length p.nodes.entries }
 
 abbrev pub IsRunning : Setting → Parts → Type 0
 IsRunning t p =
-    IsUnderway t.earlier.file (byte_of t.kind) t.row t.earlier.rows p.nodes p.heap.items p.stack.items p.hyps.items
-    × (t.bound_params ≡ length (bound_vars (heading_of t.earlier.file (byte_of t.kind) t.row).params))
+    IsUnderway t.env.file (byte_of t.kind) t.row t.env.rows p.nodes p.heap.items p.stack.items p.hyps.items
+    × (t.bound_params ≡ length (bound_vars (heading_of t.env.file (byte_of t.kind) t.row).params))
     × AreSettled (of_nodes p.nodes) (reverse p.equations.items) (items_at p.nodes p.stack.items)

@@ -15,7 +15,7 @@ use mz_cmd::K;
 use mz_layout_tables::Row;
 use mz_logic_theory::Word;
 use mz_machine::read_exprs;
-use mz_machine_env::Earlier;
+use mz_machine_env::Environment;
 use mz_pmachine_unify::Nodes;
 use mz_store::{Id, Item};
 use mz_unify::{Stop, push};
@@ -57,41 +57,41 @@ fn check_operand(nodes: &Nodes, word: Word, id: Id) -> Result<(), K>
 
 /// Whether each operand fits its parameter.
 pub(crate) fn check_operands(
-    earlier: &Earlier,
+    env: &Environment,
     row: Row,
     nodes: &Nodes,
     operands: &[Id],
 ) -> Result<(), K>
-    requires row { IsBefore earlier.now row }
-    requires over { IsOver (signatures_of earlier.now) nodes.now }
+    requires row { IsBefore env.now row }
+    requires over { IsOver (signatures_of env.now) nodes.now }
     requires ids { AreIn nodes.now operands.now }
-    requires many { length operands.now ≡ length (params_of earlier.now.file row) }
-    ensures { GivesRule (operands_fit (signatures_of earlier.now) nodes.now.context (trees_at nodes.now operands.now) (binders_of (params_of earlier.now.file row))) result (λ _. tt) }
+    requires many { length operands.now ≡ length (params_of env.now.file row) }
+    ensures { GivesRule (operands_fit (signatures_of env.now) nodes.now.context (trees_at nodes.now operands.now) (binders_of (params_of env.now.file row))) result (λ _. tt) }
 {
-    'operands: for j in 0..earlier.arity_of(row) {
-        check_operand(nodes, earlier.word_of(row, j), operands[j as usize])?;
+    'operands: for j in 0..env.arity_of(row) {
+        check_operand(nodes, env.word_of(row, j), operands[j as usize])?;
     }
     Ok(())
 }
 
 /// Whether each operand fits its parameter; the list becomes the places of the bound parameters.
 pub(crate) fn check_cited(
-    earlier: &Earlier,
+    env: &Environment,
     row: Row,
     nodes: &Nodes,
     operands: &[Id],
     places: &mut Vec<u32>,
 ) -> Result<(), Stop>
-    requires row { IsBefore earlier.now row }
-    requires over { IsOver (signatures_of earlier.now) nodes.now }
+    requires row { IsBefore env.now row }
+    requires over { IsOver (signatures_of env.now) nodes.now }
     requires ids { AreIn nodes.now operands.now }
-    requires many { length operands.now ≡ length (params_of earlier.now.file row) }
-    ensures fit { Gives (operands_fit (signatures_of earlier.now) nodes.now.context (trees_at nodes.now operands.now) (binders_of (params_of earlier.now.file row))) result (λ _. tt) }
-    ensures places { OnOk result (places.new.items ≡ bound_places 0 (params_of earlier.now.file row)) }
+    requires many { length operands.now ≡ length (params_of env.now.file row) }
+    ensures fit { Gives (operands_fit (signatures_of env.now) nodes.now.context (trees_at nodes.now operands.now) (binders_of (params_of env.now.file row))) result (λ _. tt) }
+    ensures places { OnOk result (places.new.items ≡ bound_places 0 (params_of env.now.file row)) }
 {
     places.clear();
-    'operands: for j in 0..earlier.arity_of(row) {
-        let word = earlier.word_of(row, j);
+    'operands: for j in 0..env.arity_of(row) {
+        let word = env.word_of(row, j);
         if let Err(rule) = check_operand(nodes, word, operands[j as usize]) {
             return Err(Stop::Rule(rule));
         }

@@ -8,13 +8,13 @@ ghost use Rattle.mz_machine_env.specs.OwnRow.{MayRun, byte_of};
 ghost use Rattle.mz_machine_theory.specs.Headings.{heading_of};
 ghost use Rattle.mz_machine_env.specs.Before.{tables_before};
 ghost use Rattle.mz_machine.specs.BodyAnswers.{UnlessMem};
-ghost use Rattle.mz_machine.specs.Rooms.{OneACommand};
+ghost use Rattle.mz_machine.specs.Tidiness.{OneACommand};
 ghost use Rattle.mz_pmachine.specs.BodyAnswers.{IsBodyRun};
-ghost use Rattle.mz_pmachine.specs.Rooms.{HoldsAtMost};
+ghost use Rattle.mz_pmachine.specs.Tidiness.{HoldsAtMost};
 ghost use Rattle.mz_pmachine.specs.Running.{IsRunning, machine_of};
 
 use crate::machine::{Parts, Setting};
-use crate::scratch::{Desk, PortableRoom};
+use crate::scratch::{Buffers, PortableScratch};
 use mz_cmd::{END, K, Steps, cmd_at};
 use mz_layout_tables::{Mmb, Rows};
 use mz_machine::BodyChecked;
@@ -46,17 +46,17 @@ pub fn check_portable<L: Ledger>(
     ensures most { steps.new ≤ steps.old + (body.1 - body.0) * (length mmb.now + 1) }
     ensures steps { UnlessMem result (steps.new ≡ steps.old + body_steps portable (tables_before mmb.now before) (heading_of mmb.now kind row) body.0 (body_bytes mmb.now body.0 body.1)) }
 {
-    let mut room = PortableRoom::new();
+    let mut scratch = PortableScratch::new();
     let kind = kind_by(kind);
-    check_portable_in(alloc, &mut room, mmb, kind, row, before, body, steps)
+    check_portable_in(alloc, &mut scratch, mmb, kind, row, before, body, steps)
 }
 
-/// Runs the body of a statement as `check_portable` does, in room that earlier bodies may have left.
-/// Unless out of memory, the room keeps at most a node for each parameter and for each command that
+/// Runs the body of a statement as `check_portable` does, in buffers that earlier bodies may have left.
+/// Unless out of memory, the scratch keeps at most a node for each parameter and for each command that
 /// comes before the END.
 pub fn check_portable_in<L: Ledger>(
     alloc: Global,
-    room: &mut PortableRoom,
+    scratch: &mut PortableScratch,
     mmb: &Mmb,
     kind: BodyKind,
     row: u32,
@@ -70,19 +70,19 @@ pub fn check_portable_in<L: Ledger>(
     ensures run { IsBodyRun (heading_of mmb.now (byte_of kind) row) (body_run portable (tables_before mmb.now before) (heading_of mmb.now (byte_of kind) row) body.0 (body_bytes mmb.now body.0 body.1)) result }
     ensures most { steps.new ≤ steps.old + (body.1 - body.0) * (length mmb.now + 1) }
     ensures steps { UnlessMem result (steps.new ≡ steps.old + body_steps portable (tables_before mmb.now before) (heading_of mmb.now (byte_of kind) row) body.0 (body_bytes mmb.now body.0 body.1)) }
-    ensures nodes { UnlessMem result (HoldsAtMost (length (heading_of mmb.now (byte_of kind) row).params) (body_bytes mmb.now body.0 body.1) room.new) }
+    ensures nodes { UnlessMem result (HoldsAtMost (length (heading_of mmb.now (byte_of kind) row).params) (body_bytes mmb.now body.0 body.1) scratch.new) }
 {
-    let Ok(mut desk) = room.take(alloc) else {
+    let Ok(mut buffers) = scratch.take(alloc) else {
         return BodyChecked::Mem;
     };
-    let checked = check_on(&mut desk, mmb, kind, row, before, body, steps);
-    room.keep(desk);
+    let checked = check_on(&mut buffers, mmb, kind, row, before, body, steps);
+    scratch.keep(buffers);
     checked
 }
 
-/// Runs the body of a statement on a desk, whatever lies on it.
+/// Runs the body of a statement with scratch buffers, whatever they hold.
 fn check_on<L: Ledger>(
-    desk: &mut Desk,
+    buffers: &mut Buffers,
     mmb: &Mmb,
     kind: BodyKind,
     row: u32,
@@ -96,14 +96,20 @@ fn check_on<L: Ledger>(
     ensures run { IsBodyRun (heading_of mmb.now (byte_of kind) row) (body_run portable (tables_before mmb.now before) (heading_of mmb.now (byte_of kind) row) body.0 (body_bytes mmb.now body.0 body.1)) result }
     ensures most { steps.new ≤ steps.old + (body.1 - body.0) * (length mmb.now + 1) }
     ensures steps { UnlessMem result (steps.new ≡ steps.old + body_steps portable (tables_before mmb.now before) (heading_of mmb.now (byte_of kind) row) body.0 (body_bytes mmb.now body.0 body.1)) }
-    ensures nodes { UnlessMem result (OneACommand (length (heading_of mmb.now (byte_of kind) row).params) (body_bytes mmb.now body.0 body.1) (length desk.new.parts.nodes.entries)) }
+    ensures nodes { UnlessMem result (OneACommand (length (heading_of mmb.now (byte_of kind) row).params) (body_bytes mmb.now body.0 body.1) (length buffers.new.parts.nodes.entries)) }
 {
-    let Ok(setting) = Setting::begin(mmb, kind, row, before, &mut desk.words, &mut desk.parts)
-    else {
+    let Ok(setting) = Setting::begin(
+        mmb,
+        kind,
+        row,
+        before,
+        &mut buffers.words,
+        &mut buffers.parts,
+    ) else {
         return BodyChecked::Mem;
     };
     let bytes = &mmb.file()[body.0 as usize..body.1 as usize];
-    run(&setting, &mut desk.parts, bytes, body.0, steps)
+    run(&setting, &mut buffers.parts, bytes, body.0, steps)
 }
 
 /// Runs the commands of a body, whose first byte stands at a place of the file, on the parts before
@@ -120,7 +126,7 @@ fn run<L: Ledger>(
     requires first { (machine_of setting.now parts.old).next ≡ 0 }
     ensures run { IsBodyRun (heading_for (machine_of setting.now parts.old)) (body_from portable (tables_for (machine_of setting.now parts.old)) (heading_for (machine_of setting.now parts.old)) (length bytes.now) from bytes.now (machine_of setting.now parts.old).state) result }
     ensures steps { UnlessMem result (steps.new ≡ steps.old + body_steps_from portable (tables_for (machine_of setting.now parts.old)) (heading_for (machine_of setting.now parts.old)) (length bytes.now) from bytes.now (machine_of setting.now parts.old).state) }
-    ensures most { steps.new ≤ steps.old + length bytes.now * (length setting.now.earlier.file + 1) }
+    ensures most { steps.new ≤ steps.old + length bytes.now * (length setting.now.env.file + 1) }
     ensures nodes { UnlessMem result (OneACommand (length parts.old.nodes.entries) bytes.now (length parts.new.nodes.entries)) }
 {
     let mut at = 0;

@@ -22,7 +22,7 @@ use conversions::{conv, conv_cut, conv_save, refl, symm, unfold};
 use heap::{dummy, hyp, refer, save};
 use mz_cmd::{K, Steps};
 use mz_machine::{assume, by_rule};
-use mz_machine_env::{Converting, Earlier, Making, Spare};
+use mz_machine_env::{CommandBuffers, Converting, Environment, Making};
 use mz_pmachine_unify::Nodes;
 use mz_store::{Id, Item};
 use mz_unify::{Stop, push};
@@ -31,43 +31,43 @@ use terms::{term, thm};
 
 /// Executes a command that makes an expression or a proof.
 fn make<L: Ledger>(
-    earlier: &Earlier,
+    env: &Environment,
     at: u32,
     command: Making,
     value: u32,
     nodes: &mut Nodes,
     heap: &mut Vec<Item>,
     stack: &mut Vec<Item>,
-    spare: &mut Spare,
+    spare: &mut CommandBuffers,
     steps: &mut Steps<L>,
 ) -> Result<(), Stop>
     requires number { nodes.old.next ≤ at }
-    requires over { IsOver (signatures_of earlier.now) nodes.old }
+    requires over { IsOver (signatures_of env.now) nodes.old }
     requires heap { AreItemsIn nodes.old heap.old.items }
     requires stack { AreItemsIn nodes.old stack.old.items }
-    ensures grows { OnOk result (Grows (signatures_of earlier.now) nodes.old nodes.new) }
+    ensures grows { OnOk result (Grows (signatures_of env.now) nodes.old nodes.new) }
     ensures nodes { length nodes.new.entries ≤ length nodes.old.entries + 1 }
     ensures ids { OnOk result (AreItemsIn nodes.new heap.new.items × AreItemsIn nodes.new stack.new.items) }
     ensures next { OnOk result (nodes.new.next ≤ at + 1) }
-    ensures row { (hyps : List Id) → AreIn nodes.old hyps → Gives (proof_step portable (tables_of earlier.now) at (code_of_making command) value (state_at nodes.old heap.old.items stack.old.items hyps)) result (λ _. state_at nodes.new heap.new.items stack.new.items hyps) }
-    ensures steps { (hyps : List Id) → UnlessMem result (steps.new ≡ steps.old + row_steps portable (tables_of earlier.now) (code_of_making command) value (state_at nodes.old heap.old.items stack.old.items hyps)) }
-    ensures most { steps.new ≤ steps.old + length earlier.now.file }
+    ensures row { (hyps : List Id) → AreIn nodes.old hyps → Gives (proof_step portable (tables_of env.now) at (code_of_making command) value (state_at nodes.old heap.old.items stack.old.items hyps)) result (λ _. state_at nodes.new heap.new.items stack.new.items hyps) }
+    ensures steps { (hyps : List Id) → UnlessMem result (steps.new ≡ steps.old + row_steps portable (tables_of env.now) (code_of_making command) value (state_at nodes.old heap.old.items stack.old.items hyps)) }
+    ensures most { steps.new ≤ steps.old + length env.now.file }
 {
     match command {
         Making::Term => {
-            term(earlier, at, value, nodes, stack, &mut spare.operands)?;
+            term(env, at, value, nodes, stack, &mut spare.operands)?;
             Ok(())
         }
         Making::TermSave => {
-            let made = term(earlier, at, value, nodes, stack, &mut spare.operands)?;
+            let made = term(env, at, value, nodes, stack, &mut spare.operands)?;
             push(heap, Item::Expr(made))
         }
         Making::Thm => {
-            thm(earlier, value, nodes, stack, spare, steps)?;
+            thm(env, value, nodes, stack, spare, steps)?;
             Ok(())
         }
         Making::ThmSave => {
-            let proved = thm(earlier, value, nodes, stack, spare, steps)?;
+            let proved = thm(env, value, nodes, stack, spare, steps)?;
             push(heap, Item::Proof(proved))
         }
     }
@@ -75,7 +75,7 @@ fn make<L: Ledger>(
 
 /// Executes a command over the heap.
 fn keep(
-    earlier: &Earlier,
+    env: &Environment,
     command: Keeping,
     value: u32,
     nodes: &mut Nodes,
@@ -83,27 +83,27 @@ fn keep(
     stack: &mut Vec<Item>,
     hyps: &mut Vec<Id>,
 ) -> Result<(), Stop>
-    requires over { IsOver (signatures_of earlier.now) nodes.old }
+    requires over { IsOver (signatures_of env.now) nodes.old }
     requires heap { AreItemsIn nodes.old heap.old.items }
     requires stack { AreItemsIn nodes.old stack.old.items }
     requires hyps { AreIn nodes.old hyps.old.items }
     requires few { length hyps.old.items < 2 ^ 32 }
-    ensures grows { OnOk result (Grows (signatures_of earlier.now) nodes.old nodes.new) }
+    ensures grows { OnOk result (Grows (signatures_of env.now) nodes.old nodes.new) }
     ensures nodes { length nodes.new.entries ≤ length nodes.old.entries + 1 }
     ensures ids { OnOk result (AreItemsIn nodes.new heap.new.items × AreItemsIn nodes.new stack.new.items × AreIn nodes.new hyps.new.items) }
     ensures few { OnOk result (length hyps.new.items < 2 ^ 32) }
     ensures next { OnOk result (nodes.new.next ≡ nodes.old.next) }
-    ensures row { (at : ℕ) → Gives (proof_step portable (tables_of earlier.now) at (code_of_keeping command) value (state_at nodes.old heap.old.items stack.old.items hyps.old.items)) result (λ _. state_at nodes.new heap.new.items stack.new.items hyps.new.items) }
+    ensures row { (at : ℕ) → Gives (proof_step portable (tables_of env.now) at (code_of_keeping command) value (state_at nodes.old heap.old.items stack.old.items hyps.old.items)) result (λ _. state_at nodes.new heap.new.items stack.new.items hyps.new.items) }
 {
     match command {
         Keeping::Ref => refer(nodes, value, heap, stack),
         Keeping::Dummy => {
-            let made = dummy(earlier, value, nodes)?;
+            let made = dummy(env, value, nodes)?;
             push(heap, Item::Expr(made))?;
             push(stack, Item::Expr(made))?;
             Ok(())
         }
-        Keeping::Hyp => match hyp(earlier, nodes, stack) {
+        Keeping::Hyp => match hyp(env, nodes, stack) {
             Ok(claim) => assume(claim, heap, hyps),
             Err(rule) => Err(Stop::Rule(rule)),
         },
@@ -116,29 +116,29 @@ fn keep(
 
 /// Executes a command on conversions other than Cong. A gap is refused.
 fn convert<L: Ledger>(
-    earlier: &Earlier,
+    env: &Environment,
     command: Converting,
     nodes: &Nodes,
     heap: &mut Vec<Item>,
     stack: &mut Vec<Item>,
-    spare: &mut Spare,
+    spare: &mut CommandBuffers,
     steps: &mut Steps<L>,
 ) -> Result<(), Stop>
-    requires over { IsOver (signatures_of earlier.now) nodes.now }
+    requires over { IsOver (signatures_of env.now) nodes.now }
     requires heap { AreItemsIn nodes.now heap.old.items }
     requires stack { AreItemsIn nodes.now stack.old.items }
     requires other { command ≡ Cong → ⊥ }
     ensures ids { OnOk result (AreItemsIn nodes.now heap.new.items × AreItemsIn nodes.now stack.new.items) }
-    ensures row { (at value : ℕ) (hyps : List Id) → Gives (proof_step portable (tables_of earlier.now) at (code_of_converting command) value (state_at nodes.now heap.old.items stack.old.items hyps)) result (λ _. state_at nodes.now heap.new.items stack.new.items hyps) }
-    ensures steps { (value : ℕ) (hyps : List Id) → UnlessMem result (steps.new ≡ steps.old + row_steps portable (tables_of earlier.now) (code_of_converting command) value (state_at nodes.now heap.old.items stack.old.items hyps)) }
-    ensures most { steps.new ≤ steps.old + length earlier.now.file }
+    ensures row { (at value : ℕ) (hyps : List Id) → Gives (proof_step portable (tables_of env.now) at (code_of_converting command) value (state_at nodes.now heap.old.items stack.old.items hyps)) result (λ _. state_at nodes.now heap.new.items stack.new.items hyps) }
+    ensures steps { (value : ℕ) (hyps : List Id) → UnlessMem result (steps.new ≡ steps.old + row_steps portable (tables_of env.now) (code_of_converting command) value (state_at nodes.now heap.old.items stack.old.items hyps)) }
+    ensures most { steps.new ≤ steps.old + length env.now.file }
 {
     match command {
         Converting::Conv => by_rule(conv(nodes, stack)),
         Converting::Refl => by_rule(refl(nodes, stack)),
         Converting::Symm => by_rule(symm(nodes, stack)),
         Converting::Cong => unreachable!(),
-        Converting::Unfold => unfold(earlier, nodes, stack, spare, steps),
+        Converting::Unfold => unfold(env, nodes, stack, spare, steps),
         Converting::ConvCut => conv_cut(nodes, stack),
         Converting::ConvSave => match conv_save(nodes, stack) {
             Ok(item) => push(heap, item),
@@ -150,7 +150,7 @@ fn convert<L: Ledger>(
 
 /// Executes the command at a place, which is not Cong.
 pub(crate) fn execute<L: Ledger>(
-    earlier: &Earlier,
+    env: &Environment,
     at: u32,
     command: Command,
     value: u32,
@@ -158,32 +158,28 @@ pub(crate) fn execute<L: Ledger>(
     heap: &mut Vec<Item>,
     stack: &mut Vec<Item>,
     hyps: &mut Vec<Id>,
-    spare: &mut Spare,
+    spare: &mut CommandBuffers,
     steps: &mut Steps<L>,
 ) -> Result<(), Stop>
     requires number { nodes.old.next ≤ at }
-    requires over { IsOver (signatures_of earlier.now) nodes.old }
+    requires over { IsOver (signatures_of env.now) nodes.old }
     requires heap { AreItemsIn nodes.old heap.old.items }
     requires stack { AreItemsIn nodes.old stack.old.items }
     requires hyps { AreIn nodes.old hyps.old.items }
     requires few { length hyps.old.items < 2 ^ 32 }
     requires other { command ≡ Converts Cong → ⊥ }
-    ensures grows { OnOk result (Grows (signatures_of earlier.now) nodes.old nodes.new) }
+    ensures grows { OnOk result (Grows (signatures_of env.now) nodes.old nodes.new) }
     ensures nodes { length nodes.new.entries ≤ length nodes.old.entries + 1 }
     ensures ids { OnOk result (AreItemsIn nodes.new heap.new.items × AreItemsIn nodes.new stack.new.items × AreIn nodes.new hyps.new.items) }
     ensures few { OnOk result (length hyps.new.items < 2 ^ 32) }
     ensures next { OnOk result (nodes.new.next ≤ at + 1) }
-    ensures row { Gives (proof_step portable (tables_of earlier.now) at (code_of command) value (state_at nodes.old heap.old.items stack.old.items hyps.old.items)) result (λ _. state_at nodes.new heap.new.items stack.new.items hyps.new.items) }
-    ensures steps { UnlessMem result (steps.new ≡ steps.old + row_steps portable (tables_of earlier.now) (code_of command) value (state_at nodes.old heap.old.items stack.old.items hyps.old.items)) }
-    ensures most { steps.new ≤ steps.old + length earlier.now.file }
+    ensures row { Gives (proof_step portable (tables_of env.now) at (code_of command) value (state_at nodes.old heap.old.items stack.old.items hyps.old.items)) result (λ _. state_at nodes.new heap.new.items stack.new.items hyps.new.items) }
+    ensures steps { UnlessMem result (steps.new ≡ steps.old + row_steps portable (tables_of env.now) (code_of command) value (state_at nodes.old heap.old.items stack.old.items hyps.old.items)) }
+    ensures most { steps.new ≤ steps.old + length env.now.file }
 {
     match command {
-        Command::Makes(making) => make(
-            earlier, at, making, value, nodes, heap, stack, spare, steps,
-        ),
-        Command::Keeps(keeping) => keep(earlier, keeping, value, nodes, heap, stack, hyps),
-        Command::Converts(converting) => convert(
-            earlier, converting, nodes, heap, stack, spare, steps,
-        ),
+        Command::Makes(making) => make(env, at, making, value, nodes, heap, stack, spare, steps),
+        Command::Keeps(keeping) => keep(env, keeping, value, nodes, heap, stack, hyps),
+        Command::Converts(converting) => convert(env, converting, nodes, heap, stack, spare, steps),
     }
 }

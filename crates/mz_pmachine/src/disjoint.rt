@@ -1,4 +1,4 @@
-//! Operands that are apart: none holds the variable of a bound parameter, but of its own and of those
+//! Operands that are disjoint: none holds the variable of a bound parameter, but of its own and of those
 //! on which its parameter depends.
 ghost use Rattle.std.specs.Prelude.{ℕ, ◌≡◌, ◌<◌, ◌||◌, true, List, Ok, Some, length, not, slice_get};
 ghost use Rattle.mz_logic_theory.specs.Tree.{Tree};
@@ -8,38 +8,38 @@ ghost use Rattle.mz_logic_theory.specs.declared.binder.Binder.{Binder};
 ghost use Rattle.mz_layout_tables.specs.Rows.{params_of};
 ghost use Rattle.mz_pmachine_unify.specs.Numbering.{IsIn, AreIn, IsOver, tree_of, vars_of};
 ghost use Rattle.mz_pmachine_unify.specs.Stored.{trees_at};
-ghost use Rattle.mz_unify_theory.specs.Tests.{is_bound_var, var_within};
-ghost use Rattle.mz_machine_theory.specs.Premises.{operands_fit, apart_from, are_apart};
+ghost use Rattle.mz_machine_theory.specs.Tests.{is_bound_var, var_within};
+ghost use Rattle.mz_machine_theory.specs.Premises.{operands_fit, disjoint_from, are_disjoint};
 ghost use Rattle.mz_machine_env.specs.Before.{signatures_of};
 ghost use Rattle.mz_machine_env.specs.OperandRows.{IsBefore, AreAmong};
 
 use mz_layout_tables::Row;
-use mz_machine_env::{Earlier, dependencies, may_meet};
+use mz_machine_env::{Environment, dependencies, may_meet};
 use mz_pmachine_unify::Nodes;
 use mz_store::Id;
 
-/// Whether each two operands of a row are apart, whichever of them comes first. They fit, and the bound
+/// Whether each two operands of a row are disjoint, whichever of them comes first. They fit, and the bound
 /// parameters stand at these places.
 ///
 /// Each is compared with those of the bound parameters alone, of which a row has few.
-pub(crate) fn are_apart(
-    earlier: &Earlier,
+pub(crate) fn are_disjoint(
+    env: &Environment,
     row: Row,
     nodes: &Nodes,
     operands: &[Id],
     bound: &[u32],
 ) -> bool
-    requires row { IsBefore earlier.now row }
-    requires over { IsOver (signatures_of earlier.now) nodes.now }
+    requires row { IsBefore env.now row }
+    requires over { IsOver (signatures_of env.now) nodes.now }
     requires ids { AreIn nodes.now operands.now }
-    requires many { length operands.now ≡ length (params_of earlier.now.file row) }
-    requires fit { operands_fit (signatures_of earlier.now) nodes.now.context (trees_at nodes.now operands.now) (binders_of (params_of earlier.now.file row)) ≡ Ok tt }
-    requires bound { bound.now ≡ bound_places 0 (params_of earlier.now.file row) }
-    ensures { result ≡ are_apart nodes.now.context (trees_at nodes.now operands.now) (binders_of (params_of earlier.now.file row)) }
+    requires many { length operands.now ≡ length (params_of env.now.file row) }
+    requires fit { operands_fit (signatures_of env.now) nodes.now.context (trees_at nodes.now operands.now) (binders_of (params_of env.now.file row)) ≡ Ok tt }
+    requires bound { bound.now ≡ bound_places 0 (params_of env.now.file row) }
+    ensures { result ≡ are_disjoint nodes.now.context (trees_at nodes.now operands.now) (binders_of (params_of env.now.file row)) }
 {
     let all = variables_at(nodes, operands, bound);
-    'operands: for i in 0..earlier.arity_of(row) {
-        if !is_apart(earlier, row, nodes, operands, bound, all, i) {
+    'operands: for i in 0..env.arity_of(row) {
+        if !is_apart(env, row, nodes, operands, bound, all, i) {
             return false;
         }
     }
@@ -59,10 +59,10 @@ fn variables_at(nodes: &Nodes, operands: &[Id], places: &[u32]) -> u64
     word
 }
 
-/// Whether the operand at a place is apart from all others. The bound parameters stand at these places,
+/// Whether the operand at a place is disjoint from all others. The bound parameters stand at these places,
 /// and the word names the variables of their operands: where it shares none with it, none is met.
 fn is_apart(
-    earlier: &Earlier,
+    env: &Environment,
     row: Row,
     nodes: &Nodes,
     operands: &[Id],
@@ -70,21 +70,21 @@ fn is_apart(
     all: u64,
     i: u32,
 ) -> bool
-    requires row { IsBefore earlier.now row }
-    requires over { IsOver (signatures_of earlier.now) nodes.now }
+    requires row { IsBefore env.now row }
+    requires over { IsOver (signatures_of env.now) nodes.now }
     requires ids { AreIn nodes.now operands.now }
-    requires many { length operands.now ≡ length (params_of earlier.now.file row) }
-    requires fit { operands_fit (signatures_of earlier.now) nodes.now.context (trees_at nodes.now operands.now) (binders_of (params_of earlier.now.file row)) ≡ Ok tt }
-    requires bound { bound.now ≡ bound_places 0 (params_of earlier.now.file row) }
+    requires many { length operands.now ≡ length (params_of env.now.file row) }
+    requires fit { operands_fit (signatures_of env.now) nodes.now.context (trees_at nodes.now operands.now) (binders_of (params_of env.now.file row)) ≡ Ok tt }
+    requires bound { bound.now ≡ bound_places 0 (params_of env.now.file row) }
     requires all { AreAmong (λ id. vars_of nodes.now id.0) operands.now bound.now all }
-    requires place { i < length (params_of earlier.now.file row) }
-    ensures { (e : Tree) (p : Binder) → slice_get (trees_at nodes.now operands.now) i ≡ Some e → slice_get (binders_of (params_of earlier.now.file row)) i ≡ Some p → result ≡ apart_from nodes.now.context i p.deps e 0 (trees_at nodes.now operands.now) (binders_of (params_of earlier.now.file row)) }
+    requires place { i < length (params_of env.now.file row) }
+    ensures { (e : Tree) (p : Binder) → slice_get (trees_at nodes.now operands.now) i ≡ Some e → slice_get (binders_of (params_of env.now.file row)) i ≡ Some p → result ≡ disjoint_from nodes.now.context i p.deps e 0 (trees_at nodes.now operands.now) (binders_of (params_of env.now.file row)) }
 {
     let id = operands[i as usize];
     if nodes.vars(id) & all == 0 {
         return true;
     }
-    let word = earlier.word_of(row, i);
+    let word = env.word_of(row, i);
     let mut bits = dependencies(word);
     'places: for place in bound {
         let exempt = may_meet(i, *place, bits);

@@ -3,7 +3,7 @@ ghost use Rattle.std.specs.Prelude.{ℕ, ◌≡◌, ◌<◌, ◌≤◌, ◌+◌,
 ghost use Rattle.mz_cmd.specs.declared.code.ProofCode.TheVariants as code;
 ghost use Rattle.mz_store.specs.declared.item.Id.{Id};
 ghost use Rattle.mz_store.specs.declared.item.Item.{Item as Kept};
-ghost use Rattle.mz_unify_theory.specs.Profile.{Item as UnifyItem};
+ghost use Rattle.mz_machine_theory.specs.Profile.{Item as UnifyItem};
 ghost use Rattle.mz_unify.specs.Rows.{StopsBy};
 ghost use Rattle.mz_machine_theory.specs.MachineState.{RowsBefore};
 ghost use Rattle.mz_machine_theory.specs.ProofMachine.{proof_step};
@@ -99,7 +99,7 @@ pub(crate) fn settle(
 
 /// Puts an equation at the end, where there is room.
 fn keep(equations: &mut Vec<Equation>, equation: Equation)
-    requires room { vec_len equations.old < vec_capacity equations.old }
+    requires scratch { vec_len equations.old < vec_capacity equations.old }
     ensures { equations.new.items ≡ equations.old.items ++ equation ∷ [] }
 {
     let Ok(()) = equations.push(equation) else {

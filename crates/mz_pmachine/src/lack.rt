@@ -9,13 +9,13 @@ use crate::command::Command;
 use crate::equations::reach;
 use mz_cmd::K;
 use mz_machine::{Equation, asked_by_making};
-use mz_machine_env::Earlier;
+use mz_machine_env::Environment;
 use mz_pmachine_unify::Nodes;
 
 /// The rule that refuses a command which asks for more items than are written out, where obligations
 /// are still to come.
 pub(crate) fn lack(
-    earlier: &Earlier,
+    env: &Environment,
     command: Command,
     value: u32,
     nodes: &Nodes,
@@ -23,13 +23,13 @@ pub(crate) fn lack(
     equations: &[Equation],
 ) -> Option<K>
     requires { AllOpen (of_nodes nodes.now) equations.now }
-    ensures some { IfSome result (λ rule. IsLacking (asked_by (tables_of earlier.now) (code_of command) value) written (many_to_come (of_nodes nodes.now) equations.now) rule) }
-    ensures none { IfNone result (AsksNoMore equations.now (asked_by (tables_of earlier.now) (code_of command) value) written) }
+    ensures some { IfSome result (λ rule. IsLacking (asked_by (tables_of env.now) (code_of command) value) written (many_to_come (of_nodes nodes.now) equations.now) rule) }
+    ensures none { IfNone result (AsksNoMore equations.now (asked_by (tables_of env.now) (code_of command) value) written) }
 {
     if equations.is_empty() {
         return None;
     }
-    let asked = asked_by(earlier, command, value);
+    let asked = asked_by(env, command, value);
     if asked <= written {
         return None;
     }
@@ -41,11 +41,11 @@ pub(crate) fn lack(
 }
 
 /// How many items a command asks for before it looks at one.
-fn asked_by(earlier: &Earlier, command: Command, value: u32) -> usize
-    ensures { result ≡ asked_by (tables_of earlier.now) (code_of command) value }
+fn asked_by(env: &Environment, command: Command, value: u32) -> usize
+    ensures { result ≡ asked_by (tables_of env.now) (code_of command) value }
 {
     match command {
-        Command::Makes(making) => asked_by_making(earlier, making, value),
+        Command::Makes(making) => asked_by_making(env, making, value),
         Command::Keeps(_) | Command::Converts(_) => 0,
     }
 }

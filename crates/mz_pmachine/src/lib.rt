@@ -24,4 +24,4 @@ mod scratch;
 mod stack;
 
 pub use body::{check_portable, check_portable_in};
-pub use scratch::PortableRoom;
+pub use scratch::PortableScratch;

@@ -26,7 +26,9 @@ use mz_cmd::{Cmd, K, Steps};
 use mz_layout_tables::{Mmb, Rows};
 use mz_logic_theory::Word;
 use mz_machine::{BodyEnd, Equation, Finished};
-use mz_machine_env::{BodyKind, Converting, Earlier, Spare, deps_mode, first_items, read_words};
+use mz_machine_env::{
+    BodyKind, CommandBuffers, Converting, Environment, deps_mode, first_items, read_words,
+};
 use mz_pmachine_unify::Nodes;
 use mz_store::{Id, Item};
 use mz_unify::Stop;
@@ -36,7 +38,7 @@ use std::sync::ledger::Ledger;
 /// The statement whose body runs, and the rows before it.
 #[derive(Drop)]
 pub(crate) struct Setting<'a> {
-    earlier: Earlier<'a>,
+    env: Environment<'a>,
     kind: BodyKind,
     row: u32,
     bound_params: u32,
@@ -50,7 +52,7 @@ pub(crate) struct Parts {
     stack: Vec<Item>,
     equations: Vec<Equation>,
     hyps: Vec<Id>,
-    spare: Spare,
+    spare: CommandBuffers,
 }
 
 impl Parts {
@@ -62,7 +64,7 @@ impl Parts {
             stack: Vec::new(alloc),
             equations: Vec::new(alloc),
             hyps: Vec::new(alloc),
-            spare: Spare::new(alloc),
+            spare: CommandBuffers::new(alloc),
         }
     }
 }
@@ -88,8 +90,8 @@ impl<'a> Setting<'a> {
         ensures running { IfOk result (λ setting. IsRunning setting parts.new) }
         ensures begun { IfOk result (λ setting. IsBegun mmb.now (byte_of kind) row before (machine_of setting parts.new)) }
     {
-        let earlier = Earlier::new(mmb, before);
-        read_words(words, &earlier, kind, row)?;
+        let env = Environment::new(mmb, before);
+        read_words(words, &env, kind, row)?;
         parts.nodes.begin(words.as_slice(), deps_mode(kind))?;
         first_items(&mut parts.heap, words.len())?;
         parts.stack.clear();
@@ -97,7 +99,7 @@ impl<'a> Setting<'a> {
         parts.hyps.clear();
         let bound_params = parts.nodes.bound_count();
         Ok(Setting {
-            earlier,
+            env,
             kind,
             row,
             bound_params,
@@ -119,12 +121,12 @@ impl<'a> Setting<'a> {
         requires running { IsRunning self.now parts.old }
         ensures running { OnOk result (IsRunning self.now parts.new) }
         ensures row { IsStepped (machine_of self.now parts.old) cmd at (machine_of self.now parts.new) result }
-        ensures steps { OrMem result (steps.new ≡ steps.old + steps_for (tables_of self.now.earlier) (heading_for (machine_of self.now parts.old)) (machine_of self.now parts.old).state cmd) }
-        ensures most { steps.new ≤ steps.old + (1 + length self.now.earlier.file) }
+        ensures steps { OrMem result (steps.new ≡ steps.old + steps_for (tables_of self.now.env) (heading_for (machine_of self.now parts.old)) (machine_of self.now parts.old).state cmd) }
+        ensures most { steps.new ≤ steps.old + (1 + length self.now.env.file) }
         ensures nodes { length parts.new.nodes.entries ≤ length parts.old.nodes.entries + 1 }
     {
         obey(
-            &self.earlier,
+            &self.env,
             self.kind,
             at,
             cmd,
@@ -143,13 +145,13 @@ impl<'a> Setting<'a> {
     pub(crate) fn finish<L: Ledger>(&self, parts: &mut Parts, steps: &mut Steps<L>) -> Finished
         requires { IsRunning self.now parts.old }
         ensures run { IsFinished (machine_of self.now parts.old) result }
-        ensures steps { UnlessEndMem result (steps.new ≡ steps.old + end_steps (tables_of self.now.earlier) (heading_for (machine_of self.now parts.old)) (machine_of self.now parts.old).state) }
-        ensures most { steps.new ≤ steps.old + (1 + length self.now.earlier.file) }
+        ensures steps { UnlessEndMem result (steps.new ≡ steps.old + end_steps (tables_of self.now.env) (heading_for (machine_of self.now parts.old)) (machine_of self.now parts.old).state) }
+        ensures most { steps.new ≤ steps.old + (1 + length self.now.env.file) }
         ensures nodes { parts.new.nodes ≡ parts.old.nodes }
     {
         steps.tick();
         match end(
-            &self.earlier,
+            &self.env,
             self.kind,
             self.row,
             &parts.nodes,
@@ -169,7 +171,7 @@ impl<'a> Setting<'a> {
 /// steps; over all that stands on the stack: the items that are written out, and the obligations still to
 /// come. Behind it the obligation in hand is written out.
 fn obey<L: Ledger>(
-    earlier: &Earlier,
+    env: &Environment,
     kind: BodyKind,
     at: u32,
     cmd: Cmd,
@@ -178,34 +180,34 @@ fn obey<L: Ledger>(
     stack: &mut Vec<Item>,
     equations: &mut Vec<Equation>,
     hyps: &mut Vec<Id>,
-    spare: &mut Spare,
+    spare: &mut CommandBuffers,
     steps: &mut Steps<L>,
 ) -> Result<(), Stop>
     requires code { cmd.code ≡ 0 → ⊥ }
     requires number { nodes.old.next ≤ at }
-    requires over { IsOver (signatures_of earlier.now) nodes.old }
+    requires over { IsOver (signatures_of env.now) nodes.old }
     requires heap { AreItemsIn nodes.old heap.old.items }
     requires stack { AreItemsIn nodes.old stack.old.items }
     requires settled { AreSettled (of_nodes nodes.old) (reverse equations.old.items) (items_at nodes.old stack.old.items) }
     requires hyps { AreIn nodes.old hyps.old.items }
     requires few { length hyps.old.items < 2 ^ 32 }
-    ensures done { Proceeds (signatures_of earlier.now) at (row_by (tables_of earlier.now) at (whole_state nodes.old heap.old.items equations.old.items stack.old.items hyps.old.items) (body_command portable (kind_of kind) cmd.code cmd.value)) nodes.old nodes.new heap.new.items equations.new.items stack.new.items hyps.new.items result }
-    ensures steps { OrMem result (steps.new ≡ steps.old + steps_by (tables_of earlier.now) (whole_state nodes.old heap.old.items equations.old.items stack.old.items hyps.old.items) (body_command portable (kind_of kind) cmd.code cmd.value)) }
+    ensures done { Proceeds (signatures_of env.now) at (row_by (tables_of env.now) at (whole_state nodes.old heap.old.items equations.old.items stack.old.items hyps.old.items) (body_command portable (kind_of kind) cmd.code cmd.value)) nodes.old nodes.new heap.new.items equations.new.items stack.new.items hyps.new.items result }
+    ensures steps { OrMem result (steps.new ≡ steps.old + steps_by (tables_of env.now) (whole_state nodes.old heap.old.items equations.old.items stack.old.items hyps.old.items) (body_command portable (kind_of kind) cmd.code cmd.value)) }
     ensures nodes { length nodes.new.entries ≤ length nodes.old.entries + 1 }
-    ensures most { steps.new ≤ steps.old + (1 + length earlier.now.file) }
+    ensures most { steps.new ≤ steps.old + (1 + length env.now.file) }
 {
     steps.tick();
     let Some(command) = decoded(kind, cmd.code) else {
         return Err(Stop::Rule(K::Command));
     };
-    if let Some(rule) = lack(earlier, command, cmd.value, nodes, stack.len(), equations) {
+    if let Some(rule) = lack(env, command, cmd.value, nodes, stack.len(), equations) {
         return Err(Stop::Rule(rule));
     }
     if is_cong(command) {
         return open_equation(nodes, stack, equations);
     }
     match execute(
-        earlier, at, command, cmd.value, nodes, heap, stack, hyps, spare, steps,
+        env, at, command, cmd.value, nodes, heap, stack, hyps, spare, steps,
     ) {
         Ok(()) => settle(nodes, stack, equations),
         Err(stop) => Err(stop),

@@ -1,4 +1,4 @@
-//! Room that one body leaves to the next.
+//! Scratch buffers that one body leaves to the next.
 ghost use Rattle.std.specs.Prelude.{◌≡◌, Some};
 
 use crate::machine::Parts;
@@ -7,42 +7,42 @@ use std::alloc::{AllocError, Global};
 
 /// What bodies have taken of memory, kept for the next one. What lies there changes no answer.
 #[derive(Drop)]
-pub struct PortableRoom {
-    desk: Option<Box<Desk>>,
+pub struct PortableScratch {
+    buffers: Option<Box<Buffers>>,
 }
 
 /// The words of the row whose body runs, and what its commands change.
 #[derive(Drop)]
-pub(crate) struct Desk {
+pub(crate) struct Buffers {
     pub(crate) words: Vec<Word>,
     pub(crate) parts: Parts,
 }
 
-impl PortableRoom {
-    /// No room yet.
-    pub fn new() -> PortableRoom {
-        PortableRoom { desk: None }
+impl PortableScratch {
+    /// Nothing kept yet.
+    pub fn new() -> PortableScratch {
+        PortableScratch { buffers: None }
     }
 
-    /// The desk of the last body, or a new one.
-    pub(crate) fn take(&mut self, alloc: Global) -> Result<Box<Desk>, AllocError> {
-        match self.desk.take() {
-            Some(desk) => Ok(desk),
-            None => Ok(Box::new(alloc, Desk::new(alloc))?),
+    /// The buffers of the last body, or new ones.
+    pub(crate) fn take(&mut self, alloc: Global) -> Result<Box<Buffers>, AllocError> {
+        match self.buffers.take() {
+            Some(buffers) => Ok(buffers),
+            None => Ok(Box::new(alloc, Buffers::new(alloc))?),
         }
     }
 
-    /// Keeps a desk for the next body.
-    pub(crate) fn keep(&mut self, desk: Box<Desk>)
-        ensures { self.new.desk ≡ Some desk }
+    /// Keeps the buffers for the next body.
+    pub(crate) fn keep(&mut self, buffers: Box<Buffers>)
+        ensures { self.new.buffers ≡ Some buffers }
     {
-        self.desk = Some(desk);
+        self.buffers = Some(buffers);
     }
 }
 
-impl Desk {
-    fn new(alloc: Global) -> Desk {
-        Desk {
+impl Buffers {
+    fn new(alloc: Global) -> Buffers {
+        Buffers {
             words: Vec::new(alloc),
             parts: Parts::new(alloc),
         }

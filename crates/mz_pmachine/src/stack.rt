@@ -15,7 +15,7 @@ pub(crate) fn pop_expr(nodes: &Nodes, stack: &mut Vec<Item>) -> Result<Id, K>
     requires { AreItemsIn nodes.now stack.old.items }
     ensures ids { IfOk result (λ id. IsIn nodes.now id.0 × AreItemsIn nodes.now stack.new.items) }
     ensures taken { GivesRule (pop_expr (items_at nodes.now stack.old.items)) result (λ id. (expr_of nodes.now id.0, items_at nodes.now stack.new.items)) }
-    ensures room { OnOk result (vec_len stack.new + 1 ≤ vec_len stack.old) }
+    ensures scratch { OnOk result (vec_len stack.new + 1 ≤ vec_len stack.old) }
     ensures capacity { vec_capacity stack.new ≡ vec_capacity stack.old }
 {
     match stack.pop() {
@@ -30,7 +30,7 @@ pub(crate) fn pop_proof(nodes: &Nodes, stack: &mut Vec<Item>) -> Result<Id, K>
     requires { AreItemsIn nodes.now stack.old.items }
     ensures ids { IfOk result (λ id. IsIn nodes.now id.0 × AreItemsIn nodes.now stack.new.items) }
     ensures taken { GivesRule (pop_proof (items_at nodes.now stack.old.items)) result (λ id. (expr_of nodes.now id.0, items_at nodes.now stack.new.items)) }
-    ensures room { OnOk result (vec_len stack.new + 1 ≤ vec_len stack.old) }
+    ensures scratch { OnOk result (vec_len stack.new + 1 ≤ vec_len stack.old) }
     ensures capacity { vec_capacity stack.new ≡ vec_capacity stack.old }
 {
     match stack.pop() {
@@ -45,7 +45,7 @@ pub(crate) fn pop_obligation(nodes: &Nodes, stack: &mut Vec<Item>) -> Result<(Id
     requires { AreItemsIn nodes.now stack.old.items }
     ensures ids { IfOk result (λ ids. IsIn nodes.now ids.0.0 × IsIn nodes.now ids.1.0 × AreItemsIn nodes.now stack.new.items) }
     ensures taken { GivesRule (pop_obligation (items_at nodes.now stack.old.items)) result (λ ids. (expr_of nodes.now ids.0.0, expr_of nodes.now ids.1.0, items_at nodes.now stack.new.items)) }
-    ensures room { OnOk result (vec_len stack.new + 1 ≤ vec_len stack.old) }
+    ensures scratch { OnOk result (vec_len stack.new + 1 ≤ vec_len stack.old) }
     ensures capacity { vec_capacity stack.new ≡ vec_capacity stack.old }
 {
     match stack.pop() {
@@ -60,7 +60,7 @@ pub(crate) fn pop_conversion(nodes: &Nodes, stack: &mut Vec<Item>) -> Result<(Id
     requires { AreItemsIn nodes.now stack.old.items }
     ensures ids { IfOk result (λ ids. IsIn nodes.now ids.0.0 × IsIn nodes.now ids.1.0 × AreItemsIn nodes.now stack.new.items) }
     ensures taken { GivesRule (pop_conversion (items_at nodes.now stack.old.items)) result (λ ids. (expr_of nodes.now ids.0.0, expr_of nodes.now ids.1.0, items_at nodes.now stack.new.items)) }
-    ensures room { OnOk result (vec_len stack.new + 1 ≤ vec_len stack.old) }
+    ensures scratch { OnOk result (vec_len stack.new + 1 ≤ vec_len stack.old) }
     ensures capacity { vec_capacity stack.new ≡ vec_capacity stack.old }
 {
     match stack.pop() {

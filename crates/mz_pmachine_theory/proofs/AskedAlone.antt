@@ -15,14 +15,14 @@ use Rattle.mz_cmd.specs.Reading.{first_command}
 use Rattle.mz_logic_theory.specs.Tree.{Tree, var}
 use Rattle.mz_logic_theory.specs.Signature.{Signature}
 use Rattle.mz_logic_theory.specs.declared.binder.Binder.{Binder}
-use Rattle.mz_unify_theory.specs.Steps.{◌>>=◌, ◌>>◌, need, want}
-use Rattle.mz_unify_theory.specs.Streams.{StreamKind, of_assertion, UnifyCommand, u_term, u_term_save, u_ref, u_dummy, u_hyp, u_end, command_in, unify_command}
-use Rattle.mz_unify_theory.specs.Tests.{same_tree}
-use Rattle.mz_unify_theory.specs.Profile.{strict, tree_parts, Item, expr, proof, obligation, conversion}
-use Rattle.mz_unify_theory.specs.UnifyMachine.{UnifyMode, in_citation, at_end, kind_of, Matching, UnifyState, top_target, is_empty, next_hypothesis, operands_of, nothing_left, unify_step, unify_turn_by, unify_turn, unify_from, at_start, unify}
-use Rattle.mz_unify_theory.proofs.Offered.{from_bind, from_then, from_want, taken-is, bind-same}
+use Rattle.mz_machine_theory.specs.Steps.{◌>>=◌, ◌>>◌, need, want}
+use Rattle.mz_machine_theory.specs.Streams.{StreamKind, of_assertion, UnifyCommand, u_term, u_term_save, u_ref, u_dummy, u_hyp, u_end, command_in, unify_command}
+use Rattle.mz_machine_theory.specs.Tests.{same_tree}
+use Rattle.mz_machine_theory.specs.Profile.{strict, tree_parts, Item, expr, proof, obligation, conversion}
+use Rattle.mz_machine_theory.specs.UnifyMachine.{UnifyMode, in_citation, at_end, kind_of, Matching, UnifyState, top_target, is_empty, next_hypothesis, operands_of, nothing_left, unify_step, unify_turn_by, unify_turn, unify_from, at_start, unify}
+use Rattle.mz_machine_theory.proofs.Offered.{from_bind, from_then, from_want, taken-is, bind-same}
 use Rattle.mz_machine_theory.specs.MachineState.{RowsBefore, signatures_in, State, Kind, is_axiom, is_theorem, is_definition, Heading}
-use Rattle.mz_machine_theory.specs.Premises.{pop_expr, pop_operands, is_conversion, operands_fit, are_apart}
+use Rattle.mz_machine_theory.specs.Premises.{pop_expr, pop_operands, is_conversion, operands_fit, are_disjoint}
 use Rattle.mz_machine_theory.specs.ProofMachine.{push, saved, built, citation, matched_by, cited, referred, has_provable_sort, proof_step, last_item, as_proofs, own_variables, own_stream, ending, ends_with, proof_end}
 use Rattle.mz_pmachine_theory.specs.SharedBuilding.{portable_trees}
 use Rattle.mz_pmachine_theory.specs.Laws.{AssertionsRunToo, RowsRunToo, EndsRunToo}
@@ -133,7 +133,7 @@ module _ (tables : RowsBefore) where
       from_bind (pop_expr st.stack) _ m e2 λ x _ e3.
       from_bind (pop_operands (length row.params) x.1) _ m e3 λ es _ e4.
       from_then (operands_fit (signatures_in tables) st.ctx (map (λ (e : Tree). e) es.0) row.params) _ m e4 λ _ _ e5.
-      from_then (need (are_apart st.ctx (map (λ (e : Tree). e) es.0) row.params) k.Disjoint) _ m e5 λ _ _ e6.
+      from_then (need (are_disjoint st.ctx (map (λ (e : Tree). e) es.0) row.params) k.Disjoint) _ m e5 λ _ _ e6.
       ap (λ (z : Matching Tree). kind_of z.mode) (sym (taken-is (record { mode = in_citation; stream = row.stream; operands = es.0; target = x.0; items = es.1 }) m e6))
 
   -- what comes of a matching, with the items that are left

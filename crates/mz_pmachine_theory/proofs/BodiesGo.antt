@@ -13,10 +13,10 @@ use Rattle.mz_logic_theory.specs.Tree.{Tree}
 use Rattle.mz_logic_theory.specs.Signature.{Signature}
 use Rattle.mz_logic_theory.specs.Legality.{sort_of}
 use Rattle.mz_logic_theory.specs.declared.binder.Binder.{Binder}
-use Rattle.mz_unify_theory.specs.Steps.{◌>>◌, need, goes_on}
-use Rattle.mz_unify_theory.specs.Profile.{Profile, Item, expr, proof, obligation, conversion}
-use Rattle.mz_unify_theory.specs.UnifyMachine.{UnifyMode, at_end, in_definition, Matching, UnifyState, unify, is_empty}
-use Rattle.mz_unify_theory.proofs.Offered.{map-reverse}
+use Rattle.mz_machine_theory.specs.Steps.{◌>>◌, need, goes_on}
+use Rattle.mz_machine_theory.specs.Profile.{Profile, Item, expr, proof, obligation, conversion}
+use Rattle.mz_machine_theory.specs.UnifyMachine.{UnifyMode, at_end, in_definition, Matching, UnifyState, unify, is_empty}
+use Rattle.mz_machine_theory.proofs.Offered.{map-reverse}
 use Rattle.mz_machine_theory.specs.MachineState.{RowsBefore, signatures_in, State, Kind, is_axiom, is_theorem, is_definition, Heading}
 use Rattle.mz_machine_theory.specs.FreeVars.{free_within}
 use Rattle.mz_machine_theory.specs.ProofMachine.{matched_by, has_provable_sort, proof_step, last_item, as_proofs, own_variables, own_stream, ending, ends_with, proof_end}

@@ -9,11 +9,11 @@ use Rattle.mz_cmd.specs.declared.code.ProofCode.{ProofCode}
 use Rattle.mz_cmd.specs.declared.code.ProofCode.TheVariants as code
 use Rattle.mz_cmd.specs.Reading.{first_command}
 use Rattle.mz_logic_theory.specs.Tree.{Tree, Trees, var, app, none, more, listed}
-use Rattle.mz_unify_theory.specs.Steps.{Turn}
-use Rattle.mz_unify_theory.specs.Spells.{trees_of}
-use Rattle.mz_unify_theory.specs.Profile.{tree_parts}
-use Rattle.mz_unify_theory.specs.Tests.{same_tree}
-use Rattle.mz_unify_theory.proofs.Offered.{same_tree-true, same_tree-refl}
+use Rattle.mz_machine_theory.specs.Steps.{Turn}
+use Rattle.mz_machine_theory.specs.Spells.{trees_of}
+use Rattle.mz_machine_theory.specs.Profile.{tree_parts}
+use Rattle.mz_machine_theory.specs.Tests.{same_tree}
+use Rattle.mz_machine_theory.proofs.Offered.{same_tree-true, same_tree-refl}
 use Rattle.mz_machine_theory.specs.MachineState.{RowsBefore, State, Heading}
 use Rattle.mz_machine_theory.specs.ProofMachine.{built}
 use Rattle.mz_machine_theory.specs.Bodies.{BodyCommand, ends, proves, body_command, body_turn, body_start}

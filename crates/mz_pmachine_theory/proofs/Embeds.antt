@@ -3,8 +3,8 @@ use Rattle.std.proofs.Common.{◌≡◌, ℕ, Bool, true, false, cond, List, [],
 use Rattle.std.specs.Prelude.{◌==◌}
 use Rattle.std.proofs.lemmas.Option.{same_Some}
 use Rattle.mz_logic_theory.specs.Tree.{Tree}
-use Rattle.mz_unify_theory.specs.Profile.{Profile}
-use Rattle.mz_unify_theory.specs.UnifyMachine.{operands_of}
+use Rattle.mz_machine_theory.specs.Profile.{Profile}
+use Rattle.mz_machine_theory.specs.UnifyMachine.{operands_of}
 use Rattle.mz_machine_theory.specs.ProofMachine.{same_term}
 
 -- f takes each expression of P to one of Q that stands for the same tree; what has Right, made by the command at a place,

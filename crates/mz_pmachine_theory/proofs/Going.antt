@@ -1,7 +1,7 @@
 -- A step that goes through in one machine goes through in another, to what is related.
 use Rattle.std.proofs.Common.{◌≡◌, ℕ, Bool, true, false, Option, Some, None, Result, Ok, Err, refl, sym, ap, subst, ◌∙◌}
 use Rattle.mz_cmd.specs.declared.rule.K.{K}
-use Rattle.mz_unify_theory.specs.Steps.{◌>>=◌, ◌>>◌, need, want, rule_of, at_place, Turn, over, goes_on, follow}
+use Rattle.mz_machine_theory.specs.Steps.{◌>>=◌, ◌>>◌, need, want, rule_of, at_place, Turn, over, goes_on, follow}
 
 abbrev pub Goes : {A B F : Type 0} → (A → B → Type 0) → Result A F → Result B F → Type 0
 Goes {A = A} {B = B} R r r' = (x : A) → r ≡ Ok x → (y : B) × (r' ≡ Ok y) × R x y

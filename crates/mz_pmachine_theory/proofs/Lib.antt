@@ -5,6 +5,7 @@ pub mod RowsGo
 pub mod BodiesGo
 pub mod Equal
 pub mod ByTable
+pub mod ByStandard
 pub mod ByIdentity
 pub mod AskedAlone
 pub mod WholeSaves

@@ -9,12 +9,12 @@ use Rattle.mz_cmd.specs.declared.code.ProofCode.TheVariants as code
 use Rattle.mz_logic_theory.specs.Tree.{Tree}
 use Rattle.mz_logic_theory.specs.Legality.{sort_of}
 use Rattle.mz_logic_theory.specs.declared.binder.Binder.{Binder}
-use Rattle.mz_unify_theory.specs.Steps.{◌>>=◌}
-use Rattle.mz_unify_theory.specs.Spells.{dummy_of}
-use Rattle.mz_unify_theory.specs.Profile.{Profile, Item, expr, proof, obligation, conversion}
-use Rattle.mz_unify_theory.specs.UnifyMachine.{in_citation, in_definition, Matching, UnifyState, unify}
+use Rattle.mz_machine_theory.specs.Steps.{◌>>=◌}
+use Rattle.mz_machine_theory.specs.Spells.{dummy_of}
+use Rattle.mz_machine_theory.specs.Profile.{Profile, Item, expr, proof, obligation, conversion}
+use Rattle.mz_machine_theory.specs.UnifyMachine.{in_citation, in_definition, Matching, UnifyState, unify}
 use Rattle.mz_machine_theory.specs.MachineState.{RowsBefore, signatures_in, State}
-use Rattle.mz_machine_theory.specs.Premises.{pop, pop_expr, pop_proof, pop_obligation, pop_conversion, pop_exprs, pop_operands, pop_sides, is_conversion, is_obligation, may_be_dummy_sort, is_provable_sort, bound_count, operands_fit, are_apart}
+use Rattle.mz_machine_theory.specs.Premises.{pop, pop_expr, pop_proof, pop_obligation, pop_conversion, pop_exprs, pop_operands, pop_sides, is_conversion, is_obligation, may_be_dummy_sort, is_provable_sort, bound_count, operands_fit, are_disjoint}
 use Rattle.mz_machine_theory.specs.ProofMachine.{push, saved, built, citation, matched_by, cited, referred, sides, same_term, stream_of, unfolding_of, gapped, has_provable_sort, proof_step}
 use Rattle.mz_pmachine_theory.specs.Simulation.{item_onto, items_onto, state_onto, matching_onto}
 use Rattle.mz_pmachine_theory.proofs.Going.{Goes, Is, goes-to, goes-bind, goes-known, goes-on, goes-need, goes-want, goes-after, goes-rule}
@@ -132,8 +132,8 @@ module _ (P Q : Profile) (f : P.T → Q.T) (Right : ℕ → P.T → Type 0) (emb
         → operands_fit (signatures_in tables) ctx (map Q.tree (map f es)) ps ≡ operands_fit (signatures_in tables) ctx (map P.tree es) ps
     fits-same ctx es ps = ap (λ (z : List Tree). operands_fit (signatures_in tables) ctx z ps) (trees-same P Q f Right embeds es)
 
-    apart-too : (ctx : List Binder) (es : List P.T) (ps : List Binder) → are_apart ctx (map P.tree es) ps ≡ true → are_apart ctx (map Q.tree (map f es)) ps ≡ true
-    apart-too ctx es ps h = ap (λ (z : List Tree). are_apart ctx z ps) (trees-same P Q f Right embeds es) ∙ h
+    apart-too : (ctx : List Binder) (es : List P.T) (ps : List Binder) → are_disjoint ctx (map P.tree es) ps ≡ true → are_disjoint ctx (map Q.tree (map f es)) ps ≡ true
+    apart-too ctx es ps h = ap (λ (z : List Tree). are_disjoint ctx z ps) (trees-same P Q f Right embeds es) ∙ h
 
     -- a sort that is provable, or asked
     pub provable-too : (ctx : List Binder) (e : P.T) → has_provable_sort P tables ctx e ≡ true → has_provable_sort Q tables ctx (f e) ≡ true
@@ -166,7 +166,7 @@ module _ (P Q : Profile) (f : P.T → Q.T) (Right : ℕ → P.T → Type 0) (emb
         goes-on lists_with_items (Is (matching_onto f)) (pop_operands (length row.params) e.1) (pop_operands (length row.params) (items_onto f e.1)) _ _ (operands-goes (length row.params) e.1) λ es.
         goes-after (Is (matching_onto f)) (operands_fit (signatures_in tables) st.ctx (map P.tree es.0) row.params) (operands_fit (signatures_in tables) st.ctx (map Q.tree (map f es.0)) row.params) _ _
         (fits-same st.ctx es.0 row.params)
-        (goes-need (Is (matching_onto f)) (are_apart st.ctx (map P.tree es.0) row.params) (are_apart st.ctx (map Q.tree (map f es.0)) row.params) k.Disjoint _ _ (apart-too st.ctx es.0 row.params)
+        (goes-need (Is (matching_onto f)) (are_disjoint st.ctx (map P.tree es.0) row.params) (are_disjoint st.ctx (map Q.tree (map f es.0)) row.params) k.Disjoint _ _ (apart-too st.ctx es.0 row.params)
         (goes-to (Is (matching_onto f)) (record { mode = in_citation; stream = row.stream; operands = es.0; target = e.0; items = es.1 })
         (record { mode = in_citation; stream = row.stream; operands = map f es.0; target = f e.0; items = items_onto f es.1 }) refl)))
 

@@ -16,13 +16,13 @@ use Rattle.mz_logic_theory.specs.Legality.{sort_of}
 use Rattle.mz_logic_theory.specs.Variables.{InV, InSomeV}
 use Rattle.mz_logic_theory.specs.declared.binder.Binder.{Binder}
 use Rattle.mz_logic_theory.proofs.Offered.{in_instance, split_at}
-use Rattle.mz_unify_theory.specs.Steps.{◌>>=◌, at_place, Turn, over, goes_on, follow}
-use Rattle.mz_unify_theory.specs.Streams.{UnifyCommand, u_term, u_term_save, u_ref, u_dummy, u_hyp, u_end, unify_command}
-use Rattle.mz_unify_theory.specs.Spells.{trees_of}
-use Rattle.mz_unify_theory.specs.Tests.{same_tree, is_bound_var, in_v}
-use Rattle.mz_unify_theory.specs.Profile.{strict, tree_parts}
-use Rattle.mz_unify_theory.specs.UnifyMachine.{UnifyMode, in_definition, kind_of, UnifyState, top_target, is_empty, next_hypothesis, operands_of, within_any, is_fresh, nothing_left, unify_step, unify_turn_by, unify_turn, unify_from, unify}
-use Rattle.mz_unify_theory.proofs.Offered.{from_bind, from_need, from_want, taken-is, in-v-true, not-in-v, in-some, unfoldings-exact}
+use Rattle.mz_machine_theory.specs.Steps.{◌>>=◌, at_place, Turn, over, goes_on, follow}
+use Rattle.mz_machine_theory.specs.Streams.{UnifyCommand, u_term, u_term_save, u_ref, u_dummy, u_hyp, u_end, unify_command}
+use Rattle.mz_machine_theory.specs.Spells.{trees_of}
+use Rattle.mz_machine_theory.specs.Tests.{same_tree, is_bound_var, in_v}
+use Rattle.mz_machine_theory.specs.Profile.{strict, tree_parts}
+use Rattle.mz_machine_theory.specs.UnifyMachine.{UnifyMode, in_definition, kind_of, UnifyState, top_target, is_empty, next_hypothesis, operands_of, within_any, is_fresh, nothing_left, unify_step, unify_turn_by, unify_turn, unify_from, unify}
+use Rattle.mz_machine_theory.proofs.Offered.{from_bind, from_need, from_want, taken-is, in-v-true, not-in-v, in-some, unfoldings-exact}
 use Rattle.mz_pmachine_theory.specs.SharedBuilding.{portable_trees}
 use Rattle.mz_pmachine_theory.specs.SafeSaving.{AreWhole}
 use Rattle.mz_pmachine_theory.specs.Laws.{WholeStreamsRunToo}

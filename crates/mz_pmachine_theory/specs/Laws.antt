@@ -6,16 +6,18 @@ use Rattle.mz_cmd.specs.declared.code.ProofCode.TheVariants as code
 use Rattle.mz_logic_theory.specs.Tree.{Tree, none}
 use Rattle.mz_logic_theory.specs.Signature.{Signature}
 use Rattle.mz_logic_theory.specs.declared.binder.Binder.{Binder}
-use Rattle.mz_unify_theory.specs.Profile.{strict}
-use Rattle.mz_unify_theory.specs.Streams.{of_assertion, of_definition}
-use Rattle.mz_unify_theory.specs.UnifyMachine.{kind_of, Matching, UnifyState, unify}
-use Rattle.mz_unify_theory.specs.Spells.{Marks, SpellsText}
-use Rattle.mz_unify_theory.specs.Sorted.{Sorted}
-use Rattle.mz_unify_theory.specs.Laws.{RunsLeaving, unfolding_by}
+use Rattle.mz_machine_theory.specs.Profile.{strict}
+use Rattle.mz_machine_theory.specs.Streams.{of_assertion, of_definition}
+use Rattle.mz_machine_theory.specs.UnifyMachine.{kind_of, Matching, UnifyState, unify}
+use Rattle.mz_machine_theory.specs.Spells.{Marks, SpellsText}
+use Rattle.mz_machine_theory.specs.Sorted.{Sorted}
+use Rattle.mz_machine_theory.specs.UnifyLaws.{RunsLeaving, unfolding_by}
 use Rattle.mz_machine_theory.specs.MachineState.{RowsBefore, State, is_definition, Heading}
 use Rattle.mz_machine_theory.specs.ProofMachine.{proof_step, proof_end}
-use Rattle.mz_machine_theory.specs.Bodies.{Runs}
+use Rattle.mz_machine_theory.specs.Bodies.{Runs, body_run}
+use Rattle.mz_binary_theory.specs.Standards.{run_by}
 use Rattle.mz_pmachine_theory.specs.NodeIdentity.{Numbered, tree_of, equal, portable}
+use Rattle.mz_pmachine_theory.specs.FilesByIdentity.{passes, portable_standard}
 use Rattle.mz_pmachine_theory.specs.Simulation.{items_onto, state_onto, matching_onto}
 use Rattle.mz_pmachine_theory.specs.SafeSaving.{AreWhole}
 use Rattle.mz_pmachine_theory.specs.SharedBuilding.{portable_trees, row_makes, body_makes, MadeOnce, numbered, AreNumbered}
@@ -87,3 +89,9 @@ WholeStreamsRunToo = (sigs : List Signature) (ctx params : List Binder) (stream 
 -- the test of equality
 abbrev pub EqualIsSame : Type 0
 EqualIsSame = (a b : Numbered) → (equal a b ≡ true) ↔ (a ≡ b)
+
+-- ---- whole files
+
+-- what a body comes to by that standard is what it comes to by identity
+abbrev pub StandardIsByIdentity : Type 0
+StandardIsByIdentity = (tables : RowsBefore) (h : Heading) (at : ℕ) (bytes : List ℕ) → passes (run_by portable_standard tables h at bytes) ≡ passes (body_run portable tables h at bytes)

@@ -4,7 +4,7 @@
 -- profile is this project's own).
 use Rattle.std.specs.Prelude.{ℕ, Bool, true, false, ◌==◌, ◌&&◌, List, [], ◌∷◌, Option, Some, None}
 use Rattle.mz_logic_theory.specs.Tree.{Tree, Trees, var, app, none, more}
-use Rattle.mz_unify_theory.specs.Profile.{Profile}
+use Rattle.mz_machine_theory.specs.Profile.{Profile}
 
 -- a variable, by its place in the context, or an application: the number of the command that made it, its term and its
 -- operands

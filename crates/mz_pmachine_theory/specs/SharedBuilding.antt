@@ -8,8 +8,8 @@ use Rattle.mz_cmd.specs.declared.code.ProofCode.{ProofCode}
 use Rattle.mz_cmd.specs.declared.code.ProofCode.TheVariants as code
 use Rattle.mz_cmd.specs.Reading.{first_command}
 use Rattle.mz_logic_theory.specs.Tree.{Tree, Trees, var, app, none, more}
-use Rattle.mz_unify_theory.specs.Steps.{Turn, over, goes_on}
-use Rattle.mz_unify_theory.specs.Profile.{Profile, strict}
+use Rattle.mz_machine_theory.specs.Steps.{Turn, over, goes_on}
+use Rattle.mz_machine_theory.specs.Profile.{Profile, strict}
 use Rattle.mz_machine_theory.specs.MachineState.{RowsBefore, State, Heading}
 use Rattle.mz_machine_theory.specs.ProofMachine.{built}
 use Rattle.mz_machine_theory.specs.Bodies.{BodyCommand, ends, proves, body_command, body_turn, body_start}

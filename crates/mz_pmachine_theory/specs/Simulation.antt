@@ -1,8 +1,8 @@
 -- What a machine keeps, each expression taken to one of another machine (the .mmb format, its two machines; the profiles
 -- are this project's own).
 use Rattle.std.specs.Prelude.{List, map}
-use Rattle.mz_unify_theory.specs.Profile.{Item, expr, proof, obligation, conversion}
-use Rattle.mz_unify_theory.specs.UnifyMachine.{Matching}
+use Rattle.mz_machine_theory.specs.Profile.{Item, expr, proof, obligation, conversion}
+use Rattle.mz_machine_theory.specs.UnifyMachine.{Matching}
 use Rattle.mz_machine_theory.specs.MachineState.{State}
 
 abbrev pub item_onto : {A B : Type 0} → (A → B) → Item A → Item B

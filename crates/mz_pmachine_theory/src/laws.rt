@@ -1,6 +1,8 @@
 // Laws on the definitions: the contract of each function is one, and its body is empty.
-ghost use Rattle.mz_pmachine_theory.specs.Laws.{AssertionsRunToo, BodiesRunStrict, EndsRunToo, EqualIsSame, NumberedRowsRun, NumberedStreamsRun, RowsRunStrict, RowsRunToo, SharedBodiesRun, StreamsRunStrict, WholeStreamsRunToo};
+ghost use Rattle.mz_pmachine_theory.specs.Laws.{AssertionsRunToo, BodiesRunStrict, EndsRunToo, EqualIsSame, NumberedRowsRun, NumberedStreamsRun, RowsRunStrict, RowsRunToo, SharedBodiesRun, StandardIsByIdentity, StreamsRunStrict, WholeStreamsRunToo};
 ghost use Rattle.mz_pmachine_theory.specs.NodeIdentity.{portable};
+ghost use Rattle.mz_pmachine_theory.specs.FilesByIdentity.{portable_standard};
+ghost use Rattle.mz_binary_theory.specs.WholeLaws.{StepsAreFew};
 ghost use Rattle.mz_machine_theory.specs.Laws.{BodiesAreChecked, BoundNeverEnds, CountsAreWhole, OneOutcome, StepsBounded};
 
 /// What runs by identity runs by the standard machine: bodies, and of them each row and each stream.
@@ -54,5 +56,12 @@ pub fn bound_never_ends()
 /// A body executes at most its own commands, and for each at most one unify command a byte of a
 /// stream.
 pub fn steps_bounded()
-    ensures { StepsBounded portable }
+    ensures bounded { StepsBounded portable }
+    ensures few { StepsAreFew portable_standard }
+{}
+
+/// By the standard by identity the run of a body comes to what it comes to on the machine by identity: the
+/// standard machine stops none of what is let through.
+pub fn standard_is_by_identity()
+    ensures { StandardIsByIdentity }
 {}

@@ -10,8 +10,8 @@ use Rattle.mz_pmachine_unify.specs.Numbering.{Numbering, expr_of, IsIn, AreIn, K
 use Rattle.mz_store.specs.declared.item.Id.{Id}
 use Rattle.mz_store.specs.declared.item.Item.{Item as Kept}
 use Rattle.mz_store.specs.declared.item.Item.TheVariants.{Proof}
-use Rattle.mz_unify_theory.specs.UnifyMachine.{is_empty}
-use Rattle.mz_unify_theory.specs.Spells.{trees_of}
+use Rattle.mz_machine_theory.specs.UnifyMachine.{is_empty}
+use Rattle.mz_machine_theory.specs.Spells.{trees_of}
 use Rattle.mz_pmachine_unify.specs.Stored.{exprs_at, trees_at, stack_at, item_at, items_at, AreItemsIn}
 
 module _ (s : Numbering) where

@@ -12,11 +12,11 @@ use Rattle.mz_store.specs.Bits.{Tells, bound_vars}
 use Rattle.mz_store.specs.Sharing.{Sharing}
 use Rattle.mz_store.specs.declared.item.Id.{Id}
 use Rattle.mz_store.specs.declared.item.DepsMode.TheVariants.{All}
-use Rattle.mz_unify_theory.specs.Profile.{strict}
-use Rattle.mz_unify_theory.specs.Tests.{is_bound_var, var_within}
-use Rattle.mz_unify_theory.specs.UnifyMachine.{within_any, is_fresh}
+use Rattle.mz_machine_theory.specs.Profile.{strict}
+use Rattle.mz_machine_theory.specs.Tests.{is_bound_var, var_within}
+use Rattle.mz_machine_theory.specs.UnifyMachine.{within_any, is_fresh}
 use Rattle.mz_unify.specs.Rows.{TellsAny}
-use Rattle.mz_unify_theory.proofs.Offered.{listed-trees_of}
+use Rattle.mz_machine_theory.proofs.Offered.{listed-trees_of}
 use Rattle.mz_unify.proofs.Offered.{tells-any-push, tells-listed, fresh-word, not-bound as tree-not-bound, other-sort as tree-other-sort}
 use Rattle.mz_pmachine_theory.specs.NodeIdentity.{Numbered, a_variable, an_application, operand_trees, tree_of, portable}
 use Rattle.mz_pmachine_unify.specs.Numbering.{Numbering, expr_of, exprs_of, head_of, operands_of}

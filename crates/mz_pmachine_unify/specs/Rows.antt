@@ -4,7 +4,7 @@ use Rattle.mz_pmachine_theory.specs.NodeIdentity.{Numbered}
 use Rattle.mz_pmachine_unify.specs.Numbering.{Numbering}
 use Rattle.mz_store.specs.declared.item.Id.{Id}
 use Rattle.mz_store.specs.declared.item.Item.{Item as Kept}
-use Rattle.mz_unify_theory.specs.UnifyMachine.{UnifyState}
+use Rattle.mz_machine_theory.specs.UnifyMachine.{UnifyState}
 use Rattle.mz_pmachine_unify.specs.Stored.{exprs_at, stack_at, items_at}
 
 -- the machine's state: what a dummy is kept apart from has no ids, only the word of its variables

@@ -4,8 +4,8 @@ use Rattle.mz_logic_theory.specs.Tree.{Tree}
 use Rattle.mz_store.specs.declared.item.Id.{Id}
 use Rattle.mz_store.specs.declared.item.Item.{Item as Kept}
 use Rattle.mz_store.specs.declared.item.Item.TheVariants.{Expr, Proof, Obligation, Conversion}
-use Rattle.mz_unify_theory.specs.Profile.{Item, expr, proof, obligation, conversion}
-use Rattle.mz_unify_theory.specs.UnifyMachine.{Matching}
+use Rattle.mz_machine_theory.specs.Profile.{Item, expr, proof, obligation, conversion}
+use Rattle.mz_machine_theory.specs.UnifyMachine.{Matching}
 use Rattle.mz_unify.specs.Stored.{mode_of}
 use Rattle.mz_unify.specs.declared.unified.UnifyMode.{UnifyMode}
 use Rattle.mz_pmachine_theory.specs.NodeIdentity.{Numbered, tree_of}

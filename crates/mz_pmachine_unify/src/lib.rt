@@ -17,5 +17,5 @@ mod running;
 mod variables;
 
 pub use nodes::Nodes;
-pub use rows::kept_apart;
+pub use rows::kept_disjoint;
 pub use running::{unify, unify_in};

@@ -4,8 +4,8 @@ ghost use Rattle.mz_cmd.specs.declared.rule.K.{K};
 ghost use Rattle.mz_logic_theory.specs.Signature.{Signature};
 ghost use Rattle.mz_pmachine_unify.specs.Numbering.{IsIn, AreIn, expr_of, IsOver};
 ghost use Rattle.mz_pmachine_theory.specs.NodeIdentity.{Numbered, tree_of, portable};
-ghost use Rattle.mz_unify_theory.specs.Streams.{UnifyCommand, u_term, u_term_save, u_ref, u_dummy, u_hyp, u_end};
-ghost use Rattle.mz_unify_theory.specs.UnifyMachine.{UnifyMode as Mode, UnifyState, unify_step, is_fresh, next_hypothesis, nothing_left};
+ghost use Rattle.mz_machine_theory.specs.Streams.{UnifyCommand, u_term, u_term_save, u_ref, u_dummy, u_hyp, u_end};
+ghost use Rattle.mz_machine_theory.specs.UnifyMachine.{UnifyMode as Mode, UnifyState, unify_step, is_fresh, next_hypothesis, nothing_left};
 ghost use Rattle.mz_unify.specs.Stored.{mode_of, AreLeft};
 ghost use Rattle.mz_unify.specs.Rows.{command_of, IsRow, StopsBy, TellsAny, with_targets};
 ghost use Rattle.mz_pmachine_unify.specs.Stored.{exprs_at, stack_at, items_at, AreItemsIn};
@@ -16,8 +16,8 @@ use mz_cmd::K;
 use mz_store::{Id, Item};
 use mz_unify::{Command, Stop, UnifyMode, heap_at, push, push_operands};
 
-/// The word of the variables of all these, from which dummies are kept apart.
-pub fn kept_apart(nodes: &Nodes, ids: &[Id]) -> u64
+/// The word of the variables of all these, from which dummies are kept disjoint.
+pub fn kept_disjoint(nodes: &Nodes, ids: &[Id]) -> u64
     requires ids { AreIn nodes.now ids.now }
     ensures { (sigs : List Signature) → IsOver sigs nodes.now → TellsAny nodes.now.context result (map tree_of (exprs_at nodes.now ids.now)) }
 {
@@ -178,7 +178,7 @@ fn end(nodes: &Nodes, mode: UnifyMode, targets: &[Id], hyps: &[Item]) -> Result<
     Ok(())
 }
 
-/// Puts an expression at the end of the heap; dummies are then kept apart from it too, whether it was
+/// Puts an expression at the end of the heap; dummies are then kept disjoint from it too, whether it was
 /// saved or met for a dummy.
 fn keep(nodes: &Nodes, id: Id, saved: &mut Vec<Id>, apart: &mut u64) -> Result<(), Stop>
     requires { IsIn nodes.now id.0 }

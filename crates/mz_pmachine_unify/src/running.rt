@@ -4,14 +4,14 @@ ghost use Rattle.mz_logic_theory.specs.Words.{signatures_of};
 ghost use Rattle.mz_logic_theory.specs.Signature.{Signature};
 ghost use Rattle.mz_pmachine_unify.specs.Numbering.{IsIn, AreIn, IsOver};
 ghost use Rattle.mz_pmachine_theory.specs.NodeIdentity.{portable, tree_of};
-ghost use Rattle.mz_unify_theory.specs.UnifyMachine.{unify, unify_from, unify_steps, unify_steps_from};
+ghost use Rattle.mz_machine_theory.specs.UnifyMachine.{unify, unify_from, unify_steps, unify_steps_from};
 ghost use Rattle.mz_unify.specs.Rows.{TellsAny};
 ghost use Rattle.mz_unify.specs.Stored.{mode_of, OnDone, UnlessMem, IsRun, AreLeft};
 ghost use Rattle.mz_pmachine_unify.specs.Stored.{exprs_at, items_at, AreItemsIn, matching_at};
 ghost use Rattle.mz_pmachine_unify.specs.Rows.{state_at};
 
 use crate::Nodes;
-use crate::rows::{kept_apart, step};
+use crate::rows::{kept_disjoint, step};
 use mz_cmd::{K, Steps, cmd_at};
 use mz_logic_theory::Terms;
 use mz_store::{Id, Item};
@@ -52,7 +52,7 @@ pub fn unify<T: Terms, L: Ledger>(
     let alloc = *heap.allocator();
     let mut saved = Vec::new(alloc);
     let mut targets = Vec::new(alloc);
-    let apart = kept_apart(nodes, heap);
+    let apart = kept_disjoint(nodes, heap);
     let said = unify_in(
         terms,
         stream,
@@ -72,7 +72,7 @@ pub fn unify<T: Terms, L: Ledger>(
     }
 }
 
-/// Runs a unify stream as `unify` does, with operands that are only lent. The word names the variables
+/// Runs a unify stream as `unify` does, with operands that are only borrowed. The word names the variables
 /// of the operands. What is saved and met for dummies, and the targets, stand in lists of the
 /// caller's, whatever these held.
 ///

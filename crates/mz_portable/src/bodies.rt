@@ -1,14 +1,13 @@
 //! The bodies of a binary on the machine by identity.
 ghost use Rattle.std.specs.Prelude.{⊤};
-ghost use Rattle.mz_binary_theory.specs.declared.standard.Standard.TheVariants.{Portable};
+ghost use Rattle.mz_pmachine_theory.specs.FilesByIdentity.{portable_standard};
 
 use mz_binary::Bodies;
-use mz_binary_theory::Standard;
 use mz_cmd::Steps;
 use mz_layout_tables::{Mmb, Rows};
 use mz_machine::BodyChecked;
 use mz_machine_env::BodyKind;
-use mz_pmachine::{PortableRoom, check_portable_in};
+use mz_pmachine::{PortableScratch, check_portable_in};
 use mz_store::Seed;
 use std::alloc::Global;
 use std::sync::ledger::Ledger;
@@ -17,19 +16,21 @@ use std::sync::ledger::Ledger;
 /// lets no gap through and has no use for the seed.
 #[derive(Drop)]
 pub struct PortableBodies {
-    room: PortableRoom,
+    scratch: PortableScratch,
 }
 
 impl Bodies for PortableBodies {
-    ghost STANDARD = { Portable };
+    ghost STANDARD = { portable_standard };
 
     ghost suits = { λ bodies file. ⊤ };
 
-    const STANDARD: Standard = Standard::Portable;
+    fn allows_gaps() -> bool {
+        false
+    }
 
     fn new(_: Seed) -> PortableBodies {
         PortableBodies {
-            room: PortableRoom::new(),
+            scratch: PortableScratch::new(),
         }
     }
 
@@ -43,6 +44,15 @@ impl Bodies for PortableBodies {
         body: (u32, u32),
         steps: &mut Steps<L>,
     ) -> BodyChecked {
-        check_portable_in(alloc, &mut self.room, mmb, kind, row, before, body, steps)
+        check_portable_in(
+            alloc,
+            &mut self.scratch,
+            mmb,
+            kind,
+            row,
+            before,
+            body,
+            steps,
+        )
     }
 }

@@ -55,13 +55,12 @@ module _ (ls : List Bool) (hidden : Tree → Bool) (hides : Hides ls hidden) (ro
 
   term-agrees : (sig : Signature) (form : Form) → NamesThere env (term_decl (record { signature = sig; form = form }))
       → AllHold (match_checks (public_decl hidden f (term_decl (record { signature = sig; form = form }))) (record { rows = rows; decl = term_decl (record { signature = sig; form = form }) }))
-  term-agrees sig plain_form names = (refl, (refl, (refl, tt)))
-  term-agrees sig abstract_form names = (refl, (refl, (refl, tt)))
   term-agrees sig (defined ds e) names =
       pick (λ (form : Form). AllHold (match_checks (term_decl (record { signature = sig; form = form })) (record { rows = rows; decl = term_decl (record { signature = sig; form = defined ds e }) })))
       (hidden e) abstract_form (defined ds (renamed f e))
       (λ is. (refl, (refl, (refl, tt))))
       (λ is. (refl, (refl, (refl, (same-defined sig.params ds e (hides e is) names.4.0, tt)))))
+  term-agrees sig _ names = (refl, (refl, (refl, tt)))
 
   decl-agrees : (d : Declaration) → IsSayable ls d → NamesThere env d → AllHold (match_checks (public_decl hidden f d) (record { rows = rows; decl = d }))
   decl-agrees (sort_decl m) sayable names = (refl, (refl, tt))

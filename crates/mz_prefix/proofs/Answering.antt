@@ -43,8 +43,4 @@ module _ (limit : ℕ) (text : List ℕ) (ss : List Statement) (typed : TextOf f
 -- what is written declares the text, by the law
 pub declares : SpecificationsOfTextsDeclare → (text : List ℕ) (a : SpecText) → IsWording longest text a → DeclaresItsText text a
 declares law text (answers.Text bytes) worded = law longest text bytes.items (omega arith) worded
-declares law text (answers.Refused refusal) is = tt
-declares law text (answers.Local statement) is = tt
-declares law text (answers.Long statement) is = tt
-declares law text (answers.Limit count) is = tt
-declares law text answers.Mem is = tt
+declares law text _ is = tt

@@ -47,10 +47,9 @@ module _ (v : Vocabulary) (n : ℕ) (variables : HasVariables v n) where
 
   dummies-others : (ds : List Binder) (ws : List Variable) (x : ℕ) (seen : List (List ℕ)) → x + length ds ≤ n → AreShown v true x ds ws → Free x seen → AllHold (are_others seen ws)
   dummies-others [] [] x seen few shown free = tt
-  dummies-others [] (w ∷ ws) x seen few shown free = absurd shown
-  dummies-others (d ∷ ds) [] x seen few shown free = absurd shown
   dummies-others (d ∷ ds) (w ∷ ws) x seen few (is, shown) free =
       others-next x d true w ws seen (omega arith) is free (dummies-others ds ws (suc x) (seen ++ v.variable x ∷ []) (omega arith) shown (free-next x seen (omega arith) free))
+  dummies-others _ _ x seen few shown free = absurd shown
 
   pub all-others : (bs ds : List Binder) (ws : List Variable) (x : ℕ) (seen : List (List ℕ)) → x + length bs + length ds ≤ n → AllShown v x bs ds ws → Free x seen → AllHold (are_others seen ws)
   all-others [] ds ws x seen few shown free = dummies-others ds ws x seen (omega arith) shown free
@@ -71,10 +70,9 @@ module _ (v : Vocabulary) (σ : State) (sorts-known : (s : ℕ) → s < length (
 
   deps-hold : (names : List (List ℕ)) (m : ℕ) → ((j : ℕ) → j < m → IsKnown names (v.variable j)) → (xs : List ℕ) (ls : List Lexeme) → AreTexts v xs ls → AllBelow m xs → AllHold (each_in_order (is_known names) ls)
   deps-hold names m known [] [] texts below = tt
-  deps-hold names m known [] (l ∷ ls) texts below = absurd texts
-  deps-hold names m known (x ∷ xs) [] texts below = absurd texts
   deps-hold names m known (x ∷ xs) (l ∷ ls) texts below =
       let P : List ℕ → Type 0 = λ t. IsKnown names t in (subst P (sym texts.0) (known x below.0), deps-hold names m known xs ls texts.1 below.1)
+  deps-hold names m known _ _ texts below = absurd texts
 
   pub type-holds : (names : List (List ℕ)) (m : ℕ) → ((j : ℕ) → j < m → IsKnown names (v.variable j)) → (s : ℕ) (xs : List ℕ) (t : TypeText) → IsTyped v s xs t → s < length (sorts σ.env) → AllBelow m xs
       → AllHold (type_checks σ names t)
@@ -120,13 +118,12 @@ module _ (v : Vocabulary) (σ : State) (sorts-known : (s : ℕ) → s < length (
   pub dummies-hold : (ds : List Binder) (ws : List Variable) (x : ℕ) → AreShown v true x ds ws → All IsDummy ds → All (λ b. MayBeDummySort (sorts σ.env) b.sort) ds
       → Every DependsOnNothing ws × Every (IsDummySort σ) ws
   dummies-hold [] [] x shown are may = (tt, tt)
-  dummies-hold [] (w ∷ ws) x shown are may = absurd shown
-  dummies-hold (d ∷ ds) [] x shown are may = absurd shown
   dummies-hold (d ∷ ds) (w ∷ ws) x (is, shown) are may =
       let rest = dummies-hold ds ws (suc x) shown (λ k e less. are (suc k) e (omega arith)) (λ k e less. may (suc k) e (omega arith)) in
       let (m, at, strict, free) = may 0 d (omega arith) in
       let P : SortMods → Type 0 = λ m. IsStrict m ⊎ IsFree m in
       ((no-texts d.deps w.type.deps (are 0 d (omega arith)).1 is.typed.1, rest.0), (not-of P d.sort d.deps w.type m is.typed at (λ e. elim e [ inl s ↦ strict s | inr f ↦ free f ]), rest.1))
+  dummies-hold _ _ x shown are may = absurd shown
 
   among-left : (xs ys : List Variable) (l : Lexeme) → IsBoundAmong xs l → IsBoundAmong (xs ++ ys) l
   among-left [] ys l among = absurd among
@@ -158,11 +155,10 @@ module _ (v : Vocabulary) (σ : State) (sorts-known : (s : ℕ) → s < length (
 
     deps-among : (before : List Variable) (x : ℕ) → Have before x → (xs : List ℕ) (ls : List Lexeme) → AreTexts v xs ls → All (λ j. (j < x) × IsBoundAt all j) xs → Every (IsBoundAmong before) ls
     deps-among before x have [] [] texts are = tt
-    deps-among before x have [] (l ∷ ls) texts are = absurd texts
-    deps-among before x have (y ∷ ys) [] texts are = absurd texts
     deps-among before x have (y ∷ ys) (l ∷ ls) texts are =
         let (less, (c, there, bound)) = are 0 0 (omega arith) in
         (have y c less there bound l texts.0, deps-among before x have ys ls texts.1 (λ k d less. are (suc k) d (omega arith)))
+    deps-among before x have _ _ texts are = absurd texts
 
     binder-is : (before : List Variable) (x : ℕ) (b : Binder) (w : Variable) → Have before x → IsShown v x b false w → IsParam (sorts σ.env) all x b → IsBinder σ before w
     binder-is before x b w have is (bound, regular) = (
@@ -182,8 +178,6 @@ module _ (v : Vocabulary) (σ : State) (sorts-known : (s : ℕ) → s < length (
         let P : ℕ → Type 0 = λ y. Have (before ++ []) y in
         let Q : List Variable → Type 0 = λ us. Have us x in
         let place : x ≡ x + 0 = omega arith in (tt, subst P place (subst Q (sym (append-nil before)) have))
-    are-binders params [] (w ∷ ws) before x shown ends have = absurd shown
-    are-binders params (b ∷ bs) [] before x shown ends have = absurd shown
     are-binders params (b ∷ bs) (w ∷ ws) before x (is, shown) ends have =
         let zero_ : x + 0 ≡ x = omega arith in
         let at : slice_get all x ≡ Some b = ap (slice_get all) (sym zero_) ∙ ends 0 b refl in
@@ -193,6 +187,7 @@ module _ (v : Vocabulary) (σ : State) (sorts-known : (s : ℕ) → s < length (
         let Q : ℕ → Type 0 = λ y. Have (before ++ w ∷ ws) y in
         let end : suc x + length bs ≡ x + length (b ∷ bs) = omega arith in
         ((binder-is before x b w have is (params x b at), rest.0), subst Q end (subst P (append_assoc before (w ∷ []) ws) rest.1))
+    are-binders params _ _ before x shown ends have = absurd shown
 
     pub result-among : (ps : List Variable) → Have ps (length all) → (xs : List ℕ) (ls : List Lexeme) → AreTexts v xs ls → All (λ j. IsBoundAt all j) xs → Every (IsBoundAmong ps) ls
     result-among ps have xs ls texts are = deps-among ps (length all) have xs ls texts (λ k d less. let (c, there, bound) = are k d less in (slice_get_within all (get_or xs k d) c there, (c, there, bound)))
@@ -217,8 +212,7 @@ module _ (v : Vocabulary) (σ : State) (sorts-known : (s : ℕ) → s < length (
 
     pub binders-same : (bs : List Binder) (ws : List Variable) (x : ℕ) (d : Bool) → AreShown v d x bs ws → AreBindersThere (sorts σ.env) (length all) bs → DepsAscend bs → map (binder_of σ ps) ws ≡ bs
     binders-same [] [] x d shown there up = refl
-    binders-same [] (w ∷ ws) x d shown there up = absurd shown
-    binders-same (b ∷ bs) [] x d shown there up = absurd shown
     binders-same (b ∷ bs) (w ∷ ws) x d (is, shown) there up =
         ap₂ ◌∷◌ (binder-same x d b w is (there 0 b (omega arith)).0 (up 0 b (omega arith)) (there 0 b (omega arith)).1)
         (binders-same bs ws (suc x) d shown (λ k e less. there (suc k) e (omega arith)) (λ k e less. up (suc k) e (omega arith)))
+    binders-same _ _ x d shown there up = absurd shown

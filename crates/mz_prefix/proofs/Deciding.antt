@@ -23,9 +23,8 @@ false-decided true = inr (λ is. let h : true ≡ false = is in absurd (cc))
 false-decided false = inl refl
 
 sayable-decided : (ls : List Bool) (d : Declaration) → IsSayable ls d ⊎ (IsSayable ls d → ⊥)
-sayable-decided ls (sort_decl m) = inl tt
-sayable-decided ls (term_decl d) = inl tt
 sayable-decided ls (assertion_decl a) = both-decided (false-decided (any_mentions_local ls a.hyps)) (false-decided (mentions_local ls a.conclusion))
+sayable-decided ls _ = inl tt
 
 short-by : (v : Vocabulary) (e : Tree) → ((length (formula_of v e) ≤ most) × (height e ≤ most)) ⊎ ((length (formula_of v e) ≤ most) × (height e ≤ most) → ⊥)
     → IsShort (formula_of v e) e ⊎ (IsShort (formula_of v e) e → ⊥)
@@ -40,9 +39,8 @@ are-short-decided v none = inl tt
 are-short-decided v (more e es) = both-decided (short-decided v e) (are-short-decided v es)
 
 brief-decided : (v : Vocabulary) (d : Declaration) → IsBrief v d ⊎ (IsBrief v d → ⊥)
-brief-decided v (sort_decl m) = inl tt
-brief-decided v (term_decl d) = inl tt
 brief-decided v (assertion_decl a) = both-decided (are-short-decided v a.hyps) (short-decided v a.conclusion)
+brief-decided v _ = inl tt
 
 local-decided : (ls : List Bool) (k : ℕ) (ss : List Statement) → AreDecided (local_checks ls k ss)
 local-decided ls k [] = tt

@@ -60,15 +60,11 @@ number-ends kinds.Number a cs d is end = or_from _ _ (two-bytes a d 48 cs []) (a
 number-ends kinds.Math a cs d is end = and_left _ _ (digit-no_math a is)
 
 pub word-ends : (kind k : TokenKind) (text : List ℕ) (d : ℕ) → is_of_kind kind text ≡ true → bytes_eq text (codes "_") ≡ false → ends kind d ≡ true → is_of_kind k (text ++ d ∷ []) ≡ false
-word-ends kinds.Symbol k [] d is other end = absurd (false≢true is)
 word-ends kinds.Symbol k (a ∷ []) d is other end = symbol-ends k a d is (elim (and_cases (a == 95) true other) [ inl is ↦ is | inr no_ ↦ absurd (false≢true (sym no_)) ])
-word-ends kinds.Symbol k (a ∷ b ∷ cs) d is other end = absurd (false≢true is)
-word-ends kinds.Name k [] d is other end = absurd (false≢true is)
 word-ends kinds.Name k (a ∷ cs) d is other end = longest-name k a cs d (and_parts _ _ (and_parts _ _ is).0).0 (end-fails is_name_byte refl refl refl d end)
-word-ends kinds.Number k [] d is other end = absurd (false≢true is)
 word-ends kinds.Number k (a ∷ cs) d is other end = number-ends k a cs d (number-starts a cs is) (end-fails is_digit refl refl refl d end)
-word-ends kinds.Math k [] d is other end = absurd (false≢true is)
 word-ends kinds.Math k (a ∷ cs) d is other end =
     let parts = and_parts (a == 36) (ends_math cs) is in
     let P : ℕ → Type 0 = λ b. is_of_kind k (b ∷ (cs ++ d ∷ [])) ≡ false in
     subst P (sym (eqb-true a 36 parts.0)) (longest-math k cs d parts.1)
+word-ends _ k _ d is other end = absurd (false≢true is)

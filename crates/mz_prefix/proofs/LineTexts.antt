@@ -24,21 +24,14 @@ use Rattle.mz_prefix.specs.Writing.{modifier_text, head_text, bare_text, told}
 keywords-are : (pure strict provable free : Bool) → written (sort_words (record { is_pure = pure; is_strict = strict; is_provable = provable; is_free = free }))
     ≡ modifier_text pure (codes "pure") ++ (modifier_text strict (codes "strict") ++ (modifier_text provable (codes "provable") ++ (modifier_text free (codes "free") ++ codes "sort")))
 keywords-are true true true true = refl
-keywords-are true true true false = refl
 keywords-are true true false true = refl
-keywords-are true true false false = refl
 keywords-are true false true true = refl
-keywords-are true false true false = refl
 keywords-are true false false true = refl
-keywords-are true false false false = refl
 keywords-are false true true true = refl
-keywords-are false true true false = refl
 keywords-are false true false true = refl
-keywords-are false true false false = refl
 keywords-are false false true true = refl
-keywords-are false false true false = refl
 keywords-are false false false true = refl
-keywords-are false false false false = refl
+keywords-are _ _ _ _ = refl
 
 ended-sort : (p s r f name : List ℕ) → ((p ++ (s ++ (r ++ (f ++ codes "sort")))) ++ (32 ∷ (name ++ (59 ∷ [])))) ++ (10 ∷ []) ≡ p ++ (s ++ (r ++ (f ++ (codes "sort " ++ (name ++ codes ";\n")))))
 ended-sort p s r f name = simp append_assoc

@@ -31,13 +31,12 @@ mutual
       omega (arith, whole, first, rest)
 
   enclosed-count : (term variable : ℕ → List ℕ) (e : Tree) → length (enclosed term variable e) ≡ parentheses e + token_count e
-  enclosed-count term variable (var x) = refl
-  enclosed-count term variable (app t none) = refl
   enclosed-count term variable (app t (more e es)) =
       let inner = operand_tokens term variable (more e es) in
       let whole : length (inner ++ codes ")" ∷ []) ≡ length inner + 1 = length-append inner (codes ")" ∷ []) in
       let tokens : length inner ≡ operand_count (more e es) = operands-count term variable (more e es) in
       ap (λ n. suc (suc n)) (whole ∙ ap (λ n. n + 1) tokens ∙ one-more (operand_count (more e es))) ∙ two-more (suc (operand_count (more e es)))
+  enclosed-count term variable _ = refl
 
 pub short-is : (v : Vocabulary) (e : Tree) → is_short v e ≡ true → IsShort (formula_of v e) e
 short-is v e is =

@@ -20,10 +20,9 @@ run-is (suc n) cs = ap suc (run-is n cs)
 
 one-shorter : (name : List ℕ) (d : Declaration) (rest : List (List ℕ)) (n i : ℕ) → ((k : ℕ) → k < length rest → underscores (get_or rest k []) ≤ n) → underscores name ≤ n
     → i < length (term_name d name ++ rest) → underscores (get_or (term_name d name ++ rest) i []) ≤ n
-one-shorter name (sort_decl m) rest n i others own less = others i less
 one-shorter name (term_decl d) rest n zero others own less = own
 one-shorter name (term_decl d) rest n (suc i) others own less = others i (omega arith)
-one-shorter name (assertion_decl a) rest n i others own less = others i less
+one-shorter name _ rest n i others own less = others i less
 
 all-shorter : (ss : List Statement) (i : ℕ) → i < length (term_names ss) → underscores (get_or (term_names ss) i []) ≤ longest_run (text_names ss)
 all-shorter [] i less = absurd (omega arith)

@@ -99,14 +99,12 @@ module _ (v : Vocabulary) where
 
 module _ (v : Vocabulary) where
   pub alone-is : (e : Tree) → has_operands e ≡ false → enclosed v.term v.variable e ≡ formula_of v e
-  alone-is (var x) has = refl
-  alone-is (app t none) has = refl
   alone-is (app t (more e es)) has = absurd (let h : true ≡ false = has in cc)
+  alone-is _ has = refl
 
   pub enclosed-is : (e : Tree) → has_operands e ≡ true → spaced (enclosed v.term v.variable e) ≡ 40 ∷ (32 ∷ (spaced (formula_of v e) ++ (41 ∷ 32 ∷ [])))
-  enclosed-is (var x) has = absurd (let h : false ≡ true = has in cc)
-  enclosed-is (app t none) has = absurd (let h : false ≡ true = has in cc)
   enclosed-is (app t (more e es)) has = ap (λ r. 40 ∷ (32 ∷ r)) (spaced-append (formula_of v (app t (more e es))) ((41 ∷ []) ∷ []))
+  enclosed-is _ has = absurd (let h : false ≡ true = has in cc)
 
 -- ---- parts of a line
 

@@ -57,9 +57,8 @@ module _ (v : Vocabulary) (n : ℕ) (variables : HasVariables v n) where
 
   pub among-same : (xs : List ℕ) (ls : List Lexeme) (k : ℕ) → AreTexts v xs ls → AllBelow n xs → k < n → list_any (λ d. bytes_eq d.text (v.variable k)) ls ≡ list_any (λ j. j == k) xs
   among-same [] [] k texts below less = refl
-  among-same [] (l ∷ ls) k texts below less = absurd texts
-  among-same (x ∷ xs) [] k texts below less = absurd texts
   among-same (x ∷ xs) (l ∷ ls) k texts below less = ap₂ ◌||◌ (same-test x k l below.0 less texts.0) (among-same xs ls k texts.1 below.1 less)
+  among-same _ _ k texts below less = absurd texts
 
 abbrev Agree : Vocabulary → List Lexeme → ℕ → ℕ → List ℕ → Type 0
 Agree v ls x to js = (k : ℕ) → x ≤ k → k < to → list_any (λ d. bytes_eq d.text (v.variable k)) ls ≡ list_any (λ j. j == k) js
@@ -68,8 +67,6 @@ pub places-are : (v : Vocabulary) (ls : List Lexeme) (bs : List Binder) (ws : Li
     → Above x js → AllBelow to js → Agree v ls x to js → dep_places i ws ls ≡ js
 places-are v ls [] [] x i to [] place end shown above below agree = refl
 places-are v ls [] [] x i to (j ∷ js) place end shown above below agree = let le = above.0 in let lt = below.0 in absurd (omega arith)
-places-are v ls [] (w ∷ ws) x i to js place end shown above below agree = absurd shown
-places-are v ls (b ∷ bs) [] x i to js place end shown above below agree = absurd shown
 places-are v ls (b ∷ bs) (w ∷ ws) x i to js place end (is, shown) above below agree =
     first js above below agree (λ ks a b c. places-are v ls bs ws (suc x) (i + 1) to ks (omega arith) (omega arith) shown a b c)
   where
@@ -97,3 +94,4 @@ places-are v ls (b ∷ bs) (w ∷ ws) x i to js place end (is, shown) above belo
               ap (λ c. if c then i ∷ dep_places (i + 1) ws ls else dep_places (i + 1) ws ls) (among (j ∷ ks) agree ∙ not-in (j ∷ ks) (suc x) x higher (omega arith))
               ∙ more (j ∷ ks) higher below (λ k le less. agree k (omega arith) less))
         ]
+places-are v ls _ _ x i to js place end shown above below agree = absurd shown

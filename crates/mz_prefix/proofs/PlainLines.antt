@@ -87,11 +87,8 @@ binders-end [] rest end = end
 binders-end (b ∷ bs) rest end = refl
 
 keyword-is : (kind : Kind) → is_name (keyword_of kind) ≡ true
-keyword-is Term = refl
 keyword-is (Assert Axiom) = refl
-keyword-is (Assert Theorem) = refl
-keyword-is Definition = refl
-keyword-is Notation = refl
+keyword-is _ = refl
 
 head-is : (kind : Kind) (n : List ℕ) (bs : List PlainBinder) (vs : List Word) (rest : List ℕ) → is_name n ≡ true → ArePlainBinders bs → AreWords vs rest
     → AreWords (head_words kind n bs ++ (colon_words ++ vs)) rest

@@ -49,9 +49,8 @@ module _ (ws : Words) (term name : ℕ → List ℕ) (spoken : IsSpoken ws term 
     parts-tokens (more e es) = ap₂ ◌++◌ (enclosed-tokens e) (parts-tokens es)
 
     enclosed-tokens : (e : Tree) → grammar.tokens_of (enclosed_parse e) ≡ enclosed term name e
-    enclosed-tokens (var x) = refl
-    enclosed-tokens (app t none) = refl
     enclosed-tokens (app t (more e es)) = ap₂ (λ xs ys. codes "(" ∷ (term t ∷ (xs ++ ys) ++ codes ")" ∷ [])) (enclosed-tokens e) (parts-tokens es)
+    enclosed-tokens _ = refl
 
   mutual
     parse-tree : (e : Tree) → tree_of (parse_of e) ≡ e
@@ -63,16 +62,14 @@ module _ (ws : Words) (term name : ℕ → List ℕ) (spoken : IsSpoken ws term 
     parts-tree (more e es) = ap₂ more (enclosed-tree e) (parts-tree es)
 
     enclosed-tree : (e : Tree) → tree_of (enclosed_parse e) ≡ e
-    enclosed-tree (var x) = refl
-    enclosed-tree (app t none) = refl
     enclosed-tree (app t (more e es)) = ap₂ (λ f fs. app t (more f fs)) (enclosed-tree e) (parts-tree es)
+    enclosed-tree _ = refl
 
   -- ---- it is right
 
   enclosed-max : (e : Tree) → max_level ≤ level_of (enclosed_parse e)
-  enclosed-max (var x) = omega arith
   enclosed-max (app t none) = omega arith
-  enclosed-max (app t (more e es)) = omega arith
+  enclosed-max _ = omega arith
 
   no-leading : (w : List ℕ) → IsLeading ws w → ⊥
   no-leading w (k, among, led) =

@@ -37,9 +37,8 @@ mutual
 
   all-coerced : (sigs : List Signature) (cs : List Coercion) (ctx : List Binder) (es : Trees) (ps : List Binder) → Fits sigs ctx es ps → CoercedAll sigs cs ctx es ps es
   all-coerced sigs cs ctx none [] fits = refl
-  all-coerced sigs cs ctx none (p ∷ ps) fits = fits
-  all-coerced sigs cs ctx (more e es) [] fits = fits
   all-coerced sigs cs ctx (more e es) (p ∷ ps) (sorted, bound, fits) = (e, p.sort, [], es, coerced-itself sigs cs ctx e p.sort sorted, refl, bound, refl, all-coerced sigs cs ctx es ps fits)
+  all-coerced sigs cs ctx _ _ fits = fits
 
 -- ---- all tokens are known
 

@@ -18,7 +18,7 @@ use Rattle.mz_logic_theory.proofs.Offered.{sorts-append, signatures-append, same
 use Rattle.mz_math_theory.specs.Notation.{TermName}
 use Rattle.mz_spec_theory.specs.declared.kind.AssertKind.{AssertKind}
 use Rattle.mz_spec_theory.specs.declared.kind.Kind.TheVariants.{Term as TermKind, Assert, Definition}
-use Rattle.mz_spec_theory.specs.Statement.{TypeText, Statement, sort_statement, term_statement, assert_statement, definition_statement, keyword_of}
+use Rattle.mz_spec_theory.specs.Statement.{TypeText, SpecStatement, sort_statement, term_statement, assert_statement, definition_statement, keyword_of}
 use Rattle.mz_spec_theory.specs.Reading.{place_of_first}
 use Rattle.mz_prefix.specs.Tokens.{lexeme_at, lexemes_at, stop}
 use Rattle.mz_prefix.specs.Lines.{Line, math_word, math_text, spaced_mark, spaced_name, sort_words, hyps_words, type_words, title_words, binders_at, type_at, hyps_at, colon_at, line_words, statement_at, next_line, HasItsDummies, HaveNoDummies, name_word}
@@ -43,9 +43,8 @@ use Rattle.mz_prefix.proofs.Statements.{GoodBy, good-by, good-typed, good-claims
 -- ---- modifiers
 
 bit-go : (r : ℕ) → r < 2 → bit (r == 1) 1 ≡ r
-bit-go zero less = refl
-bit-go (suc zero) less = refl
 bit-go (suc (suc r)) less = absurd (omega arith)
+bit-go _ less = refl
 
 bit-is : (k : ℕ) → bit (k % 2 == 1) 1 ≡ k % 2
 bit-is k = bit-go (k % 2) (omega arith)
@@ -182,7 +181,7 @@ module _ (v : Vocabulary) (n : ℕ) (variables : HasVariables v n) where
 
   -- ---- one statement
 
-  pub record Step (σ : State) (place : ℕ) (s : Statement) (name : List ℕ) (d : Declaration) : Type 0 where
+  pub record Step (σ : State) (place : ℕ) (s : SpecStatement) (name : List ℕ) (d : Declaration) : Type 0 where
     pub state : State
     pub good : IsGood σ place s
     pub after : After σ place s state
@@ -334,8 +333,7 @@ its-dummies v name (term_decl d) = go d.form
   where
     go : (form : Form) → HasItsDummies (term_line_of v name d.signature form)
     go plain_form = no-dummies v d.signature.params 0
-    go abstract_form = tt
-    go (defined ds e) = tt
+    go _ = tt
 its-dummies v name (assertion_decl a) = no-dummies v a.params 0
 
 module _ (v : Vocabulary) (n : ℕ) (variables : HasVariables v n) (σ : State) (behind : IsBehind v n σ) where
@@ -418,7 +416,7 @@ module _ (v : Vocabulary) (n : ℕ) (variables : HasVariables v n) where
       assertion-step v n variables σ place (stop p (title_words (Assert kind) name)) c (lexeme_at (stop p (name_word (keyword_of (Assert kind)) ∷ [])) (spaced_name name))
       (lexeme_at (stop c (hyps_words (formulas_of v a.hyps))) (math_word (formula_of v a.conclusion))) a refl behind printable
 
-  abbrev statements_of : ℕ → List Named → List Statement
+  abbrev statements_of : ℕ → List Named → List SpecStatement
   statements_of p [] = []
   statements_of p (d ∷ ds) = statement_at p (line_of v d) ∷ statements_of (next_line p (line_of v d)) ds
 

@@ -34,9 +34,8 @@ use Rattle.mz_prefix.proofs.Titles.{IsTitled, AreTitled}
 -- ---- numbers of terms
 
 visibilities-step : (l : Bool) (d : Declaration) (ss : List Marked) → length (visibilities_of ss) ≡ length (signatures (declarations ss)) → length (visibility_of l d ++ visibilities_of ss) ≡ length (signatures (d ∷ declarations ss))
-visibilities-step l (sort_decl m) ss is = is
 visibilities-step l (term_decl d) ss is = omega (arith, is)
-visibilities-step l (assertion_decl a) ss is = is
+visibilities-step l _ ss is = is
 
 visibilities-many : (ss : List Marked) → length (visibilities_of ss) ≡ length (signatures (declarations ss))
 visibilities-many [] = refl
@@ -56,13 +55,11 @@ terms-next names w (assertion_decl a) env is = is ∙ sym (ap length (same-signa
 
 sorts-all : (names : Names) (w : List ℕ) (d : Declaration) (rest : List (List ℕ)) → names.sorts ++ (sort_name d w ++ rest) ≡ (names_with names w d).sorts ++ rest
 sorts-all names w (sort_decl m) rest = sym (append_assoc names.sorts (w ∷ []) rest)
-sorts-all names w (term_decl d) rest = refl
-sorts-all names w (assertion_decl a) rest = refl
+sorts-all names w _ rest = refl
 
 terms-all : (names : Names) (w : List ℕ) (d : Declaration) (rest : List (List ℕ)) → names.terms ++ (term_name d w ++ rest) ≡ (names_with names w d).terms ++ rest
-terms-all names w (sort_decl m) rest = refl
 terms-all names w (term_decl d) rest = sym (append_assoc names.terms (w ∷ []) rest)
-terms-all names w (assertion_decl a) rest = refl
+terms-all names w _ rest = refl
 
 -- ---- names of assertions
 
@@ -70,14 +67,12 @@ abbrev HasNew : Names → List (List ℕ) → Type 0
 HasNew names used = (x : List ℕ) → IsNew names.assertions x → IsNew used x
 
 new-public : (names : Names) (used : List (List ℕ)) (w : List ℕ) (hidden : Tree → Bool) (f : ℕ → ℕ) (d : Declaration) → HasNew names used → HasNew (names_with names w d) (used_with used w (public_decl hidden f d))
-new-public names used w hidden f (sort_decl m) has = has
-new-public names used w hidden f (term_decl d) has = has
 new-public names used w hidden f (assertion_decl a) has = λ x new. let parts = new-last names.assertions w x new in new-more used w x (has x parts.0) parts.1
+new-public names used w hidden f _ has = has
 
 new-local : (names : Names) (used : List (List ℕ)) (w : List ℕ) (d : Declaration) → HasNew names used → HasNew (names_with names w d) used
-new-local names used w (sort_decl m) has = has
-new-local names used w (term_decl d) has = has
 new-local names used w (assertion_decl a) has = λ x new. has x (new-last names.assertions w x new).0
+new-local names used w _ has = has
 
 -- ---- room
 
@@ -147,11 +142,10 @@ module _ (all : List Statement) (hidden : Tree → Bool) (n : ℕ) where
 
     body-short : Hides ls hidden → ((e : Tree) → hidden e ≡ false → IsShort (formula_of v e) e) → (sig : Signature) (form : Form) → NamesThere env (term_decl (record { signature = sig; form = form }))
         → HasShortBody (spoken all) (shown hidden f form)
-    body-short hides short sig plain_form names = tt
-    body-short hides short sig abstract_form names = tt
     body-short hides short sig (defined ds e) names =
         pick (HasShortBody (spoken all)) (hidden e) abstract_form (defined ds (renamed f e)) (λ is. tt)
         (λ is. claim-short (length (sig.params ++ ds)) e (hides e is) names.4.0 (short e is))
+    body-short hides short sig _ names = tt
 
     decl-within : Hides ls hidden → ((e : Tree) → hidden e ≡ false → IsShort (formula_of v e) e) → (names : Names) (w : List ℕ) (d : Declaration) → NamesThere env d → IsWanted d → Ascends d → IsTitled names w d
         → IsWithin (spoken all) n (public_decl hidden f d)

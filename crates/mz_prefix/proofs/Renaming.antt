@@ -66,10 +66,9 @@ module _ (f : ℕ → ℕ) (sigs sigs' : List Signature) where
 
     operands-of-kept : (P Q : Tree → Binder → Type 0) → ((e : Tree) (p : Binder) → Kept e → P e p → Q (renamed f e) p)
         → (es : Trees) (ps : List Binder) → AllKept es → OperandsOf sigs P es ps → OperandsOf sigs' Q (all_renamed f es) ps
-    operands-of-kept P Q step none ps kept are = are
-    operands-of-kept P Q step (more e es) [] kept are = are
     operands-of-kept P Q step (more e es) (p ∷ ps) kept are =
         (step e p kept.0 are.0, operands-kept P Q step e kept.0 are.1, operands-of-kept P Q step es ps kept.1 are.2)
+    operands-of-kept P Q step _ _ kept are = are
 
   pub sort-fits : (ctx : List Binder) (e : Tree) (p : Binder) → Kept e → SortsFit sigs ctx e p → SortsFit sigs' ctx (renamed f e) p
   sort-fits ctx e p kept fits = same-sort ctx e kept ∙ fits

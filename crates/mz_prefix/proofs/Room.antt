@@ -63,15 +63,13 @@ line-room v name (assertion_decl a) =
 -- more room is room
 more-room : (m n : ℕ) (d : Declaration) → m ≤ n → HasRoom m d → HasRoom n d
 more-room m n (sort_decl s) le room = tt
-more-room m n (term_decl d) le room = omega (arith, room, le)
-more-room m n (assertion_decl a) le room = omega (arith, room, le)
+more-room m n _ le room = omega (arith, room, le)
 
 -- the numbers of terms don't matter
 same-dummies : (hidden : Tree → Bool) (f g : ℕ → ℕ) (form : Form) → dummies_of (shown hidden f form) ≡ dummies_of (shown hidden g form)
-same-dummies hidden f g plain_form = refl
-same-dummies hidden f g abstract_form = refl
 same-dummies hidden f g (defined ds e) =
     chosen (λ (b : Bool). dummies_of (if b then abstract_form else defined ds (renamed f e)) ≡ dummies_of (if b then abstract_form else defined ds (renamed g e))) (hidden e) (λ is. refl) (λ is. refl)
+same-dummies hidden f g _ = refl
 
 same-room : (hidden : Tree → Bool) (f g : ℕ → ℕ) (n : ℕ) (d : Declaration) → HasRoom n (public_decl hidden f d) → HasRoom n (public_decl hidden g d)
 same-room hidden f g n (sort_decl m) room = tt

@@ -17,14 +17,11 @@ row-step : (n : ℕ) (l : Bool) (d : Declaration) (before : List Statement) (oth
     → slice_get (term_rows m before) (public_number (visibilities_of before ++ others) u) ≡ Some (m + u))
     → t < length (signatures (d ∷ declarations before)) → is_local_term ((visibility_of l d ++ visibilities_of before) ++ others) t ≡ false
     → slice_get ((if l then [] else term_row_of n d) ++ term_rows (n + length (terms (d ∷ []))) before) (public_number ((visibility_of l d ++ visibilities_of before) ++ others) t) ≡ Some (n + t)
-row-step n true (sort_decl m) before others t rest less public = rest (n + 0) t less public ∙ ap (λ (u : ℕ). Some u) (omega arith)
-row-step n false (sort_decl m) before others t rest less public = rest (n + 0) t less public ∙ ap (λ (u : ℕ). Some u) (omega arith)
-row-step n true (assertion_decl a) before others t rest less public = rest (n + 0) t less public ∙ ap (λ (u : ℕ). Some u) (omega arith)
-row-step n false (assertion_decl a) before others t rest less public = rest (n + 0) t less public ∙ ap (λ (u : ℕ). Some u) (omega arith)
 row-step n true (term_decl d) before others zero rest less public = absurd (true≢false public)
 row-step n true (term_decl d) before others (suc t) rest less public = rest (n + 1) t (omega arith) public ∙ ap (λ (u : ℕ). Some u) (omega arith)
 row-step n false (term_decl d) before others zero rest less public = ap (λ (u : ℕ). Some u) (omega arith)
 row-step n false (term_decl d) before others (suc t) rest less public = rest (n + 1) t (omega arith) public ∙ ap (λ (u : ℕ). Some u) (omega arith)
+row-step n _ _ before others t rest less public = rest (n + 0) t less public ∙ ap (λ (u : ℕ). Some u) (omega arith)
 
 pub row-at : (before : List Statement) (others : List Bool) (n t : ℕ) → t < length (signatures (declarations before)) → is_local_term (visibilities_of before ++ others) t ≡ false
     → slice_get (term_rows n before) (public_number (visibilities_of before ++ others) t) ≡ Some (n + t)

@@ -100,11 +100,10 @@ module _ (v : Vocabulary) (n : ℕ) (names : (x : ℕ) → x < n → IsTrue (is_
 
 no-params : (v : Vocabulary) (ds : List Binder) (ws : List Variable) (x : ℕ) → AreShown v true x ds ws → (params_of ws ≡ []) × (dummies_of ws ≡ ws)
 no-params v [] [] x shown = (refl, refl)
-no-params v [] (w ∷ ws) x shown = absurd shown
-no-params v (d ∷ ds) [] x shown = absurd shown
 no-params v (d ∷ ds) (w ∷ ws) x (is, shown) =
     let rest = no-params v ds ws (suc x) shown in
     (ap (λ b. if b then params_of ws else w ∷ params_of ws) is.dummy_is ∙ rest.0, ap (λ b. if b then w ∷ dummies_of ws else dummies_of ws) is.dummy_is ∙ ap (λ us. w ∷ us) rest.1)
+no-params v _ _ x shown = absurd shown
 
 pub params-shown : (v : Vocabulary) (bs ds : List Binder) (ws : List Variable) (x : ℕ) → AllShown v x bs ds ws → AreShown v false x bs (params_of ws)
 params-shown v [] ds ws x shown = let P : List Variable → Type 0 = λ us. AreShown v false x [] us in subst P (sym (no-params v ds ws x shown).0) tt
@@ -153,18 +152,16 @@ bytes-shown v x b d w is = ap bytes_of is.named ∙ is.text
 
 pub bytes-are : (v : Vocabulary) (d : Bool) (bs : List Binder) (ws : List Variable) (x : ℕ) → AreShown v d x bs ws → map variable_bytes ws ≡ names_from v x (length bs)
 bytes-are v d [] [] x shown = refl
-bytes-are v d [] (w ∷ ws) x shown = absurd shown
-bytes-are v d (b ∷ bs) [] x shown = absurd shown
 bytes-are v d (b ∷ bs) (w ∷ ws) x (is, shown) = ap (λ n. n ∷ map variable_bytes ws) (bytes-shown v x b d w is) ∙ ap (λ ns. v.variable x ∷ ns) (bytes-are v d bs ws (suc x) shown)
+bytes-are v d _ _ x shown = absurd shown
 
 texts-shown : (v : Vocabulary) (x : ℕ) (b : Binder) (d : Bool) (w : Variable) → IsShown v x b d w → name_texts w.name ≡ v.variable x ∷ []
 texts-shown v x b d w is = ap name_texts is.named ∙ ap (λ t. t ∷ []) is.text
 
 dummy-names : (v : Vocabulary) (ds : List Binder) (ws : List Variable) (x : ℕ) → AreShown v true x ds ws → names_of ws ≡ names_from v x (length ds)
 dummy-names v [] [] x shown = refl
-dummy-names v [] (w ∷ ws) x shown = absurd shown
-dummy-names v (d ∷ ds) [] x shown = absurd shown
 dummy-names v (d ∷ ds) (w ∷ ws) x (is, shown) = ap (λ ns. ns ++ names_of ws) (texts-shown v x d true w is) ∙ ap (λ ns. v.variable x ∷ ns) (dummy-names v ds ws (suc x) shown)
+dummy-names v _ _ x shown = absurd shown
 
 pub all-names : (v : Vocabulary) (bs ds : List Binder) (ws : List Variable) (x : ℕ) → AllShown v x bs ds ws → names_of ws ≡ names_from v x (length bs + length ds)
 all-names v [] ds ws x shown = let same : length ds ≡ 0 + length ds = omega arith in dummy-names v ds ws x shown ∙ ap (names_from v x) same

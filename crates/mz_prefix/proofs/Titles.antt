@@ -57,9 +57,8 @@ marked-titled true names k no_nodes s h = absurd h
 marked-titled true names k (node l ns) s (is, h) = local-titled names (kind_of l) ns s h
 
 statement-titled : (names : Names) (n : Node) (s : Statement) → IsStatement names n s → IsTitled names s.name s.decl
-statement-titled names (atom at w) s h = absurd h
-statement-titled names (list at no_nodes) s h = absurd h
 statement-titled names (list at (node k ns)) s h = marked-titled (is_local_word k) names k ns s h
+statement-titled names _ s h = absurd h
 
 pub all-titled : (names : Names) (ns : Nodes) (ss : List Statement) → AreStatements names ns ss → AreTitled names ss
 all-titled names no_nodes ss h = subst (AreTitled names) (sym h) tt

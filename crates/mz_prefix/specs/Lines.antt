@@ -5,7 +5,7 @@ use Rattle.mz_lex.specs.declared.token.TokenKind.TheVariants as kinds
 use Rattle.mz_spec_theory.specs.declared.kind.AssertKind.{AssertKind}
 use Rattle.mz_spec_theory.specs.declared.kind.Kind.{Kind}
 use Rattle.mz_spec_theory.specs.declared.kind.Kind.TheVariants.{Term, Assert, Definition}
-use Rattle.mz_spec_theory.specs.Statement.{Modifiers, TypeText, Source, type_source, formula_source, Group, Head, Statement, sort_statement, term_statement, assert_statement, definition_statement, keyword_of, opening_of, closing_of}
+use Rattle.mz_spec_theory.specs.Statement.{Modifiers, TypeText, Source, type_source, formula_source, Group, Head, SpecStatement, sort_statement, term_statement, assert_statement, definition_statement, keyword_of, opening_of, closing_of}
 use Rattle.mz_lex.specs.Lexemes.{Lexeme}
 use Rattle.mz_prefix.specs.Tokens.{Word, written, lexeme_at, lexemes_at, stop}
 
@@ -165,7 +165,7 @@ abbrev pub colon_at : ℕ → Kind → List ℕ → List PlainBinder → ℕ
 colon_at p kind name bs = stop (stop p (head_words kind name bs)) colon_words
 
 -- the statement that a line is, which begins at a place
-abbrev pub statement_at : ℕ → Line → Statement
+abbrev pub statement_at : ℕ → Line → SpecStatement
 statement_at p (sort_line m name) = sort_statement m (lexeme_at (stop p (sort_words m)) (spaced_name name))
 statement_at p (term_line name bs t) = term_statement (head_at p Term name bs) [] (type_at (colon_at p Term name bs) t)
 statement_at p (assert_line kind name bs hyps conclusion) =

@@ -44,14 +44,14 @@ impl<'a> Names<'a> {
     fn any_hyp_mentions_local(&self, hyps: &Hyps) -> bool
         ensures { result ≡ any_mentions_local self.now.locals.items hyps.now }
     {
-        self.any_mentions_local(&hyps.formulas().lent())
+        self.any_mentions_local(&hyps.formulas().borrowed())
     }
 
     /// Whether a definition's body isn't written.
     pub(crate) fn is_hidden(&self, body: &Expr) -> bool
         ensures { result ≡ Wording.is_hidden self.now.locals.items (spoken self.now) (tree body.now) }
     {
-        let body = body.lent();
+        let body = body.borrowed();
         self.mentions_local(&body) || !is_short(&body)
     }
 
@@ -62,7 +62,7 @@ impl<'a> Names<'a> {
         match decl {
             Decl::Thm(thm) => {
                 !self.any_hyp_mentions_local(&thm.hyps)
-                    && !self.mentions_local(&thm.conclusion.lent())
+                    && !self.mentions_local(&thm.conclusion.borrowed())
             }
             _ => true,
         }
@@ -73,7 +73,7 @@ impl<'a> Names<'a> {
 fn are_short(hyps: &Hyps) -> bool
     ensures { (v : Vocabulary) → IsTrue result ↔ AreShort v hyps.now }
 {
-    let formulas = hyps.formulas().lent();
+    let formulas = hyps.formulas().borrowed();
     for i in 0..formulas.len() {
         if !is_short(&formulas.at(i)) {
             return false;
@@ -87,7 +87,7 @@ pub(crate) fn is_brief(decl: &Decl) -> bool
     ensures { (v : Vocabulary) → IsTrue result ↔ IsBrief v (declaration decl.now) }
 {
     match decl {
-        Decl::Thm(thm) => are_short(&thm.hyps) && is_short(&thm.conclusion.lent()),
+        Decl::Thm(thm) => are_short(&thm.hyps) && is_short(&thm.conclusion.borrowed()),
         _ => true,
     }
 }

@@ -129,7 +129,7 @@ impl<'a> Names<'a> {
         ensures { OnOk result (out.new.items ≡ out.old.items ++ written (math_word (formula_of (spoken self.now) (tree expr.now)) ∷ [])) }
     {
         out.extend_from_slice(b" $ ")?;
-        self.put_expr(&expr.lent(), out)?;
+        self.put_expr(&expr.borrowed(), out)?;
         out.push(b'$')?;
         Ok(())
     }

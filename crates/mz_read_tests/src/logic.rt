@@ -5,7 +5,7 @@ use crate::expect::expect;
 use mz_logic::check_decl;
 use mz_logic_theory::{
     Binder, Binders, Decl, DeclFault, Deps, Env, Expr, ExprRef, Exprs, Hyps, ResultType,
-    Shape as LentShape, SortMods, TermDecl, TermForm, Terms, ThmDecl, ThmForm, Word,
+    Shape as BorrowedShape, SortMods, TermDecl, TermForm, Terms, ThmDecl, ThmForm, Word,
 };
 use std::alloc::{AllocError, Global};
 use std::process::Abort;
@@ -381,8 +381,8 @@ fn what_is_added(rt: HostRuntime) {
 /// Whether the expression is this term over these two variables.
 fn is_pair(e: &Expr, term: u32, x: u32, y: u32) -> bool {
     match e.shape() {
-        LentShape::Var(_) => false,
-        LentShape::App(t, es) => {
+        BorrowedShape::Var(_) => false,
+        BorrowedShape::App(t, es) => {
             t == term && es.len() == 2 && is_variable(es.get(0), x) && is_variable(es.get(1), y)
         }
     }
@@ -392,8 +392,8 @@ fn is_variable(e: Option<ExprRef<'_>>, x: u32) -> bool {
     match e {
         None => false,
         Some(e) => match e.shape() {
-            LentShape::Var(y) => y == x,
-            LentShape::App(_, _) => false,
+            BorrowedShape::Var(y) => y == x,
+            BorrowedShape::App(_, _) => false,
         },
     }
 }

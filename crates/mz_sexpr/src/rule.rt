@@ -19,7 +19,7 @@ pub enum U {
     Sort,
     /// An operand for a bound parameter is no bound variable.
     Bound,
-    /// Operands aren't apart.
+    /// Operands aren't disjoint.
     Disjoint,
     /// A subproof doesn't prove its hypothesis.
     Hypothesis,

@@ -10,7 +10,7 @@ use Rattle.mz_spec_theory.specs.declared.refusal.Halt.{Halt}
 use Rattle.mz_spec_theory.specs.declared.refusal.Halt.TheVariants as halts
 use Rattle.mz_spec_theory.specs.declared.read.StatementRead.{StatementRead}
 use Rattle.mz_spec_theory.specs.StatementCode.{statement}
-use Rattle.mz_spec_theory.specs.Statement.{Statement, sort_statement, term_statement, assert_statement, definition_statement, operator_statement, coercion_statement, delimiter_statement, notation_statement, keyword, name, end_signs, modifier_signs, statement_signs, Spells}
+use Rattle.mz_spec_theory.specs.Statement.{SpecStatement, sort_statement, term_statement, assert_statement, definition_statement, operator_statement, coercion_statement, delimiter_statement, notation_statement, keyword, name, end_signs, modifier_signs, statement_signs, Spells}
 use Rattle.mz_spec_theory.specs.Reading.{place_of_first, IsRead, StopsFrom, OnFault}
 use Rattle.mz_spec.specs.Answers.{IsAnswer, halted}
 use Rattle.mz_spec_theory.specs.SpecCode.{EndsSmall}
@@ -31,13 +31,13 @@ lexemes-append text from at to [] ms first second = subst (λ i. LexemesTo text 
 lexemes-append text from at to (l ∷ ls) ms (is, first) second = (is, lexemes-append text l.to at to ls ms first second)
 
 -- further lexemes behind good statements
-pub stand-rest : (σ τ : State) (ss : List Statement) (ls rest : List Lexeme) → Stand σ ss ls τ [] → Stand σ ss (ls ++ rest) τ rest
+pub stand-rest : (σ τ : State) (ss : List SpecStatement) (ls rest : List Lexeme) → Stand σ ss ls τ [] → Stand σ ss (ls ++ rest) τ rest
 stand-rest σ τ [] ls rest (same, none) = (same, ap (λ xs. xs ++ rest) none)
 stand-rest σ τ (s ∷ ss) ls rest (front, back, ρ, is, spells, good, after, more) =
     (front, back ++ rest, ρ, ap (λ xs. xs ++ rest) is ∙ append_assoc front back rest, spells, good, after, stand-rest ρ τ ss back rest more)
 
 -- one more good statement
-pub stand-more : (σ τ υ : State) (ss : List Statement) (ls front : List Lexeme) (s : Statement) → Stand σ ss ls τ [] → Spells s front → IsGood τ (place_of_first front) s → After τ (place_of_first front) s υ
+pub stand-more : (σ τ υ : State) (ss : List SpecStatement) (ls front : List Lexeme) (s : SpecStatement) → Stand σ ss ls τ [] → Spells s front → IsGood τ (place_of_first front) s → After τ (place_of_first front) s υ
     → Stand σ (ss ++ s ∷ []) (ls ++ front) υ []
 stand-more σ τ υ [] ls front s (same, none) spells good after = (
   front,
@@ -56,10 +56,10 @@ pub stand-begins : (text : List ℕ) → StandTo text 0 0 nothing
 stand-begins text = ([], [], refl, (refl, refl), refl)
 
 -- a statement that passes its rules is good
-pub judged-good : (σ : State) (place : ℕ) (s : Statement) → ((tokens : List (List MathToken)) → AreTokens σ (view s).formulas tokens → AllHold (statement_checks σ place s tokens)) → IsGood σ place s
+pub judged-good : (σ : State) (place : ℕ) (s : SpecStatement) → ((tokens : List (List MathToken)) → AreTokens σ (view s).formulas tokens → AllHold (statement_checks σ place s tokens)) → IsGood σ place s
 judged-good σ place s judged = let tokens = formulas-tokens σ (view s).formulas in (tokens.0, tokens.1, judged tokens.0 tokens.1)
 
-pub judged-fails : (σ : State) (place : ℕ) (s : Statement) (fault : Fault) → ((tokens : List (List MathToken)) → AreTokens σ (view s).formulas tokens → FailsFirst (statement_checks σ place s tokens) fault) → Fails σ place s fault
+pub judged-fails : (σ : State) (place : ℕ) (s : SpecStatement) (fault : Fault) → ((tokens : List (List MathToken)) → AreTokens σ (view s).formulas tokens → FailsFirst (statement_checks σ place s tokens) fault) → Fails σ place s fault
 judged-fails σ place s fault judged = let tokens = formulas-tokens σ (view s).formulas in (tokens.0, tokens.1, judged tokens.0 tokens.1)
 
 pub stand-next : (text : List ℕ) (count at : ℕ) (σ τ : State) (read : StatementRead) → StandTo text count at σ → IsRead text at read
@@ -145,7 +145,7 @@ read-spelled text from read small within (front, lexes, spells, _) =
     (front, spells, of_text text from read.end front small lexes, let long = bytes-long text from read.end front lexes in omega (arith, long, within, small))
 
 -- a statement has two lexemes at least
-signs-two : (s : Statement) → 2 ≤ length (statement_signs s)
+signs-two : (s : SpecStatement) → 2 ≤ length (statement_signs s)
 signs-two (sort_statement m n) = omega (arith, length-append (modifier_signs m) (keyword (codes "sort") ∷ name n ∷ end_signs))
 signs-two (term_statement h ts t) = omega arith
 signs-two (assert_statement k h ps c) = omega arith
@@ -161,7 +161,7 @@ read-two text from read (front, lexes, spells, _) =
     omega (arith, lexemes-long text from read.end front lexes, signs-long (statement_signs s) front spells, signs-two s)
 
 -- a statement adds one span at most
-pub after-spans : (σ : State) (place : ℕ) (s : Statement) (τ : State) → After σ place s τ → length τ.spans ≤ length σ.spans + 1
+pub after-spans : (σ : State) (place : ℕ) (s : SpecStatement) (τ : State) → After σ place s τ → length τ.spans ≤ length σ.spans + 1
 after-spans σ place (sort_statement m n) τ (d, is, same) = let e = ap (λ x. length x.spans) same in omega (arith, e, length-append σ.spans (span_at place n ∷ []))
 after-spans σ place (term_statement h ts t) τ (d, is, same) = let e = ap (λ x. length x.spans) same in omega (arith, e, length-append σ.spans (span_at place h.name ∷ []))
 after-spans σ place (assert_statement k h ps c) τ (d, is, same) = let e = ap (λ x. length x.spans) same in omega (arith, e, length-append σ.spans (span_at place h.name ∷ []))

@@ -8,7 +8,7 @@ use Rattle.mz_spec_theory.specs.declared.kind.Kind.{Kind}
 use Rattle.mz_spec_theory.specs.declared.lexeme.Lexeme.{Lexeme as LexemeRead}
 use Rattle.mz_spec_theory.specs.declared.refusal.Halt.{Halt}
 use Rattle.mz_spec_theory.specs.StatementCode.{lexeme}
-use Rattle.mz_spec_theory.specs.Statement.{Head, Level, LiteralText, Modifiers, Statement, closing_of, takes_dummies, takes_formulas}
+use Rattle.mz_spec_theory.specs.Statement.{Head, Level, LiteralText, Modifiers, SpecStatement, closing_of, takes_dummies, takes_formulas}
 use Rattle.mz_spec_theory.specs.Tests.{Test, the_keyword, the_symbol, a_name, a_name_or_blank, a_formula, a_number, only, fits}
 use Rattle.mz_spec_theory.specs.Progress.{OpenNotation, Progress, Row, beginnings, choose, group_opened, is_bare, level_rows, literal_read, moves, notation_of, open_group, opening, slot_of, sort_opened, start, tail_opened, wanted, whole, Leads}
 use Rattle.mz_spec_theory.specs.Progress as progress
@@ -79,7 +79,7 @@ pub record IsAwaited (s : Begun) (rows : List Row) (l : Lexeme) (rule : S) : Typ
   pub reached : Progress
   pub lexes : LexemesTo s.text s.from so_far at
   pub leads : Leads start so_far reached
-  pub is_open : (r : Statement) → reached ≡ whole r → ⊥
+  pub is_open : (r : SpecStatement) → reached ≡ whole r → ⊥
   pub comes : IsNext s.text at l
   pub chosen : progress.next reached l ≡ choose rows l.kind l.text l
   pub first : place_of_first (so_far ++ l ∷ []) ≡ s.place

@@ -20,7 +20,7 @@ use Rattle.mz_spec_theory.specs.declared.refusal.Fault.{Fault}
 use Rattle.mz_spec_theory.specs.declared.refusal.Halt.{Halt}
 use Rattle.mz_spec_theory.specs.declared.refusal.Halt.TheVariants as halts
 use Rattle.mz_spec_theory.specs.Reading.{OnFault}
-use Rattle.mz_spec_theory.specs.Statement.{TypeText, Head, Level, LiteralText, TailText, Statement, coercion_statement, delimiter_statement, operator_statement, notation_statement}
+use Rattle.mz_spec_theory.specs.Statement.{TypeText, Head, Level, LiteralText, TailText, SpecStatement, coercion_statement, delimiter_statement, operator_statement, notation_statement}
 use Rattle.mz_spec_rules.specs.Answers.{JudgesOrMem, JudgesStatement}
 use Rattle.mz_spec_theory.specs.Formulas.{AreTokens, inner}
 use Rattle.mz_spec_theory.specs.Forms.{ArePartsOf, MakesOperator, MakesNotation, at_statement, coercion_of, form_checks}
@@ -96,7 +96,7 @@ table-halt place cs faults.Mem before all is = tt
 -- ---- operators
 
 module _ (σ : State) (place : ℕ) (f : Fixity) (n c : Lexeme) (level : Level) where
-  abbrev operator : Statement
+  abbrev operator : SpecStatement
   operator = operator_statement f n c level
 
   -- no tokens
@@ -146,7 +146,7 @@ coercion-is σ n from to t a b x y z =
     sym (ap (λ t. make t a b) x ∙ ap (λ a. make (term_number σ n) a b) y ∙ ap (make (term_number σ n) (sort_number σ (alone from))) z)
 
 module _ (σ : State) (place : ℕ) (n from to : Lexeme) where
-  abbrev coercion : Statement
+  abbrev coercion : SpecStatement
   coercion = coercion_statement n from to
 
   abbrev made_checks : Checks NoteFault
@@ -177,7 +177,7 @@ module _ (σ : State) (place : ℕ) (n from to : Lexeme) where
 -- ---- general notations
 
 module _ (σ : State) (place : ℕ) (h : Head) (t : TypeText) (ls : List LiteralText) (last : LiteralText) (o : Option TailText) where
-  abbrev general : Statement
+  abbrev general : SpecStatement
   general = notation_statement h t ls last o
 
   judged-general : {A : Type 0} → (r : Result A Halt) → JudgesOrMem r (statement_checks σ place general []) → JudgesStatement r σ place general

@@ -12,7 +12,7 @@ use Rattle.mz_lex.specs.Kinds.{is_number_start, is_number, is_of_kind}
 use Rattle.mz_lex.specs.Lexemes.{Lexeme}
 use Rattle.mz_spec_theory.specs.declared.kind.Kind.TheVariants.{Notation}
 use Rattle.mz_spec_theory.specs.declared.kind.Fixity.{Fixity}
-use Rattle.mz_spec_theory.specs.Statement.{TypeText, Head, Level, number_level, max_level, LiteralText, constant_literal, name_literal, TailText, Statement, operator_statement, notation_statement, Sign, keyword, symbol, name, name_or_blank, formula, number, only_if, IsSign, AreSigns, each, end_signs, type_signs, group_signs, level_sign, literal_signs, tail_signs, statement_signs}
+use Rattle.mz_spec_theory.specs.Statement.{TypeText, Head, Level, number_level, level_max, LiteralText, constant_literal, name_literal, TailText, SpecStatement, operator_statement, notation_statement, Sign, keyword, symbol, name, name_or_blank, formula, number, only_if, IsSign, AreSigns, each, end_signs, type_signs, group_signs, level_sign, literal_signs, tail_signs, statement_signs}
 use Rattle.mz_spec_theory.specs.Kept.{AreOfText, IsSpelled}
 use Rattle.mz_spec_rules.specs.Noting.{IsNumeral}
 use Rattle.mz_spec_theory.specs.Dependencies.{Every}
@@ -56,14 +56,14 @@ signs-number [] (l ∷ ls) are of = absurd are
 signs-number (s ∷ ss) [] are of = absurd are
 signs-number (s ∷ ss) (l ∷ ls) (is, are) (kind, small, of) = (sign-number s l is kind, signs-number ss ls are of)
 
-spelled-numbers : (s : Statement) → IsSpelled s → Every NumberHolds (statement_signs s)
+spelled-numbers : (s : SpecStatement) → IsSpelled s → Every NumberHolds (statement_signs s)
 spelled-numbers s (ls, spells, of, few) = signs-number (statement_signs s) ls spells of
 
 -- ---- precedences
 
 level-number : (l : Level) → NumberHolds (level_sign l) → IsNumeral l
 level-number (number_level l) h = h
-level-number max_level h = tt
+level-number level_max h = tt
 
 literals-last : (ls : List LiteralText) (last : LiteralText) → Every NumberHolds (each literal_signs ls) → Every NumberHolds (literal_signs last) → Every IsNumeral (literal_levels (ls ++ last ∷ []))
 literals-last [] (constant_literal c level) a b = (level-number level b.1.1.1.0, tt)

@@ -21,14 +21,17 @@ use Rattle.mz_logic_theory.specs.declared.binder.Binder.{Binder}
 use Rattle.mz_logic_theory.specs.declared.binder.ResultType.{ResultType}
 use Rattle.mz_logic_theory.specs.declared.binder.SortMods.{SortMods}
 use Rattle.mz_logic_theory.proofs.Offered.{assertions-append, each_from_all, env_extends_append, extends_itself, legal_list_is_closed, length-signatures, range_of_sort, sort_extends, sorts-append, terms-append, terms_are_sorted}
-use Rattle.mz_spec_theory.proofs.Offered.{declares-legally}
 use Rattle.mz_spec_proved_theory.specs.declared.kind.Kind.TheVariants as kinds
 use Rattle.mz_spec_proved_theory.specs.AlphaTrees.{SameOver, AllSameOver, SameTree, SameTrees, IsPaired, SameBody}
 use Rattle.mz_spec_proved_theory.specs.Match.{partner_of, publics, publics_after, term_rows, term_row_of, kind_of, kind_of_form, form_checks, part_checks, match_checks, Agrees}
-use Rattle.mz_spec_proved_theory.specs.Headline.{IsConcrete, IsConcreteForm, Proves, stated}
+use Rattle.mz_spec_proved_theory.specs.Headline.{Proves}
+use Rattle.mz_spec_proved_theory.specs.Proved.{stated}
 use Rattle.mz_logic_theory.specs.Closed.{IsClosed}
-use Rattle.mz_spec_proved_theory.specs.ByItself.{BarsDummies}
+use Rattle.mz_spec_proved_theory.specs.ByItself.{BarsDummies, IsConcrete, IsConcreteForm}
 use Rattle.mz_spec_proved_theory.proofs.Lists.{publics-public, term_rows-append}
+use Rattle.mz_spec_proved_theory.proofs.FormedLegally.{legal-list}
+use Rattle.mz_spec_proved_theory.proofs.SameDeclared.{agree}
+use Rattle.mz_spec_proved_theory.proofs.Specifying.{specified-legal}
 use Rattle.mz_spec_proved_theory.proofs.ProvingTheorems.{legal-front, publics-skips, standing}
 use Rattle.mz_spec_proved_theory.proofs.Spelling.{Stands, kept, spelled, put, spelt, all_spelt, Within, AllWithin, within-range, within-ranges, within-more, all-within-more, spelt-more, all-spelt-more, StandsFor, Leads, OwnAxiom, spelt-sort, spelt-derives}
 
@@ -545,5 +548,5 @@ by-itself ds ss own_legal legal agrees i a at theorem concrete bars_here =
 pub follows-itself : (spec : List ℕ) (p : Proves spec) (i : ℕ) (a : Assertion) → slice_get p.declared i ≡ Some (assertion_decl a) → a.is_axiom ≡ false
     → All IsConcrete (take i p.declared) → BarsDummies (take i p.declared) → IsClosed (take i p.declared) a
 follows-itself spec p i a at theorem concrete bars =
-    by-itself p.declared p.statements (declares-legally spec p.declared p.is_spec) p.legal p.agrees i a at theorem
+    by-itself p.declared p.statements (specified-legal spec p.declared p.is_spec) (legal-list [] p.statements p.legal) (agree [] p.declared p.statements p.agrees) i a at theorem
     (λ k d there. each_from_all IsConcrete (take i p.declared) concrete k d there) bars

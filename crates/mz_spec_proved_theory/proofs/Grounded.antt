@@ -10,7 +10,8 @@ use Rattle.mz_logic_theory.specs.declared.binder.Binder.{Binder}
 use Rattle.mz_spec_proved_theory.specs.declared.kind.Kind.TheVariants as kinds
 use Rattle.mz_spec_proved_theory.specs.Match.{term_rows, kind_of}
 use Rattle.mz_spec_proved_theory.specs.AlphaTrees.{SameTrees}
-use Rattle.mz_spec_proved_theory.specs.Headline.{Follows}
+use Rattle.mz_spec_proved_theory.specs.Proved.{Follows}
+use Rattle.mz_spec_proved_theory.proofs.SameDeclared.{declaration-holds}
 
 -- ---- assertions among statements
 
@@ -49,10 +50,11 @@ axiom-kind d e a same says is = same ∙ ap kind_of says ∙ ap (λ (b : Bool). 
 pub needs-axiom : (ds : List Declaration) (ss : List Statement) (i : ℕ) (theorem : Assertion) → Follows ds ss i theorem → theorem.hyps ≡ none
     → (k : ℕ) × (d : Declaration) × (slice_get (take i ds) k ≡ Some d) × (kind_of d ≡ kinds.Axiom)
 needs-axiom ds ss i theorem f bare =
-    let nothing : f.proved.hyps ≡ none = no-hyps (term_rows 0 f.before) f.proved.hyps (subst (λ (hs : Trees). SameTrees (term_rows 0 f.before) hs f.proved.hyps) bare f.same.1.1.0) in
+    let nothing : f.proved.hyps ≡ none = no-hyps (term_rows 0 f.before) f.proved.hyps (subst (λ (hs : Trees). SameTrees (term_rows 0 f.before) hs f.proved.hyps) bare
+    (declaration-holds (term_rows 0 f.before) (assertion_decl theorem) (assertion_decl f.proved) f.same).1.1.0) in
     let (dummies, are, (d, cites, derives)) = f.closed in
     let (T, (a, at, is_axiom)) = cites-some (declarations f.before) (f.proved.params ++ dummies) d f.proved.conclusion cites
     (subst (λ (hs : Trees). Derives (declarations f.before) (f.proved.params ++ dummies) hs d f.proved.conclusion) nothing derives) in
     let (front, s, back, split, says) = among f.before T a at in
-    let (public_, (k, e, stands, all)) = f.axioms front back s a split says is_axiom in
-    (k, e, stands, axiom-kind e s.decl a all.0 says is_axiom)
+    let (public_, (k, e, stands, is)) = f.axioms front back s a split says is_axiom in
+    (k, e, stands, axiom-kind e s.decl a (declaration-holds (term_rows 0 front) e s.decl is).0 says is_axiom)

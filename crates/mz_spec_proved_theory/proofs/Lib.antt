@@ -2,6 +2,12 @@ pub mod Renaming
 pub mod SameDecided
 pub mod OwnBodies
 pub mod Lists
+pub mod FormedLegally
+pub mod SameDeclared
+pub mod TheoryVariables
+pub mod TheoryNotations
+pub mod Specifying
+pub mod WorkedExamples
 pub mod ProvingTheorems
 pub mod Grounded
 pub mod Spelling

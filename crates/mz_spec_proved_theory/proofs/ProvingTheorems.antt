@@ -9,10 +9,10 @@ use Rattle.mz_logic_theory.specs.Closed.{IsClosed}
 use Rattle.mz_logic_theory.specs.LegalLists.{Statement, declarations, gap_free, any_derivation, MayBeLocal, LegalAfter, LegalBy, Legal, DraftLegal}
 use Rattle.mz_logic_theory.proofs.Offered.{legal_at, legal_list_is_closed}
 use Rattle.mz_spec_proved_theory.specs.declared.kind.Kind.TheVariants as kinds
-use Rattle.mz_spec_proved_theory.specs.Match.{Partner, partner_of, publics_after, publics, kind_of, kind_of_form, match_checks, Agrees}
-use Rattle.mz_spec_proved_theory.specs.Headline.{AxiomsAreDeclared, stated}
-use Rattle.mz_spec_proved_theory.specs.Proved.{ProvesUngapped, TheoremsAreProved}
+use Rattle.mz_spec_proved_theory.specs.Match.{Partner, partner_of, publics_after, publics, term_rows, kind_of, kind_of_form, match_checks, Agrees}
+use Rattle.mz_spec_proved_theory.specs.Proved.{AxiomsAreDeclared, stated, ProvesUngapped, TheoremsAreProved}
 use Rattle.mz_spec_proved_theory.proofs.Lists.{publics-append, publics-public}
+use Rattle.mz_spec_proved_theory.proofs.SameDeclared.{declaration-is}
 
 -- ---- prefixes
 
@@ -112,7 +112,8 @@ axioms-declared Q ds ss legal agrees front back s b is says is_axiom =
     let stands : s.is_local ≡ false = never-local s b s.is_local refl (legal_at Q [] front back s (subst (LegalBy Q) is legal)).1 says is_axiom in
     let parts : publics ss ≡ publics front ++ partner_of front s ∷ publics_after (front ++ s ∷ []) back =
     ap publics is ∙ publics-append [] front (s ∷ back) ∙ ap (λ ps. publics front ++ ps) (publics-public front s back stands) in
-    (stands, agrees-at ds (publics front) (publics_after (front ++ s ∷ []) back) (partner_of front s) (subst (Agrees ds) parts agrees))
+    let (k, d, at, all) = agrees-at ds (publics front) (publics_after (front ++ s ∷ []) back) (partner_of front s) (subst (Agrees ds) parts agrees) in
+    (stands, (k, d, at, declaration-is (term_rows 0 front) d s.decl all))
 
 -- ---- theorems
 
@@ -163,7 +164,7 @@ theorems-proved ds ss legal agrees i a at theorem =
         proved = proved;
         after = after;
         among = among;
-        same = same;
+        same = declaration-is (term_rows 0 before) (assertion_decl a) (assertion_decl proved) same;
         axioms = axioms-declared gap_free (take i ds) before (legal-front gap_free [] before (stated proved ∷ after) whole) fewer;
         closed = legal_list_is_closed ss legal before after (stated proved) proved among refl is_theorem;
       };
@@ -197,7 +198,7 @@ ungapped-proved ds ss legal agrees i a at theorem closes =
         proved = proved;
         after = after;
         among = among;
-        same = same;
+        same = declaration-is (term_rows 0 before) (assertion_decl a) (assertion_decl proved) same;
         axioms = axioms-declared any_derivation (take i ds) before (legal-front any_derivation [] before (stated proved ∷ after) whole) fewer;
         closed = closes before after proved among is_theorem (length-agrees (take i ds) (publics before) fewer ∙ length-taken ds i (assertion_decl a) at);
       };

@@ -6,7 +6,7 @@ use Rattle.mz_logic_theory.specs.Tree.{Tree, Trees, var, app, none, more, listed
 use Rattle.mz_logic_theory.specs.Signature.{Signature}
 use Rattle.mz_logic_theory.specs.Declaration.{Declaration, sort_decl, term_decl, assertion_decl, Term, Assertion, defined, terms, signatures, assertions}
 use Rattle.mz_logic_theory.specs.Sorts.{IsBoundVar, HasSort, Fits, IsSorted}
-use Rattle.mz_logic_theory.specs.Variables.{InV, InSomeV, Apart}
+use Rattle.mz_logic_theory.specs.Variables.{InV, InSomeV, AreDisjoint}
 use Rattle.mz_logic_theory.specs.Legality.{InRange, AllInRange}
 use Rattle.mz_logic_theory.specs.Conversions.{Conversion, Conversions, refl_conv, sym_conv, cong_conv, unfold_conv, gap_conv, no_convs, more_convs, AreFresh, Between, AllBetween, GapsOnly, AllGapsOnly}
 use Rattle.mz_logic_theory.specs.Derivations.{Derivation, Derivations, hypothesis, cite, convert, gap, no_derivs, more_derivs, Derives, AllDerive, AllCiteOnly, without_gaps}
@@ -300,7 +300,7 @@ module _ (plan : List Stands) (env own : List Declaration) (leads : Leads plan e
   pub spelt-sorted : (e : Tree) → IsSorted env ctx e → IsSorted own ctx (spelt plan e)
   spelt-sorted e (s, h) = (s, spelt-sort e s h)
 
-  pub spelt-apart : (es : Trees) (ps : List Binder) → Fits (signatures env) ctx es ps → Apart ctx es ps → Apart ctx (all_spelt plan es) ps
+  pub spelt-apart : (es : Trees) (ps : List Binder) → Fits (signatures env) ctx es ps → AreDisjoint ctx es ps → AreDisjoint ctx (all_spelt plan es) ps
   spelt-apart es ps fits apart i j x p q at_i at_j is_bound is_x has =
       apart i j x p q at_i at_j is_bound (same (bound_operand (signatures env) ctx ps es fits j q at_j is_bound)) (in-spelt plan ctx x (operand es i) (subst (InV ctx x) (here i p at_i) has))
     where
@@ -422,7 +422,7 @@ module _ (plan : List Stands) (env own : List Declaration) (leads : Leads plan e
             own_axiom.2,
             ap (spelt plan) is ∙ instance-spelt es a.params fits a.conclusion ax.1 ∙ ap (instance (all_spelt plan es)) (sym own_axiom.6),
             subst (Fits (signatures own) ctx (all_spelt plan es)) (sym own_axiom.4) (spelt-fit es a.params fits),
-            subst (Apart ctx (all_spelt plan es)) (sym own_axiom.4) (spelt-apart es a.params fits apart),
+            subst (AreDisjoint ctx (all_spelt plan es)) (sym own_axiom.4) (spelt-apart es a.params fits apart),
             subst (AllDerive own ctx (all_spelt plan hyps) rest.0) (instances-spelt es a.params fits a.hyps ax.0 ∙ ap (instances (all_spelt plan es)) (sym own_axiom.5)) rest.2,
           ),
         )

@@ -1,6 +1,12 @@
 pub mod AlphaTrees
 pub mod Comparison
 pub mod Match
+pub mod WellFormed
+pub mod Declares
+pub mod Theory
+pub mod MathStrings
+pub mod NotationTexts
+pub mod Specifies
 pub mod Headline
 pub mod ByItself
 pub mod Proved

@@ -5,7 +5,7 @@ use Rattle.mz_base.specs.Checks.{Checks, ◌>>◌, AllHold, FailsFirst, each_in_
 use Rattle.mz_base.proofs.Offered.{all_hold-both, all_hold-first}
 use Rattle.mz_logic_theory.proofs.Offered.{sorts-few, terms-few}
 use Rattle.mz_spec_theory.specs.Reading.{OnFault}
-use Rattle.mz_spec_theory.specs.Statement.{TypeText, Statement}
+use Rattle.mz_spec_theory.specs.Statement.{TypeText, SpecStatement}
 use Rattle.mz_spec_theory.specs.declared.refusal.Fault.{Fault}
 use Rattle.mz_spec_theory.specs.declared.refusal.Halt.{Halt}
 use Rattle.mz_spec_variables.specs.Code.{AreParts, variable}
@@ -52,7 +52,7 @@ few-sorts σ kept few = let a = kept.sorts in let b = kept.spans in omega (arith
 pub few-terms : (σ : State) → IsKept σ → length σ.spans + 1 < 2 ^ 32 → length σ.term_names < 2 ^ 32
 few-terms σ kept few = let a = kept.terms in let b = kept.spans in omega (arith, a, b, terms-few σ.env, few)
 
-pub few-params : (s : Statement) (p : Parts) → IsSpelled s → AreParts p (view s).variables (view s).types (view s).result → length p.params.items + length p.dummies.items < 2 ^ 32
+pub few-params : (s : SpecStatement) (p : Parts) → IsSpelled s → AreParts p (view s).variables (view s).types (view s).result → length p.params.items + length p.dummies.items < 2 ^ 32
 few-params s p spelled parts =
     let a = ap length parts.params in
     let b = ap length parts.dummies in
@@ -61,7 +61,7 @@ few-params s p spelled parts =
     omega (arith, a, b, c, d, parts-few s spelled)
 
 -- the names of the parts are names of their own
-pub parts-names : (σ : State) (place : ℕ) (s : Statement) (p : Parts) → IsSpelled s → AreParts p (view s).variables (view s).types (view s).result → AllHold (parts_rules σ place (view s).variables (view s).types (view s).result)
+pub parts-names : (σ : State) (place : ℕ) (s : SpecStatement) (p : Parts) → IsSpelled s → AreParts p (view s).variables (view s).types (view s).result → AllHold (parts_rules σ place (view s).variables (view s).types (view s).result)
     → AreVariables (map variable_bytes (map variable p.params.items) ++ map variable_bytes (map variable p.dummies.items))
 parts-names σ place s p spelled parts holds =
     let vs = (view s).variables in

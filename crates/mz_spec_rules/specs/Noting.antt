@@ -4,7 +4,7 @@ use Rattle.std.specs.List.{list_all}
 use Rattle.mz_base.specs.Identifiers.{is_digit}
 use Rattle.mz_lex.specs.Lexemes.{Lexeme}
 use Rattle.mz_base.specs.Checks.{Checks, each_in_order, ◌>>◌}
-use Rattle.mz_spec_theory.specs.Statement.{TypeText, Level, number_level, max_level}
+use Rattle.mz_spec_theory.specs.Statement.{TypeText, Level, number_level, level_max}
 use Rattle.mz_spec_theory.specs.declared.refusal.Fault.{Fault}
 use Rattle.mz_spec_theory.specs.View.{Variable, names_of}
 use Rattle.mz_spec_theory.specs.State.{State}
@@ -13,7 +13,7 @@ use Rattle.mz_spec_theory.specs.Rules.{are_others, is_known, type_checks, binder
 -- a precedence that is a number is written in digits
 abbrev pub IsNumeral : Level → Type 0
 IsNumeral (number_level l) = IsTrue (list_all is_digit l.text)
-IsNumeral max_level = ⊤
+IsNumeral level_max = ⊤
 
 -- what is asked of a general notation for its variables, its term and its types
 abbrev pub named_rules : State → Lexeme → List Variable → List TypeText → Checks Fault

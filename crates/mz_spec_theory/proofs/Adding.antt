@@ -7,7 +7,7 @@ use Rattle.std.proofs.lemmas.Option.{same_Some, none-some}
 use Rattle.mz_lex.specs.Lexemes.{Lexeme}
 use Rattle.mz_spec_theory.specs.declared.kind.Kind.{Kind}
 use Rattle.mz_spec_theory.specs.declared.kind.Kind.TheVariants.{Term, Assert, Definition, Notation}
-use Rattle.mz_spec_theory.specs.Statement.{Modifiers, Head, TypeText, Source, type_source, formula_source, LiteralText, Level, number_level, max_level, Statement, Sign, keyword, symbol, name, name_or_blank, formula, number, only_if, IsSign, AreSigns, each, modifier_signs, type_signs, takes_dummies, takes_formulas, opening_of, closing_of, name_signs, group_source_signs, group_signs, keyword_of, head_signs, argument_signs, premise_signs, fixity_keyword, level_sign, literal_signs, tail_signs, statement_signs, Spells}
+use Rattle.mz_spec_theory.specs.Statement.{Modifiers, Head, TypeText, Source, type_source, formula_source, LiteralText, Level, number_level, level_max, SpecStatement, Sign, keyword, symbol, name, name_or_blank, formula, number, only_if, IsSign, AreSigns, each, modifier_signs, type_signs, takes_dummies, takes_formulas, opening_of, closing_of, name_signs, group_source_signs, group_signs, keyword_of, head_signs, argument_signs, premise_signs, fixity_keyword, level_sign, literal_signs, tail_signs, statement_signs, Spells}
 use Rattle.mz_spec_theory.specs.Tests.{the_symbol, fits}
 use Rattle.mz_spec_theory.specs.Progress.{OpenGroup, OpenNotation, Slot, group_slot, argument_slot, premise_slot, definition_slot, notation_slot, Progress, opening, sort_opened, sort_named, head_opened, headed, group_opened, group_dotted, wanted, typed, hypothesis, claimed, body_opened, defined, operator_opened, operator_named, constant_wanted, constant_read, level_wanted, level_read, coercion_opened, coercion_named, from_wanted, from_read, to_wanted, to_read, delimiter_opened, left_read, right_read, literal_wanted, literal_read, literal_opened, literal_constant, literal_colon, literal_level, tail_opened, tail_level, tail_read, whole, start, Row, is_bare, beginnings, slot_of, formula_rows, type_rows, level_rows, literal_rows, with_dep, with_name, group_of, closed, with_literal, notation_of, moves, choose, next, Leads}
 use Rattle.mz_spec_theory.proofs.Fitting.{IsFit, fits-is}
@@ -247,7 +247,7 @@ dep-adds slot t l = ap (λ ys. slot_signs slot ++ name t.sort ∷ ys) (each-last
 -- ---- notations
 
 level-adds : (p : Progress) (f : Level → Progress) → ((level : Level) → signs_of (f level) ≡ signs_of p ++ level_sign level ∷ []) → AllAdd p (level_rows f)
-level-adds p f same = ((λ l fit. (number l, (fit, refl), same (number_level l))), ((λ l fit. (keyword (codes "max"), fit, same max_level)), tt))
+level-adds p f same = ((λ l fit. (number l, (fit, refl), same (number_level l))), ((λ l fit. (keyword (codes "max"), fit, same level_max)), tt))
 
 literal-adds : (p : Progress) (n : OpenNotation) (rows : List Row) → signs_of p ≡ in_notation n → AllAdd p rows → AllAdd p (literal_rows n rows)
 literal-adds p n rows same all = (
@@ -363,5 +363,5 @@ leads-signs p q ks (l ∷ ls) are (r, e, rest) =
     subst (AreSigns (signs_of q)) (append_assoc ks (l ∷ []) ls) (leads-signs r q (ks ++ l ∷ []) ls more rest)
 
 -- lexemes that lead to a whole statement spell it
-pub leads-spells : (s : Statement) (ls : List Lexeme) → Leads start ls (whole s) → Spells s ls
+pub leads-spells : (s : SpecStatement) (ls : List Lexeme) → Leads start ls (whole s) → Spells s ls
 leads-spells s ls leads = leads-signs start (whole s) [] ls tt leads

@@ -13,7 +13,7 @@ use Rattle.mz_math_theory.specs.Forms.{General, IsGeneral, notation_checks, coer
 use Rattle.mz_math_theory.proofs.Offered.{delimiters-judged, coercions-judged, infix-judged, prefix-judged, general-judged}
 use Rattle.mz_spec_theory.specs.declared.kind.Fixity.{Fixity}
 use Rattle.mz_spec_theory.specs.declared.kind.Fixity.TheVariants as fixities
-use Rattle.mz_spec_theory.specs.Statement.{TypeText, Head, Level, LiteralText, constant_literal, name_literal, TailText, Statement, sort_statement, term_statement, assert_statement, definition_statement, operator_statement, coercion_statement, delimiter_statement, notation_statement}
+use Rattle.mz_spec_theory.specs.Statement.{TypeText, Head, Level, LiteralText, constant_literal, name_literal, TailText, SpecStatement, sort_statement, term_statement, assert_statement, definition_statement, operator_statement, coercion_statement, delimiter_statement, notation_statement}
 use Rattle.mz_spec_theory.specs.View.{variables_of}
 use Rattle.mz_spec_theory.specs.State.{State, term_number, scope_of, signature_of}
 use Rattle.mz_spec_theory.specs.Formulas.{inner}
@@ -118,7 +118,7 @@ module _ (σ : State) (kept : IsKept σ) where
   operator-judged fixities.InfixRight n c level = infix-judged σ.table kept.table (signatures σ.env) (term_number σ n) (inner c) (level_of level) true
   operator-judged fixities.Prefix n c level = prefix-judged σ.table kept.table (signatures σ.env) (term_number σ n) (inner c) (level_of level)
 
-  pub form-judged : (place : ℕ) (s : Statement) → Judged (form_checks σ place s)
+  pub form-judged : (place : ℕ) (s : SpecStatement) → Judged (form_checks σ place s)
   form-judged place (sort_statement m n) = inl tt
   form-judged place (term_statement h ts t) = inl tt
   form-judged place (assert_statement k h ps c) = inl tt

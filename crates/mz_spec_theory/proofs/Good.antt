@@ -3,7 +3,7 @@ use Rattle.std.proofs.Common.{List, [], ℕ}
 use Rattle.mz_base.specs.Checks.{each_in_order, ◌>>◌, AllHold}
 use Rattle.mz_base.proofs.Offered.{all_hold-first, all_hold-rest}
 use Rattle.mz_lex.specs.declared.tokens.MathToken.{MathToken}
-use Rattle.mz_spec_theory.specs.Statement.{Statement}
+use Rattle.mz_spec_theory.specs.Statement.{SpecStatement}
 use Rattle.mz_spec_theory.specs.View.{view, names_of, dummies_of}
 use Rattle.mz_spec_theory.specs.State.{State}
 use Rattle.mz_spec_theory.specs.Formulas.{strings_checks, free_checks}
@@ -11,7 +11,10 @@ use Rattle.mz_spec_theory.specs.Forms.{form_checks}
 use Rattle.mz_spec_theory.specs.Dependencies.{Every}
 use Rattle.mz_spec_theory.specs.Rules.{is_level, is_new, are_others, is_known, type_checks, name_rules, use_rules, HaveBinders, binder_rules, body_rules, statement_checks, IsDummySort, IsNotPure}
 
-module _ (σ : State) (place : ℕ) (s : Statement) (tokens : List (List MathToken)) (good : AllHold (statement_checks σ place s tokens)) where
+module _ (σ : State) (place : ℕ) (s : SpecStatement) (tokens : List (List MathToken)) (good : AllHold (statement_checks σ place s tokens)) where
+  pub good-levels : AllHold (each_in_order is_level (view s).levels)
+  good-levels = all_hold-first (each_in_order is_level (view s).levels) _ good
+
   behind_levels : AllHold (name_rules σ (view s) >> use_rules σ (view s) >> binder_rules σ place (view s).variables (view s).result >> body_rules σ place (view s).variables (view s).formulas tokens >> form_checks σ place s)
   behind_levels = all_hold-rest (each_in_order is_level (view s).levels) _ good
 

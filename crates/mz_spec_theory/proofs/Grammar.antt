@@ -10,7 +10,7 @@ use Rattle.mz_spec_theory.specs.declared.kind.AssertKind.{AssertKind}
 use Rattle.mz_spec_theory.specs.declared.kind.Kind.{Kind}
 use Rattle.mz_spec_theory.specs.declared.kind.Kind.TheVariants.{Term, Assert, Definition, Notation}
 use Rattle.mz_spec_theory.specs.declared.kind.Fixity.{Fixity}
-use Rattle.mz_spec_theory.specs.Statement.{Modifiers, TypeText, Source, type_source, formula_source, Head, Level, max_level, LiteralText, name_literal, constant_literal, TailText, Statement, sort_statement, term_statement, assert_statement, definition_statement, operator_statement, coercion_statement, delimiter_statement, notation_statement, closing_of, Spells, IsStatement, IsPrefix}
+use Rattle.mz_spec_theory.specs.Statement.{Modifiers, TypeText, Source, type_source, formula_source, Head, Level, level_max, LiteralText, name_literal, constant_literal, TailText, SpecStatement, sort_statement, term_statement, assert_statement, definition_statement, operator_statement, coercion_statement, delimiter_statement, notation_statement, closing_of, Spells, IsStatement, IsPrefix}
 use Rattle.mz_spec_theory.specs.Progress.{OpenGroup, OpenNotation, Slot, group_slot, argument_slot, premise_slot, definition_slot, notation_slot, Progress, opening, sort_opened, sort_named, head_opened, headed, group_opened, group_dotted, wanted, typed, hypothesis, claimed, body_opened, defined, operator_opened, operator_named, constant_wanted, constant_read, level_wanted, level_read, coercion_opened, coercion_named, from_wanted, from_read, to_wanted, to_read, delimiter_opened, left_read, right_read, literal_wanted, literal_read, literal_opened, literal_constant, literal_colon, literal_level, tail_opened, tail_level, tail_read, whole, start, bare, without_deps, with_name, closed, open_notation, slot_of, moves, choose, next, Leads}
 use Rattle.mz_spec_theory.proofs.Adding.{leads-spells}
 use Rattle.mz_spec_theory.proofs.Leading.{leads-append, spells-leads, closes}
@@ -28,7 +28,7 @@ leads-one p q r (l ∷ ls) (s, e, a) (t, f, b) = leads-one s q r ls a (subst (λ
 -- ---- each progress can be finished
 
 abbrev Finish : Progress → Type 0
-Finish p = (rest : List Lexeme) × (s : Statement) × Leads p rest (whole s)
+Finish p = (rest : List Lexeme) × (s : SpecStatement) × Leads p rest (whole s)
 
 -- some lexeme of this kind
 abbrev sample : TokenKind → List ℕ → Lexeme
@@ -51,7 +51,7 @@ by-formula : (p q : Progress) → choose (moves p) kinds.Math (codes "$$") (samp
 by-formula p q e more = finish-next p q (sample kinds.Math (codes "$$")) e more
 
 -- `;` ends it
-by-end : (p : Progress) (s : Statement) → choose (moves p) kinds.Symbol (codes ";") (sample kinds.Symbol (codes ";")) ≡ Some (whole s) → Finish p
+by-end : (p : Progress) (s : SpecStatement) → choose (moves p) kinds.Symbol (codes ";") (sample kinds.Symbol (codes ";")) ≡ Some (whole s) → Finish p
 by-end p s e = finish-next p (whole s) (sample kinds.Symbol (codes ";")) e ([], s, refl)
 
 abbrev the_name : Lexeme
@@ -107,7 +107,7 @@ finish-level : (f : Fixity) (n c : Lexeme) (level : Level) → Finish (level_rea
 finish-level f n c level = by-end _ (operator_statement f n c level) refl
 
 finish-prec : (f : Fixity) (n c : Lexeme) → Finish (level_wanted f n c)
-finish-prec f n c = by-keyword _ (level_read f n c max_level) (codes "max") refl (finish-level f n c max_level)
+finish-prec f n c = by-keyword _ (level_read f n c level_max) (codes "max") refl (finish-level f n c level_max)
 
 finish-constant : (f : Fixity) (n c : Lexeme) → Finish (constant_read f n c)
 finish-constant f n c = by-keyword _ (level_wanted f n c) (codes "prec") refl (finish-prec f n c)
@@ -140,7 +140,7 @@ finish-literal_level : (n : OpenNotation) (c : Lexeme) (level : Level) → Finis
 finish-literal_level n c level = by-symbol _ (literal_read n (constant_literal c level)) (codes ")") refl (finish-literal n (constant_literal c level))
 
 finish-literal_colon : (n : OpenNotation) (c : Lexeme) → Finish (literal_colon n c)
-finish-literal_colon n c = by-keyword _ (literal_level n c max_level) (codes "max") refl (finish-literal_level n c max_level)
+finish-literal_colon n c = by-keyword _ (literal_level n c level_max) (codes "max") refl (finish-literal_level n c level_max)
 
 finish-literal_constant : (n : OpenNotation) (c : Lexeme) → Finish (literal_constant n c)
 finish-literal_constant n c = by-symbol _ (literal_colon n c) (codes ":") refl (finish-literal_colon n c)
@@ -196,7 +196,7 @@ finish (literal_opened n) = by-formula _ (literal_constant n the_formula) refl (
 finish (literal_constant n c) = finish-literal_constant n c
 finish (literal_colon n c) = finish-literal_colon n c
 finish (literal_level n c level) = finish-literal_level n c level
-finish (tail_opened n x) = by-keyword _ (tail_level n x max_level) (codes "max") refl (finish-tail_level n x max_level)
+finish (tail_opened n x) = by-keyword _ (tail_level n x level_max) (codes "max") refl (finish-tail_level n x level_max)
 finish (tail_level n x level) = finish-tail_level n x level
 finish (tail_read n x tail) = finish-tail n x tail
 finish (whole s) = ([], s, refl)
@@ -219,9 +219,9 @@ misfit-prefix q ls l leads no_next fits =
 
 -- more lexemes are wanted
 abbrev pub IsOpen : Progress → Type 0
-IsOpen p = (s : Statement) → p ≡ whole s → ⊥
+IsOpen p = (s : SpecStatement) → p ≡ whole s → ⊥
 
-pub whole-or-open : (p : Progress) → IsOpen p ⊎ ((s : Statement) × (whole s ≡ p))
+pub whole-or-open : (p : Progress) → IsOpen p ⊎ ((s : SpecStatement) × (whole s ≡ p))
 whole-or-open (opening x) = inl (λ s e. cc)
 whole-or-open (sort_opened x) = inl (λ s e. cc)
 whole-or-open (sort_named x y) = inl (λ s e. cc)
@@ -265,7 +265,7 @@ whole-or-open (whole s) = inr (s, refl)
 pub open-statement : (q : Progress) (ls : List Lexeme) → Leads start ls q → IsOpen q → IsStatement ls → ⊥
 open-statement q ls leads is_open (s, spells) = is_open s (leads-one start q (whole s) ls leads (spells-leads s ls spells))
 
-whole-one : (s r : Statement) → whole s ≡ whole r → s ≡ r
+whole-one : (s r : SpecStatement) → whole s ≡ whole r → s ≡ r
 whole-one s r e = cc
 
 head-same : (l m : Lexeme) (ls ms : List Lexeme) → l ∷ ls ≡ m ∷ ms → l ≡ m
@@ -274,10 +274,10 @@ head-same l m ls ms e = cc
 tail-same : (l m : Lexeme) (ls ms : List Lexeme) → l ∷ ls ≡ m ∷ ms → ls ≡ ms
 tail-same l m ls ms e = cc
 
-whole-next : (p : Progress) (s : Statement) (l : Lexeme) (q : Progress) → whole s ≡ p → next p l ≡ Some q → ⊥
+whole-next : (p : Progress) (s : SpecStatement) (l : Lexeme) (q : Progress) → whole s ≡ p → next p l ≡ Some q → ⊥
 whole-next p s l q is e = none-some q (ap (λ r. next r l) is ∙ e)
 
-fronts-one : (p : Progress) (s r : Statement) (xs us ys vs : List Lexeme) → Leads p xs (whole s) → Leads p ys (whole r) → xs ++ us ≡ ys ++ vs
+fronts-one : (p : Progress) (s r : SpecStatement) (xs us ys vs : List Lexeme) → Leads p xs (whole s) → Leads p ys (whole r) → xs ++ us ≡ ys ++ vs
     → (s ≡ r) × (xs ≡ ys) × (us ≡ vs)
 fronts-one p s r [] us [] vs a b same = (whole-one s r (a ∙ sym b), refl, same)
 fronts-one p s r [] us (y ∷ ys) vs a (q, e, b) same = absurd (whole-next p s y q a e)
@@ -289,12 +289,12 @@ fronts-one p s r (x ∷ xs) us (y ∷ ys) vs (q, e, a) (t, f, b) same =
     (rest.0, ap₂ ◌∷◌ x_is rest.1, rest.2)
 
 -- lexemes begin with one statement at most
-pub statements-one : (s r : Statement) (xs us ys vs : List Lexeme) → Spells s xs → Spells r ys → xs ++ us ≡ ys ++ vs → (s ≡ r) × (xs ≡ ys) × (us ≡ vs)
+pub statements-one : (s r : SpecStatement) (xs us ys vs : List Lexeme) → Spells s xs → Spells r ys → xs ++ us ≡ ys ++ vs → (s ≡ r) × (xs ≡ ys) × (us ≡ vs)
 statements-one s r xs us ys vs a b same = fronts-one start s r xs us ys vs (spells-leads s xs a) (spells-leads r ys b) same
 
 -- no statement is empty
-pub no-empty : (s : Statement) → Spells s [] → ⊥
+pub no-empty : (s : SpecStatement) → Spells s [] → ⊥
 no-empty s spells = start-whole s (spells-leads s [] spells)
   where
-    start-whole : (s : Statement) → whole s ≡ start → ⊥
+    start-whole : (s : SpecStatement) → whole s ≡ start → ⊥
     start-whole s e = cc

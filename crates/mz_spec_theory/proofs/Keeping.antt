@@ -25,7 +25,7 @@ use Rattle.mz_math_theory.specs.Laws.{IsNoted}
 use Rattle.mz_math_theory.specs.Kept.{IsTable, AreVariables}
 use Rattle.mz_math_theory.proofs.Offered.{notations-keep, empty-is, name-is, coercion-is, delimiters-is, infix-one, prefix-one, general-one}
 use Rattle.mz_spec_theory.specs.declared.kind.Fixity.TheVariants as fixities
-use Rattle.mz_spec_theory.specs.Statement.{TypeText, Head, LiteralText, constant_literal, name_literal, TailText, Statement, sort_statement, term_statement, assert_statement, definition_statement, operator_statement, coercion_statement, delimiter_statement, notation_statement}
+use Rattle.mz_spec_theory.specs.Statement.{TypeText, Head, LiteralText, constant_literal, name_literal, TailText, SpecStatement, sort_statement, term_statement, assert_statement, definition_statement, operator_statement, coercion_statement, delimiter_statement, notation_statement}
 use Rattle.mz_base.specs.Names.{IsNew}
 use Rattle.mz_spec_theory.specs.View.{view}
 use Rattle.mz_spec_theory.specs.State.{State, nothing, with_sort, with_term, with_assertion, with_table, scope_of, span_at, term_number}
@@ -149,7 +149,7 @@ general-other σ h t ls tail f g k (term_f, names_f, binders_f, result_f, lits_f
   begins = subst (λ q. Begins k.elements q k.level k.is_right) (tail_f ∙ sym tail_g) is.begins;
 }
 
-pub makes-one : (σ : State) (s : Statement) → AreVariables (scope_of σ (view s).variables).names → (k l : Notation) → MakesNotation σ s k → MakesNotation σ s l → k ≡ l
+pub makes-one : (σ : State) (s : SpecStatement) → AreVariables (scope_of σ (view s).variables).names → (k l : Notation) → MakesNotation σ s k → MakesNotation σ s l → k ≡ l
 makes-one σ (sort_statement m n) vars k l a b = absurd a
 makes-one σ (term_statement h ts t) vars k l a b = absurd a
 makes-one σ (assert_statement q h ps c) vars k l a b = absurd a
@@ -162,7 +162,7 @@ makes-one σ (delimiter_statement left right) vars k l a b = absurd a
 makes-one σ (notation_statement h t ls last tail) vars k l (f, parts_f, is_f) (g, parts_g, is_g) =
     general-one (signatures σ.env) σ.table.delimiters g (subst AreVariables (sym parts_g.1) vars).distinct k l (general-other σ h t (ls ++ last ∷ []) tail f g k parts_f parts_g is_f) is_g
 
-makes-noted : (σ : State) (s : Statement) (k : Notation) → MakesNotation σ s k → IsNoted (signatures σ.env) σ.table.delimiters k
+makes-noted : (σ : State) (s : SpecStatement) (k : Notation) → MakesNotation σ s k → IsNoted (signatures σ.env) σ.table.delimiters k
 makes-noted σ (sort_statement m n) k a = absurd a
 makes-noted σ (term_statement h ts t) k a = absurd a
 makes-noted σ (assert_statement q h ps c) k a = absurd a
@@ -178,7 +178,7 @@ makes-noted σ (notation_statement h t ls last tail) k (g, parts, is) = inr (inr
 
 module _ (σ : State) (place : ℕ) (kept : IsKept σ) where
   -- with a notation that a statement makes, where the table stays clear
-  kept-notation : (s : Statement) (k l : Notation) → AreVariables (scope_of σ (view s).variables).names → MakesNotation σ s k → MakesNotation σ s l → IsClear (with_notation σ.table l).leading (with_notation σ.table l).infixes
+  kept-notation : (s : SpecStatement) (k l : Notation) → AreVariables (scope_of σ (view s).variables).names → MakesNotation σ s k → MakesNotation σ s l → IsClear (with_notation σ.table l).leading (with_notation σ.table l).infixes
       → IsKept (with_table σ (with_notation σ.table k))
   kept-notation s k l vars makes other clear =
       let same = makes-one σ s vars l k other makes in
@@ -192,7 +192,7 @@ module _ (σ : State) (place : ℕ) (kept : IsKept σ) where
       kept-table σ (with_coercion σ.table c) kept (coercion-is σ.table c kept.table one) refl
       (λ e has. elim (Contains-push_cases σ.table.coercions c e has) [ inl old ↦ kept.coercions e old | inr same ↦ subst (IsCoercion (signatures σ.env)) same is ])
 
-  pub kept-written : (s : Statement) (τ : State) → IsWritten s → IsGood σ place s → After σ place s τ → IsKept τ
+  pub kept-written : (s : SpecStatement) (τ : State) → IsWritten s → IsGood σ place s → After σ place s τ → IsKept τ
   kept-written (sort_statement m n) τ spelled (tokens, cut, good) (d, is, same) =
       let legal = legal-written σ place kept (sort_statement m n) d tokens spelled good is in
       subst IsKept (sym same) (kept-sort σ place n d kept legal (ap (λ x. length (sorts (x ∷ []))) is) (ap (λ x. length (signatures (x ∷ []))) is))
@@ -226,7 +226,7 @@ module _ (σ : State) (place : ℕ) (kept : IsKept σ) where
       subst IsKept (sym (same ∙ ap (with_table σ) is)) (kept-notation s k form.1.0.0 vars makes form.1.0.1 form.1.0.2)
 
   -- the same of lexemes of a text
-  pub kept-after : (s : Statement) (τ : State) → IsSpelled s → IsGood σ place s → After σ place s τ → IsKept τ
+  pub kept-after : (s : SpecStatement) (τ : State) → IsSpelled s → IsGood σ place s → After σ place s τ → IsKept τ
   kept-after s τ spelled good after = kept-written s τ (spelled-written s spelled) good after
 
 pub kept-nothing : IsKept nothing

@@ -11,7 +11,7 @@ use Rattle.mz_spec_theory.specs.declared.kind.Kind.{Kind}
 use Rattle.mz_spec_theory.specs.declared.kind.Kind.TheVariants.{Term, Assert, Definition, Notation}
 use Rattle.mz_spec_theory.specs.declared.kind.Fixity.{Fixity}
 use Rattle.mz_spec_theory.specs.declared.kind.Fixity.TheVariants.{InfixLeft, InfixRight, Prefix}
-use Rattle.mz_spec_theory.specs.Statement.{Modifiers, TypeText, Source, type_source, formula_source, NameText, Group, Head, Level, number_level, max_level, LiteralText, constant_literal, name_literal, TailText, Statement, sort_statement, term_statement, assert_statement, definition_statement, operator_statement, coercion_statement, delimiter_statement, notation_statement, Sign, keyword, symbol, name, name_or_blank, formula, number, only_if, IsSign, AreSigns, each, optional, end_signs, modifier_signs, type_signs, takes_dummies, takes_formulas, opening_of, closing_of, dot_signs, name_signs, group_source_signs, group_signs, keyword_of, head_signs, argument_signs, premise_signs, body_signs, fixity_keyword, level_sign, literal_signs, side_of, tail_signs, second_signs, statement_signs, Spells}
+use Rattle.mz_spec_theory.specs.Statement.{Modifiers, TypeText, Source, type_source, formula_source, NameText, Group, Head, Level, number_level, level_max, LiteralText, constant_literal, name_literal, TailText, SpecStatement, sort_statement, term_statement, assert_statement, definition_statement, operator_statement, coercion_statement, delimiter_statement, notation_statement, Sign, keyword, symbol, name, name_or_blank, formula, number, only_if, IsSign, AreSigns, each, optional, end_signs, modifier_signs, type_signs, takes_dummies, takes_formulas, opening_of, closing_of, dot_signs, name_signs, group_source_signs, group_signs, keyword_of, head_signs, argument_signs, premise_signs, body_signs, fixity_keyword, level_sign, literal_signs, side_of, tail_signs, second_signs, statement_signs, Spells}
 use Rattle.mz_spec_theory.specs.Tests.{the_symbol, a_formula, only}
 use Rattle.mz_spec_theory.specs.Progress.{OpenGroup, OpenNotation, Slot, group_slot, argument_slot, premise_slot, definition_slot, notation_slot, Progress, opening, sort_named, head_opened, headed, group_opened, group_dotted, wanted, typed, hypothesis, claimed, defined, operator_opened, operator_named, constant_read, level_read, coercion_named, from_read, to_read, left_read, right_read, literal_read, literal_opened, literal_constant, literal_level, tail_level, whole, start, bare, without_deps, open_group, with_group, closed, open_notation, with_literal, notation_of, level_rows, moves, choose, next, Leads}
 
@@ -38,7 +38,7 @@ pub leads-append : (p q r : Progress) (ls ms : List Lexeme) → Leads p ls q →
 leads-append p q r [] ms here there = subst (λ x. Leads x ms r) here there
 leads-append p q r (l ∷ ls) ms (s, e, rest) there = (s, e, leads-append s q r ls ms rest there)
 
-signs-split : (xs ys : List Sign) (ls : List Lexeme) → AreSigns (xs ++ ys) ls → (front : List Lexeme) × (back : List Lexeme) × (ls ≡ front ++ back) × AreSigns xs front × AreSigns ys back
+pub signs-split : (xs ys : List Sign) (ls : List Lexeme) → AreSigns (xs ++ ys) ls → (front : List Lexeme) × (back : List Lexeme) × (ls ≡ front ++ back) × AreSigns xs front × AreSigns ys back
 signs-split [] ys ls are = ([], ls, refl, tt, are)
 signs-split (x ∷ xs) ys [] are = absurd are
 signs-split (x ∷ xs) ys (l ∷ ls) (is, are) = let (front, back, same, first, second) = signs-split xs ys ls are in (l ∷ front, back, ap (λ ms. l ∷ ms) same, (is, first), second)
@@ -201,7 +201,7 @@ body-goes h t (Some f) = by-symbol (codes "=") (λ l. refl) (by-formula f (λ l.
 
 level-goes : {p r : Progress} {xs : List Sign} (level : Level) (f : Level → Progress) → moves p ≡ level_rows f → Goes (f level) r xs → Goes p r (level_sign level ∷ xs)
 level-goes {p} (number_level u) f rows rest = by-number u (λ l. f (number_level l)) (λ text l. ap (λ rs. choose rs kinds.Number text l) rows) rest
-level-goes {p} max_level f rows rest = by-keyword (codes "max") (λ l. ap (λ rs. choose rs kinds.Name (codes "max") l) rows) rest
+level-goes {p} level_max f rows rest = by-keyword (codes "max") (λ l. ap (λ rs. choose rs kinds.Name (codes "max") l) rows) rest
 
 abbrev notation_with : Head → TypeText → List LiteralText → OpenNotation
 notation_with h t xs = record { head = h; result = t; literals = xs }
@@ -252,7 +252,7 @@ second-goes : (left : Lexeme) (right : Option Lexeme) → Goes (left_read left) 
 second-goes left None = ends (λ l. refl)
 second-goes left (Some right) = by-formula right (λ l. right_read left l) (λ text l. refl) (ends (λ l. refl))
 
-statement-goes : (s : Statement) → Goes start (whole s) (statement_signs s)
+statement-goes : (s : SpecStatement) → Goes start (whole s) (statement_signs s)
 statement-goes (sort_statement m n) = goes-on (modifiers-go m) (by-keyword (codes "sort") (λ l. refl) (by-name n (λ l. sort_named m l) (λ text l. refl) (ends (λ l. refl))))
 statement-goes (term_statement h ts t) =
     goes-on (head-goes Term h)
@@ -282,5 +282,5 @@ statement-goes (notation_statement h t xs x tail) =
     (by-symbol (codes "=") (λ l. refl) (literals-go (open_notation h t) xs x ((λ text l. refl), (λ l. refl)) (tail-goes (notation_with h t xs) x tail)))))
 
 -- lexemes that spell a statement lead to it
-pub spells-leads : (s : Statement) (ls : List Lexeme) → Spells s ls → Leads start ls (whole s)
+pub spells-leads : (s : SpecStatement) (ls : List Lexeme) → Spells s ls → Leads start ls (whole s)
 spells-leads s ls are = (statement-goes s).leads ls are

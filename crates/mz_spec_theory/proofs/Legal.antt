@@ -21,7 +21,7 @@ use Rattle.mz_lex.specs.declared.tokens.MathToken.{MathToken}
 use Rattle.mz_math_theory.specs.declared.wanted.Wanted.TheVariants.{Sort as of_sort}
 use Rattle.mz_math_theory.specs.Kept.{IsTable, AreVariables}
 use Rattle.mz_math_theory.proofs.Offered.{one-meaning}
-use Rattle.mz_spec_theory.specs.Statement.{TypeText, Source, type_source, formula_source, NameText, Group, Head, Statement, sort_statement, term_statement, assert_statement, definition_statement, operator_statement, coercion_statement, delimiter_statement, notation_statement}
+use Rattle.mz_spec_theory.specs.Statement.{TypeText, Source, type_source, formula_source, NameText, Group, Head, SpecStatement, sort_statement, term_statement, assert_statement, definition_statement, operator_statement, coercion_statement, delimiter_statement, notation_statement}
 use Rattle.mz_spec_theory.specs.declared.kind.AssertKind.{AssertKind}
 use Rattle.mz_base.specs.Names.{IsKnown}
 use Rattle.mz_spec_theory.specs.View.{Variable, Stated, claim, body, view, variable_of, source_variables, group_variables, variables_of, unnamed, source_types, types_of, group_types, stated_of, names_of, params_of, dummies_of, is_among}
@@ -64,7 +64,7 @@ types-known : (σ : State) (names : List (List ℕ)) (ts : List TypeText) → Al
 types-known σ names [] all = tt
 types-known σ names (t ∷ ts) all = (all.0, types-known σ names ts (all_hold-rest (type_checks σ names t) (each_in_order (type_checks σ names) ts) all))
 
-every-at : {A : Type 0} → (P : A → Type 0) (xs : List A) (k : ℕ) (x : A) → Every P xs → slice_get xs k ≡ Some x → P x
+pub every-at : {A : Type 0} → (P : A → Type 0) (xs : List A) (k : ℕ) (x : A) → Every P xs → slice_get xs k ≡ Some x → P x
 every-at P [] k x all at = absurd cc
 every-at P (y ∷ xs) zero x all at = let same : y ≡ x = cc in subst P same all.0
 every-at P (y ∷ xs) (suc k) x all at = every-at P xs k x all.1 at
@@ -198,7 +198,7 @@ module _ (σ : State) (vs : List Variable) (results : List TypeText) (names : Na
 -- ---- statements
 
 -- the variables of each statement have sorts that are known, and its dummies are bound
-pub statement-sorted : (σ : State) (s : Statement) → Every (SortIsKnown σ) (view s).types → Every (IsSorted σ) (view s).variables
+pub statement-sorted : (σ : State) (s : SpecStatement) → Every (SortIsKnown σ) (view s).types → Every (IsSorted σ) (view s).variables
 statement-sorted σ (sort_statement m n) all = tt
 statement-sorted σ (term_statement h ts t) all =
     let parts = every-front (SortIsKnown σ) (group_types h.groups) (ts ++ t ∷ []) all in
@@ -213,7 +213,7 @@ statement-sorted σ (delimiter_statement left right) all = tt
 statement-sorted σ (notation_statement h t ls l tail) all = groups-sorted σ h.groups (every-front (SortIsKnown σ) (group_types h.groups) (t ∷ []) all).0
 
 module _ (σ : State) (place : ℕ) (kept : IsKept σ) where
-  module _ (s : Statement) (tokens : List (List MathToken)) (good : AllHold (statement_checks σ place s tokens)) where
+  module _ (s : SpecStatement) (tokens : List (List MathToken)) (good : AllHold (statement_checks σ place s tokens)) where
     known : Every (SortIsKnown σ) (view s).types
     known = types-known σ (names_of (view s).variables) (view s).types (good-types σ place s tokens good)
 
@@ -235,6 +235,14 @@ module _ (σ : State) (place : ℕ) (kept : IsKept σ) where
       let last = every-front (SortIsKnown σ) ts (t ∷ []) (every-front (SortIsKnown σ) (group_types h.groups) (ts ++ t ∷ []) (known s tokens good)).1 in
       legal-term s tokens good t plain_form last.1.0 (good-binders σ place s tokens good).2.0 (good-results σ place s tokens good).0 (All-nil (λ b. IsDummy b × MayBeDummySort (sorts σ.env) b.sort)) tt
 
+  -- a definition's dummies are right, also where it has no body
+  pub good-own : (h : Head) (t : TypeText) (b : Option Lexeme) (tokens : List (List MathToken)) → AllHold (statement_checks σ place (definition_statement h t b) tokens)
+      → All (λ b. IsDummy b × MayBeDummySort (sorts σ.env) b.sort) (dummy_binders σ (view (definition_statement h t b)).variables)
+  good-own h t b tokens good =
+      let s = definition_statement h t b in
+      dummies-right σ (view s).variables (view s).result kept.sorts (all_sorted s tokens good) (good-others σ place s tokens good) (good-binders σ place s tokens good)
+      (groups-right h.groups) (good-dummies σ place s tokens good)
+
   -- a definition's body is of the result's sort, and its free variables are among the result's
   abbrev pub HasBody : List Variable → TypeText → Option Lexeme → Form → Type 0
   HasBody vs t None f = f ≡ abstract_form
@@ -251,8 +259,7 @@ module _ (σ : State) (place : ℕ) (kept : IsKept σ) where
   good-definition h t (Some l) f tokens good (e, meant, free, is) =
       let s = definition_statement h t (Some l) in
       let last = (every-front (SortIsKnown σ) (group_types h.groups) (t ∷ []) (known s tokens good)).1 in
-      let dummies = dummies-right σ (view s).variables (view s).result kept.sorts (all_sorted s tokens good) (good-others σ place s tokens good) (good-binders σ place s tokens good)
-      (groups-right h.groups) (good-dummies σ place s tokens good) in
+      let dummies = good-own h t (Some l) tokens good in
       subst (λ g. IsLegalDecl σ.env (term_decl (record { signature = signature_of σ (view s).variables t; form = g }))) (sym is)
       (legal-term s tokens good t (defined (dummy_binders σ (view s).variables) e) last.0 (good-binders σ place s tokens good).2.0 (good-results σ place s tokens good).0 dummies
       ((body-sorted (reader_of σ (view s).variables) kept.coercions (sort_number σ t) _ e meant, free), tt))
@@ -315,7 +322,7 @@ module _ (σ : State) (place : ℕ) (kept : IsKept σ) where
       let same = one-meaning (reader_of σ (view s).variables) (of_sort (sort_number σ t)) _ table names free.0 e free.1 meant in
       (e, meant, subst (CoversFreeVariables σ (view s).variables t) same free.2, is)
 
-  pub legal-written : (s : Statement) (d : Declaration) (tokens : List (List MathToken)) → IsWritten s → AllHold (statement_checks σ place s tokens) → Declares σ s d → IsLegalDecl σ.env d
+  pub legal-written : (s : SpecStatement) (d : Declaration) (tokens : List (List MathToken)) → IsWritten s → AllHold (statement_checks σ place s tokens) → Declares σ s d → IsLegalDecl σ.env d
   legal-written (sort_statement m n) d tokens spelled good is = subst (IsLegalDecl σ.env) (sym is) (tt, (tt, (tt, (tt, (tt, (tt, (tt, (tt, tt))))))))
   legal-written (term_statement h ts t) d tokens spelled good is = subst (IsLegalDecl σ.env) (sym is) (good-term h ts t tokens good)
   legal-written (assert_statement k h ps c) d tokens spelled good is = good-assertion k h ps c d tokens spelled good is
@@ -329,5 +336,5 @@ module _ (σ : State) (place : ℕ) (kept : IsKept σ) where
   legal-written (notation_statement h t ls l tail) d tokens spelled good is = absurd is
 
   -- the same of lexemes of a text
-  pub declared-legal : (s : Statement) (d : Declaration) (tokens : List (List MathToken)) → IsSpelled s → AllHold (statement_checks σ place s tokens) → Declares σ s d → IsLegalDecl σ.env d
+  pub declared-legal : (s : SpecStatement) (d : Declaration) (tokens : List (List MathToken)) → IsSpelled s → AllHold (statement_checks σ place s tokens) → Declares σ s d → IsLegalDecl σ.env d
   declared-legal s d tokens spelled good is = legal-written s d tokens (spelled-written s spelled) good is

@@ -11,7 +11,7 @@ use Rattle.mz_lex.specs.declared.token.TokenKind.TheVariants as kinds
 use Rattle.mz_spec_theory.specs.declared.kind.Kind.{Kind}
 use Rattle.mz_spec_theory.specs.declared.kind.Kind.TheVariants.{Term, Assert, Definition, Notation}
 use Rattle.mz_spec_theory.specs.declared.kind.AssertKind.{AssertKind}
-use Rattle.mz_spec_theory.specs.Statement.{TypeText, Source, type_source, formula_source, NameText, Group, Head, Statement, sort_statement, term_statement, assert_statement, definition_statement, operator_statement, coercion_statement, delimiter_statement, notation_statement, Spells, Sign, keyword, symbol, name, name_or_blank, formula, number, only_if, IsSign, AreSigns, each, end_signs, modifier_signs, type_signs, takes_dummies, closing_of, dot_signs, name_signs, group_source_signs, group_signs, argument_signs, premise_signs, body_signs, literal_signs, tail_signs, statement_signs}
+use Rattle.mz_spec_theory.specs.Statement.{TypeText, Source, type_source, formula_source, NameText, Group, Head, SpecStatement, sort_statement, term_statement, assert_statement, definition_statement, operator_statement, coercion_statement, delimiter_statement, notation_statement, Spells, Sign, keyword, symbol, name, name_or_blank, formula, number, only_if, IsSign, AreSigns, each, end_signs, modifier_signs, type_signs, takes_dummies, closing_of, dot_signs, name_signs, group_source_signs, group_signs, argument_signs, premise_signs, body_signs, literal_signs, tail_signs, statement_signs}
 use Rattle.mz_spec_theory.proofs.OneAnswer.{signs-long}
 use Rattle.mz_spec_theory.specs.SpecCode.{EndsSmall}
 use Rattle.mz_spec_theory.specs.Kept.{AreOfText, IsSpelled, bytes_of}
@@ -45,7 +45,7 @@ abbrev pub IsOfKind : Lexeme → Type 0
 IsOfKind l = IsTrue (is_of_kind l.kind l.text)
 
 -- lexemes of their kinds spell the statement
-abbrev pub IsWritten : Statement → Type 0
+abbrev pub IsWritten : SpecStatement → Type 0
 IsWritten s = (ls : List Lexeme) × Spells s ls × Every IsOfKind ls
 
 sign-holds : (s : Sign) (l : Lexeme) → IsSign s l → IsOfKind l → SignHolds s
@@ -64,14 +64,14 @@ signs-hold [] (l ∷ ls) are of = absurd are
 signs-hold (s ∷ ss) [] are of = absurd are
 signs-hold (s ∷ ss) (l ∷ ls) (is, are) (kind, of) = (sign-holds s l is kind, signs-hold ss ls are of)
 
-written-holds : (s : Statement) → IsWritten s → Every SignHolds (statement_signs s)
+written-holds : (s : SpecStatement) → IsWritten s → Every SignHolds (statement_signs s)
 written-holds s (ls, spells, of) = signs-hold (statement_signs s) ls spells of
 
 of_text-kinds : (ls : List Lexeme) → AreOfText ls → Every IsOfKind ls
 of_text-kinds [] of = tt
 of_text-kinds (l ∷ ls) (kind, small, of) = (kind, of_text-kinds ls of)
 
-pub spelled-written : (s : Statement) → IsSpelled s → IsWritten s
+pub spelled-written : (s : SpecStatement) → IsSpelled s → IsWritten s
 spelled-written s (ls, spells, of, few) = (ls, spells, of_text-kinds ls of)
 
 -- what a sign says of where its lexeme ends
@@ -99,7 +99,7 @@ signs-small [] (l ∷ ls) are of = absurd are
 signs-small (s ∷ ss) [] are of = absurd are
 signs-small (s ∷ ss) (l ∷ ls) (is, are) (kind, small, of) = (small-holds s l is small, signs-small ss ls are of)
 
-spelled-small : (s : Statement) → IsSpelled s → Every SmallHolds (statement_signs s)
+spelled-small : (s : SpecStatement) → IsSpelled s → Every SmallHolds (statement_signs s)
 spelled-small s (ls, spells, of, few) = signs-small (statement_signs s) ls spells of
 
 -- ---- names of groups
@@ -234,7 +234,7 @@ premises-few (formula_source f ∷ ss) = omega (arith, length-append (premise_si
 
 -- ---- statements
 
-pub variables-written : (s : Statement) → IsWritten s → Every IsNamed (view s).variables
+pub variables-written : (s : SpecStatement) → IsWritten s → Every IsNamed (view s).variables
 variables-written (sort_statement m n) is = tt
 variables-written (term_statement h ts t) is =
     let all = written-holds (term_statement h ts t) is in
@@ -262,7 +262,7 @@ plain-written k h ps c is =
 sort-named : (m : List Sign) (n : Lexeme) → Every SignHolds (m ++ keyword (codes "sort") ∷ name n ∷ end_signs) → IsTrue (is_name n.text)
 sort-named m n all = (every-front SignHolds m _ all).1.1.0
 
-pub declared-written : (s : Statement) → IsWritten s → Every (λ d. IsTrue (is_name d.name.text)) (view s).declares
+pub declared-written : (s : SpecStatement) → IsWritten s → Every (λ d. IsTrue (is_name d.name.text)) (view s).declares
 declared-written (sort_statement m n) is = (sort-named (modifier_signs m) n (written-holds (sort_statement m n) is), tt)
 declared-written (term_statement h ts t) is = let all = written-holds (term_statement h ts t) is in (all.1.0, tt)
 declared-written (assert_statement k h ps c) is = let all = written-holds (assert_statement k h ps c) is in (all.1.0, tt)
@@ -273,13 +273,13 @@ declared-written (delimiter_statement left right) is = tt
 declared-written (notation_statement h t ls l tail) is = tt
 
 -- the same of lexemes of a text
-pub variables-named : (s : Statement) → IsSpelled s → Every IsNamed (view s).variables
+pub variables-named : (s : SpecStatement) → IsSpelled s → Every IsNamed (view s).variables
 variables-named s is = variables-written s (spelled-written s is)
 
 pub assertion-plain : (k : AssertKind) (h : Head) (ps : List Source) (c : Lexeme) → IsSpelled (assert_statement k h ps c) → dummies_of (view (assert_statement k h ps c)).variables ≡ []
 assertion-plain k h ps c is = plain-written k h ps c (spelled-written (assert_statement k h ps c) is)
 
-pub declared-named : (s : Statement) → IsSpelled s → Every (λ d. IsTrue (is_name d.name.text)) (view s).declares
+pub declared-named : (s : SpecStatement) → IsSpelled s → Every (λ d. IsTrue (is_name d.name.text)) (view s).declares
 declared-named s is = declared-written s (spelled-written s is)
 
 -- the formulas before a conclusion, and the conclusion, end before 2 ^ 32
@@ -296,7 +296,7 @@ body-small h t c is =
     let groups = every-front SmallHolds (each (group_signs Definition) h.groups) (symbol (codes ":") ∷ (type_signs t ++ (body_signs (Some c) ++ end_signs))) all.1.1 in
     (every-front SmallHolds (type_signs t) (body_signs (Some c) ++ end_signs) groups.1.1).1.1.0
 
-variables-few : (s : Statement) → length (view s).variables ≤ length (statement_signs s)
+variables-few : (s : SpecStatement) → length (view s).variables ≤ length (statement_signs s)
 variables-few (sort_statement m n) = omega arith
 variables-few (term_statement h ts t) =
     let first = length-append (each (group_signs Term) h.groups) (symbol (codes ":") ∷ (each argument_signs ts ++ (type_signs t ++ end_signs))) in
@@ -321,7 +321,7 @@ lexemes-few : (ls : List Lexeme) → AreOfText ls → length ls ≤ bytes_of ls
 lexemes-few [] of = omega arith
 lexemes-few (l ∷ ls) (kind, small, of) = let e = lexemes-few ls of in let some = small.0 in omega (arith, e, some)
 
-pub spelled-few : (s : Statement) → IsSpelled s → length (view s).variables < 2 ^ 32
+pub spelled-few : (s : SpecStatement) → IsSpelled s → length (view s).variables < 2 ^ 32
 spelled-few s (ls, spells, of, few) = let long = signs-long (statement_signs s) ls spells in let many = lexemes-few ls of in omega (arith, variables-few s, long, many, few)
 
 split-few : (vs : List Variable) → length (params_of vs) + length (dummies_of vs) ≡ length vs
@@ -333,5 +333,5 @@ split-few (v ∷ vs) = go v.is_dummy (split-few vs)
     go false e = omega (arith, e)
 
 -- parameters and dummies together are fewer than 2 ^ 32
-pub parts-few : (s : Statement) → IsSpelled s → length (params_of (view s).variables) + length (dummies_of (view s).variables) < 2 ^ 32
+pub parts-few : (s : SpecStatement) → IsSpelled s → length (params_of (view s).variables) + length (dummies_of (view s).variables) < 2 ^ 32
 parts-few s is = omega (arith, split-few (view s).variables, spelled-few s is)

@@ -9,7 +9,7 @@ use Rattle.mz_math_theory.specs.Notation.{with_notation, with_delimiters}
 use Rattle.mz_math_theory.specs.Kept.{AreVariables}
 use Rattle.mz_math_theory.proofs.Offered.{one-meaning}
 use Rattle.mz_lex.proofs.Offered.{math_tokens-one}
-use Rattle.mz_spec_theory.specs.Statement.{TypeText, Statement, sort_statement, term_statement, assert_statement, definition_statement, operator_statement, coercion_statement, delimiter_statement, notation_statement}
+use Rattle.mz_spec_theory.specs.Statement.{TypeText, SpecStatement, sort_statement, term_statement, assert_statement, definition_statement, operator_statement, coercion_statement, delimiter_statement, notation_statement}
 use Rattle.mz_spec_theory.specs.View.{Variable, Formula, claim, body, Stated, view, stated_of}
 use Rattle.mz_spec_theory.specs.State.{State, with_sort, with_term, with_assertion, with_table, param_binders, dummy_binders, signature_of, scope_of, reader_of}
 use Rattle.mz_spec_theory.specs.Formulas.{IsMeant, AreHyps, copies, inner, math_of, wanted_of}
@@ -35,7 +35,7 @@ characters-one text cs ds (ps, cut, are) (qs, cut_q, are_q) = one-character cs d
 abbrev sides : List ℕ → List ℕ → Delimiters
 sides left right = record { left = left; right = right }
 
-delimiters-one : (left : List ℕ) (right : Option (List ℕ)) (d e : Delimiters) → AreDelimiters left right d → AreDelimiters left right e → d ≡ e
+pub delimiters-one : (left : List ℕ) (right : Option (List ℕ)) (d e : Delimiters) → AreDelimiters left right d → AreDelimiters left right e → d ≡ e
 delimiters-one left None d e (a, b) (x, y) = ap₂ sides (characters-one left d.left e.left a x) (characters-one left d.right e.right b y)
 delimiters-one left (Some right) d e (a, b) (x, y) = ap₂ sides (characters-one left d.left e.left a x) (characters-one right d.right e.right b y)
 
@@ -56,10 +56,10 @@ module _ (σ : State) (kept : IsKept σ) (vs : List Variable) (vars : AreVariabl
 
 -- ---- statements
 
-good-variables : (σ : State) (place : ℕ) (s : Statement) → IsWritten s → IsGood σ place s → AreVariables (scope_of σ (view s).variables).names
+good-variables : (σ : State) (place : ℕ) (s : SpecStatement) → IsWritten s → IsGood σ place s → AreVariables (scope_of σ (view s).variables).names
 good-variables σ place s written (tokens, cut, good) = split-variables (view s).variables (good-others σ place s tokens good) (variables-written s written)
 
-pub after-one : (σ τ ρ : State) (place : ℕ) (s : Statement) → IsKept σ → IsWritten s → IsGood σ place s → After σ place s τ → After σ place s ρ → τ ≡ ρ
+pub after-one : (σ τ ρ : State) (place : ℕ) (s : SpecStatement) → IsKept σ → IsWritten s → IsGood σ place s → After σ place s τ → After σ place s ρ → τ ≡ ρ
 after-one σ τ ρ place (sort_statement m n) kept written good (d, is, same) (e, is_e, same_e) = same ∙ ap (with_sort σ place n) (is ∙ sym is_e) ∙ sym same_e
 after-one σ τ ρ place (term_statement h ts t) kept written good (d, is, same) (e, is_e, same_e) = same ∙ ap (with_term σ place h.name) (is ∙ sym is_e) ∙ sym same_e
 after-one σ τ ρ place (assert_statement k h ps c) kept written good (d, (hyps, x, are, meant, is), same) (e, (others, y, are_e, meant_e, is_e), same_e) =

@@ -5,7 +5,7 @@ use Rattle.mz_lex.specs.Lexemes.{Lexeme, LexemesTo}
 use Rattle.mz_lex.specs.Laws.{GoesOn}
 use Rattle.mz_lex.proofs.Offered.{begun, comparable, some-lexing, blank-forward}
 use Rattle.mz_spec_theory.specs.StatementCode.{statement}
-use Rattle.mz_spec_theory.specs.Statement.{Statement, Sign, AreSigns, Spells, statement_signs}
+use Rattle.mz_spec_theory.specs.Statement.{SpecStatement, Sign, AreSigns, Spells, statement_signs}
 use Rattle.mz_spec_theory.specs.Stops.{Stops, StopsBy}
 use Rattle.mz_spec_theory.specs.Reading.{place_of_first}
 use Rattle.mz_spec_theory.specs.GrammarLaws.{OneRead, OneFault, ReadOrFault, ReadOrBlank, FaultOrBlank, TakesBytes}
@@ -13,7 +13,7 @@ use Rattle.mz_spec_theory.proofs.Grammar.{statements-one, no-empty}
 use Rattle.mz_spec_theory.proofs.Stopping.{front-none, back-none, stops-one, stands-stops}
 
 -- where one of two fronts goes on to the other they are the same
-same-front : (text : List ℕ) (s r : Statement) (front other : List Lexeme) (a b : ℕ) → Spells s front → Spells r other → GoesOn text front a other b
+same-front : (text : List ℕ) (s r : SpecStatement) (front other : List Lexeme) (a b : ℕ) → Spells s front → Spells r other → GoesOn text front a other b
     → (s ≡ r) × (front ≡ other) × (b ≡ a)
 same-front text s r front other a b spells spells_r (rest, is, more) =
     let same = statements-one s r front rest other [] spells spells_r (sym is ∙ sym (append-nil other)) in

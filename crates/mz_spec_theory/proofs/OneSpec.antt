@@ -8,7 +8,7 @@ use Rattle.mz_base.specs.Checks.{FailsFirst}
 use Rattle.mz_base.proofs.Offered.{fails_first-unique, all_hold-excludes}
 use Rattle.mz_lex.specs.declared.tokens.MathToken.{MathToken}
 use Rattle.mz_spec_theory.specs.declared.refusal.Fault.{Fault}
-use Rattle.mz_spec_theory.specs.Statement.{Statement, Spells}
+use Rattle.mz_spec_theory.specs.Statement.{SpecStatement, Spells}
 use Rattle.mz_spec_theory.specs.Stops.{Stops, StopsBy}
 use Rattle.mz_spec_theory.specs.Reading.{place_of_first}
 use Rattle.mz_spec_theory.proofs.Grammar.{statements-one, no-empty}
@@ -44,18 +44,18 @@ kinds-split ls front back is kinds = every-front IsOfKind front back (subst (Eve
 
 -- ---- rules
 
-fails-one : (σ : State) (place : ℕ) (s : Statement) (f g : Fault) → Fails σ place s f → Fails σ place s g → f ≡ g
+fails-one : (σ : State) (place : ℕ) (s : SpecStatement) (f g : Fault) → Fails σ place s f → Fails σ place s g → f ≡ g
 fails-one σ place s f g (tokens, are, fails) (others, are_g, fails_g) =
     let same = tokens-one σ (view s).formulas others tokens are_g are in
     fails_first-unique (statement_checks σ place s tokens) f g fails (subst (λ (xs : List (List MathToken)). FailsFirst (statement_checks σ place s xs) g) same fails_g)
 
-good-fails : (σ : State) (place : ℕ) (s : Statement) (f : Fault) → IsGood σ place s → Fails σ place s f → ⊥
+good-fails : (σ : State) (place : ℕ) (s : SpecStatement) (f : Fault) → IsGood σ place s → Fails σ place s f → ⊥
 good-fails σ place s f (tokens, are, good) (others, are_f, fails) =
     let same = tokens-one σ (view s).formulas others tokens are_f are in
     all_hold-excludes (statement_checks σ place s tokens) f good (subst (λ (xs : List (List MathToken)). FailsFirst (statement_checks σ place s xs) f) same fails)
 
 -- what holds of a statement and the place of its first lexeme holds of the same statement and lexemes
-turned : (P : ℕ → Statement → Type 0) (s r : Statement) (front other : List Lexeme) → s ≡ r → front ≡ other → P (place_of_first other) r → P (place_of_first front) s
+turned : (P : ℕ → SpecStatement → Type 0) (s r : SpecStatement) (front other : List Lexeme) → s ≡ r → front ≡ other → P (place_of_first other) r → P (place_of_first front) s
 turned P s r front other same places is = subst (P (place_of_first front)) (sym same) (subst (λ xs. P (place_of_first xs) r) (sym places) is)
 
 breaks-one : (σ : State) (ls : List Lexeme) (f g : Fault) → Breaks σ ls f → Breaks σ ls g → f ≡ g
@@ -63,7 +63,7 @@ breaks-one σ ls f g (s, front, back, is, spells, fails) (r, other, left, is_r, 
     let same = statements-one s r front back other left spells spells_r (sym is ∙ is_r) in
     fails-one σ (place_of_first front) s f g fails (turned (λ i x. Fails σ i x g) s r front other same.0 same.1 fails_r)
 
-good-breaks : (σ : State) (ls front back : List Lexeme) (s : Statement) (f : Fault) → ls ≡ front ++ back → Spells s front → IsGood σ (place_of_first front) s → Breaks σ ls f → ⊥
+good-breaks : (σ : State) (ls front back : List Lexeme) (s : SpecStatement) (f : Fault) → ls ≡ front ++ back → Spells s front → IsGood σ (place_of_first front) s → Breaks σ ls f → ⊥
 good-breaks σ ls front back s f is spells good (r, other, left, is_r, spells_r, fails) =
     let same = statements-one s r front back other left spells spells_r (sym is ∙ is_r) in
     good-fails σ (place_of_first front) s f good (turned (λ i x. Fails σ i x f) s r front other same.0 same.1 fails)
@@ -80,7 +80,7 @@ there-one n e σ ls f g (inr (s, front, back, is, spells, _)) (inl b) = absurd (
 there-one n e σ ls f g (inr a) (inr b) = breaks-one σ ls f g a b
 
 -- a good statement has no fault there
-good-there : (n : ℕ) (e : Option LexFault) (σ : State) (ls front back : List Lexeme) (s : Statement) (f : Fault) → ls ≡ front ++ back → Spells s front
+good-there : (n : ℕ) (e : Option LexFault) (σ : State) (ls front back : List Lexeme) (s : SpecStatement) (f : Fault) → ls ≡ front ++ back → Spells s front
     → IsGood σ (place_of_first front) s → IsThere n e σ ls f → ⊥
 good-there n e σ ls front back s f is spells good (inl stops) = stands-stops n s front back ls e f is spells stops
 good-there n e σ ls front back s f is spells good (inr breaks) = good-breaks σ ls front back s f is spells good breaks
@@ -91,13 +91,13 @@ end-there n σ f (inl (before, rest, is, _, _, stops)) =
     subst (λ xs. StopsBy n xs [] None f) (front-none before rest is) (subst (λ xs. StopsBy n before xs None f) (back-none before rest is) stops)
 end-there n σ f (inr (s, front, back, is, spells, _)) = no-empty s (subst (Spells s) (front-none front back is) spells)
 
-no-statement : (s : Statement) (ls front back : List Lexeme) → [] ≡ ls → ls ≡ front ++ back → Spells s front → ⊥
+no-statement : (s : SpecStatement) (ls front back : List Lexeme) → [] ≡ ls → ls ≡ front ++ back → Spells s front → ⊥
 no-statement s ls front back none is spells = no-empty s (subst (Spells s) (front-none front back (none ∙ is)) spells)
 
 -- ---- statement by statement
 
 -- two readings of the first statement leave one state and the same lexemes
-step-one : (σ μ ν : State) (s r : Statement) (ls front back other left : List Lexeme) → IsKept σ → Every IsOfKind ls → ls ≡ front ++ back → ls ≡ other ++ left → Spells s front → Spells r other
+step-one : (σ μ ν : State) (s r : SpecStatement) (ls front back other left : List Lexeme) → IsKept σ → Every IsOfKind ls → ls ≡ front ++ back → ls ≡ other ++ left → Spells s front → Spells r other
     → IsGood σ (place_of_first front) s → After σ (place_of_first front) s μ → After σ (place_of_first other) r ν → IsKept μ × Every IsOfKind back × (ν ≡ μ) × (left ≡ back)
 step-one σ μ ν s r ls front back other left kept kinds is is_r spells spells_r good after after_r =
     let same = statements-one s r front back other left spells spells_r (sym is ∙ is_r) in
@@ -106,7 +106,7 @@ step-one σ μ ν s r ls front back other left kept kinds is is_r spells spells_
     let here = turned (λ i x. After σ i x ν) s r front other same.0 same.1 after_r in
     (kept-written σ (place_of_first front) kept s μ written good after, parts.1, after-one σ ν μ (place_of_first front) s kept written good here after, sym same.2)
 
-pub stand-one : (σ τ ρ : State) (ss rs : List Statement) (ls : List Lexeme) → IsKept σ → Every IsOfKind ls → Stand σ ss ls τ [] → Stand σ rs ls ρ [] → τ ≡ ρ
+pub stand-one : (σ τ ρ : State) (ss rs : List SpecStatement) (ls : List Lexeme) → IsKept σ → Every IsOfKind ls → Stand σ ss ls τ [] → Stand σ rs ls ρ [] → τ ≡ ρ
 stand-one σ τ ρ [] [] ls kept kinds (same, _) (too, _) = same ∙ sym too
 stand-one σ τ ρ [] (r ∷ rs) ls kept kinds (_, none) (front, back, _, is, spells, _, _, _) = absurd (no-statement r ls front back none is spells)
 stand-one σ τ ρ (s ∷ ss) [] ls kept kinds (front, back, _, is, spells, _, _, _) (_, none) = absurd (no-statement s ls front back none is spells)
@@ -114,7 +114,7 @@ stand-one σ τ ρ (s ∷ ss) (r ∷ rs) ls kept kinds (front, back, μ, is, spe
     let (kept_s, kinds_s, states, lefts) = step-one σ μ ν s r ls front back other left kept kinds is is_r spells spells_r good after after_r in
     stand-one μ τ ρ ss rs back kept_s kinds_s more (subst (λ x. Stand x rs back ρ []) states (subst (λ xs. Stand ν rs xs ρ []) lefts more_r))
 
-pub stand-fault : (n : ℕ) (σ τ ρ : State) (ss rs : List Statement) (ls rest : List Lexeme) (f : Fault) → IsKept σ → Every IsOfKind ls → Stand σ ss ls τ [] → Stand σ rs ls ρ rest → IsThere n None ρ rest f → ⊥
+pub stand-fault : (n : ℕ) (σ τ ρ : State) (ss rs : List SpecStatement) (ls rest : List Lexeme) (f : Fault) → IsKept σ → Every IsOfKind ls → Stand σ ss ls τ [] → Stand σ rs ls ρ rest → IsThere n None ρ rest f → ⊥
 stand-fault n σ τ ρ [] [] ls rest f kept kinds (_, none) (_, same) there = end-there n ρ f (subst (λ xs. IsThere n None ρ xs f) (same ∙ sym none) there)
 stand-fault n σ τ ρ [] (r ∷ rs) ls rest f kept kinds (_, none) (front, back, _, is, spells, _, _, _) there = no-statement r ls front back none is spells
 stand-fault n σ τ ρ (s ∷ ss) [] ls rest f kept kinds (front, back, _, is, spells, good, _, _) (same, all) there =
@@ -123,7 +123,7 @@ stand-fault n σ τ ρ (s ∷ ss) (r ∷ rs) ls rest f kept kinds (front, back, 
     let (kept_s, kinds_s, states, lefts) = step-one σ μ ν s r ls front back other left kept kinds is is_r spells spells_r good after after_r in
     stand-fault n μ τ ρ ss rs back rest f kept_s kinds_s more (subst (λ x. Stand x rs back ρ rest) states (subst (λ xs. Stand ν rs xs ρ rest) lefts more_r)) there
 
-pub fault-one : (n : ℕ) (e : Option LexFault) (σ τ ρ : State) (ss rs : List Statement) (ls rest left : List Lexeme) (f g : Fault) → IsKept σ → Every IsOfKind ls
+pub fault-one : (n : ℕ) (e : Option LexFault) (σ τ ρ : State) (ss rs : List SpecStatement) (ls rest left : List Lexeme) (f g : Fault) → IsKept σ → Every IsOfKind ls
     → Stand σ ss ls τ rest → IsThere n e τ rest f → Stand σ rs ls ρ left → IsThere n e ρ left g → (length ss ≡ length rs) × (f ≡ g)
 fault-one n e σ τ ρ [] [] ls rest left f g kept kinds (same, all) there (too, all_r) there_r =
     (refl, there-one n e σ ls f g (subst (λ xs. IsThere n e σ xs f) all (subst (λ x. IsThere n e x rest f) same there)) (subst (λ xs. IsThere n e σ xs g) all_r (subst (λ x. IsThere n e x left g) too there_r)))
@@ -136,7 +136,7 @@ fault-one n e σ τ ρ (s ∷ ss) (r ∷ rs) ls rest left f g kept kinds (front,
     let found = fault-one n e μ τ ρ ss rs back rest left f g kept_s kinds_s more there (subst (λ x. Stand x rs back ρ left) states (subst (λ xs. Stand ν rs xs ρ left) lefts more_r)) there_r in
     (ap suc found.0, found.1)
 
-pub stand-kept : (σ τ : State) (ss : List Statement) (ls rest : List Lexeme) → IsKept σ → Every IsOfKind ls → Stand σ ss ls τ rest → IsKept τ
+pub stand-kept : (σ τ : State) (ss : List SpecStatement) (ls rest : List Lexeme) → IsKept σ → Every IsOfKind ls → Stand σ ss ls τ rest → IsKept τ
 stand-kept σ τ [] ls rest kept kinds (same, _) = subst IsKept (sym same) kept
 stand-kept σ τ (s ∷ ss) ls rest kept kinds (front, back, μ, is, spells, good, after, more) =
     let parts = kinds-split ls front back is kinds in

@@ -6,7 +6,7 @@ use Rattle.mz_lex.specs.Lexemes.{Lexeme}
 use Rattle.mz_base.specs.Checks.{AreDecided, each_in_order}
 use Rattle.mz_logic_theory.specs.Modifiers.{IsPure, IsStrict, IsFree}
 use Rattle.mz_logic_theory.specs.declared.binder.SortMods.{SortMods}
-use Rattle.mz_spec_theory.specs.Statement.{TypeText, Level, number_level, max_level}
+use Rattle.mz_spec_theory.specs.Statement.{TypeText, Level, number_level, level_max}
 use Rattle.mz_base.specs.Names.{number_of}
 use Rattle.mz_math_theory.proofs.Offered.{some-with}
 use Rattle.mz_spec_theory.specs.View.{Variable, View, names_of, name_texts, params_of, dummies_of}
@@ -29,7 +29,7 @@ known-decided (Some n) = inl (n, refl)
 
 level-decided : (l : Level) → AreDecided (is_level l)
 level-decided (number_level l) = (at_most-decided (number_in l) highest_level, λ _. tt)
-level-decided max_level = tt
+level-decided level_max = tt
 
 pub levels-decided : (ls : List Level) → AreDecided (each_in_order is_level ls)
 levels-decided ls = are_decided-rows is_level level-decided ls

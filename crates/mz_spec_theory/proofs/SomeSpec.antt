@@ -15,7 +15,7 @@ use Rattle.mz_math_theory.specs.Formula.{Misreading, IsFormula, Misreads, formul
 use Rattle.mz_math_theory.specs.Kept.{AreVariables}
 use Rattle.mz_math_theory.proofs.Offered.{some-reading, one-meaning, one-reading as one-string}
 use Rattle.mz_spec_theory.specs.declared.refusal.Fault.{Fault}
-use Rattle.mz_spec_theory.specs.Statement.{TypeText, Statement, sort_statement, term_statement, assert_statement, definition_statement, operator_statement, coercion_statement, delimiter_statement, notation_statement, Spells}
+use Rattle.mz_spec_theory.specs.Statement.{TypeText, SpecStatement, sort_statement, term_statement, assert_statement, definition_statement, operator_statement, coercion_statement, delimiter_statement, notation_statement, Spells}
 use Rattle.mz_spec_theory.specs.Stops.{Stops}
 use Rattle.mz_spec_theory.specs.GrammarLaws.{Begins}
 use Rattle.mz_spec_theory.specs.Reading.{place_of_first}
@@ -98,7 +98,7 @@ module _ (σ : State) (kept : IsKept σ) (vs : List Variable) (vars : AreVariabl
 
 -- ---- statements
 
-module _ (σ : State) (kept : IsKept σ) (place : ℕ) (s : Statement) (written : IsWritten s) (tokens : List (List MathToken)) (are : AreTokens σ (view s).formulas tokens) where
+module _ (σ : State) (kept : IsKept σ) (place : ℕ) (s : SpecStatement) (written : IsWritten s) (tokens : List (List MathToken)) (are : AreTokens σ (view s).formulas tokens) where
   named : AllHold (name_rules σ (view s)) → AreVariables (scope_of σ (view s).variables).names
   named all = split-variables (view s).variables (all_hold-rest (each_in_order (is_new σ) (view s).declares) (are_others [] (view s).variables) all) (variables-written s written)
 
@@ -128,7 +128,7 @@ module _ (σ : State) (kept : IsKept σ) (place : ℕ) (s : Statement) (written 
       judged-both (each_in_order is_level (view s).levels) (name_rules σ (view s) >> Second) (all_hold-or_fails (each_in_order is_level (view s).levels) (levels-decided (view s).levels))
       (λ _. judged-both (name_rules σ (view s)) Second (all_hold-or_fails (name_rules σ (view s)) (names-decided σ (view s))) (λ all. second-judged (named all)))
 
-statement-judged : (σ : State) (place : ℕ) (s : Statement) → IsKept σ → IsWritten s → IsGood σ place s ⊎ ((f : Fault) × Fails σ place s f)
+statement-judged : (σ : State) (place : ℕ) (s : SpecStatement) → IsKept σ → IsWritten s → IsGood σ place s ⊎ ((f : Fault) × Fails σ place s f)
 statement-judged σ place s kept written = go (formulas-tokens σ (view s).formulas)
   where
     go : (pss : List (List MathToken)) × AreTokens σ (view s).formulas pss → IsGood σ place s ⊎ ((f : Fault) × Fails σ place s f)
@@ -165,7 +165,7 @@ module _ (σ : State) (kept : IsKept σ) (vs : List Variable) (vars : AreVariabl
       let rest = hyps-made hs c all in
       ((followed_by (copies h.times e) rest.0.0, (e, rest.0.0, meant, rest.0.1, refl)), rest.1)
 
-good-after : (σ : State) (place : ℕ) (s : Statement) → IsKept σ → IsWritten s → IsGood σ place s → (τ : State) × After σ place s τ
+good-after : (σ : State) (place : ℕ) (s : SpecStatement) → IsKept σ → IsWritten s → IsGood σ place s → (τ : State) × After σ place s τ
 good-after σ place (sort_statement m n) kept written good = let d = sort_decl (record { 0 = sort_bits m }) in (with_sort σ place n d, (d, refl, refl))
 good-after σ place (term_statement h ts t) kept written good =
     let d = term_decl (record { signature = signature_of σ (view (term_statement h ts t)).variables t; form = plain_form }) in
@@ -204,24 +204,24 @@ good-after σ place (notation_statement h t ls last tail) kept written (tokens, 
 
 -- all lexemes are good statements, or there is a fault
 abbrev Outcome : ℕ → Option LexFault → State → List Lexeme → Type 0
-Outcome n e σ ls = ((ss : List Statement) × (τ : State) × Stand σ ss ls τ [] × (e ≡ None))
-    ⊎ ((ss : List Statement) × (τ : State) × (rest : List Lexeme) × (fault : Fault) × Stand σ ss ls τ rest × IsThere n e τ rest fault)
+Outcome n e σ ls = ((ss : List SpecStatement) × (τ : State) × Stand σ ss ls τ [] × (e ≡ None))
+    ⊎ ((ss : List SpecStatement) × (τ : State) × (rest : List Lexeme) × (fault : Fault) × Stand σ ss ls τ rest × IsThere n e τ rest fault)
 
-shorter : (front back : List Lexeme) (s : Statement) (fuel : ℕ) → Spells s front → length (front ++ back) ≤ suc fuel → length back ≤ fuel
+shorter : (front back : List Lexeme) (s : SpecStatement) (fuel : ℕ) → Spells s front → length (front ++ back) ≤ suc fuel → length back ≤ fuel
 shorter [] back s fuel spells le = absurd (no-empty s spells)
 shorter (l ∷ front) back s fuel spells le = omega (arith, length-append front back, le)
 
-too-short : (front back : List Lexeme) (s : Statement) → Spells s front → length (front ++ back) ≤ 0 → ⊥
+too-short : (front back : List Lexeme) (s : SpecStatement) → Spells s front → length (front ++ back) ≤ 0 → ⊥
 too-short [] back s spells le = no-empty s spells
 too-short (l ∷ front) back s spells le = absurd (omega (arith, le))
 
 module _ (n : ℕ) (e : Option LexFault) where
-  after-front : (σ μ : State) (ls front back : List Lexeme) (s : Statement) → ls ≡ front ++ back → Spells s front → IsGood σ (place_of_first front) s → After σ (place_of_first front) s μ → Outcome n e μ back → Outcome n e σ ls
+  after-front : (σ μ : State) (ls front back : List Lexeme) (s : SpecStatement) → ls ≡ front ++ back → Spells s front → IsGood σ (place_of_first front) s → After σ (place_of_first front) s μ → Outcome n e μ back → Outcome n e σ ls
   after-front σ μ ls front back s is spells good after (inl (ss, τ, stand, ends)) = inl (s ∷ ss, τ, (front, back, μ, is, spells, good, after, stand), ends)
   after-front σ μ ls front back s is spells good after (inr (ss, τ, rest, f, stand, there)) = inr (s ∷ ss, τ, rest, f, (front, back, μ, is, spells, good, after, stand), there)
 
   one-step : (σ : State) (ls : List Lexeme) → IsKept σ → Every IsOfKind ls
-      → ((μ : State) (s : Statement) (front back : List Lexeme) → IsKept μ → Every IsOfKind back → ls ≡ front ++ back → Spells s front → Outcome n e μ back)
+      → ((μ : State) (s : SpecStatement) (front back : List Lexeme) → IsKept μ → Every IsOfKind back → ls ≡ front ++ back → Spells s front → Outcome n e μ back)
       → Begins ls ⊎ (((fault : Fault) × Stops n ls e fault) ⊎ ((ls ≡ []) × (e ≡ None))) → Outcome n e σ ls
   one-step σ ls kept kinds more (inr (inl (fault, stops))) = inr ([], σ, ls, fault, (refl, refl), inl stops)
   one-step σ ls kept kinds more (inr (inr (empty, ends))) = inl ([], σ, (refl, sym empty), ends)

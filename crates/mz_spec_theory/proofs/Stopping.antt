@@ -7,7 +7,7 @@ use Rattle.mz_lex.specs.declared.token.LexFault.{LexFault}
 use Rattle.mz_lex.specs.RuleText.{place_of, rule_of}
 use Rattle.mz_lex.specs.Lexemes.{Lexeme}
 use Rattle.mz_spec_theory.specs.declared.refusal.Fault.{Fault}
-use Rattle.mz_spec_theory.specs.Statement.{Statement, Spells, IsStatement, IsPrefix}
+use Rattle.mz_spec_theory.specs.Statement.{SpecStatement, Spells, IsStatement, IsPrefix}
 use Rattle.mz_spec_theory.specs.Progress.{Progress, whole, start, next, Leads}
 use Rattle.mz_spec_theory.specs.Stops.{Stops, StopsBy, misfit}
 use Rattle.mz_spec_theory.specs.GrammarLaws.{Begins, OneStatement, NotBoth, OneOfAll}
@@ -48,11 +48,11 @@ prefix-front xs ys (rest, is) = (ys ++ rest, subst IsStatement (append_assoc xs 
 prefix-step : (xs ys : List Lexeme) (l : Lexeme) → IsPrefix (xs ++ l ∷ ys) → IsPrefix (xs ++ l ∷ [])
 prefix-step xs ys l is = prefix-front (xs ++ l ∷ []) ys (subst IsPrefix (sym (append_assoc xs (l ∷ []) ys)) is)
 
-whole-prefix : (s : Statement) (front : List Lexeme) → Spells s front → IsPrefix front
+whole-prefix : (s : SpecStatement) (front : List Lexeme) → Spells s front → IsPrefix front
 whole-prefix s front spells = ([], (s, subst (Spells s) (sym (append-nil front)) spells))
 
 -- a prefix that a statement begins is that statement
-prefix-whole : (s : Statement) (front more : List Lexeme) → Spells s front → IsPrefix (front ++ more) → more ≡ []
+prefix-whole : (s : SpecStatement) (front more : List Lexeme) → Spells s front → IsPrefix (front ++ more) → more ≡ []
 prefix-whole s front more spells (rest, (r, all)) =
     front-none more rest (sym (statements-one s r front (more ++ rest) ((front ++ more) ++ rest) [] spells all (sym (append_assoc front more rest) ∙ sym (append-nil ((front ++ more) ++ rest)))).2)
 
@@ -64,7 +64,7 @@ no-more n before [] e fault l more same fits stops = absurd cc
 no-more n before (k ∷ rest) e fault l more same fits stops = let here : l ≡ k = cc in stops.0 (subst (λ x. IsPrefix (before ++ x ∷ [])) here fits)
 
 -- lexemes that begin with a statement don't stop
-pub stands-stops : (n : ℕ) (s : Statement) (front back ls : List Lexeme) (e : Option LexFault) (fault : Fault) → ls ≡ front ++ back → Spells s front → Stops n ls e fault → ⊥
+pub stands-stops : (n : ℕ) (s : SpecStatement) (front back ls : List Lexeme) (e : Option LexFault) (fault : Fault) → ls ≡ front ++ back → Spells s front → Stops n ls e fault → ⊥
 stands-stops n s front back ls e fault is spells (before, rest, is_b, fits, is_open, stops) = go (fronts before rest front back (sym is_b ∙ is))
   where
     go : Fronts before rest front back ⊎ Fronts front back before rest → ⊥
@@ -98,7 +98,7 @@ Misfits q [] = ⊤
 Misfits q (l ∷ ls) = next q l ≡ None
 
 abbrev Ends : Progress → List Lexeme → Type 0
-Ends p ls = (s : Statement) × (front : List Lexeme) × (back : List Lexeme) × (ls ≡ front ++ back) × Leads p front (whole s)
+Ends p ls = (s : SpecStatement) × (front : List Lexeme) × (back : List Lexeme) × (ls ≡ front ++ back) × Leads p front (whole s)
 
 abbrev Halts : Progress → List Lexeme → Type 0
 Halts p ls = (before : List Lexeme) × (rest : List Lexeme) × (q : Progress) × (ls ≡ before ++ rest) × Leads p before q × IsOpen q × Misfits q rest
@@ -107,7 +107,7 @@ Halts p ls = (before : List Lexeme) × (rest : List Lexeme) × (q : Progress) ×
 ends-or-halts : (p : Progress) (ls : List Lexeme) → Ends p ls ⊎ Halts p ls
 ends-or-halts p [] = go (whole-or-open p)
   where
-    go : IsOpen p ⊎ ((s : Statement) × (whole s ≡ p)) → Ends p [] ⊎ Halts p []
+    go : IsOpen p ⊎ ((s : SpecStatement) × (whole s ≡ p)) → Ends p [] ⊎ Halts p []
     go (inl is_open) = inr ([], [], p, refl, refl, is_open, tt)
     go (inr (s, same)) = inl (s, [], [], refl, same)
 ends-or-halts p (l ∷ ls) = go (whole-or-open p) (next p l) refl (λ r. ends-or-halts r ls)
@@ -116,7 +116,7 @@ ends-or-halts p (l ∷ ls) = go (whole-or-open p) (next p l) refl (λ r. ends-or
     further r e (inl (s, front, back, is, leads)) = inl (s, l ∷ front, back, ap (λ xs. l ∷ xs) is, (r, e, leads))
     further r e (inr (before, rest, q, is, leads, is_open, misfits)) = inr (l ∷ before, rest, q, ap (λ xs. l ∷ xs) is, (r, e, leads), is_open, misfits)
 
-    go : IsOpen p ⊎ ((s : Statement) × (whole s ≡ p)) → (o : Option Progress) → next p l ≡ o → ((r : Progress) → Ends r ls ⊎ Halts r ls) → Ends p (l ∷ ls) ⊎ Halts p (l ∷ ls)
+    go : IsOpen p ⊎ ((s : SpecStatement) × (whole s ≡ p)) → (o : Option Progress) → next p l ≡ o → ((r : Progress) → Ends r ls ⊎ Halts r ls) → Ends p (l ∷ ls) ⊎ Halts p (l ∷ ls)
     go (inr (s, same)) o e more = inl (s, [], l ∷ ls, refl, same)
     go (inl is_open) None e more = inr ([], l ∷ ls, p, refl, refl, is_open, e)
     go (inl is_open) (Some r) e more = further r e (more r)

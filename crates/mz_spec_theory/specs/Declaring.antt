@@ -7,7 +7,7 @@ use Rattle.mz_logic_theory.specs.Declaration.{Declaration, sort_decl, term_decl,
 use Rattle.mz_math_theory.specs.Notation.{Table}
 use Rattle.mz_spec_theory.specs.declared.kind.AssertKind.{AssertKind}
 use Rattle.mz_spec_theory.specs.declared.kind.AssertKind.TheVariants as kinds
-use Rattle.mz_spec_theory.specs.Statement.{Modifiers, TypeText, Statement, sort_statement, term_statement, assert_statement, definition_statement}
+use Rattle.mz_spec_theory.specs.Statement.{Modifiers, TypeText, SpecStatement, sort_statement, term_statement, assert_statement, definition_statement}
 use Rattle.mz_spec_theory.specs.View.{Variable, view, claim, body, stated_of}
 use Rattle.mz_spec_theory.specs.State.{State, with_sort, with_term, with_assertion, with_table, param_binders, dummy_binders, signature_of}
 use Rattle.mz_spec_theory.specs.Formulas.{IsMeant, AreHyps}
@@ -31,7 +31,7 @@ abbrev pub IsForm : State → List Variable → TypeText → Option Lexeme → F
 IsForm σ vs t None f = f ≡ abstract_form
 IsForm σ vs t (Some l) f = (e : Tree) × IsMeant σ vs (body l t) e × (f ≡ defined (dummy_binders σ vs) e)
 
-abbrev pub Declares : State → Statement → Declaration → Type 0
+abbrev pub Declares : State → SpecStatement → Declaration → Type 0
 Declares σ (sort_statement m name) d = d ≡ sort_decl (record { 0 = sort_bits m })
 Declares σ (term_statement h arguments result) d =
     d ≡ term_decl (record { signature = signature_of σ (view (term_statement h arguments result)).variables result; form = plain_form })
@@ -45,7 +45,7 @@ Declares σ _ d = ⊥
 
 -- ---- the state after the statement at a place
 
-abbrev pub After : State → ℕ → Statement → State → Type 0
+abbrev pub After : State → ℕ → SpecStatement → State → Type 0
 After σ place (sort_statement m name) τ = (d : Declaration) × Declares σ (sort_statement m name) d × (τ ≡ with_sort σ place name d)
 After σ place (term_statement h arguments result) τ = (d : Declaration) × Declares σ (term_statement h arguments result) d × (τ ≡ with_term σ place h.name d)
 After σ place (assert_statement kind h premises conclusion) τ = (d : Declaration) × Declares σ (assert_statement kind h premises conclusion) d × (τ ≡ with_assertion σ place h.name d)

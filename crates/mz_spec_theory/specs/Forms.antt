@@ -19,7 +19,7 @@ use Rattle.mz_math_theory.specs.declared.fault.NoteFault.TheVariants as faults
 use Rattle.mz_spec_theory.specs.declared.kind.Fixity.{Fixity}
 use Rattle.mz_spec_theory.specs.declared.kind.Fixity.TheVariants as fixities
 use Rattle.mz_spec_theory.specs.declared.refusal.Fault.{Fault}
-use Rattle.mz_spec_theory.specs.Statement.{TypeText, Head, Level, number_level, max_level, LiteralText, constant_literal, name_literal, TailText, Statement, operator_statement, coercion_statement, delimiter_statement, notation_statement}
+use Rattle.mz_spec_theory.specs.Statement.{TypeText, Head, Level, number_level, level_max, LiteralText, constant_literal, name_literal, TailText, SpecStatement, operator_statement, coercion_statement, delimiter_statement, notation_statement}
 use Rattle.mz_spec_theory.specs.View.{variables_of, alone}
 use Rattle.mz_spec_theory.specs.State.{State, sort_number, term_number, signature_of, scope_of}
 use Rattle.mz_spec_theory.specs.Formulas.{inner}
@@ -35,7 +35,7 @@ highest_level = 4294967294
 
 abbrev pub level_of : Level → Option ℕ
 level_of (number_level l) = Some (number_in l)
-level_of max_level = None
+level_of level_max = None
 
 -- ---- `notation`
 
@@ -73,7 +73,7 @@ MakesOperator σ fixities.InfixLeft n c level k = IsInfix (signatures σ.env) σ
 MakesOperator σ fixities.InfixRight n c level k = IsInfix (signatures σ.env) σ.table.delimiters (term_number σ n) (inner c) (level_of level) true k
 MakesOperator σ fixities.Prefix n c level k = IsPrefix (signatures σ.env) σ.table.delimiters (term_number σ n) (inner c) (level_of level) k
 
-abbrev pub MakesNotation : State → Statement → Notation → Type 0
+abbrev pub MakesNotation : State → SpecStatement → Notation → Type 0
 MakesNotation σ (operator_statement f n c level) k = MakesOperator σ f n c level k
 MakesNotation σ (notation_statement h result literals last tail) k =
     (g : General) × ArePartsOf σ h result (literals ++ last ∷ []) tail g × IsGeneral (signatures σ.env) σ.table.delimiters g k
@@ -95,7 +95,7 @@ abbrev pub at_statement : ℕ → NoteFault → Fault
 at_statement place fault = record { at = place; rule = rule_of_note fault }
 
 -- what is asked of the statement at a place for the table's sake
-abbrev pub form_checks : State → ℕ → Statement → Checks Fault
+abbrev pub form_checks : State → ℕ → SpecStatement → Checks Fault
 form_checks σ place (operator_statement f n c level) = retold (at_statement place) (notation_checks σ.table (MakesNotation σ (operator_statement f n c level)))
 form_checks σ place (notation_statement h result literals last tail) = retold (at_statement place) (notation_checks σ.table (MakesNotation σ (notation_statement h result literals last tail)))
 form_checks σ place (coercion_statement n from to) = retold (at_statement place) (coercion_checks (signatures σ.env) σ.table (coercion_of σ n from to))
@@ -104,7 +104,7 @@ form_checks σ place _ = nothing
 
 -- ---- what a good statement makes of the table
 
-abbrev pub ChangesTable : State → Statement → Table → Type 0
+abbrev pub ChangesTable : State → SpecStatement → Table → Type 0
 ChangesTable σ (operator_statement f n c level) u = AddsNotation σ.table (MakesNotation σ (operator_statement f n c level)) u
 ChangesTable σ (notation_statement h result literals last tail) u = AddsNotation σ.table (MakesNotation σ (notation_statement h result literals last tail)) u
 ChangesTable σ (coercion_statement n from to) u = u ≡ with_coercion σ.table (coercion_of σ n from to)

@@ -6,20 +6,20 @@ use Rattle.mz_spec_theory.specs.declared.refusal.Fault.{Fault}
 use Rattle.mz_spec_theory.specs.declared.read.StatementRead.{StatementRead}
 use Rattle.mz_spec_theory.specs.StatementCode.{statement}
 use Rattle.mz_spec_theory.specs.Reading.{IsRead, StopsFrom}
-use Rattle.mz_spec_theory.specs.Statement.{Statement, Spells, statement_signs}
+use Rattle.mz_spec_theory.specs.Statement.{SpecStatement, Spells, statement_signs}
 use Rattle.mz_spec_theory.specs.Stops.{Stops}
 
 -- lexemes spell one statement at most
 abbrev pub OneStatement : Type 0
-OneStatement = (s r : Statement) (ls : List Lexeme) → Spells s ls → Spells r ls → s ≡ r
+OneStatement = (s r : SpecStatement) (ls : List Lexeme) → Spells s ls → Spells r ls → s ≡ r
 
 -- no statement begins another one: what lexemes begin with is one statement
 abbrev pub OneFront : Type 0
-OneFront = (s r : Statement) (front back other rest : List Lexeme) → Spells s front → Spells r other → front ++ back ≡ other ++ rest → (s ≡ r) × (front ≡ other) × (back ≡ rest)
+OneFront = (s r : SpecStatement) (front back other rest : List Lexeme) → Spells s front → Spells r other → front ++ back ≡ other ++ rest → (s ≡ r) × (front ≡ other) × (back ≡ rest)
 
 -- no statement is empty
 abbrev pub NoneEmpty : Type 0
-NoneEmpty = (s : Statement) → Spells s [] → ⊥
+NoneEmpty = (s : SpecStatement) → Spells s [] → ⊥
 
 -- lexemes stop with one fault at most
 abbrev pub OneStop : Type 0
@@ -27,11 +27,11 @@ OneStop = (n : ℕ) (ls : List Lexeme) (ending : Option LexFault) (f g : Fault) 
 
 -- those that begin with a statement don't stop
 abbrev pub NotBoth : Type 0
-NotBoth = (n : ℕ) (s : Statement) (front back : List Lexeme) (ending : Option LexFault) (fault : Fault) → Spells s front → Stops n (front ++ back) ending fault → ⊥
+NotBoth = (n : ℕ) (s : SpecStatement) (front back : List Lexeme) (ending : Option LexFault) (fault : Fault) → Spells s front → Stops n (front ++ back) ending fault → ⊥
 
 -- lexemes begin with a statement
 abbrev pub Begins : List Lexeme → Type 0
-Begins ls = (s : Statement) × (front : List Lexeme) × (back : List Lexeme) × (ls ≡ front ++ back) × Spells s front
+Begins ls = (s : SpecStatement) × (front : List Lexeme) × (back : List Lexeme) × (ls ≡ front ++ back) × Spells s front
 
 -- lexemes begin with a statement, or stop, or there are none and no fault
 abbrev pub OneOfAll : Type 0

@@ -8,7 +8,7 @@ use Rattle.mz_math_theory.specs.declared.coercion.Coercion.{Coercion}
 use Rattle.mz_math_theory.specs.Notation.{TermName}
 use Rattle.mz_math_theory.specs.Forms.{IsCoercion}
 use Rattle.mz_math_theory.specs.Kept.{IsTable}
-use Rattle.mz_spec_theory.specs.Statement.{Statement, Spells}
+use Rattle.mz_spec_theory.specs.Statement.{SpecStatement, Spells}
 use Rattle.mz_spec_theory.specs.SpecCode.{EndsSmall}
 use Rattle.mz_spec_theory.specs.State.{State}
 
@@ -40,5 +40,5 @@ bytes_of [] = 0
 bytes_of (l ∷ ls) = length l.text + bytes_of ls
 
 -- such lexemes, which have fewer than 2 ^ 32 bytes together, spell the statement
-abbrev pub IsSpelled : Statement → Type 0
+abbrev pub IsSpelled : SpecStatement → Type 0
 IsSpelled s = (ls : List Lexeme) × Spells s ls × AreOfText ls × (bytes_of ls < 2 ^ 32)

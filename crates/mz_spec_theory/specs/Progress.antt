@@ -8,7 +8,7 @@ use Rattle.mz_spec_theory.specs.declared.kind.Kind.{Kind}
 use Rattle.mz_spec_theory.specs.declared.kind.Kind.TheVariants.{Term, Assert, Definition, Notation}
 use Rattle.mz_spec_theory.specs.declared.kind.Fixity.{Fixity}
 use Rattle.mz_spec_theory.specs.declared.kind.Fixity.TheVariants.{InfixLeft, InfixRight, Prefix}
-use Rattle.mz_spec_theory.specs.Statement.{Modifiers, TypeText, Source, type_source, formula_source, NameText, Group, Head, Level, number_level, max_level, LiteralText, constant_literal, name_literal, TailText, Statement, sort_statement, term_statement, assert_statement, definition_statement, operator_statement, coercion_statement, delimiter_statement, notation_statement, takes_dummies, takes_formulas, closing_of}
+use Rattle.mz_spec_theory.specs.Statement.{Modifiers, TypeText, Source, type_source, formula_source, NameText, Group, Head, Level, number_level, level_max, LiteralText, constant_literal, name_literal, TailText, SpecStatement, sort_statement, term_statement, assert_statement, definition_statement, operator_statement, coercion_statement, delimiter_statement, notation_statement, takes_dummies, takes_formulas, closing_of}
 use Rattle.mz_spec_theory.specs.Tests.{Test, the_keyword, the_symbol, a_name, a_name_or_blank, a_formula, a_number, only, fits}
 
 -- ---- how far
@@ -85,7 +85,7 @@ pub data Progress : Type 0 where
   tail_level : OpenNotation → LiteralText → Level → Progress
   tail_read : OpenNotation → LiteralText → TailText → Progress
   -- at the end of a statement
-  whole : Statement → Progress
+  whole : SpecStatement → Progress
 
 abbrev pub no_modifiers : Modifiers
 no_modifiers = record { is_pure = false; is_strict = false; is_provable = false; is_free = false }
@@ -186,7 +186,7 @@ type_rows (definition_slot h) t =
 type_rows (notation_slot h) t = (the_symbol (codes "="), λ l. literal_wanted (open_notation h t)) ∷ []
 
 abbrev pub level_rows : (Level → Progress) → List Row
-level_rows f = (a_number, λ l. f (number_level l)) ∷ (the_keyword (codes "max"), λ l. f max_level) ∷ []
+level_rows f = (a_number, λ l. f (number_level l)) ∷ (the_keyword (codes "max"), λ l. f level_max) ∷ []
 
 abbrev pub literal_rows : OpenNotation → List Row → List Row
 literal_rows n rows = (a_name, λ l. literal_read n (name_literal l)) ∷ (the_symbol (codes "("), λ l. literal_opened n) ∷ rows

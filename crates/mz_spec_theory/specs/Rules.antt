@@ -11,7 +11,7 @@ use Rattle.mz_lex.specs.declared.tokens.MathToken.{MathToken}
 use Rattle.mz_spec_theory.specs.declared.refusal.Fault.{Fault}
 use Rattle.mz_base.specs.Names.{number_of, IsNew, IsKnown}
 use Rattle.mz_spec_theory.specs.Dependencies.{Every, IsBoundAmong}
-use Rattle.mz_spec_theory.specs.Statement.{TypeText, Level, number_level, max_level, Statement}
+use Rattle.mz_spec_theory.specs.Statement.{TypeText, Level, number_level, level_max, SpecStatement}
 use Rattle.mz_spec_theory.specs.View.{Named, Variable, Formula, View, view, params_of, dummies_of, names_of, name_texts}
 use Rattle.mz_spec_theory.specs.State.{State, names_in}
 use Rattle.mz_spec_theory.specs.Formulas.{strings_checks, free_checks}
@@ -21,7 +21,7 @@ use Rattle.mz_spec_theory.specs.Forms.{number_in, highest_level, form_checks}
 
 abbrev pub is_level : Level → Checks Fault
 is_level (number_level l) = demand (record { at = l.from; rule = rules.Number }) (number_in l ≤ highest_level)
-is_level max_level = nothing
+is_level level_max = nothing
 
 -- the name is none of these
 abbrev pub new_name : List (List ℕ) → Lexeme → Checks Fault
@@ -117,7 +117,7 @@ abbrev pub body_rules : State → ℕ → List Variable → List Formula → Lis
 body_rules σ place vs formulas tokens = strings_checks σ vs formulas tokens >> each_in_order (free_checks σ place vs) formulas
 
 -- what is asked of the statement at a place, whose formulas have these tokens, over what was declared before
-abbrev pub statement_checks : State → ℕ → Statement → List (List MathToken) → Checks Fault
+abbrev pub statement_checks : State → ℕ → SpecStatement → List (List MathToken) → Checks Fault
 statement_checks σ place s tokens =
     each_in_order is_level (view s).levels
     >> name_rules σ (view s)

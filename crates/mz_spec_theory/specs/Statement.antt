@@ -47,7 +47,7 @@ pub record Head : Type 0 where
 -- how tightly a constant binds
 pub data Level : Type 0 where
   number_level : Lexeme → Level
-  max_level : Level
+  level_max : Level
 
 -- a part of a notation: a constant with its precedence, or the name of a parameter
 pub data LiteralText : Type 0 where
@@ -61,15 +61,15 @@ pub record TailText : Type 0 where
 
 -- a term has types before each `>`, and that of its result; an axiom or a theorem has types and
 -- hypotheses before each `>`, and a conclusion; of a notation's literals the last one stands apart
-pub data Statement : Type 0 where
-  sort_statement : Modifiers → (name : Lexeme) → Statement
-  term_statement : Head → (arguments : List TypeText) → (result : TypeText) → Statement
-  assert_statement : AssertKind → Head → (premises : List Source) → (conclusion : Lexeme) → Statement
-  definition_statement : Head → (result : TypeText) → (body : Option Lexeme) → Statement
-  operator_statement : Fixity → (name constant : Lexeme) → Level → Statement
-  coercion_statement : (name from to : Lexeme) → Statement
-  delimiter_statement : (left : Lexeme) → (right : Option Lexeme) → Statement
-  notation_statement : Head → (result : TypeText) → (literals : List LiteralText) → (last : LiteralText) → Option TailText → Statement
+pub data SpecStatement : Type 0 where
+  sort_statement : Modifiers → (name : Lexeme) → SpecStatement
+  term_statement : Head → (arguments : List TypeText) → (result : TypeText) → SpecStatement
+  assert_statement : AssertKind → Head → (premises : List Source) → (conclusion : Lexeme) → SpecStatement
+  definition_statement : Head → (result : TypeText) → (body : Option Lexeme) → SpecStatement
+  operator_statement : Fixity → (name constant : Lexeme) → Level → SpecStatement
+  coercion_statement : (name from to : Lexeme) → SpecStatement
+  delimiter_statement : (left : Lexeme) → (right : Option Lexeme) → SpecStatement
+  notation_statement : Head → (result : TypeText) → (literals : List LiteralText) → (last : LiteralText) → Option TailText → SpecStatement
 
 -- ---- the grammar: a statement as a list of signs
 
@@ -191,7 +191,7 @@ fixity_keyword Prefix = codes "prefix"
 
 abbrev pub level_sign : Level → Sign
 level_sign (number_level l) = number l
-level_sign max_level = keyword (codes "max")
+level_sign level_max = keyword (codes "max")
 
 abbrev pub literal_signs : LiteralText → List Sign
 literal_signs (constant_literal c level) = symbol (codes "(") ∷ formula c ∷ symbol (codes ":") ∷ level_sign level ∷ symbol (codes ")") ∷ []
@@ -210,7 +210,7 @@ second_signs (Some right) = formula right ∷ []
 
 -- ---- statements
 
-abbrev pub statement_signs : Statement → List Sign
+abbrev pub statement_signs : SpecStatement → List Sign
 statement_signs (sort_statement m n) = modifier_signs m ++ keyword (codes "sort") ∷ name n ∷ end_signs
 statement_signs (term_statement h arguments result) = head_signs Term h ++ (symbol (codes ":") ∷ (each argument_signs arguments ++ (type_signs result ++ end_signs)))
 statement_signs (assert_statement a h premises conclusion) = head_signs (Assert a) h ++ (symbol (codes ":") ∷ (each premise_signs premises ++ (formula conclusion ∷ end_signs)))
@@ -223,11 +223,11 @@ statement_signs (notation_statement h result literals last tail) =
     head_signs Notation h ++ (symbol (codes ":") ∷ (type_signs result ++ (symbol (codes "=") ∷ (each literal_signs literals ++ (literal_signs last ++ (tail_signs tail ++ end_signs))))))
 
 -- the lexemes are the statement
-abbrev pub Spells : Statement → List Lexeme → Type 0
+abbrev pub Spells : SpecStatement → List Lexeme → Type 0
 Spells s ls = AreSigns (statement_signs s) ls
 
 abbrev pub IsStatement : List Lexeme → Type 0
-IsStatement ls = (s : Statement) × Spells s ls
+IsStatement ls = (s : SpecStatement) × Spells s ls
 
 -- a statement begins with the lexemes
 abbrev pub IsPrefix : List Lexeme → Type 0

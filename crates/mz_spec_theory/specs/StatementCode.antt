@@ -23,7 +23,7 @@ use Rattle.mz_spec_theory.specs.declared.statement.DelimiterText.{DelimiterText}
 use Rattle.mz_spec_theory.specs.declared.statement.NotationText.{NotationText}
 use Rattle.mz_spec_theory.specs.declared.statement.SyntaxStatement.{SyntaxStatement as StatementRead}
 use Rattle.mz_spec_theory.specs.declared.statement.SyntaxStatement.TheVariants as statements
-use Rattle.mz_spec_theory.specs.Statement.{Modifiers, TypeText, Source, type_source, formula_source, NameText, Group, Head, Level, number_level, max_level, LiteralText, constant_literal, name_literal, TailText, Statement, sort_statement, term_statement, assert_statement, definition_statement, operator_statement, coercion_statement, delimiter_statement, notation_statement}
+use Rattle.mz_spec_theory.specs.Statement.{Modifiers, TypeText, Source, type_source, formula_source, NameText, Group, Head, Level, number_level, level_max, LiteralText, constant_literal, name_literal, TailText, SpecStatement, sort_statement, term_statement, assert_statement, definition_statement, operator_statement, coercion_statement, delimiter_statement, notation_statement}
 
 abbrev pub lexeme : LexemeRead → Lexeme
 lexeme l = record { kind = l.kind; text = l.bytes.now; from = l.from; to = l.to }
@@ -49,7 +49,7 @@ head h = record { name = lexeme h.name; groups = map group h.groups.items }
 
 abbrev pub level : LevelRead → Level
 level (levels.Number l) = number_level (lexeme l)
-level levels.Max = max_level
+level levels.Max = level_max
 
 abbrev pub literal : LiteralRead → LiteralText
 literal (literals.Constant c l) = constant_literal (lexeme c) (level l)
@@ -58,28 +58,28 @@ literal (literals.Name n) = name_literal (lexeme n)
 abbrev pub tail : TailRead → TailText
 tail t = record { level = level t.level; is_right = t.is_right }
 
-abbrev pub term : TermText → Statement
+abbrev pub term : TermText → SpecStatement
 term t = term_statement (head t.head) (map type_text t.arguments.items) (type_text t.result)
 
-abbrev pub assertion : AssertText → Statement
+abbrev pub assertion : AssertText → SpecStatement
 assertion a = assert_statement a.kind (head a.head) (map source a.premises.items) (lexeme a.conclusion)
 
-abbrev pub definition : DefinitionText → Statement
+abbrev pub definition : DefinitionText → SpecStatement
 definition d = definition_statement (head d.head) (type_text d.result) (option_map lexeme d.body)
 
-abbrev pub operator : OperatorText → Statement
+abbrev pub operator : OperatorText → SpecStatement
 operator o = operator_statement o.fixity (lexeme o.name) (lexeme o.constant) (level o.level)
 
-abbrev pub coercion : CoercionText → Statement
+abbrev pub coercion : CoercionText → SpecStatement
 coercion c = coercion_statement (lexeme c.name) (lexeme c.from) (lexeme c.to)
 
-abbrev pub delimiter : DelimiterText → Statement
+abbrev pub delimiter : DelimiterText → SpecStatement
 delimiter d = delimiter_statement (lexeme d.left) (option_map lexeme d.right)
 
-abbrev pub notation : NotationText → Statement
+abbrev pub notation : NotationText → SpecStatement
 notation n = notation_statement (head n.head) (type_text n.result) (map literal n.literals.items) (literal n.last) (option_map tail n.tail)
 
-abbrev pub statement : StatementRead → Statement
+abbrev pub statement : StatementRead → SpecStatement
 statement (statements.Sort m name) = sort_statement (modifiers m) (lexeme name)
 statement (statements.Term t) = term t
 statement (statements.Assert a) = assertion a

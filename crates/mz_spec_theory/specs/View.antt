@@ -2,7 +2,7 @@
 use Rattle.std.specs.Prelude.{◌++◌, ◌||◌, ℕ, List, [], ◌∷◌, map, length, Bool, false, Option, Some, None, if◌then◌else◌, bytes_eq, codes}
 use Rattle.std.specs.List.{list_any}
 use Rattle.mz_lex.specs.Lexemes.{Lexeme}
-use Rattle.mz_spec_theory.specs.Statement.{TypeText, Source, type_source, formula_source, NameText, Group, Level, LiteralText, constant_literal, name_literal, TailText, Statement, sort_statement, term_statement, assert_statement, definition_statement, operator_statement, coercion_statement, delimiter_statement, notation_statement}
+use Rattle.mz_spec_theory.specs.Statement.{TypeText, Source, type_source, formula_source, NameText, Group, Level, LiteralText, constant_literal, name_literal, TailText, SpecStatement, sort_statement, term_statement, assert_statement, definition_statement, operator_statement, coercion_statement, delimiter_statement, notation_statement}
 
 -- the spaces in which names are distinct
 pub data Space : Type 0 where
@@ -131,7 +131,7 @@ alone l = record { sort = l; deps = [] }
 abbrev pub blank_view : View
 blank_view = record { levels = []; declares = []; variables = []; mentions = []; types = []; result = []; formulas = [] }
 
-abbrev pub view : Statement → View
+abbrev pub view : SpecStatement → View
 view (sort_statement m name) = record blank_view { declares = record { space = sorts; name = name } ∷ [] }
 view (term_statement h arguments result) = record blank_view {
   declares = record { space = terms; name = h.name } ∷ [];

@@ -8,7 +8,7 @@ use Rattle.mz_logic_theory.specs.Examples.{im_declared, ax_1, ax_mp}
 use Rattle.mz_spec_theory.specs.declared.kind.Kind.{Kind}
 use Rattle.mz_spec_theory.specs.declared.kind.Kind.TheVariants.{Term as TermKind, Assert}
 use Rattle.mz_spec_theory.specs.declared.kind.AssertKind.TheVariants.{Axiom}
-use Rattle.mz_spec_theory.specs.Statement.{Statement, Group, type_source, term_statement, assert_statement, keyword_of}
+use Rattle.mz_spec_theory.specs.Statement.{SpecStatement, Group, type_source, term_statement, assert_statement, keyword_of}
 use Rattle.mz_spec_theory.specs.Reading.{place_of_first}
 use Rattle.mz_spec_theory.specs.State.{State}
 use Rattle.mz_spec_theory.specs.Spec.{IsGood}
@@ -56,7 +56,7 @@ colon_at p kind name = stop (stop p (head_words kind name)) colon_words
 abbrev pub im_words : List Word
 im_words = head_words TermKind (codes "im") ++ (colon_words ++ (type_words wff_type ++ end_words))
 
-abbrev im_at : ℕ → Statement
+abbrev im_at : ℕ → SpecStatement
 im_at p =
     term_statement (record { name = lexeme_at (stop p (name_word (keyword_of TermKind) ∷ [])) (spaced_name (codes "im")); groups = group_at (stop p (title_words TermKind (codes "im"))) ∷ [] })
     [] (type_at (colon_at p TermKind (codes "im")) wff_type)
@@ -102,7 +102,7 @@ axiom_conclusion p name hyps conclusion = lexeme_at (stop (colon_at p (Assert Ax
 abbrev axiom_formulas : ℕ → List ℕ → List Tokens → Tokens → List Formula
 axiom_formulas p name hyps conclusion = map stated_claim (premise_stated (hyps_at (colon_at p (Assert Axiom) name) hyps)) ++ claim (axiom_conclusion p name hyps conclusion) ∷ []
 
-abbrev axiom_at : ℕ → List ℕ → List Tokens → Tokens → Statement
+abbrev axiom_at : ℕ → List ℕ → List Tokens → Tokens → SpecStatement
 axiom_at p name hyps conclusion =
     assert_statement Axiom
     (record { name = axiom_name p name; groups = group_at (stop p (title_words (Assert Axiom) name)) ∷ [] })
@@ -131,7 +131,7 @@ module _ (σ : State) (env : List Declaration) (used : List (List ℕ)) (ready :
   abbrev ax_1_place : ℕ
   ax_1_place = place_of_first (lexemes_at p ax_1_words)
 
-  abbrev ax_1_statement : Statement
+  abbrev ax_1_statement : SpecStatement
   ax_1_statement = axiom_at p (codes "ax_1") (formulas_of (spoken ab) ax_1.hyps) (formula_of (spoken ab) ax_1.conclusion)
 
   ax-1-good : IsGood σ ax_1_place ax_1_statement
@@ -156,7 +156,7 @@ module _ (σ : State) (env : List Declaration) (used : List (List ℕ)) (ready :
   abbrev ax_mp_place : ℕ
   ax_mp_place = place_of_first (lexemes_at p ax_mp_words)
 
-  abbrev ax_mp_statement : Statement
+  abbrev ax_mp_statement : SpecStatement
   ax_mp_statement = axiom_at p (codes "ax_mp") (formulas_of (spoken ab) ax_mp.hyps) (formula_of (spoken ab) ax_mp.conclusion)
 
   ax-mp-good : IsGood σ ax_mp_place ax_mp_statement

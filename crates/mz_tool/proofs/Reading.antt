@@ -1,7 +1,7 @@
 -- One more line of a specification is read: its statement is good, and declares what it was printed from.
 use Rattle.std.proofs.Common.{ℕ, ◌≡◌, ◌++◌, ◌∙◌, List, [], ◌∷◌, length, refl, ap, sym, subst₂, append-nil, append_assoc}
 use Rattle.mz_logic_theory.specs.Declaration.{Declaration}
-use Rattle.mz_spec_theory.specs.Statement.{Statement, Spells}
+use Rattle.mz_spec_theory.specs.Statement.{SpecStatement, Spells}
 use Rattle.mz_spec_theory.specs.Reading.{place_of_first}
 use Rattle.mz_spec_theory.specs.State.{State, nothing}
 use Rattle.mz_spec_theory.specs.Spec.{IsGood, Stand}
@@ -50,7 +50,7 @@ ready-nothing = record { behind = behind-nothing (spoken ab) 2 (has-variables ab
 
 -- the words, from a place on, are a good statement that declares d
 pub record Read (σ : State) (p : ℕ) (ws : List Word) (env : List Declaration) (used : List (List ℕ)) (name : List ℕ) (d : Declaration) : Type 0 where
-  pub statement : Statement
+  pub statement : SpecStatement
   pub state : State
   pub spells : Spells statement (lexemes_at p ws)
   pub good : IsGood σ (place_of_first (lexemes_at p ws)) statement
@@ -93,7 +93,7 @@ module _ (f : ℕ → List ℕ) (fine : AreVariables f) (σ : State) (env : List
 
 pub record AllRead (σ : State) (p : ℕ) (wss : List (List Word)) (env ds : List Declaration) : Type 0 where
   pub last : State
-  pub statements : List Statement
+  pub statements : List SpecStatement
   pub stand : Stand σ statements (rows_lexemes p wss) last []
   pub env_is : last.env ≡ env ++ ds
   pub spans : length last.spans ≡ length last.env

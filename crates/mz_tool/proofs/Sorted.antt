@@ -6,7 +6,7 @@ use Rattle.mz_logic_theory.specs.Signature.{Signature}
 use Rattle.mz_logic_theory.specs.Declaration.{Declaration}
 use Rattle.mz_logic_theory.specs.Modifiers.{MayBeClaimSort, MayBeResultSort, MayBeBoundSort}
 use Rattle.mz_logic_theory.specs.Sorts.{HasSort, AreProvable}
-use Rattle.mz_logic_theory.specs.Variables.{InFV, IsBoundAt, Apart}
+use Rattle.mz_logic_theory.specs.Variables.{InFV, IsBoundAt, AreDisjoint}
 use Rattle.mz_logic_theory.specs.Legality.{AreParams}
 use Rattle.mz_logic_theory.specs.Laws.{SortsThere}
 use Rattle.mz_logic_theory.specs.Examples.{wff, two, im, im_declared, nat, all_signature, y_and_q, one_param}
@@ -32,7 +32,7 @@ two-wff (suc i) b at = one-wff i b at
 never-bound : (ps : List Binder) → AreWff ps → (j : ℕ) (q : Binder) → slice_get ps j ≡ Some q → q.bound ≡ true → ⊥
 never-bound ps are j q at bound = true≢false (sym bound ∙ sym (ap (λ r. r.bound) (are j q at)))
 
-pub apart-wff : (ctx ps : List Binder) → AreWff ps → (es : Trees) → Apart ctx es ps
+pub apart-wff : (ctx ps : List Binder) → AreWff ps → (es : Trees) → AreDisjoint ctx es ps
 apart-wff ctx ps are es i j x p q at_i at_j bound is has = absurd (never-bound ps are j q at_j bound)
 
 pub params-wff : (ss : List SortMods) (ps : List Binder) → AreWff ps → AreParams ss ps
@@ -69,7 +69,7 @@ params-nat (suc zero) b at = (
 params-nat (suc (suc i)) b at = absurd (none-some _ at)
 
 -- what is put in for the second may have the first in it
-pub apart-nat : (e : Tree) → Apart y_and_q (more (var 0) (more e none)) y_and_q
+pub apart-nat : (e : Tree) → AreDisjoint y_and_q (more (var 0) (more e none)) y_and_q
 apart-nat e zero zero x p q at_i at_j bound is has = inl refl
 apart-nat e zero (suc zero) x p q at_i at_j bound is has = absurd (true≢false (sym bound ∙ ap (λ (r : Binder). r.bound) (one_at at_j refl)))
 apart-nat e zero (suc (suc j)) x p q at_i at_j bound is has = absurd (none-some _ at_j)

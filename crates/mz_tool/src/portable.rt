@@ -1,6 +1,6 @@
 // The command `portable`.
 ghost use Rattle.std.specs.Prelude.{◌≡◌, ◌<◌, ◌⊎◌, ◌^◌, ℕ, List, None, length};
-ghost use Rattle.mz_binary_theory.specs.declared.standard.Standard.TheVariants.{Portable};
+ghost use Rattle.mz_pmachine_theory.specs.FilesByIdentity.{portable_standard};
 ghost use Rattle.mz_match_theory.specs.Verdict.{Accepts, IsSoundIfAccepted, IsSound};
 ghost use Rattle.mz_portable.specs.Portable.{FirstPortableRefusal, IsAcceptedByTable, IsPortableVerdict, PortablyAccepts};
 ghost use Rattle.mz_tool_engine.specs.Outcomes.{IfYes, IfNo, OnYes, OnNo};
@@ -53,11 +53,11 @@ impl<'a> Command for PortableCommand<'a> {
 pub fn portable(alloc: Global, seed: Seed, spec: &[u8], bin: &[u8]) -> Outcome
     requires spec { length spec.now < 2 ^ 32 }
     requires bin { length bin.now < 2 ^ 32 }
-    ensures yes { IfYes result (λ put text. (put ≡ None) × IsVerifiedBy Portable spec.now bin.now text) }
-    ensures no { IfNo result (λ text. IsRefutedBy Portable spec.now bin.now text) }
+    ensures yes { IfYes result (λ put text. (put ≡ None) × IsVerifiedBy portable_standard spec.now bin.now text) }
+    ensures no { IfNo result (λ text. IsRefutedBy portable_standard spec.now bin.now text) }
     ensures sound { OnYes result (IsSound spec.now bin.now × Accepts spec.now bin.now) }
-    ensures only_yes { (text : List ℕ) → IsVerifiedBy Portable spec.now bin.now text → OnNo result ⊥ }
-    ensures only_no { (text : List ℕ) → IsRefutedBy Portable spec.now bin.now text → OnYes result ⊥ }
+    ensures only_yes { (text : List ℕ) → IsVerifiedBy portable_standard spec.now bin.now text → OnNo result ⊥ }
+    ensures only_no { (text : List ℕ) → IsRefutedBy portable_standard spec.now bin.now text → OnYes result ⊥ }
 {
     let verdict = counted_verdict::<Brand>(alloc, seed, Blank::new(1), spec, bin);
     answered_by(alloc, &verdict)

@@ -1,6 +1,6 @@
 -- What a verdict says is what is answered.
 use Rattle.std.proofs.Common.{◌≡◌, ◌⊎◌, ℕ, List, None, subst, inl, inr}
-use Rattle.mz_binary_theory.specs.declared.standard.Standard.{Standard}
+use Rattle.mz_binary_theory.specs.Standards.{Standard}
 use Rattle.mz_match_theory.specs.declared.verdict.Counts.{Counts}
 use Rattle.mz_match_theory.specs.declared.verdict.Verdict.{Verdict}
 use Rattle.mz_match_theory.specs.declared.verdict.Verdict.TheVariants as verdicts

@@ -1,7 +1,6 @@
 -- The command `verify SPEC BIN`: all that is said of it (this project's own).
 use Rattle.std.specs.Prelude.{◌≡◌, ℕ, List, [], ◌∷◌, None, Some, codes}
-use Rattle.mz_binary_theory.specs.declared.standard.Standard.{Standard}
-use Rattle.mz_binary_theory.specs.Standards.{strict_standard}
+use Rattle.mz_binary_theory.specs.Standards.{Standard, strict_standard}
 use Rattle.mz_match_theory.specs.declared.verdict.Counts.{Counts}
 use Rattle.mz_match_theory.specs.declared.verdict.Verdict.{Verdict}
 use Rattle.mz_match_theory.specs.declared.verdict.Verdict.TheVariants as verdicts

@@ -4,7 +4,7 @@ use Rattle.std.specs.Prelude.{slice_get}
 use Rattle.std.proofs.lemmas.List.{append-nil, append_assoc}
 use Rattle.mz_base.proofs.Offered.{slice_get-last, slice_get-append}
 use Rattle.mz_logic_theory.specs.Tree.{Trees, var, app}
-use Rattle.mz_unify_theory.specs.Spells.{trees_of}
+use Rattle.mz_machine_theory.specs.Spells.{trees_of}
 use Rattle.mz_machine_theory.specs.MachineState.{RowsBefore}
 use Rattle.mz_trace.specs.Nodes.{Value, an_expression, expressions_at, value_of, values_after, values, AreExpressions, HasArity, HasParts, HavePartsAfter, HaveParts, IsApplication, Applies}
 use Rattle.mz_trace.specs.declared.node.RunNode.{RunNode}
@@ -90,14 +90,7 @@ of-node tables vs i t es (node.App s ops) h at =
     let term : s ≡ t = cc in
     let trees : trees_of (expressions_at vs ops.items) ≡ es = cc in
     (tt, λ u os a. (a.0 ∙ term, sym trees ∙ ap (λ ns. trees_of (expressions_at vs ns)) (sym a.1), rw a.1 h.1.0, rw (a.1, ← term) h.1.1))
-of-node tables vs i t es (node.Hyp k) h at = absurd (let no = sym h.0 ∙ at in cc)
-of-node tables vs i t es (node.Let k) h at = absurd (let no = sym h.0 ∙ at in cc)
-of-node tables vs i t es (node.Use s e os ps) h at = absurd (let no = sym h.0 ∙ at in cc)
-of-node tables vs i t es (node.Conv e c p) h at = absurd (let no = sym h.0 ∙ at in cc)
-of-node tables vs i t es (node.Refl e) h at = absurd (let no = sym h.0 ∙ at in cc)
-of-node tables vs i t es (node.Sym c) h at = absurd (let no = sym h.0 ∙ at in cc)
-of-node tables vs i t es (node.Cong s cs) h at = absurd (let no = sym h.0 ∙ at in cc)
-of-node tables vs i t es (node.Unfold s e os ys c) h at = absurd (let no = sym h.0 ∙ at in cc)
+of-node tables vs i t es _ h at = absurd (let no = sym h.0 ∙ at in cc)
 
 pub application-at : (tables : RowsBefore) (ns : List RunNode) (i t : ℕ) (es : Trees) → HaveParts tables ns → slice_get (values ns) i ≡ Some (an_expression (app t es))
     → IsApplicationOf tables (values ns) t es (slice_get ns i)

@@ -4,9 +4,9 @@ use Rattle.std.proofs.lemmas.List.{append-nil, length-map, map-append}
 use Rattle.mz_base.proofs.Offered.{one-further}
 use Rattle.mz_logic_theory.specs.Tree.{Tree, var}
 use Rattle.mz_logic_theory.specs.declared.binder.Binder.{Binder}
-use Rattle.mz_unify_theory.specs.Profile.{strict, expr, proof, obligation, conversion, Item as MachineItem}
-use Rattle.mz_unify_theory.specs.Spells.{dummy_of}
-use Rattle.mz_unify_theory.proofs.Offered.{from_bind}
+use Rattle.mz_machine_theory.specs.Profile.{strict, expr, proof, obligation, conversion, Item as MachineItem}
+use Rattle.mz_machine_theory.specs.Spells.{dummy_of}
+use Rattle.mz_machine_theory.proofs.Offered.{from_bind}
 use Rattle.mz_machine_theory.specs.MachineState.{RowsBefore, State, is_theorem, Heading}
 use Rattle.mz_machine_theory.specs.ProofMachine.{own_variables, last_item, ends_with, proof_end}
 use Rattle.mz_machine_theory.specs.Bodies.{body_start, body_from, Runs}
@@ -54,8 +54,6 @@ bare-begun (suc n) =
 
 held-begun : (tables : RowsBefore) (n : ℕ) (ps : List Binder) → length ps ≡ n → IsHeld tables ps (begun n)
 held-begun tables zero [] is = record { nodes = tt; heap = tt; hyps = tt; lets = tt; variables = refl }
-held-begun tables zero (p ∷ ps) is = absurd (omega (arith, is))
-held-begun tables (suc n) [] is = absurd (omega (arith, is))
 held-begun tables (suc n) (p ∷ ps) is =
     let held = held-begun tables n ps (omega (arith, is)) in
     let s = begun n in
@@ -68,6 +66,7 @@ held-begun tables (suc n) (p ∷ ps) is =
       lets = still.lets;
       variables = omega (arith, held.variables);
     }
+held-begun tables _ _ is = absurd (omega (arith, is))
 
 own-last : (i : ℕ) (p : Binder) (ps : List Binder) → own_variables strict i (p ∷ ps) ≡ own_variables strict i ps ++ var (i + length ps) ∷ []
 own-last i p [] = ap (λ (k : ℕ). var k ∷ []) (omega arith)
@@ -75,8 +74,6 @@ own-last i p (q ∷ qs) = ap (λ (ts : List Tree). var i ∷ ts) (own-last (suc 
 
 heap-begun : (tables : RowsBefore) (n : ℕ) (ps : List Binder) → length ps ≡ n → map (item_at (values_in (begun n))) (begun n).heap ≡ map expr (own_variables strict 0 ps)
 heap-begun tables zero [] is = refl
-heap-begun tables zero (p ∷ ps) is = absurd (omega (arith, is))
-heap-begun tables (suc n) [] is = absurd (omega (arith, is))
 heap-begun tables (suc n) (p ∷ ps) is =
     let few : length ps ≡ n = omega (arith, is) in
     let held = held-begun tables n ps few in
@@ -87,6 +84,7 @@ heap-begun tables (suc n) (p ∷ ps) is =
     ∙ ap (λ (xs : List (MachineItem Tree)). xs ++ expr (var s.variables) ∷ []) (heap-begun tables n ps few)
     ∙ ap (λ (k : ℕ). map expr (own_variables strict 0 ps) ++ expr (var k) ∷ []) place
     ∙ sym (ap (map expr) (own-last 0 p ps) ∙ map-append expr (own_variables strict 0 ps) (var (0 + length ps) ∷ []))
+heap-begun tables _ _ is = absurd (omega (arith, is))
 
 last-expression : (ps : List Binder) → map (λ (b : Binder). expression) ps ++ expression ∷ [] ≡ expression ∷ map (λ (b : Binder). expression) ps
 last-expression [] = refl
@@ -94,14 +92,13 @@ last-expression (p ∷ ps) = ap (λ (xs : List Part). expression ∷ xs) (last-e
 
 parts-begun : (tables : RowsBefore) (n : ℕ) (ps : List Binder) → length ps ≡ n → map (part_at (values_in (begun n))) (begun n).heap ≡ map (λ (b : Binder). expression) ps
 parts-begun tables zero [] is = refl
-parts-begun tables zero (p ∷ ps) is = absurd (omega (arith, is))
-parts-begun tables (suc n) [] is = absurd (omega (arith, is))
 parts-begun tables (suc n) (p ∷ ps) is =
     let few : length ps ≡ n = omega (arith, is) in
     let held = held-begun tables n ps few in
     let s = begun n in
     heap_parts-more tables ps s (node.Var s.variables) held tt (Expr (length s.nodes)) expression refl
     ∙ ap (λ (xs : List Part). xs ++ expression ∷ []) (parts-begun tables n ps few) ∙ last-expression ps
+parts-begun tables _ _ is = absurd (omega (arith, is))
 
 module _ (tables : RowsBefore) (h : Heading) (n : ℕ) (many : length h.params ≡ n) where
   bare : IsBare (begun n) n
@@ -124,12 +121,8 @@ abbrev one-proof : Tree → List (MachineItem Tree)
 one-proof e = proof e ∷ []
 
 last-is : (xs : List (MachineItem Tree)) (e : Tree) → last_item is_theorem xs ≡ Ok e → xs ≡ one-proof e
-last-is [] e is = absurd cc
-last-is (expr x ∷ xs) e is = absurd cc
-last-is (obligation l r ∷ xs) e is = absurd cc
-last-is (conversion l r ∷ xs) e is = absurd cc
 last-is (proof x ∷ []) e is = let same : x ≡ e = cc in ap one-proof same
-last-is (proof x ∷ y ∷ xs) e is = absurd cc
+last-is _ e is = absurd cc
 
 proof-left : (tables : RowsBefore) (h : Heading) (st end : State Tree) → h.kind ≡ is_theorem → proof_end strict tables h st ≡ Ok end → (e : Tree) × (st.stack ≡ one-proof e)
 unfolding proof_end ends_with
@@ -143,11 +136,7 @@ none-left tables vs (Held (Expr e) ∷ xs) h is = absurd cc
 none-left tables vs (Held (ProofItem e p) ∷ xs) h is = absurd cc
 none-left tables vs (Held (ConversionItem l r c) ∷ xs) h is = absurd cc
 none-left tables vs (Owed l r ∷ xs) h is = absurd cc
-none-left tables vs (ForProof e p ∷ xs) h is = absurd h
-none-left tables vs (ForTurned ∷ xs) h is = absurd h
-none-left tables vs (ForOperand t done left ∷ xs) h is = absurd h
-none-left tables vs (ForUnfolded t e es ys ∷ xs) h is = absurd h
-none-left tables vs (ForCut l r ∷ xs) h is = absurd h
+none-left tables vs _ h is = absurd h
 
 one-left : (tables : RowsBefore) (vs : List Value) (xs : List Entry) (d : Tree) → IsStack tables vs xs → items_at vs xs ≡ one-proof d → (e p : ℕ) × (xs ≡ Held (ProofItem e p) ∷ [])
 one-left tables vs [] d h is = absurd cc
@@ -156,11 +145,7 @@ one-left tables vs (Held (ProofItem e p) ∷ xs) d h is =
     let none : items_at vs xs ≡ [] = cc in (e, p, ap (λ (ys : List Entry). Held (ProofItem e p) ∷ ys) (none-left tables vs xs h.1 none))
 one-left tables vs (Held (ConversionItem l r c) ∷ xs) d h is = absurd cc
 one-left tables vs (Owed l r ∷ xs) d h is = absurd cc
-one-left tables vs (ForProof e p ∷ xs) d h is = absurd h
-one-left tables vs (ForTurned ∷ xs) d h is = absurd h
-one-left tables vs (ForOperand t done left ∷ xs) d h is = absurd h
-one-left tables vs (ForUnfolded t e es ys ∷ xs) d h is = absurd h
-one-left tables vs (ForCut l r ∷ xs) d h is = absurd h
+one-left tables vs _ d h is = absurd h
 
 pub has-root : (tables : RowsBefore) (h : Heading) (s : Stage) (end : State Tree) → h.kind ≡ is_theorem → IsMade tables h.params s → proof_end strict tables h (state_of h.params s) ≡ Ok end → HasRoot s
 has-root tables h s end kind made done =

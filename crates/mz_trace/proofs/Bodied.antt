@@ -7,14 +7,13 @@ use Rattle.mz_logic_theory.specs.Tree.{Tree, var, app, none, instance, followed_
 use Rattle.mz_logic_theory.specs.Signature.{Signature}
 use Rattle.mz_logic_theory.specs.Declaration.{Form, plain_form, abstract_form, defined, Term, Declaration, terms, signatures, body_tree}
 use Rattle.mz_logic_theory.specs.declared.binder.Binder.{Binder}
-use Rattle.mz_unify_theory.specs.Streams.{of_definition}
-use Rattle.mz_unify_theory.specs.Spells.{trees_of, Text, SpelledTerm, SpellsForm, SpellsTerm}
-use Rattle.mz_unify_theory.specs.Profile.{strict}
-use Rattle.mz_unify_theory.specs.Sorted.{Sorted}
-use Rattle.mz_unify_theory.specs.UnifyMachine.{UnifyState, unify}
-use Rattle.mz_unify_theory.proofs.Offered.{some_is, operands-sorted, unfolding-is}
+use Rattle.mz_machine_theory.specs.Streams.{of_definition}
+use Rattle.mz_machine_theory.specs.Spells.{trees_of, Text, SpelledTerm, SpellsForm, SpellsTerm}
+use Rattle.mz_machine_theory.specs.Profile.{strict}
+use Rattle.mz_machine_theory.specs.Sorted.{Sorted}
+use Rattle.mz_machine_theory.specs.UnifyMachine.{UnifyState, unify}
+use Rattle.mz_machine_theory.proofs.Offered.{some_is, operands-sorted, unfolding-is, pair-at, signatures-are, signature-at}
 use Rattle.mz_machine_theory.specs.MachineState.{RowsBefore, Declares, signatures_in}
-use Rattle.mz_machine_theory.proofs.Offered.{pair-at, signatures-are, signature-at}
 use Rattle.mz_trace.specs.Traces.{variables_in}
 use Rattle.mz_trace.proofs.Deriving.{variables-are}
 use Rattle.mz_trace.specs.Nodes.{body_under}
@@ -24,11 +23,10 @@ use Rattle.mz_trace.specs.Commands.{in_body}
 text-of : (sigs : List Signature) (params : List Binder) (o : Option (List ℕ)) (stream : List ℕ) (form : Form) → o ≡ Some stream → SpellsForm sigs params o form
     → (dummies : List Binder) × Text of_definition sigs params stream none (body_tree form) dummies
 text-of sigs params None stream form is s = absurd cc
-text-of sigs params (Some other) stream plain_form is s = absurd s
-text-of sigs params (Some other) stream abstract_form is s = absurd s
 text-of sigs params (Some other) stream (defined dummies body) is s =
     let same : other ≡ stream = cc in
     (dummies, subst (λ (z : List ℕ). Text of_definition sigs params z none body dummies) same s)
+text-of sigs params (Some other) stream _ is s = absurd s
 
 module _ (tables : RowsBefore) (env : List Declaration) (declares : Declares tables env) (ctx : List Binder) where
   -- the left side is this term over the operands, and the target has a sort

@@ -12,9 +12,9 @@ use Rattle.mz_cmd.specs.declared.code.ProofCode.TheVariants as code
 use Rattle.mz_cmd.specs.Codes.{proof_code}
 use Rattle.mz_cmd.specs.Reading.{first_command}
 use Rattle.mz_logic_theory.specs.Tree.{Tree}
-use Rattle.mz_unify_theory.specs.Steps.{◌>>=◌, ◌>>◌, need, at_place, over, goes_on, follow}
-use Rattle.mz_unify_theory.specs.Profile.{strict}
-use Rattle.mz_unify_theory.specs.UnifyMachine.{is_empty}
+use Rattle.mz_machine_theory.specs.Steps.{◌>>=◌, ◌>>◌, need, at_place, over, goes_on, follow}
+use Rattle.mz_machine_theory.specs.Profile.{strict}
+use Rattle.mz_machine_theory.specs.UnifyMachine.{is_empty}
 use Rattle.mz_machine_theory.specs.MachineState.{RowsBefore, State, is_theorem, Heading}
 use Rattle.mz_machine_theory.specs.ProofMachine.{proof_step, built, proof_end}
 use Rattle.mz_machine_theory.specs.Bodies.{BodyCommand, ends, proves, if_allowed, body_command, body_turn_by, body_turn, body_from}
@@ -55,9 +55,8 @@ module _ (tables : RowsBefore) (h : Heading) (at : ℕ) (st end : State Tree) wh
       go : (b : Bool) (r : Result (State Tree) K) → proof_end strict tables h st ≡ r
           → follow (at_place at (need b k.StatementLength >> r >>= λ s. Ok (over s))) (λ len s. body_from strict tables h n (at + len) (drop len bytes) s) ≡ Ok end
           → EndsHere c (suc n) bytes ⊎ GoesOn c (suc n) bytes
-      go false r done run = absurd cc
-      go true (Err f) done run = absurd cc
       go true (Ok s) done run = let same : s ≡ end = cc in inl (is, done ∙ ap (λ z. finished z) same, λ tr. rw (read, is) refl)
+      go _ _ done run = absurd cc
   by-command c n bytes (Some (proves pc value)) read is run = go (proof_step strict tables at pc value st) refl run
     where
       go : (r : Result (State Tree) K) → proof_step strict tables at pc value st ≡ r
@@ -81,22 +80,7 @@ module _ (tables : RowsBefore) (h : Heading) (at : ℕ) (st end : State Tree) wh
 pub any-place : (tables : RowsBefore) (at : ℕ) (c : ProofCode) (n : ℕ) (st : State Tree) → proof_step strict tables at c n st ≡ proof_step strict tables 0 c n st
 unfolding proof_step built
 any-place tables at code.Term n st = refl
-any-place tables at code.TermSave n st = refl
-any-place tables at code.Ref n st = refl
-any-place tables at code.ConvRef n st = refl
-any-place tables at code.Dummy n st = refl
-any-place tables at code.Thm n st = refl
-any-place tables at code.ThmSave n st = refl
-any-place tables at code.Hyp n st = refl
-any-place tables at code.Conv n st = refl
-any-place tables at code.Refl n st = refl
-any-place tables at code.Symm n st = refl
-any-place tables at code.Cong n st = refl
-any-place tables at code.Unfold n st = refl
-any-place tables at code.ConvCut n st = refl
-any-place tables at code.ConvSave n st = refl
-any-place tables at code.Save n st = refl
-any-place tables at code.Sorry n st = refl
+any-place tables at _ n st = refl
 
 -- ---- codes
 
@@ -112,22 +96,7 @@ by-zero b v = go (b == 0x00) refl
 
 allowed-is : (v : ℕ) (pc : ProofCode) → if_allowed strict is_theorem v (Some pc) ≡ Some (proves pc v)
 allowed-is v code.Term = refl
-allowed-is v code.TermSave = refl
-allowed-is v code.Ref = refl
-allowed-is v code.ConvRef = refl
-allowed-is v code.Dummy = refl
-allowed-is v code.Thm = refl
-allowed-is v code.ThmSave = refl
-allowed-is v code.Hyp = refl
-allowed-is v code.Conv = refl
-allowed-is v code.Refl = refl
-allowed-is v code.Symm = refl
-allowed-is v code.Cong = refl
-allowed-is v code.Unfold = refl
-allowed-is v code.ConvCut = refl
-allowed-is v code.ConvSave = refl
-allowed-is v code.Save = refl
-allowed-is v code.Sorry = refl
+allowed-is v _ = refl
 
 -- a proof's code is the command's, and what has none ends the body
 pub a-proof : (b v : ℕ) (pc : ProofCode) → proof_code b ≡ Some pc → body_command strict is_theorem b v ≡ Some (proves pc v)

@@ -5,8 +5,8 @@ use Rattle.mz_cmd.specs.declared.rule.K.{K}
 use Rattle.mz_logic_theory.specs.Tree.{Tree}
 use Rattle.mz_logic_theory.specs.declared.binder.Binder.{Binder}
 use Rattle.mz_mmu_theory.specs.Proof.{Proof}
-use Rattle.mz_unify_theory.specs.Profile.{strict, Item, proof}
-use Rattle.mz_unify_theory.proofs.Offered.{from_bind, taken-is}
+use Rattle.mz_machine_theory.specs.Profile.{strict, Item, proof}
+use Rattle.mz_machine_theory.proofs.Offered.{from_bind, taken-is}
 use Rattle.mz_machine_theory.specs.MachineState.{RowsBefore, State, Kind, is_theorem, Heading}
 use Rattle.mz_machine_theory.specs.ProofMachine.{last_item, own_variables, ends_with, proof_end}
 use Rattle.mz_machine_theory.specs.Bodies.{body_start}

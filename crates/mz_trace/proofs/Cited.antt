@@ -7,15 +7,14 @@ use Rattle.mz_logic_theory.specs.Signature.{Signature}
 use Rattle.mz_logic_theory.specs.Declaration.{Assertion, Declaration, signatures, assertions}
 use Rattle.mz_logic_theory.specs.declared.binder.Binder.{Binder}
 use Rattle.mz_mmu_theory.specs.Sides.{assertion_at}
-use Rattle.mz_unify_theory.specs.Laws.{citing}
-use Rattle.mz_unify_theory.specs.Profile.{strict, Item}
-use Rattle.mz_unify_theory.specs.Spells.{SpelledThm, SpellsThm, trees_of}
-use Rattle.mz_unify_theory.specs.UnifyMachine.{UnifyState, unify}
-use Rattle.mz_unify_theory.proofs.Offered.{citation-is}
+use Rattle.mz_machine_theory.specs.UnifyLaws.{citing}
+use Rattle.mz_machine_theory.specs.Profile.{strict, Item}
+use Rattle.mz_machine_theory.specs.Spells.{SpelledThm, SpellsThm, trees_of}
+use Rattle.mz_machine_theory.specs.UnifyMachine.{UnifyState, unify}
+use Rattle.mz_machine_theory.proofs.Offered.{citation-is, pair-at, signatures-are, expr-top, operands-top}
 use Rattle.mz_machine_theory.specs.MachineState.{RowsBefore, State, Declares, signatures_in}
 use Rattle.mz_machine_theory.specs.Premises.{pop_expr, pop_operands}
 use Rattle.mz_machine_theory.specs.Invariant.{Fact}
-use Rattle.mz_machine_theory.proofs.Offered.{pair-at, signatures-are, expr-top, operands-top}
 use Rattle.mz_trace.specs.Nodes.{conclusion_under}
 use Rattle.mz_trace.specs.Commands.{anything}
 

@@ -12,13 +12,13 @@ use Rattle.mz_logic_theory.specs.Tree.{Tree}
 use Rattle.mz_logic_theory.specs.declared.binder.Binder.{Binder}
 use Rattle.mz_mmu_theory.specs.Proof.{Proof, by_citation, no_proofs}
 use Rattle.mz_layout_tables.specs.Tables.{thm_row, thm_count}
-use Rattle.mz_unify_theory.specs.Profile.{strict, proof, Item as MachineItem}
-use Rattle.mz_unify_theory.specs.Laws.{citing}
-use Rattle.mz_unify_theory.specs.Spells.{SpelledThm, trees_of}
-use Rattle.mz_unify_theory.specs.UnifyMachine.{Matching, UnifyState, unify}
-use Rattle.mz_unify_theory.proofs.Offered.{from_bind, from_then, from_need, from_want, rule_of-ok, taken, taken-is, some_is}
+use Rattle.mz_machine_theory.specs.Profile.{strict, proof, Item as MachineItem}
+use Rattle.mz_machine_theory.specs.UnifyLaws.{citing}
+use Rattle.mz_machine_theory.specs.Spells.{SpelledThm, trees_of}
+use Rattle.mz_machine_theory.specs.UnifyMachine.{Matching, UnifyState, unify}
+use Rattle.mz_machine_theory.proofs.Offered.{from_bind, from_then, from_need, from_want, rule_of-ok, taken, taken-is, some_is}
 use Rattle.mz_machine_theory.specs.MachineState.{RowsBefore, State, signatures_in}
-use Rattle.mz_machine_theory.specs.Premises.{pop_expr, pop_operands, pop_exprs, operands_fit, are_apart}
+use Rattle.mz_machine_theory.specs.Premises.{pop_expr, pop_operands, pop_exprs, operands_fit, are_disjoint}
 use Rattle.mz_machine_theory.specs.ProofMachine.{proof_step, citation, matched_by, cited}
 use Rattle.mz_machine_theory.specs.FileRows.{thm_of_file}
 use Rattle.mz_machine_env.specs.Before.{Before}
@@ -94,11 +94,10 @@ module _ (vs : List Value) where
   left-below : (ps : List (ℕ × ℕ)) (ys : List Entry) (es : List Tree) (rest : List (MachineItem Tree)) → items_at vs (proofs_onto ps ys) ≡ map proof es ++ rest → length es ≡ length ps
       → items_at vs ys ≡ rest
   left-below [] ys [] rest e many = e
-  left-below [] ys (f ∷ es) rest e many = absurd (omega (arith, many))
-  left-below (p ∷ ps) ys [] rest e many = absurd (omega (arith, many))
   left-below (p ∷ ps) ys (f ∷ es) rest e many =
       let next : items_at vs (proofs_onto ps ys) ≡ map proof es ++ rest = cc in
       left-below ps ys es rest next (omega (arith, many))
+  left-below _ ys _ rest e many = absurd (omega (arith, many))
 
   -- what is left below operands
   below-operands : (count : ℕ) (ns : List ℕ) (ys zs : List Entry) (es : List Tree × List (MachineItem Tree)) → ys ≡ exprs_onto ns zs → length ns ≡ count
@@ -135,7 +134,7 @@ module _ (t : ℕ) (s : Stage) (tables : RowsBefore) (params : List Binder) wher
       from_bind (pop_operands (length row.params) x.1) _ m e3 λ es popping-es e4.
       from_need (nat_le (length row.params) (length x.1)) k.Underflow _ es popping-es λ many popping-all.
       from_then (operands_fit (signatures_in tables) st.ctx (map (λ z. z) es.0) row.params) _ m e4 λ fit fits e5.
-      from_need (are_apart st.ctx (map (λ z. z) es.0) row.params) k.Disjoint _ m e5 λ apart e6.
+      from_need (are_disjoint st.ctx (map (λ z. z) es.0) row.params) k.Disjoint _ m e5 λ apart e6.
       let made : Matching Tree = citing row.stream es.0 x.0 es.1 in
       let m-is : made ≡ m = taken-is made m e6 in
       let ran : unify strict (signatures_in tables) st.ctx made ≡ Ok u = subst (λ (z : Matching Tree). unify strict (signatures_in tables) st.ctx z ≡ Ok u) (sym m-is) (rule_of-ok _ u unified) in
@@ -188,9 +187,8 @@ module _ (file : List ℕ) (t : ℕ) (s : Stage) where
 
 same-onto : (ns ms : List ℕ) (xs ys : List Entry) → exprs_onto ns xs ≡ exprs_onto ms ys → length ns ≡ length ms → xs ≡ ys
 same-onto [] [] xs ys e many = e
-same-onto [] (m ∷ ms) xs ys e many = absurd (omega (arith, many))
-same-onto (n ∷ ns) [] xs ys e many = absurd (omega (arith, many))
 same-onto (n ∷ ns) (m ∷ ms) xs ys e many = same-onto ns ms xs ys (rest-is (Held (Expr n)) (Held (Expr m)) (exprs_onto ns xs) (exprs_onto ms ys) e) (omega (arith, many))
+same-onto _ _ xs ys e many = absurd (omega (arith, many))
 
 -- below the operands stand the proofs of the hypotheses
 pub proofs-there : (file : List ℕ) (t : ℕ) (s : Stage) (claim : ℕ) (os : List ℕ) (ys zs : List Entry) (stream : List ℕ) (n : ℕ)
@@ -213,21 +211,13 @@ same-claims tables vs t v e d os ops t-is e-is os-are h =
 use-node : (tables : RowsBefore) (vs : List Value) (t e : ℕ) (os ps : List ℕ) (n : RunNode) → Uses (Some n) t e os ps → IsExpression vs e → AreExpressions vs os → AreProofs vs ps
     → IsClaim tables t (expressions_at vs os) (expression_at vs e)
     → HasParts tables vs n × (value_of vs n ≡ a_proof (by_citation t (trees_of (expressions_at vs os)) (proofs_at vs ps)))
-use-node tables vs t e os ps (node.Var x) u he hos hps hc = absurd u
-use-node tables vs t e os ps (node.App v ops) u he hos hps hc = absurd u
-use-node tables vs t e os ps (node.Hyp i) u he hos hps hc = absurd u
-use-node tables vs t e os ps (node.Let i) u he hos hps hc = absurd u
 use-node tables vs t e os ps (node.Use v d ops qs) u he hos hps hc = (
   (subst (IsExpression vs) u.1 he, subst (AreExpressions vs) u.2 hos, subst (AreProofs vs) u.3 hps, same-claims tables vs t v e d os ops.items u.0 u.1 u.2 hc),
   ap (λ i. a_proof (by_citation i (trees_of (expressions_at vs ops.items)) (proofs_at vs qs.items))) (sym u.0)
       ∙ ap (λ (ns : List ℕ). a_proof (by_citation t (trees_of (expressions_at vs ns)) (proofs_at vs qs.items))) (sym u.2)
       ∙ ap (λ (ns : List ℕ). a_proof (by_citation t (trees_of (expressions_at vs os)) (proofs_at vs ns))) (sym u.3),
 )
-use-node tables vs t e os ps (node.Conv d c p) u he hos hps hc = absurd u
-use-node tables vs t e os ps (node.Refl d) u he hos hps hc = absurd u
-use-node tables vs t e os ps (node.Sym c) u he hos hps hc = absurd u
-use-node tables vs t e os ps (node.Cong v cs) u he hos hps hc = absurd u
-use-node tables vs t e os ps (node.Unfold v d ops ys c) u he hos hps hc = absurd u
+use-node tables vs t e os ps _ u he hos hps hc = absurd u
 
 abbrev with-below : Proof → List Part → Result (Proof × List Part) K
 with-below p xs = Ok (p, xs)

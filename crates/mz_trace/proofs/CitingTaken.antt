@@ -10,13 +10,13 @@ use Rattle.mz_cmd.specs.Reading.{first_command}
 use Rattle.mz_logic_theory.specs.Tree.{Tree}
 use Rattle.mz_logic_theory.specs.Signature.{Signature}
 use Rattle.mz_logic_theory.specs.declared.binder.Binder.{Binder}
-use Rattle.mz_unify_theory.specs.Steps.{at_place, Turn, over, goes_on, follow}
-use Rattle.mz_unify_theory.specs.Streams.{of_assertion, UnifyCommand, u_term, u_term_save, u_ref, u_dummy, u_hyp, u_end, unify_command}
-use Rattle.mz_unify_theory.specs.Profile.{strict, tree_parts, Item, proof}
-use Rattle.mz_unify_theory.specs.Tests.{same_tree}
-use Rattle.mz_unify_theory.specs.Laws.{citing}
-use Rattle.mz_unify_theory.specs.UnifyMachine.{in_citation, UnifyState, top_target, is_empty, next_hypothesis, operands_of, is_fresh, unify_step, unify_turn_by, unify_turn, unify_from, unify}
-use Rattle.mz_unify_theory.proofs.Offered.{from_bind, from_need, from_want, taken, taken-is, hypothesis-is}
+use Rattle.mz_machine_theory.specs.Steps.{at_place, Turn, over, goes_on, follow}
+use Rattle.mz_machine_theory.specs.Streams.{of_assertion, UnifyCommand, u_term, u_term_save, u_ref, u_dummy, u_hyp, u_end, unify_command}
+use Rattle.mz_machine_theory.specs.Profile.{strict, tree_parts, Item, proof}
+use Rattle.mz_machine_theory.specs.Tests.{same_tree}
+use Rattle.mz_machine_theory.specs.UnifyLaws.{citing}
+use Rattle.mz_machine_theory.specs.UnifyMachine.{in_citation, UnifyState, top_target, is_empty, next_hypothesis, operands_of, is_fresh, unify_step, unify_turn_by, unify_turn, unify_from, unify}
+use Rattle.mz_machine_theory.proofs.Offered.{from_bind, from_need, from_want, taken, taken-is, hypothesis-is}
 
 -- of the items, proofs of some expressions are taken, and these are left
 abbrev pub Takes : List (Item Tree) → List (Item Tree) → Type 0

@@ -9,16 +9,9 @@ use Rattle.mz_trace.specs.declared.node.RunNode.TheVariants as node
 
 module _ (tables : RowsBefore) (env : List Declaration) (declares : Declares tables env) where
   has-claim : (vs : List Value) (n : RunNode) → HasParts tables vs n → HasClaim env vs n
-  has-claim vs (node.Var x) h = tt
-  has-claim vs (node.App t es) h = tt
-  has-claim vs (node.Hyp i) h = tt
-  has-claim vs (node.Let i) h = tt
   has-claim vs (node.Use t e es ps) h = h.3 env declares
-  has-claim vs (node.Conv e c p) h = tt
-  has-claim vs (node.Refl e) h = tt
-  has-claim vs (node.Sym c) h = tt
-  has-claim vs (node.Cong t cs) h = tt
   has-claim vs (node.Unfold t e es ys c) h = h.3 env declares
+  has-claim vs _ h = tt
 
   pub have-claims : (vs : List Value) (ns : List RunNode) → HavePartsAfter tables vs ns → HasClaimsAfter env vs ns
   have-claims vs [] h = tt

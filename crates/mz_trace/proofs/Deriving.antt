@@ -7,24 +7,23 @@ use Rattle.mz_logic_theory.specs.Tree.{Tree, var, app}
 use Rattle.mz_logic_theory.specs.Signature.{Signature}
 use Rattle.mz_logic_theory.specs.Declaration.{Declaration, terms, signatures, assertions}
 use Rattle.mz_logic_theory.specs.Sorts.{Fits}
-use Rattle.mz_logic_theory.specs.Variables.{Apart}
+use Rattle.mz_logic_theory.specs.Variables.{AreDisjoint}
 use Rattle.mz_logic_theory.specs.Conversions.{Conversions, unfold_conv, no_convs, more_convs, Between, AllBetween, GapsOnly, AllGapsOnly, AreFresh}
 use Rattle.mz_logic_theory.specs.Derivations.{Uses, no_derivs, AllDerive}
 use Rattle.mz_logic_theory.specs.declared.binder.Binder.{Binder}
-use Rattle.mz_logic_theory.proofs.Offered.{extends_itself, sort_extends, fits_extends, apart_extends, fresh_extends}
+use Rattle.mz_logic_theory.proofs.Offered.{extends_itself, sort_extends, fits_extends, disjoint_extends, fresh_extends}
 use Rattle.mz_mmu_theory.specs.Proof.{Proof, Proofs, no_proofs, more_proofs}
 use Rattle.mz_mmu_theory.specs.Meaning.{derivations}
-use Rattle.mz_unify_theory.specs.Spells.{trees_of, SpellsTerm, SpellsThm}
-use Rattle.mz_unify_theory.specs.Profile.{strict, Item, expr}
-use Rattle.mz_unify_theory.specs.Sorted.{Sorted, AllSorted, ItemsSorted}
-use Rattle.mz_unify_theory.specs.Laws.{citing, unfolding_by}
-use Rattle.mz_unify_theory.specs.UnifyMachine.{unify}
-use Rattle.mz_unify_theory.proofs.Offered.{some_is, parts-are, operands-sorted, citation-is, unfolding-is}
+use Rattle.mz_machine_theory.specs.Spells.{trees_of, SpellsTerm, SpellsThm}
+use Rattle.mz_machine_theory.specs.Profile.{strict, Item, expr}
+use Rattle.mz_machine_theory.specs.Sorted.{Sorted, AllSorted, ItemsSorted}
+use Rattle.mz_machine_theory.specs.UnifyLaws.{citing, unfolding_by}
+use Rattle.mz_machine_theory.specs.UnifyMachine.{unify}
+use Rattle.mz_machine_theory.proofs.Offered.{some_is, parts-are, operands-sorted, citation-is, unfolding-is, pair-at, signatures-are, signature-at, fits-from, apart-from-test, expr-top, sides-top, operands-top, keeps, stream-row, definition-of}
 use Rattle.mz_machine_theory.specs.MachineState.{RowsBefore, State, Declares}
 use Rattle.mz_machine_theory.specs.Premises.{operands_fit}
 use Rattle.mz_machine_theory.specs.ProofMachine.{proof_step}
 use Rattle.mz_machine_theory.specs.Invariant.{IsFront, Fact}
-use Rattle.mz_machine_theory.proofs.Offered.{pair-at, signatures-are, signature-at, fits-from, apart-from-test, expr-top, sides-top, operands-top, keeps, stream-row, definition-of}
 use Rattle.mz_trace.specs.Traces.{Trace, variables_in, traced}
 use Rattle.mz_trace.proofs.Standing.{Asked, EachIs, EachFrom, EachProves}
 use Rattle.mz_trace.proofs.RowsStand.{Closed, Standing, Unfolds, Cites, goes}
@@ -139,11 +138,11 @@ module _ (N : Type 0) (tables : RowsBefore) (env : List Declaration) (declares :
       let (hs, hs-are, x-is, items-are) = citation-is Sigs st.ctx row a spells es.0 x.0 es.1 u len x-sorted rest-sorted ran' in
       let fits-ctx : Fits Sigs st.ctx (trees_of es.0) row.params =
       fits-from Sigs st.ctx es.0 row.params fit (subst (λ (z : List Signature). operands_fit z st.ctx es.0 row.params ≡ Ok fit) sigs-are fits) len sorted in
-      let apart-ctx : Apart st.ctx (trees_of es.0) row.params = apart-from-test st.ctx es.0 row.params len apart in
+      let apart-ctx : AreDisjoint st.ctx (trees_of es.0) row.params = apart-from-test st.ctx es.0 row.params len apart in
       let fits-full : Fits Sigs full (trees_of es.0) a.params =
       subst (Fits Sigs full (trees_of es.0)) spells.0 (fits_extends Sigs Sigs st.ctx full (extends_itself Sigs) front (trees_of es.0) row.params fits-ctx) in
-      let apart-full : Apart full (trees_of es.0) a.params =
-      subst (Apart full (trees_of es.0)) spells.0 (apart_extends Sigs st.ctx full front (trees_of es.0) row.params fits-ctx apart-ctx) in (
+      let apart-full : AreDisjoint full (trees_of es.0) a.params =
+      subst (AreDisjoint full (trees_of es.0)) spells.0 (disjoint_extends Sigs st.ctx full front (trees_of es.0) row.params fits-ctx apart-ctx) in (
         hs,
         items-are,
         λ ps each.

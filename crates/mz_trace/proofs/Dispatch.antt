@@ -7,8 +7,8 @@ use Rattle.mz_cmd.specs.declared.code.ProofCode.{ProofCode}
 use Rattle.mz_cmd.specs.declared.code.ProofCode.TheVariants as code
 use Rattle.mz_logic_theory.specs.Tree.{Tree}
 use Rattle.mz_logic_theory.specs.declared.binder.Binder.{Binder}
-use Rattle.mz_unify_theory.specs.Profile.{strict, Item}
-use Rattle.mz_unify_theory.specs.Steps.{◌>>=◌, ◌>>◌, need, want}
+use Rattle.mz_machine_theory.specs.Profile.{strict, Item}
+use Rattle.mz_machine_theory.specs.Steps.{◌>>=◌, ◌>>◌, need, want}
 use Rattle.mz_machine_theory.specs.MachineState.{RowsBefore, State}
 use Rattle.mz_machine_theory.specs.Premises.{is_conversion}
 use Rattle.mz_machine_theory.specs.ProofMachine.{proof_step, referred}

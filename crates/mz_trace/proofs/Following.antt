@@ -1,7 +1,7 @@
 -- Steps that go through, and what a turn did.
 use Rattle.std.proofs.Common.{◌≡◌, ℕ, Option, Some, Result, Ok, ap}
 use Rattle.mz_cmd.specs.declared.rule.K.{K}
-use Rattle.mz_unify_theory.specs.Steps.{◌>>=◌, want, Turn, over, goes_on}
+use Rattle.mz_machine_theory.specs.Steps.{◌>>=◌, want, Turn, over, goes_on}
 
 pub to_bind : {A B F : Type 0} (r : Result A F) (f : A → Result B F) (x : A) → r ≡ Ok x → (r >>= f) ≡ f x
 to_bind {A = A} {F = F} r f x e = ap (λ (z : Result A F). z >>= f) e

@@ -4,8 +4,8 @@ use Rattle.std.specs.Prelude.{reverse}
 use Rattle.std.proofs.lemmas.List.{reverse-append}
 use Rattle.mz_base.proofs.Offered.{slice_get-append}
 use Rattle.mz_logic_theory.specs.Tree.{app}
-use Rattle.mz_unify_theory.specs.Profile.{expr, proof}
-use Rattle.mz_unify_theory.specs.Spells.{trees_of}
+use Rattle.mz_machine_theory.specs.Profile.{expr, proof}
+use Rattle.mz_machine_theory.specs.Spells.{trees_of}
 use Rattle.mz_machine_theory.specs.MachineState.{RowsBefore}
 use Rattle.mz_trace.specs.OneHoleContexts.{proved, converted}
 use Rattle.mz_trace.specs.Nodes.{Value, an_expression, a_conversion, a_proof, expression_of, conversion_of, proof_of, expression_at, conversion_at, proof_at, expressions_at, conversions_at, proofs_at, value_of, IsExpression, IsConversion, IsProof, AreExpressions, AreConversions, AreProofs, conclusion_under, body_under, IsClaim, IsBody, HasParts}
@@ -81,28 +81,24 @@ module _ (vs ws : List Value) where
   -- ---- nodes
 
   pub grown-parts : (tables : RowsBefore) (n : RunNode) → HasParts tables vs n → HasParts tables (vs ++ ws) n
-  grown-parts tables (node.Var x) h = tt
   grown-parts tables (node.App t es) h = (grown-expressions es.items h.0, h.1)
-  grown-parts tables (node.Hyp i) h = tt
-  grown-parts tables (node.Let i) h = tt
   grown-parts tables (node.Use t e es ps) h = (grown-expression e h.0, grown-expressions es.items h.1, grown-proofs ps.items h.2, grown-claim tables t es.items e h.1 h.0 h.3)
   grown-parts tables (node.Conv e c p) h = (grown-expression e h.0, grown-conversion c h.1, grown-proof p h.2)
   grown-parts tables (node.Refl e) h = grown-expression e h
   grown-parts tables (node.Sym c) h = grown-conversion c h
   grown-parts tables (node.Cong t cs) h = grown-conversions cs.items h
   grown-parts tables (node.Unfold t e es ys c) h = (grown-expression e h.0, grown-expressions es.items h.1, grown-conversion c h.2, grown-body tables t es.items ys.items e h.1 h.0 h.3)
+  grown-parts tables _ h = tt
 
   pub same-value : (tables : RowsBefore) (n : RunNode) → HasParts tables vs n → value_of (vs ++ ws) n ≡ value_of vs n
-  same-value tables (node.Var x) h = refl
   same-value tables (node.App t es) h = ap (λ ts. an_expression (app t (trees_of ts))) (same-expressions es.items h.0)
-  same-value tables (node.Hyp i) h = refl
-  same-value tables (node.Let i) h = refl
   same-value tables (node.Use t e es ps) h = rw (same-expressions es.items h.1, same-proofs ps.items h.2) refl
   same-value tables (node.Conv e c p) h = rw (same-expression e h.0, same-conversion c h.1, same-proof p h.2) refl
   same-value tables (node.Refl e) h = rw (same-expression e h) refl
   same-value tables (node.Sym c) h = rw (same-conversion c h) refl
   same-value tables (node.Cong t cs) h = rw (same-conversions cs.items h) refl
   same-value tables (node.Unfold t e es ys c) h = rw (same-expressions es.items h.1, same-conversion c h.2) refl
+  same-value tables _ h = refl
 
   -- ---- items
 
@@ -160,22 +156,16 @@ module _ (tables : RowsBefore) (vs ws : List Value) where
     grown-stack (Held (ProofItem e p) ∷ xs) h = (grown-item vs ws (ProofItem e p) h.0, grown-stack xs h.1)
     grown-stack (Held (ConversionItem l r c) ∷ xs) h = (grown-item vs ws (ConversionItem l r c) h.0, grown-waiting xs h.1)
     grown-stack (Owed l r ∷ xs) h = (grown-expression vs ws l h.0, grown-expression vs ws r h.1, grown-waiting xs h.2)
-    grown-stack (ForProof e p ∷ xs) h = absurd h
-    grown-stack (ForTurned ∷ xs) h = absurd h
-    grown-stack (ForOperand t done left ∷ xs) h = absurd h
-    grown-stack (ForUnfolded t e es ys ∷ xs) h = absurd h
-    grown-stack (ForCut l r ∷ xs) h = absurd h
+    grown-stack _ h = absurd h
 
     pub grown-waiting : (xs : List Entry) → IsWaiting tables vs xs → IsWaiting tables (vs ++ ws) xs
-    grown-waiting [] h = absurd h
-    grown-waiting (Held x ∷ xs) h = absurd h
-    grown-waiting (Owed l r ∷ xs) h = absurd h
     grown-waiting (ForProof e p ∷ xs) h = (grown-expression vs ws e h.0, grown-proof vs ws p h.1, grown-stack xs h.2)
     grown-waiting (ForTurned ∷ xs) h = grown-waiting xs h
     grown-waiting (ForOperand t done left ∷ xs) h = (grown-conversions vs ws done.items h.0, grown-pairs vs ws left.items h.1, grown-waiting xs h.2)
     grown-waiting (ForUnfolded t e es ys ∷ xs) h =
         (grown-expression vs ws e h.0, grown-expressions vs ws es.items h.1, grown-body vs ws tables t es.items ys.items e h.1 h.0 h.2, grown-waiting xs h.3)
     grown-waiting (ForCut l r ∷ xs) h = (grown-expression vs ws l h.0, grown-expression vs ws r h.1, grown-waiting xs h.2)
+    grown-waiting _ h = absurd h
 
   mutual
     pub same-items : (xs : List Entry) → IsStack tables vs xs → items_at (vs ++ ws) xs ≡ items_at vs xs
@@ -184,21 +174,15 @@ module _ (tables : RowsBefore) (vs ws : List Value) where
     same-items (Held (ProofItem e p) ∷ xs) h = rw (same-expression vs ws e h.0.0, same-items xs h.1) refl
     same-items (Held (ConversionItem l r c) ∷ xs) h = rw (same-expression vs ws l h.0.0, same-expression vs ws r h.0.1, same-items_below xs h.1) refl
     same-items (Owed l r ∷ xs) h = rw (same-expression vs ws l h.0, same-expression vs ws r h.1, same-items_below xs h.2) refl
-    same-items (ForProof e p ∷ xs) h = absurd h
-    same-items (ForTurned ∷ xs) h = absurd h
-    same-items (ForOperand t done left ∷ xs) h = absurd h
-    same-items (ForUnfolded t e es ys ∷ xs) h = absurd h
-    same-items (ForCut l r ∷ xs) h = absurd h
+    same-items _ h = absurd h
 
     pub same-items_below : (xs : List Entry) → IsWaiting tables vs xs → items_at (vs ++ ws) xs ≡ items_at vs xs
-    same-items_below [] h = absurd h
-    same-items_below (Held x ∷ xs) h = absurd h
-    same-items_below (Owed l r ∷ xs) h = absurd h
     same-items_below (ForProof e p ∷ xs) h = rw (same-expression vs ws e h.0, same-items xs h.2) refl
     same-items_below (ForTurned ∷ xs) h = same-items_below xs h
     same-items_below (ForOperand t done left ∷ xs) h = rw (same-pairs vs ws (reverse left.items) (pairs-turned vs left.items h.1), same-items_below xs h.2) refl
     same-items_below (ForUnfolded t e es ys ∷ xs) h = same-items_below xs h.3
     same-items_below (ForCut l r ∷ xs) h = rw (same-expression vs ws l h.0, same-expression vs ws r h.1, same-items_below xs h.2) refl
+    same-items_below _ h = absurd h
 
   mutual
     pub same-parts : (xs : List Entry) → IsStack tables vs xs → parts_at (vs ++ ws) xs ≡ parts_at vs xs
@@ -207,18 +191,12 @@ module _ (tables : RowsBefore) (vs ws : List Value) where
     same-parts (Held (ProofItem e p) ∷ xs) h = rw (same-proof vs ws p h.0.1, same-parts xs h.1) refl
     same-parts (Held (ConversionItem l r c) ∷ xs) h = rw (same-conversion vs ws c h.0.2, same-parts_below xs h.1) refl
     same-parts (Owed l r ∷ xs) h = rw (same-parts_below xs h.2) refl
-    same-parts (ForProof e p ∷ xs) h = absurd h
-    same-parts (ForTurned ∷ xs) h = absurd h
-    same-parts (ForOperand t done left ∷ xs) h = absurd h
-    same-parts (ForUnfolded t e es ys ∷ xs) h = absurd h
-    same-parts (ForCut l r ∷ xs) h = absurd h
+    same-parts _ h = absurd h
 
     pub same-parts_below : (xs : List Entry) → IsWaiting tables vs xs → parts_at (vs ++ ws) xs ≡ parts_at vs xs
-    same-parts_below [] h = absurd h
-    same-parts_below (Held x ∷ xs) h = absurd h
-    same-parts_below (Owed l r ∷ xs) h = absurd h
     same-parts_below (ForProof e p ∷ xs) h = rw (same-expression vs ws e h.0, same-proof vs ws p h.1, same-parts xs h.2) refl
     same-parts_below (ForTurned ∷ xs) h = rw (same-parts_below xs h) refl
     same-parts_below (ForOperand t done left ∷ xs) h = rw (same-conversions vs ws done.items h.0, same-parts_below xs h.2) refl
     same-parts_below (ForUnfolded t e es ys ∷ xs) h = rw (same-expressions vs ws es.items h.1, same-parts_below xs h.3) refl
     same-parts_below (ForCut l r ∷ xs) h = rw (same-parts_below xs h.2) refl
+    same-parts_below _ h = absurd h

@@ -11,10 +11,10 @@ use Rattle.mz_cmd.specs.declared.code.ProofCode.TheVariants as code
 use Rattle.mz_logic_theory.specs.Tree.{Tree, app}
 use Rattle.mz_logic_theory.specs.declared.binder.Binder.{Binder}
 use Rattle.mz_layout_tables.specs.Tables.{term_row, term_count}
-use Rattle.mz_unify_theory.specs.Profile.{strict, expr, Item as MachineItem}
-use Rattle.mz_unify_theory.specs.Spells.{SpelledTerm, trees_of}
-use Rattle.mz_unify_theory.specs.Steps.{◌>>=◌, want}
-use Rattle.mz_unify_theory.proofs.Offered.{from_bind, from_then, from_need, from_want, taken-is, some_is}
+use Rattle.mz_machine_theory.specs.Profile.{strict, expr, Item as MachineItem}
+use Rattle.mz_machine_theory.specs.Spells.{SpelledTerm, trees_of}
+use Rattle.mz_machine_theory.specs.Steps.{◌>>=◌, want}
+use Rattle.mz_machine_theory.proofs.Offered.{from_bind, from_then, from_need, from_want, taken-is, some_is}
 use Rattle.mz_machine_theory.specs.MachineState.{RowsBefore, State, signatures_in}
 use Rattle.mz_machine_theory.specs.Premises.{pop_operands, pop_exprs, operands_fit}
 use Rattle.mz_machine_theory.specs.ProofMachine.{proof_step, built}
@@ -76,19 +76,11 @@ module _ (tables : RowsBefore) (params : List Binder) (s : Stage) (n : RunNode) 
 
 app-node : (tables : RowsBefore) (vs : List Value) (t : ℕ) (os : List ℕ) (n : RunNode) → Applies (Some n) t os → AreExpressions vs os → HasArity tables t (length os)
     → HasParts tables vs n × (value_of vs n ≡ an_expression (app t (trees_of (expressions_at vs os))))
-app-node tables vs t os (node.Var x) a es arity = absurd a
 app-node tables vs t os (node.App u ops) a es arity = (
   (subst (AreExpressions vs) a.1 es, subst (λ v. HasArity tables v (length ops.items)) a.0 (subst (λ (ns : List ℕ). HasArity tables t (length ns)) a.1 arity)),
   ap (λ v. an_expression (app v (trees_of (expressions_at vs ops.items)))) (sym a.0) ∙ ap (λ (ns : List ℕ). an_expression (app t (trees_of (expressions_at vs ns)))) (sym a.1),
 )
-app-node tables vs t os (node.Hyp i) a es arity = absurd a
-app-node tables vs t os (node.Let i) a es arity = absurd a
-app-node tables vs t os (node.Use u e ops ps) a es arity = absurd a
-app-node tables vs t os (node.Conv e c p) a es arity = absurd a
-app-node tables vs t os (node.Refl e) a es arity = absurd a
-app-node tables vs t os (node.Sym c) a es arity = absurd a
-app-node tables vs t os (node.Cong u cs) a es arity = absurd a
-app-node tables vs t os (node.Unfold u e ops ys c) a es arity = absurd a
+app-node tables vs t os _ a es arity = absurd a
 
 abbrev pub kept-trace : Trace → Result Trace K
 kept-trace tr = Ok tr

@@ -2,8 +2,8 @@
 use Rattle.std.proofs.Common.{◌≡◌, ℕ, List, ◌∷◌, Ok, ap, ◌∙◌, subst}
 use Rattle.mz_cmd.specs.declared.code.ProofCode.TheVariants as code
 use Rattle.mz_logic_theory.specs.Tree.{Tree}
-use Rattle.mz_unify_theory.specs.Profile.{Item as MachineItem}
-use Rattle.mz_unify_theory.proofs.Offered.{from_bind}
+use Rattle.mz_machine_theory.specs.Profile.{Item as MachineItem}
+use Rattle.mz_machine_theory.proofs.Offered.{from_bind}
 use Rattle.mz_machine_theory.specs.MachineState.{RowsBefore}
 use Rattle.mz_machine_theory.specs.Premises.{pop_expr, pop_proof, pop_obligation, pop_conversion}
 use Rattle.mz_machine_theory.specs.ProofMachine.{proof_step}

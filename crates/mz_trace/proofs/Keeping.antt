@@ -8,11 +8,11 @@ use Rattle.mz_cmd.specs.declared.code.ProofCode.TheVariants as code
 use Rattle.mz_logic_theory.specs.Tree.{Tree, var}
 use Rattle.mz_logic_theory.specs.declared.binder.Binder.{Binder}
 use Rattle.mz_mmu_theory.specs.Proof.{by_hyp, by_name}
-use Rattle.mz_unify_theory.specs.Profile.{strict, expr, proof, obligation, Item as MachineItem}
-use Rattle.mz_unify_theory.specs.Spells.{dummy_of}
-use Rattle.mz_unify_theory.specs.Steps.{◌>>=◌}
-use Rattle.mz_unify_theory.specs.Tests.{same_tree}
-use Rattle.mz_unify_theory.proofs.Offered.{from_bind, from_need, from_want, taken-is}
+use Rattle.mz_machine_theory.specs.Profile.{strict, expr, proof, obligation, Item as MachineItem}
+use Rattle.mz_machine_theory.specs.Spells.{dummy_of}
+use Rattle.mz_machine_theory.specs.Steps.{◌>>=◌}
+use Rattle.mz_machine_theory.specs.Tests.{same_tree}
+use Rattle.mz_machine_theory.proofs.Offered.{from_bind, from_need, from_want, taken-is}
 use Rattle.mz_machine_theory.specs.MachineState.{RowsBefore}
 use Rattle.mz_machine_theory.specs.Premises.{pop, pop_obligation, may_be_dummy_sort, bound_count, is_obligation}
 use Rattle.mz_machine_theory.specs.ProofMachine.{proof_step, has_provable_sort, referred}
@@ -222,11 +222,7 @@ module _ (tables : RowsBefore) (vs : List Value) where
   held-top [] r h e other = absurd cc
   held-top (Held x ∷ xs) r h e other = (x, xs, refl)
   held-top (Owed a b ∷ xs) r h e other = absurd (let is : true ≡ false = ap (λ (z : MachineItem Tree × List (MachineItem Tree)). is_obligation z.0) (taken-is (obligation (expression_at vs a) (expression_at vs b), items_at vs xs) r e) ∙ other in cc)
-  held-top (ForProof a b ∷ xs) r h e other = absurd h
-  held-top (ForTurned ∷ xs) r h e other = absurd h
-  held-top (ForOperand t done left ∷ xs) r h e other = absurd h
-  held-top (ForUnfolded t a es ys ∷ xs) r h e other = absurd h
-  held-top (ForCut a b ∷ xs) r h e other = absurd h
+  held-top _ r h e other = absurd h
 
 pub save-has : (Q : Known) (n : ℕ) (s : Stage) → Goes Q code.Save n s → HasHeld s.stack
 unfolding proof_step

@@ -8,9 +8,9 @@ use Rattle.mz_cmd.specs.declared.code.ProofCode.TheVariants as code
 use Rattle.mz_logic_theory.specs.Tree.{Tree}
 use Rattle.mz_logic_theory.specs.Conversions.{Conversion, refl_conv}
 use Rattle.mz_logic_theory.specs.declared.binder.Binder.{Binder}
-use Rattle.mz_unify_theory.specs.Profile.{strict}
-use Rattle.mz_unify_theory.specs.Tests.{same_tree}
-use Rattle.mz_unify_theory.proofs.Offered.{from_need, taken-is}
+use Rattle.mz_machine_theory.specs.Profile.{strict}
+use Rattle.mz_machine_theory.specs.Tests.{same_tree}
+use Rattle.mz_machine_theory.proofs.Offered.{from_need, taken-is}
 use Rattle.mz_machine_theory.specs.MachineState.{RowsBefore, State}
 use Rattle.mz_machine_theory.specs.ProofMachine.{proof_step}
 use Rattle.mz_trace.specs.OneHoleContexts.{paid}

@@ -10,15 +10,14 @@ use Rattle.mz_cmd.specs.Reading.{first_command}
 use Rattle.mz_logic_theory.specs.Tree.{Tree}
 use Rattle.mz_logic_theory.specs.Conversions.{refl_conv}
 use Rattle.mz_mmu_theory.specs.Proof.{Proof, by_hyp}
-use Rattle.mz_unify_theory.specs.Profile.{strict, tree_parts}
-use Rattle.mz_unify_theory.specs.Spells.{trees_of}
-use Rattle.mz_unify_theory.specs.Steps.{Turn, over, goes_on}
-use Rattle.mz_unify_theory.proofs.Offered.{from_bind, from_want, taken, taken-is}
+use Rattle.mz_machine_theory.specs.Profile.{strict, tree_parts}
+use Rattle.mz_machine_theory.specs.Spells.{trees_of}
+use Rattle.mz_machine_theory.specs.Steps.{Turn, over, goes_on}
+use Rattle.mz_machine_theory.proofs.Offered.{from_bind, from_want, taken, taken-is, from_follow}
 use Rattle.mz_machine_theory.specs.MachineState.{RowsBefore, State, Heading}
 use Rattle.mz_machine_theory.specs.Premises.{pop_expr, pop_proof, pop_obligation, pop_sides}
 use Rattle.mz_machine_theory.specs.ProofMachine.{matched_by, unfolding_of, proof_step}
 use Rattle.mz_machine_theory.specs.Bodies.{BodyCommand, ends, proves, body_command}
-use Rattle.mz_machine_theory.proofs.Offered.{from_follow}
 use Rattle.mz_trace.specs.OneHoleContexts.{Part, expression, proved, owed, converted, for_proof, for_turned, for_operand, for_unfolded, for_cut, paid, by_operands}
 use Rattle.mz_trace.specs.Traces.{Trace, stacked, kept, named, saved, referred, conversion_saved, to_convert, below_sides, variables_in, cited, traced, trace_turn, trace_command, trace_from}
 
@@ -36,39 +35,16 @@ named-few : (p : Proof) (xs : List Part) (tr : Trace) → IsFew tr (named p xs t
 named-few p xs tr = let more = length-append tr.lets (p ∷ []) in omega (arith, more)
 
 saved-few : (xs : List Part) (tr : Trace) → IsFew tr (saved xs tr)
-saved-few [] tr = same-few tr
-saved-few (expression ∷ xs) tr = same-few tr
 saved-few (proved p ∷ xs) tr = named-few p xs tr
-saved-few (owed ∷ xs) tr = same-few tr
-saved-few (converted c ∷ xs) tr = same-few tr
-saved-few (for_proof e p ∷ xs) tr = same-few tr
-saved-few (for_turned ∷ xs) tr = same-few tr
-saved-few (for_operand t cs n ∷ xs) tr = same-few tr
-saved-few (for_unfolded t es ys ∷ xs) tr = same-few tr
-saved-few (for_cut ∷ xs) tr = same-few tr
+saved-few _ tr = same-few tr
 
 referred-few : (x : Part) (tr : Trace) → IsFew tr (referred x tr)
 referred-few expression tr = same-few tr
-referred-few (proved p) tr = same-few tr
-referred-few owed tr = same-few tr
-referred-few (converted c) tr = same-few tr
-referred-few (for_proof e p) tr = same-few tr
-referred-few for_turned tr = same-few tr
-referred-few (for_operand t cs n) tr = same-few tr
-referred-few (for_unfolded t es ys) tr = same-few tr
-referred-few for_cut tr = same-few tr
+referred-few _ tr = same-few tr
 
 conversion-few : (xs : List Part) (tr : Trace) → IsFew tr (conversion_saved xs tr)
-conversion-few [] tr = same-few tr
 conversion-few (expression ∷ xs) tr = same-few tr
-conversion-few (proved p ∷ xs) tr = same-few tr
-conversion-few (owed ∷ xs) tr = same-few tr
-conversion-few (converted c ∷ xs) tr = same-few tr
-conversion-few (for_proof e p ∷ xs) tr = same-few tr
-conversion-few (for_turned ∷ xs) tr = same-few tr
-conversion-few (for_operand t cs n ∷ xs) tr = same-few tr
-conversion-few (for_unfolded t es ys ∷ xs) tr = same-few tr
-conversion-few (for_cut ∷ xs) tr = same-few tr
+conversion-few _ tr = same-few tr
 
 row-few : (tables : RowsBefore) (c : ProofCode) (n : ℕ) (st : State Tree) (tr next : Trace) → traced tables c n st tr ≡ Ok next → IsFew tr next
 unfolding traced
@@ -78,10 +54,6 @@ row-few tables code.Term t st tr next e =
 row-few tables code.TermSave t st tr next e =
     from_want (slice_get tables.terms t) k.TermIndex _ next e λ row _ e1.
     made-few tr (kept (stacked tr (expression ∷ drop (length row.signature.params) tr.stack)) expression) next e1 (same-few tr)
-row-few tables code.Ref i st tr next e =
-    from_want (slice_get tr.heap i) k.HeapIndex _ next e λ x _ e1. made-few tr (referred x tr) next e1 (referred-few x tr)
-row-few tables code.ConvRef i st tr next e =
-    from_want (slice_get tr.heap i) k.HeapIndex _ next e λ x _ e1. made-few tr (referred x tr) next e1 (referred-few x tr)
 row-few tables code.Dummy s st tr next e = made-few tr (kept (stacked tr (expression ∷ tr.stack)) expression) next e (same-few tr)
 row-few tables code.Thm t st tr next e =
     from_bind (cited tables t st tr) _ next e λ p _ e1. made-few tr (stacked tr (proved p.0 ∷ p.1)) next e1 (same-few tr)
@@ -111,6 +83,8 @@ row-few tables code.ConvCut n st tr next e = made-few tr (stacked tr (owed ∷ f
 row-few tables code.ConvSave n st tr next e = made-few tr (conversion_saved tr.stack tr) next e (conversion-few tr.stack tr)
 row-few tables code.Save n st tr next e = made-few tr (saved tr.stack tr) next e (saved-few tr.stack tr)
 row-few tables code.Sorry n st tr next e = absurd cc
+row-few tables _ i st tr next e =
+    from_want (slice_get tr.heap i) k.HeapIndex _ next e λ x _ e1. made-few tr (referred x tr) next e1 (referred-few x tr)
 
 -- what stands beside the state after a turn
 abbrev beside : Turn (State Tree × Trace) → Trace

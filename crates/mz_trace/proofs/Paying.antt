@@ -5,7 +5,7 @@ use Rattle.std.proofs.lemmas.List.{reverse-append}
 use Rattle.mz_logic_theory.specs.Conversions.{Conversion, sym_conv, cong_conv, unfold_conv, more_convs}
 use Rattle.mz_logic_theory.specs.declared.binder.Binder.{Binder}
 use Rattle.mz_mmu_theory.specs.Proof.{by_conv}
-use Rattle.mz_unify_theory.specs.Spells.{trees_of}
+use Rattle.mz_machine_theory.specs.Spells.{trees_of}
 use Rattle.mz_machine_theory.specs.MachineState.{RowsBefore}
 use Rattle.mz_trace.specs.OneHoleContexts.{Part, then_conv, paid, for_operand, owed}
 use Rattle.mz_trace.specs.Traces.{Trace, stacked}

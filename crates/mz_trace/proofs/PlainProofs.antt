@@ -9,7 +9,7 @@ use Rattle.mz_logic_theory.specs.Derivations.{Derivation, Derivations, hypothesi
 use Rattle.mz_logic_theory.specs.declared.binder.Binder.{Binder}
 use Rattle.mz_mmu_theory.specs.Proof.{Proof, Proofs, by_hyp, by_name, by_citation, by_conv, by_let, by_gap, no_proofs, more_proofs}
 use Rattle.mz_mmu_theory.specs.Gaps.{LeavesOnly, AllLeaveOnly}
-use Rattle.mz_unify_theory.specs.Spells.{trees_of}
+use Rattle.mz_machine_theory.specs.Spells.{trees_of}
 use Rattle.mz_mmu_theory.specs.Meaning.{then_deriv, derivation, derivations, LetsDerive, AllLetsDerive}
 use Rattle.mz_trace.specs.Traces.{under_lets}
 
@@ -20,8 +20,7 @@ abbrev mutual
   IsPlain N n (by_name i) = i < n
   IsPlain N n (by_citation T es ps) = ArePlain N n ps
   IsPlain N n (by_conv e c p) = GapsOnly N c × IsPlain N n p
-  IsPlain N n (by_let p q) = ⊥
-  IsPlain N n (by_gap e) = ⊥
+  IsPlain N n _ = ⊥
 
   pub ArePlain : Type 0 → ℕ → Proofs → Type 0
   ArePlain N n no_proofs = ⊤
@@ -70,8 +69,7 @@ module _ (N : Type 0) where
     plain-more n m le (by_name i) h = omega arith
     plain-more n m le (by_citation T es ps) h = all-plain-more n m le ps h
     plain-more n m le (by_conv e c p) h = (h.0, plain-more n m le p h.1)
-    plain-more n m le (by_let p q) h = absurd h
-    plain-more n m le (by_gap e) h = absurd h
+    plain-more n m le _ h = absurd h
 
     all-plain-more : (n m : ℕ) → n ≤ m → (ps : Proofs) → ArePlain N n ps → ArePlain N m ps
     all-plain-more n m le no_proofs h = tt
@@ -84,8 +82,7 @@ module _ (N : Type 0) where
     same-then ds d (by_name i) h = at-then ds d i h
     same-then ds d (by_citation T es ps) h = ap (cite T es) (all-same-then ds d ps h)
     same-then ds d (by_conv e c p) h = ap (convert e c) (same-then ds d p h.1)
-    same-then ds d (by_let p q) h = absurd h
-    same-then ds d (by_gap e) h = absurd h
+    same-then ds d _ h = absurd h
 
     all-same-then : (ds : Derivations) (d : Derivation) (ps : Proofs) → ArePlain N (many ds) ps → derivations (then_deriv ds d) ps ≡ derivations ds ps
     all-same-then ds d no_proofs h = refl
@@ -93,12 +90,11 @@ module _ (N : Type 0) where
 
   mutual
     leaves-only : (n : ℕ) (p : Proof) → IsPlain N n p → LeavesOnly N p
-    leaves-only n (by_hyp i) h = tt
-    leaves-only n (by_name i) h = tt
     leaves-only n (by_citation T es ps) h = all-leave-only n ps h
     leaves-only n (by_conv e c p) h = (h.0, leaves-only n p h.1)
     leaves-only n (by_let p q) h = absurd h
     leaves-only n (by_gap e) h = absurd h
+    leaves-only n _ h = tt
 
     all-leave-only : (n : ℕ) (ps : Proofs) → ArePlain N n ps → AllLeaveOnly N ps
     all-leave-only n no_proofs h = tt
@@ -107,12 +103,11 @@ module _ (N : Type 0) where
   module _ (env : List Declaration) (ctx : List Binder) where
     mutual
       no-lets : (hyps : Trees) (ds : Derivations) (n : ℕ) (p : Proof) → IsPlain N n p → LetsDerive env ctx hyps ds p
-      no-lets hyps ds n (by_hyp i) h = tt
-      no-lets hyps ds n (by_name i) h = tt
       no-lets hyps ds n (by_citation T es ps) h = all-no-lets hyps ds n ps h
       no-lets hyps ds n (by_conv e c p) h = no-lets hyps ds n p h.1
       no-lets hyps ds n (by_let p q) h = absurd h
       no-lets hyps ds n (by_gap e) h = absurd h
+      no-lets hyps ds n _ h = tt
 
       all-no-lets : (hyps : Trees) (ds : Derivations) (n : ℕ) (ps : Proofs) → ArePlain N n ps → AllLetsDerive env ctx hyps ds ps
       all-no-lets hyps ds n no_proofs h = tt
@@ -132,9 +127,8 @@ module _ (N : Type 0) where
 
       all-derive-more : (hs gs : Trees) → IsFrontOf hs gs → (ds : Derivations) (es : Trees) → AllDerive env ctx hs ds es → AllDerive env ctx gs ds es
       all-derive-more hs gs front no_derivs none h = tt
-      all-derive-more hs gs front no_derivs (more e es) h = absurd h
-      all-derive-more hs gs front (more_derivs d ds) none h = absurd h
       all-derive-more hs gs front (more_derivs d ds) (more e es) (h, rest) = (derives-more hs gs front d e h, all-derive-more hs gs front ds es rest)
+      all-derive-more hs gs front _ _ h = absurd h
 
     front-push : (hyps : List Tree) (h : Tree) → IsFrontOf (trees_of hyps) (trees_of (hyps ++ h ∷ []))
     front-push [] h i e at = absurd cc

@@ -10,18 +10,17 @@ use Rattle.mz_logic_theory.specs.declared.binder.Binder.{Binder}
 use Rattle.mz_mmu_theory.specs.Proof.{Proof}
 use Rattle.mz_mmu_theory.specs.Meaning.{IsProofOf}
 use Rattle.mz_mmu_theory.proofs.Offered.{allowed}
-use Rattle.mz_unify_theory.specs.Streams.{of_assertion}
-use Rattle.mz_unify_theory.specs.Spells.{trees_of, Text, SpellsThm}
-use Rattle.mz_unify_theory.specs.Profile.{strict, proof}
-use Rattle.mz_unify_theory.specs.Sorted.{Sorted, ItemsSorted}
-use Rattle.mz_unify_theory.specs.UnifyMachine.{at_end}
-use Rattle.mz_unify_theory.proofs.Offered.{taken-is, one-assertion, assertion-spelled}
+use Rattle.mz_machine_theory.specs.Streams.{of_assertion}
+use Rattle.mz_machine_theory.specs.Spells.{trees_of, Text, SpellsThm}
+use Rattle.mz_machine_theory.specs.Profile.{strict, proof}
+use Rattle.mz_machine_theory.specs.Sorted.{Sorted, ItemsSorted}
+use Rattle.mz_machine_theory.specs.UnifyMachine.{at_end}
+use Rattle.mz_machine_theory.proofs.Offered.{taken-is, one-assertion, assertion-spelled, end-ran, own-run, made, start-fact, claims-sorted}
 use Rattle.mz_machine_theory.specs.MachineState.{RowsBefore, State, Kind, is_theorem, Heading, Declares}
 use Rattle.mz_machine_theory.specs.ProofMachine.{last_item, ending, own_variables, own_stream, as_proofs, proof_step, proof_end}
 use Rattle.mz_machine_theory.specs.Bodies.{body_start}
 use Rattle.mz_machine_theory.specs.Invariant.{Fact}
 use Rattle.mz_machine_theory.specs.Sound.{thm_row}
-use Rattle.mz_machine_theory.proofs.Offered.{end-ran, own-run, made, start-fact, claims-sorted}
 use Rattle.mz_trace.specs.Traces.{Trace, traced, trace_start, trace_body, under_lets}
 use Rattle.mz_trace.specs.Laws.{MadeProofsProve}
 use Rattle.mz_trace.proofs.Standing.{EachIs}

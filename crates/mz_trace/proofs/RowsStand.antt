@@ -11,16 +11,15 @@ use Rattle.mz_logic_theory.specs.Tree.{Tree, var, app, none, listed}
 use Rattle.mz_logic_theory.specs.Conversions.{Conversion, Conversions, refl_conv, sym_conv, cong_conv, unfold_conv}
 use Rattle.mz_logic_theory.specs.declared.binder.Binder.{Binder}
 use Rattle.mz_mmu_theory.specs.Proof.{Proof, Proofs, by_hyp, by_name, by_citation, by_conv, no_proofs}
-use Rattle.mz_unify_theory.specs.Spells.{trees_of, dummy_of, SpelledTerm, SpelledThm}
-use Rattle.mz_unify_theory.specs.Profile.{strict, tree_parts, Item, expr, proof, obligation, conversion}
-use Rattle.mz_unify_theory.specs.Tests.{same_tree}
-use Rattle.mz_unify_theory.specs.Laws.{citing, unfolding_by}
-use Rattle.mz_unify_theory.specs.UnifyMachine.{Matching, UnifyState, unify}
-use Rattle.mz_unify_theory.proofs.Offered.{from_bind, from_then, from_need, from_want, rule_of-ok, taken, taken-is, same_tree-true, trees_of-listed, listed-trees_of}
+use Rattle.mz_machine_theory.specs.Spells.{trees_of, dummy_of, SpelledTerm, SpelledThm}
+use Rattle.mz_machine_theory.specs.Profile.{strict, tree_parts, Item, expr, proof, obligation, conversion}
+use Rattle.mz_machine_theory.specs.Tests.{same_tree}
+use Rattle.mz_machine_theory.specs.UnifyLaws.{citing, unfolding_by}
+use Rattle.mz_machine_theory.specs.UnifyMachine.{Matching, UnifyState, unify}
+use Rattle.mz_machine_theory.proofs.Offered.{from_bind, from_then, from_need, from_want, rule_of-ok, taken, taken-is, same_tree-true, trees_of-listed, listed-trees_of, pair-at, pop-is}
 use Rattle.mz_machine_theory.specs.MachineState.{RowsBefore, signatures_in, State, Pairwise}
-use Rattle.mz_machine_theory.specs.Premises.{pop, pop_expr, pop_proof, pop_obligation, pop_conversion, pop_operands, pop_sides, is_conversion, is_obligation, may_be_dummy_sort, bound_count, operands_fit, are_apart}
+use Rattle.mz_machine_theory.specs.Premises.{pop, pop_expr, pop_proof, pop_obligation, pop_conversion, pop_operands, pop_sides, is_conversion, is_obligation, may_be_dummy_sort, bound_count, operands_fit, are_disjoint}
 use Rattle.mz_machine_theory.specs.ProofMachine.{built, citation, matched_by, cited, referred, sides, same_term, stream_of, unfolding_of, has_provable_sort, proof_step}
-use Rattle.mz_machine_theory.proofs.Offered.{pair-at, pop-is}
 use Rattle.mz_trace.specs.OneHoleContexts.{Part, expression, proved, owed, converted, for_proof, for_turned, for_unfolded, for_cut, paid, by_operands, proofs_above}
 use Rattle.mz_trace.specs.Traces.{Trace, stacked, kept, named, conversion_saved, to_convert, below_sides, variables_in, traced}
 use Rattle.mz_trace.specs.Traces as making
@@ -75,8 +74,7 @@ one-term (app t ls) (app u rs) es e = go (eqb t u) refl e
         subst (OneTerm (app t ls) (app u rs)) same
         ((t, listed ls), refl, refl, ap (app t) (sym (trees_of-listed ls)), ap (λ (v : ℕ). app v rs) (sym (eqb-true _ _ is)) ∙ ap (app t) (sym (trees_of-listed rs)))
     go false is h = absurd cc
-one-term (var x) r es e = absurd cc
-one-term (app t ls) (var y) es e = absurd cc
+one-term _ _ es e = absurd cc
 
 module _ (tables : RowsBefore) (A : Asked) (closed : Closed A) (params : List Binder) where
   abbrev Right : State Tree → Trace → Type 0
@@ -314,8 +312,7 @@ module _ (tables : RowsBefore) (A : Asked) (closed : Closed A) (params : List Bi
   -- two applications to nothing are one
   none-alike : (t : ℕ) (ls rs : List Tree) → ls ≡ [] → rs ≡ [] → A.of_expr (app t (trees_of ls)) → A.of_conv (refl_conv (app t none)) (app t (trees_of ls)) (app t (trees_of rs))
   none-alike t [] [] no-ls no-rs is = closed.by_refl (app t none) is
-  none-alike t (l ∷ ls) rs no-ls no-rs is = absurd cc
-  none-alike t [] (r ∷ rs) no-ls no-rs is = absurd cc
+  none-alike t _ _ no-ls no-rs is = absurd cc
 
   goes-cong : (at n : ℕ) (st : State Tree) (tr : Trace) (st' : State Tree) → proof_step strict tables at code.Cong n st ≡ Ok st' → Right st tr → Goes code.Cong n st tr st'
   unfolding proof_step traced
@@ -402,7 +399,7 @@ module _ (tables : RowsBefore) (A : Asked) (closed : Closed A) (params : List Bi
   abbrev pub Cites : ℕ → State Tree → Trace → Type 0
   Cites t st tr = (row : SpelledThm) (x : Tree × List (Item Tree)) (es : List Tree × List (Item Tree)) (fit : Unit {0}) (u : UnifyState Tree)
       → slice_get tables.thms t ≡ Some row → pop_expr st.stack ≡ Ok x → pop_operands (length row.params) x.1 ≡ Ok es
-      → operands_fit (signatures_in tables) st.ctx es.0 row.params ≡ Ok fit → are_apart st.ctx es.0 row.params ≡ true
+      → operands_fit (signatures_in tables) st.ctx es.0 row.params ≡ Ok fit → are_disjoint st.ctx es.0 row.params ≡ true
       → unify strict (signatures_in tables) st.ctx (citing row.stream es.0 x.0 es.1) ≡ Ok u
       → (hs : List Tree) × (es.1 ≡ map proof (reverse hs) ++ u.items)
       × ((ps : Proofs) → EachProves A st.hyps tr.lets ps hs → A.of_proof st.hyps tr.lets (by_citation t (trees_of es.0) ps) x.0)
@@ -453,7 +450,7 @@ module _ (tables : RowsBefore) (A : Asked) (closed : Closed A) (params : List Bi
       from_bind (pop_expr st.stack) _ m e2 λ x popping e3.
       from_bind (pop_operands (length row.params) x.1) _ m e3 λ es popping-es e4.
       from_then (operands_fit (signatures_in tables) st.ctx (map (λ z. z) es.0) row.params) _ m e4 λ fit fits e5.
-      from_need (are_apart st.ctx (map (λ z. z) es.0) row.params) k.Disjoint _ m e5 λ apart e6.
+      from_need (are_disjoint st.ctx (map (λ z. z) es.0) row.params) k.Disjoint _ m e5 λ apart e6.
       let made : Matching Tree = citing row.stream es.0 x.0 es.1 in
       let m-is : made ≡ m = taken-is made m e6 in
       let citing' : citation strict tables t st ≡ Ok made = citing-is ∙ ap taken (sym m-is) in

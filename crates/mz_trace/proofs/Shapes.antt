@@ -6,9 +6,9 @@ use Rattle.std.proofs.lemmas.List.{reverse-reverse}
 use Rattle.mz_cmd.specs.declared.code.ProofCode.{ProofCode}
 use Rattle.mz_logic_theory.specs.Tree.{Tree, Trees, var, app, none, more, listed}
 use Rattle.mz_logic_theory.specs.declared.binder.Binder.{Binder}
-use Rattle.mz_unify_theory.specs.Spells.{trees_of, SpelledTerm}
-use Rattle.mz_unify_theory.specs.Profile.{strict, Item, proof}
-use Rattle.mz_unify_theory.proofs.Offered.{some_is, listed-trees_of}
+use Rattle.mz_machine_theory.specs.Spells.{trees_of, SpelledTerm}
+use Rattle.mz_machine_theory.specs.Profile.{strict, Item, proof}
+use Rattle.mz_machine_theory.proofs.Offered.{some_is, listed-trees_of}
 use Rattle.mz_machine_theory.specs.MachineState.{RowsBefore, signatures_in, State}
 use Rattle.mz_machine_theory.specs.ProofMachine.{proof_step}
 use Rattle.mz_trace.specs.Traces.{Trace, traced}

@@ -5,7 +5,7 @@ use Rattle.mz_logic_theory.specs.Tree.{Tree}
 use Rattle.mz_logic_theory.specs.Conversions.{Conversion}
 use Rattle.mz_logic_theory.specs.declared.binder.Binder.{Binder}
 use Rattle.mz_mmu_theory.specs.Proof.{Proof}
-use Rattle.mz_unify_theory.specs.Profile.{Item as MachineItem}
+use Rattle.mz_machine_theory.specs.Profile.{Item as MachineItem}
 use Rattle.mz_machine_theory.specs.MachineState.{RowsBefore, State}
 use Rattle.mz_trace.specs.OneHoleContexts.{Part}
 use Rattle.mz_trace.specs.Traces.{Trace}

@@ -7,9 +7,9 @@ use Rattle.mz_cmd.specs.declared.rule.K.TheVariants as k
 use Rattle.mz_logic_theory.specs.Tree.{Tree, app, none}
 use Rattle.mz_logic_theory.specs.Conversions.{Conversion, Conversions, refl_conv, cong_conv, no_convs, more_convs}
 use Rattle.mz_mmu_theory.specs.Proof.{Proof, Proofs, no_proofs, more_proofs}
-use Rattle.mz_unify_theory.specs.Profile.{strict, Item, expr, proof, obligation, conversion}
-use Rattle.mz_unify_theory.specs.Tests.{same_tree}
-use Rattle.mz_unify_theory.proofs.Offered.{from_bind, from_need, taken-is}
+use Rattle.mz_machine_theory.specs.Profile.{strict, Item, expr, proof, obligation, conversion}
+use Rattle.mz_machine_theory.specs.Tests.{same_tree}
+use Rattle.mz_machine_theory.proofs.Offered.{from_bind, from_need, taken-is}
 use Rattle.mz_machine_theory.specs.MachineState.{Pairwise}
 use Rattle.mz_machine_theory.specs.Premises.{pop_expr, pop_obligation, pop_exprs, pop_operands, pop_sides}
 use Rattle.mz_machine_theory.specs.ProofMachine.{sides}

@@ -10,12 +10,12 @@ use Rattle.mz_logic_theory.specs.Legality.{sort_of}
 use Rattle.mz_logic_theory.specs.Tree.{Tree, var, app, listed}
 use Rattle.mz_logic_theory.specs.Signature.{Signature}
 use Rattle.mz_logic_theory.specs.declared.binder.Binder.{Binder}
-use Rattle.mz_unify_theory.specs.Profile.{strict, tree_parts}
-use Rattle.mz_unify_theory.specs.Spells.{trees_of}
-use Rattle.mz_unify_theory.specs.Streams.{u_term, u_term_save, u_ref, u_dummy}
-use Rattle.mz_unify_theory.specs.Tests.{same_tree, is_bound_var}
-use Rattle.mz_unify_theory.specs.UnifyMachine.{in_definition, UnifyState, top_target, operands_of, within_any, is_fresh, unify_step}
-use Rattle.mz_unify_theory.proofs.Offered.{from_bind, from_need, from_want, some_is, taken-is, top-is, apart-is, listed-trees_of}
+use Rattle.mz_machine_theory.specs.Profile.{strict, tree_parts}
+use Rattle.mz_machine_theory.specs.Spells.{trees_of}
+use Rattle.mz_machine_theory.specs.Streams.{u_term, u_term_save, u_ref, u_dummy}
+use Rattle.mz_machine_theory.specs.Tests.{same_tree, is_bound_var}
+use Rattle.mz_machine_theory.specs.UnifyMachine.{in_definition, UnifyState, top_target, operands_of, within_any, is_fresh, unify_step}
+use Rattle.mz_machine_theory.proofs.Offered.{from_bind, from_need, from_want, some_is, taken-is, top-is, apart-is, listed-trees_of}
 use Rattle.mz_machine_theory.specs.MachineState.{RowsBefore}
 use Rattle.mz_trace.specs.Traces.{variable_in, variables_in}
 use Rattle.mz_trace.specs.Nodes.{Value, an_expression, expression_of, expression_at, expressions_at, value_of, values, IsExpression, AreExpressions, HaveParts, IsApplication, Applies, IsVariable, IsVariableAt}
@@ -92,15 +92,7 @@ IsVariableOf x o = IsVariable o × ((y : ℕ) → IsVariableAt o y → x ≡ y)
 
 of-variable : (vs : List Value) (x : ℕ) (n : RunNode) → value_of vs n ≡ an_expression (var x) → IsVariableOf x (Some n)
 of-variable vs x (node.Var z) is = let same : z ≡ x = cc in (tt, λ y at. sym same ∙ sym at)
-of-variable vs x (node.App t os) is = absurd cc
-of-variable vs x (node.Hyp i) is = absurd cc
-of-variable vs x (node.Let i) is = absurd cc
-of-variable vs x (node.Use t e os ps) is = absurd cc
-of-variable vs x (node.Conv e c p) is = absurd cc
-of-variable vs x (node.Refl e) is = absurd cc
-of-variable vs x (node.Sym c) is = absurd cc
-of-variable vs x (node.Cong t cs) is = absurd cc
-of-variable vs x (node.Unfold t e os ys c) is = absurd cc
+of-variable vs x _ is = absurd cc
 
 variable-at : (tables : RowsBefore) (nodes : List RunNode) (i x : ℕ) → HaveParts tables nodes → slice_get (values nodes) i ≡ Some (an_expression (var x)) → IsVariableOf x (slice_get nodes i)
 variable-at tables nodes i x h at =

@@ -11,11 +11,11 @@ use Rattle.mz_cmd.specs.Reading.{first_command}
 use Rattle.mz_logic_theory.specs.Tree.{Tree}
 use Rattle.mz_logic_theory.specs.Signature.{Signature}
 use Rattle.mz_logic_theory.specs.declared.binder.Binder.{Binder}
-use Rattle.mz_unify_theory.specs.Streams.{of_assertion, UnifyCommand, u_term, u_term_save, u_ref, u_hyp, command_in}
-use Rattle.mz_unify_theory.specs.Profile.{strict, tree_parts}
-use Rattle.mz_unify_theory.specs.Tests.{same_tree}
-use Rattle.mz_unify_theory.specs.UnifyMachine.{in_citation, Matching, UnifyState, at_start, top_target, is_empty, next_hypothesis, operands_of, unify_step, unify}
-use Rattle.mz_unify_theory.proofs.Offered.{from_bind, from_need, from_want, taken-is, hypothesis-is}
+use Rattle.mz_machine_theory.specs.Streams.{of_assertion, UnifyCommand, u_term, u_term_save, u_ref, u_hyp, command_in}
+use Rattle.mz_machine_theory.specs.Profile.{strict, tree_parts}
+use Rattle.mz_machine_theory.specs.Tests.{same_tree}
+use Rattle.mz_machine_theory.specs.UnifyMachine.{in_citation, Matching, UnifyState, at_start, top_target, is_empty, next_hypothesis, operands_of, unify_step, unify}
+use Rattle.mz_machine_theory.proofs.Offered.{from_bind, from_need, from_want, taken-is, hypothesis-is}
 use Rattle.mz_trace.specs.Commands.{RunsInCitation, TakesHyps}
 use Rattle.mz_trace.specs.Streams.{hyps_of}
 use Rattle.mz_trace.proofs.StreamsLeft.{Left, is-read, ends, goes-on-at}
@@ -85,7 +85,4 @@ module _ (stream : List ℕ) (at n : ℕ) (so-far : TakenSoFar stream at n) wher
 
 pub few-taken : (code : UnifyCode) → hyps_of code ≤ 1
 few-taken Term = omega arith
-few-taken TermSave = omega arith
-few-taken Ref = omega arith
-few-taken Dummy = omega arith
-few-taken Hyp = omega arith
+few-taken _ = omega arith

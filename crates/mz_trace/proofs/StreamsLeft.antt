@@ -14,10 +14,10 @@ use Rattle.mz_cmd.specs.Reading.{first_command}
 use Rattle.mz_logic_theory.specs.Tree.{Tree}
 use Rattle.mz_logic_theory.specs.Signature.{Signature}
 use Rattle.mz_logic_theory.specs.declared.binder.Binder.{Binder}
-use Rattle.mz_unify_theory.specs.Streams.{StreamKind, of_assertion, of_definition, UnifyCommand, u_term, u_term_save, u_ref, u_dummy, u_hyp, u_end, IsEnd, command_in, unify_command}
-use Rattle.mz_unify_theory.specs.Profile.{strict}
-use Rattle.mz_unify_theory.specs.UnifyMachine.{UnifyMode, kind_of, is_empty, nothing_left, UnifyState, unify_step}
-use Rattle.mz_unify_theory.proofs.Offered.{from_need, taken-is}
+use Rattle.mz_machine_theory.specs.Streams.{StreamKind, of_assertion, of_definition, UnifyCommand, u_term, u_term_save, u_ref, u_dummy, u_hyp, u_end, IsEnd, command_in, unify_command}
+use Rattle.mz_machine_theory.specs.Profile.{strict}
+use Rattle.mz_machine_theory.specs.UnifyMachine.{UnifyMode, kind_of, is_empty, nothing_left, UnifyState, unify_step}
+use Rattle.mz_machine_theory.proofs.Offered.{from_need, taken-is}
 use Rattle.mz_unify.proofs.Offered.{run_left, cut-run, other-run, stopped-run, ended-run, went-run}
 
 -- ---- the command by its code
@@ -46,10 +46,7 @@ no-end of_definition value Dummy u_end is end = cc
 no-end of_assertion value Hyp u_end is end = cc
 no-end of_definition value Hyp u_end is end = cc
 no-end kind value code (u_term t) is end = end
-no-end kind value code (u_term_save t) is end = end
-no-end kind value code (u_ref i) is end = end
-no-end kind value code (u_dummy s) is end = end
-no-end kind value code u_hyp is end = end
+no-end kind value code _ is end = end
 
 -- ---- what is left
 

@@ -10,8 +10,8 @@ use Rattle.mz_cmd.specs.Reading.{first_command}
 use Rattle.mz_logic_theory.specs.Tree.{Tree}
 use Rattle.mz_logic_theory.specs.Signature.{Signature}
 use Rattle.mz_logic_theory.specs.declared.binder.Binder.{Binder}
-use Rattle.mz_unify_theory.specs.Profile.{strict}
-use Rattle.mz_unify_theory.specs.UnifyMachine.{in_definition, UnifyState, at_start, unify}
+use Rattle.mz_machine_theory.specs.Profile.{strict}
+use Rattle.mz_machine_theory.specs.UnifyMachine.{in_definition, UnifyState, at_start, unify}
 use Rattle.mz_machine_theory.specs.MachineState.{RowsBefore}
 use Rattle.mz_trace.specs.Traces.{variables_in}
 use Rattle.mz_trace.specs.Nodes.{values, expression_at, IsExpression, HaveParts}

@@ -6,9 +6,9 @@ use Rattle.mz_cmd.specs.declared.rule.K.{K}
 use Rattle.mz_cmd.specs.declared.rule.K.TheVariants as k
 use Rattle.mz_logic_theory.specs.Tree.{Tree}
 use Rattle.mz_mmu_theory.specs.Proof.{Proofs, no_proofs, more_proofs}
-use Rattle.mz_unify_theory.specs.Profile.{strict, Item as MachineItem}
-use Rattle.mz_unify_theory.specs.Tests.{same_tree}
-use Rattle.mz_unify_theory.proofs.Offered.{from_bind, from_need, taken-is}
+use Rattle.mz_machine_theory.specs.Profile.{strict, Item as MachineItem}
+use Rattle.mz_machine_theory.specs.Tests.{same_tree}
+use Rattle.mz_machine_theory.proofs.Offered.{from_bind, from_need, taken-is}
 use Rattle.mz_machine_theory.specs.MachineState.{RowsBefore}
 use Rattle.mz_machine_theory.specs.Premises.{pop_expr, pop_proof, pop_obligation, pop_conversion, pop_sides, pop_exprs}
 use Rattle.mz_trace.specs.OneHoleContexts.{proofs_above}
@@ -29,11 +29,7 @@ module _ (tables : RowsBefore) (vs : List Value) where
   expr-top (Held (Proof n p) ∷ xs) r h e = absurd cc
   expr-top (Held (Conversion a b c) ∷ xs) r h e = absurd cc
   expr-top (Owed a b ∷ xs) r h e = absurd cc
-  expr-top (ForProof a b ∷ xs) r h e = absurd h
-  expr-top (ForTurned ∷ xs) r h e = absurd h
-  expr-top (ForOperand t done left ∷ xs) r h e = absurd h
-  expr-top (ForUnfolded t a es ys ∷ xs) r h e = absurd h
-  expr-top (ForCut a b ∷ xs) r h e = absurd h
+  expr-top _ r h e = absurd h
 
   pub proof-top : (xs : List Entry) (r : Tree × List (MachineItem Tree)) → IsStack tables vs xs → pop_proof (items_at vs xs) ≡ Ok r
       → (n p : ℕ) × (ys : List Entry) × (xs ≡ Held (Proof n p) ∷ ys) × (r ≡ (expression_at vs n, items_at vs ys))
@@ -42,11 +38,7 @@ module _ (tables : RowsBefore) (vs : List Value) where
   proof-top (Held (Proof n p) ∷ xs) r h e = (n, p, xs, refl, sym (taken-is (expression_at vs n, items_at vs xs) r e))
   proof-top (Held (Conversion a b c) ∷ xs) r h e = absurd cc
   proof-top (Owed a b ∷ xs) r h e = absurd cc
-  proof-top (ForProof a b ∷ xs) r h e = absurd h
-  proof-top (ForTurned ∷ xs) r h e = absurd h
-  proof-top (ForOperand t done left ∷ xs) r h e = absurd h
-  proof-top (ForUnfolded t a es ys ∷ xs) r h e = absurd h
-  proof-top (ForCut a b ∷ xs) r h e = absurd h
+  proof-top _ r h e = absurd h
 
   pub owed-top : (xs : List Entry) (r : Tree × Tree × List (MachineItem Tree)) → IsStack tables vs xs → pop_obligation (items_at vs xs) ≡ Ok r
       → (a b : ℕ) × (ys : List Entry) × (xs ≡ Owed a b ∷ ys) × (r ≡ (expression_at vs a, expression_at vs b, items_at vs ys))
@@ -55,11 +47,7 @@ module _ (tables : RowsBefore) (vs : List Value) where
   owed-top (Held (Proof n p) ∷ xs) r h e = absurd cc
   owed-top (Held (Conversion a b c) ∷ xs) r h e = absurd cc
   owed-top (Owed a b ∷ xs) r h e = (a, b, xs, refl, sym (taken-is (expression_at vs a, expression_at vs b, items_at vs xs) r e))
-  owed-top (ForProof a b ∷ xs) r h e = absurd h
-  owed-top (ForTurned ∷ xs) r h e = absurd h
-  owed-top (ForOperand t done left ∷ xs) r h e = absurd h
-  owed-top (ForUnfolded t a es ys ∷ xs) r h e = absurd h
-  owed-top (ForCut a b ∷ xs) r h e = absurd h
+  owed-top _ r h e = absurd h
 
   pub conversion-top : (xs : List Entry) (r : Tree × Tree × List (MachineItem Tree)) → IsStack tables vs xs → pop_conversion (items_at vs xs) ≡ Ok r
       → (a b c : ℕ) × (ys : List Entry) × (xs ≡ Held (Conversion a b c) ∷ ys) × (r ≡ (expression_at vs a, expression_at vs b, items_at vs ys))
@@ -68,11 +56,7 @@ module _ (tables : RowsBefore) (vs : List Value) where
   conversion-top (Held (Proof n p) ∷ xs) r h e = absurd cc
   conversion-top (Held (Conversion a b c) ∷ xs) r h e = (a, b, c, xs, refl, sym (taken-is (expression_at vs a, expression_at vs b, items_at vs xs) r e))
   conversion-top (Owed a b ∷ xs) r h e = absurd cc
-  conversion-top (ForProof a b ∷ xs) r h e = absurd h
-  conversion-top (ForTurned ∷ xs) r h e = absurd h
-  conversion-top (ForOperand t done left ∷ xs) r h e = absurd h
-  conversion-top (ForUnfolded t a es ys ∷ xs) r h e = absurd h
-  conversion-top (ForCut a b ∷ xs) r h e = absurd h
+  conversion-top _ r h e = absurd h
 
   pub sides-top : (xs : List Entry) (r : Tree × Tree × List (MachineItem Tree)) → IsStack tables vs xs → pop_sides strict (items_at vs xs) ≡ Ok r
       → (a b : ℕ) × (ys : List Entry) × TookSides xs a b ys × (r ≡ (expression_at vs a, expression_at vs b, items_at vs ys))
@@ -85,11 +69,7 @@ module _ (tables : RowsBefore) (vs : List Value) where
   sides-top (Held (Proof n p) ∷ xs) r h e = absurd cc
   sides-top (Held (Conversion a b c) ∷ xs) r h e = absurd cc
   sides-top (Owed a b ∷ xs) r h e = (a, b, xs, inl refl, sym (taken-is (expression_at vs a, expression_at vs b, items_at vs xs) r e))
-  sides-top (ForProof a b ∷ xs) r h e = absurd h
-  sides-top (ForTurned ∷ xs) r h e = absurd h
-  sides-top (ForOperand t done left ∷ xs) r h e = absurd h
-  sides-top (ForUnfolded t a es ys ∷ xs) r h e = absurd h
-  sides-top (ForCut a b ∷ xs) r h e = absurd h
+  sides-top _ r h e = absurd h
 
   pub has-exprs : (n : ℕ) (xs : List Entry) (acc : List Tree) (r : List Tree × List (MachineItem Tree)) → IsStack tables vs xs → pop_exprs n (items_at vs xs) acc ≡ Ok r → HasExprs n xs
   has-exprs zero xs acc r h e = ([], xs, refl, refl)
@@ -98,11 +78,7 @@ module _ (tables : RowsBefore) (vs : List Value) where
   has-exprs (suc n) (Held (Proof m p) ∷ xs) acc r h e = absurd cc
   has-exprs (suc n) (Held (Conversion a b c) ∷ xs) acc r h e = absurd cc
   has-exprs (suc n) (Owed a b ∷ xs) acc r h e = absurd cc
-  has-exprs (suc n) (ForProof a b ∷ xs) acc r h e = absurd h
-  has-exprs (suc n) (ForTurned ∷ xs) acc r h e = absurd h
-  has-exprs (suc n) (ForOperand t done left ∷ xs) acc r h e = absurd h
-  has-exprs (suc n) (ForUnfolded t a es ys ∷ xs) acc r h e = absurd h
-  has-exprs (suc n) (ForCut a b ∷ xs) acc r h e = absurd h
+  has-exprs (suc n) _ acc r h e = absurd h
 
   pub exprs-below : (ns : List ℕ) (ys : List Entry) → IsStack tables vs (exprs_onto ns ys) → AreExpressions vs ns × IsStack tables vs ys
   exprs-below [] ys h = (tt, h)

@@ -10,17 +10,16 @@ use Rattle.mz_logic_theory.specs.Signature.{Signature}
 use Rattle.mz_logic_theory.specs.Declaration.{signatures, body_tree}
 use Rattle.mz_logic_theory.specs.declared.binder.Binder.{Binder}
 use Rattle.mz_mmu_theory.specs.Sides.{term_at}
-use Rattle.mz_unify_theory.specs.Profile.{strict, tree_parts, obligation, Item as MachineItem}
-use Rattle.mz_unify_theory.specs.Spells.{SpelledTerm, trees_of}
-use Rattle.mz_unify_theory.specs.Steps.{◌>>=◌, want}
-use Rattle.mz_unify_theory.specs.Sorted.{Sorted, ItemsSorted}
-use Rattle.mz_unify_theory.specs.Tests.{same_tree}
-use Rattle.mz_unify_theory.specs.UnifyMachine.{Matching, UnifyState, unify}
-use Rattle.mz_unify_theory.proofs.Offered.{from_bind, from_need, from_want, taken-is, rule_of-ok, trees_of-listed}
+use Rattle.mz_machine_theory.specs.Profile.{strict, tree_parts, obligation, Item as MachineItem}
+use Rattle.mz_machine_theory.specs.Spells.{SpelledTerm, trees_of}
+use Rattle.mz_machine_theory.specs.Steps.{◌>>=◌, want}
+use Rattle.mz_machine_theory.specs.Sorted.{Sorted, ItemsSorted}
+use Rattle.mz_machine_theory.specs.Tests.{same_tree}
+use Rattle.mz_machine_theory.specs.UnifyMachine.{Matching, UnifyState, unify}
+use Rattle.mz_machine_theory.proofs.Offered.{from_bind, from_need, from_want, taken-is, rule_of-ok, trees_of-listed, stream-row}
 use Rattle.mz_machine_theory.specs.MachineState.{RowsBefore, State, signatures_in}
 use Rattle.mz_machine_theory.specs.Premises.{pop_expr, pop_sides}
 use Rattle.mz_machine_theory.specs.ProofMachine.{proof_step, unfolding_of, matched_by, stream_of}
-use Rattle.mz_machine_theory.proofs.Offered.{stream-row}
 use Rattle.mz_trace.specs.OneHoleContexts.{owed, for_unfolded}
 use Rattle.mz_trace.specs.Traces.{stacked, traced, below_sides, variables_in}
 use Rattle.mz_trace.proofs.Following.{to_want, to_bind}

@@ -9,11 +9,11 @@ use Rattle.mz_cmd.specs.declared.code.ProofCode.TheVariants as code
 use Rattle.mz_logic_theory.specs.Tree.{Tree, Trees, var, app, none, listed}
 use Rattle.mz_logic_theory.specs.Conversions.{refl_conv}
 use Rattle.mz_logic_theory.specs.declared.binder.Binder.{Binder}
-use Rattle.mz_unify_theory.specs.Profile.{strict, tree_parts, Item as MachineItem}
-use Rattle.mz_unify_theory.specs.Spells.{SpelledTerm, trees_of}
-use Rattle.mz_unify_theory.specs.Steps.{◌>>=◌, ◌>>◌, need}
-use Rattle.mz_unify_theory.specs.Tests.{same_tree}
-use Rattle.mz_unify_theory.proofs.Offered.{from_want, taken-is, some_is, listed-trees_of, same_tree-refl}
+use Rattle.mz_machine_theory.specs.Profile.{strict, tree_parts, Item as MachineItem}
+use Rattle.mz_machine_theory.specs.Spells.{SpelledTerm, trees_of}
+use Rattle.mz_machine_theory.specs.Steps.{◌>>=◌, ◌>>◌, need}
+use Rattle.mz_machine_theory.specs.Tests.{same_tree}
+use Rattle.mz_machine_theory.proofs.Offered.{from_want, taken-is, some_is, listed-trees_of, same_tree-refl}
 use Rattle.mz_machine_theory.specs.MachineState.{RowsBefore, State}
 use Rattle.mz_machine_theory.specs.ProofMachine.{proof_step, same_term, sides}
 use Rattle.mz_trace.specs.OneHoleContexts.{owed, for_operand, paid, by_operands}
@@ -47,9 +47,8 @@ many-paired (o ∷ os) (q ∷ qs) many = ap suc (many-paired os qs (omega (arith
 
 module _ (vs : List Value) where
   pairs-are : (os qs : List ℕ) → AreExpressions vs os → AreExpressions vs qs → ArePairs vs (paired os qs)
-  pairs-are [] qs h k = tt
-  pairs-are (o ∷ os) [] h k = tt
   pairs-are (o ∷ os) (q ∷ qs) h k = (h.0, k.0, pairs-are os qs h.1 k.1)
+  pairs-are _ _ h k = tt
 
   sides-are : (os qs : List ℕ) (ys : List (MachineItem Tree)) → length os ≡ length qs → sides (expressions_at vs os) (expressions_at vs qs) ys ≡ map (owed_at vs) (paired os qs) ++ ys
   sides-are [] qs ys many = refl
@@ -64,11 +63,10 @@ chosen false x y h = absurd cc
 
 two-terms : (e f : Tree) (p : List Tree × List Tree) → same_term (tree_parts e) (tree_parts f) ≡ Some p
     → (t : ℕ) × (es fs : Trees) × (e ≡ app t es) × (f ≡ app t fs) × (p ≡ (listed es, listed fs))
-two-terms (var x) f p h = absurd cc
-two-terms (app t es) (var y) p h = absurd cc
 two-terms (app t es) (app u fs) p h =
     let (same, is) = chosen (eqb t u) (listed es, listed fs) p h in
     (t, es, fs, refl, ap (λ v. app v fs) (sym (eqb-true t u same)), sym is)
+two-terms _ _ p h = absurd cc
 
 same-arity : (tables : RowsBefore) (t n m : ℕ) → HasArity tables t n → HasArity tables t m → n ≡ m
 same-arity tables t n m (row, at, is) (row', at', is') = sym is ∙ ap (λ (r : SpelledTerm). length r.signature.params) (some_is at at') ∙ is'
@@ -177,9 +175,8 @@ module _ (n : ℕ) (s : Stage) (xs : List Entry) (l r t : ℕ) (ps : List (ℕ �
   module _ (empty : ps ≡ []) where
     no-operands : (os qs : List ℕ) → length os ≡ length qs → paired os qs ≡ [] → (os ≡ []) × (qs ≡ [])
     no-operands [] [] many is = (refl, refl)
-    no-operands [] (q ∷ qs) many is = absurd (omega (arith, many))
-    no-operands (o ∷ os) [] many is = absurd (omega (arith, many))
     no-operands (o ∷ os) (q ∷ qs) many is = absurd cc
+    no-operands _ _ many is = absurd (omega (arith, many))
 
     module _ (tables : RowsBefore) (params : List Binder) (made : IsMade tables params owing) (p : List Tree × List Tree) (both : same_term (tree_parts el) (tree_parts er) ≡ Some p) where
       bare : (p ≡ ([], [])) × (el ≡ app t none) × (er ≡ app t none)

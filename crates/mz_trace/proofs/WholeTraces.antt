@@ -10,14 +10,13 @@ use Rattle.mz_cmd.specs.Reading.{first_command}
 use Rattle.mz_logic_theory.specs.Tree.{Tree}
 use Rattle.mz_logic_theory.specs.declared.binder.Binder.{Binder}
 use Rattle.mz_mmu_theory.specs.Proof.{Proof}
-use Rattle.mz_unify_theory.specs.Steps.{◌>>◌, need, at_place, Turn, over, goes_on, follow}
-use Rattle.mz_unify_theory.specs.Profile.{strict, expr}
-use Rattle.mz_unify_theory.specs.UnifyMachine.{is_empty}
-use Rattle.mz_unify_theory.proofs.Offered.{from_bind, from_need, place-ok, taken, taken-is}
+use Rattle.mz_machine_theory.specs.Steps.{◌>>◌, need, at_place, Turn, over, goes_on, follow}
+use Rattle.mz_machine_theory.specs.Profile.{strict, expr}
+use Rattle.mz_machine_theory.specs.UnifyMachine.{is_empty}
+use Rattle.mz_machine_theory.proofs.Offered.{from_bind, from_need, place-ok, taken, taken-is, from_follow}
 use Rattle.mz_machine_theory.specs.MachineState.{RowsBefore, State, Heading, Pairwise}
 use Rattle.mz_machine_theory.specs.ProofMachine.{built, proof_step, own_variables, ends_with, matched_by, proof_end}
 use Rattle.mz_machine_theory.specs.Bodies.{BodyCommand, ends, proves, body_command, body_turn_by, body_turn, body_from}
-use Rattle.mz_machine_theory.proofs.Offered.{from_follow}
 use Rattle.mz_trace.specs.OneHoleContexts.{expression}
 use Rattle.mz_trace.specs.Traces.{Trace, traced, trace_turn, trace_command, trace_from}
 use Rattle.mz_trace.proofs.Following.{to_bind}
@@ -27,8 +26,7 @@ use Rattle.mz_trace.proofs.Standing.{Asked, EachIs, Is}
 row-anywhere : (tables : RowsBefore) (at : ℕ) (c : ProofCode) (n : ℕ) (st : State Tree) → proof_step strict tables 0 c n st ≡ proof_step strict tables at c n st
 unfolding proof_step built
 row-anywhere tables at code.Term n st = refl
-row-anywhere tables at code.TermSave n st = refl
-row-anywhere tables at c n st = refl
+row-anywhere tables at _ n st = refl
 
 end-is : (tables : RowsBefore) (h : Heading) (st s : State Tree) → proof_end strict tables h st ≡ Ok s → st ≡ s
 unfolding proof_end

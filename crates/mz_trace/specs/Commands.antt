@@ -5,8 +5,8 @@ use Rattle.mz_logic_theory.specs.Tree.{Tree}
 use Rattle.mz_logic_theory.specs.Declaration.{Declaration}
 use Rattle.mz_logic_theory.specs.Derivations.{Uses as MayUse}
 use Rattle.mz_logic_theory.specs.declared.binder.Binder.{Binder}
-use Rattle.mz_unify_theory.specs.Profile.{strict}
-use Rattle.mz_unify_theory.specs.Spells.{dummy_of}
+use Rattle.mz_machine_theory.specs.Profile.{strict}
+use Rattle.mz_machine_theory.specs.Spells.{dummy_of}
 use Rattle.mz_machine_theory.specs.MachineState.{RowsBefore, State, Declares}
 use Rattle.mz_machine_theory.specs.Invariant.{IsFront, Fact}
 use Rattle.mz_machine_theory.specs.ProofMachine.{proof_step}
@@ -14,7 +14,7 @@ use Rattle.mz_machine_env.specs.Before.{AreWithin, tables_before}
 use Rattle.mz_layout_tables.specs.declared.rows_so_far.Rows.{Rows}
 use Rattle.mz_logic_theory.specs.Signature.{Signature}
 use Rattle.mz_layout_tables.specs.Tables.{term_row, thm_row, term_count, thm_count}
-use Rattle.mz_unify_theory.specs.UnifyMachine.{in_citation, in_definition, Matching, UnifyState, unify}
+use Rattle.mz_machine_theory.specs.UnifyMachine.{in_citation, in_definition, Matching, UnifyState, unify}
 use Rattle.mz_trace.specs.OneHoleContexts.{paid}
 use Rattle.mz_trace.specs.Traces.{Trace, stacked, traced, variables_in}
 use Rattle.mz_trace.specs.Nodes.{Value, values, expressions_at, expression_at, conversion_at, proof_at, HaveParts, IsExpression, AreExpressions, AreProofs, IsConversion, Applies, Uses}

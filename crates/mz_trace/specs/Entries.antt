@@ -1,8 +1,8 @@
 -- What the entries of the heap and the stack stand for: the machine's items and the parts beside them.
 use Rattle.std.specs.Prelude.{ℕ, ◌≡◌, ◌⊎◌, ⊤, List, [], ◌∷◌, ◌++◌, length, map, reverse, Some, slice_get}
-use Rattle.mz_unify_theory.specs.Profile.{expr, proof, obligation, conversion, Item as MachineItem}
+use Rattle.mz_machine_theory.specs.Profile.{expr, proof, obligation, conversion, Item as MachineItem}
 use Rattle.mz_logic_theory.specs.Tree.{Tree}
-use Rattle.mz_unify_theory.specs.Spells.{trees_of}
+use Rattle.mz_machine_theory.specs.Spells.{trees_of}
 use Rattle.mz_machine_theory.specs.MachineState.{RowsBefore}
 use Rattle.mz_trace.specs.OneHoleContexts.{Part, expression, proved, owed, converted, for_proof, for_turned, for_operand, for_unfolded, for_cut}
 use Rattle.mz_trace.specs.Nodes.{Value, expression_at, expressions_at, conversion_at, conversions_at, proof_at, IsExpression, AreExpressions, IsConversion, AreConversions, IsProof, IsBody}

@@ -4,7 +4,7 @@ use Rattle.mz_cmd.specs.declared.rule.K.{K}
 use Rattle.mz_logic_theory.specs.Tree.{Tree, Trees, var, app, none, more}
 use Rattle.mz_logic_theory.specs.Conversions.{Conversion, refl_conv, sym_conv, cong_conv, unfold_conv, no_convs, more_convs}
 use Rattle.mz_mmu_theory.specs.Proof.{Proof, by_hyp, by_name, by_citation, by_conv, no_proofs, more_proofs}
-use Rattle.mz_unify_theory.specs.Steps.{◌>>=◌}
+use Rattle.mz_machine_theory.specs.Steps.{◌>>=◌}
 use Rattle.mz_machine_theory.specs.Examples.{regular, of_sort, definition, theorem_body, for_all, before_ax_1}
 use Rattle.mz_machine_theory.specs.WorkedRuns.{Case, stop, with_code, two, a1i, gen, fold, saved}
 use Rattle.mz_trace.specs.OneHoleContexts.{Part, proved}

@@ -6,8 +6,8 @@ use Rattle.mz_logic_theory.specs.Legality.{IsLegalEnv}
 use Rattle.mz_logic_theory.specs.declared.binder.Binder.{Binder}
 use Rattle.mz_mmu_theory.specs.Proof.{Proof}
 use Rattle.mz_mmu_theory.specs.Meaning.{IsProofOf}
-use Rattle.mz_unify_theory.specs.Profile.{strict}
-use Rattle.mz_unify_theory.specs.Spells.{SpellsThm}
+use Rattle.mz_machine_theory.specs.Profile.{strict}
+use Rattle.mz_machine_theory.specs.Spells.{SpellsThm}
 use Rattle.mz_machine_theory.specs.MachineState.{RowsBefore, Heading, is_theorem, Declares}
 use Rattle.mz_machine_theory.specs.Bodies.{Runs}
 use Rattle.mz_machine_theory.specs.Sound.{AreRowParams, thm_row}

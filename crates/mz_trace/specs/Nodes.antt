@@ -6,7 +6,7 @@ use Rattle.mz_logic_theory.specs.Declaration.{Declaration, body_tree}
 use Rattle.mz_logic_theory.specs.Conversions.{Conversion, Conversions, refl_conv, sym_conv, cong_conv, unfold_conv, no_convs, more_convs}
 use Rattle.mz_mmu_theory.specs.Proof.{Proof, Proofs, by_hyp, by_name, by_citation, by_conv, no_proofs, more_proofs}
 use Rattle.mz_mmu_theory.specs.Sides.{assertion_at, term_at}
-use Rattle.mz_unify_theory.specs.Spells.{SpelledTerm, trees_of}
+use Rattle.mz_machine_theory.specs.Spells.{SpelledTerm, trees_of}
 use Rattle.mz_machine_theory.specs.MachineState.{RowsBefore, Declares}
 use Rattle.mz_trace.specs.declared.node.RunNode.{RunNode}
 use Rattle.mz_trace.specs.declared.node.RunNode.TheVariants as node

@@ -5,7 +5,7 @@ use Rattle.mz_cmd.specs.declared.code.ProofCode.{ProofCode}
 use Rattle.mz_cmd.specs.declared.code.ProofCode.TheVariants as code
 use Rattle.mz_cmd.specs.Codes.{proof_code}
 use Rattle.mz_cmd.specs.Reading.{first_command}
-use Rattle.mz_unify_theory.specs.Steps.{if_read}
+use Rattle.mz_machine_theory.specs.Steps.{if_read}
 
 -- The nodes that a command makes, at once or when what it leaves is paid. A reference makes none, and so do those that only
 -- cut or keep a conversion; ThmSave makes a citation and its name; any other makes one at the most.

@@ -5,9 +5,9 @@ use Rattle.mz_cmd.specs.declared.code.UnifyCode.TheVariants.{Term, TermSave, Ref
 use Rattle.mz_logic_theory.specs.Tree.{Tree}
 use Rattle.mz_logic_theory.specs.Signature.{Signature}
 use Rattle.mz_logic_theory.specs.declared.binder.Binder.{Binder}
-use Rattle.mz_unify_theory.specs.Profile.{strict}
-use Rattle.mz_unify_theory.specs.Streams.{of_definition, UnifyCommand, command_in}
-use Rattle.mz_unify_theory.specs.UnifyMachine.{in_definition, UnifyState, unify_step}
+use Rattle.mz_machine_theory.specs.Profile.{strict}
+use Rattle.mz_machine_theory.specs.Streams.{of_definition, UnifyCommand, command_in}
+use Rattle.mz_machine_theory.specs.UnifyMachine.{in_definition, UnifyState, unify_step}
 use Rattle.mz_machine_theory.specs.MachineState.{RowsBefore}
 use Rattle.mz_trace.specs.Traces.{variables_in}
 use Rattle.mz_trace.specs.Nodes.{values, expressions_at, HaveParts, AreExpressions}

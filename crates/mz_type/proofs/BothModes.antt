@@ -39,9 +39,8 @@ module _ (h : Bool) (sc : Scope) where
 
   mutual
     expr_as : (n : Node) (e : Tree) → IsExpr sc n e → IsExpr sc' n e
-    expr_as (atom at w) e r = r
-    expr_as (list at no_nodes) e r = r
     expr_as (list at (node m ns)) e (t, es, k, r, is) = (t, es, k, exprs_as ns es r, is)
+    expr_as _ e r = r
 
     exprs_as : (ns : Nodes) (es : Trees) → AreExprs sc ns es → AreExprs sc' ns es
     exprs_as no_nodes es r = r
@@ -58,29 +57,17 @@ module _ (h : Bool) (sc : Scope) where
     conv_as (list at (node m ns)) c r l = conv_as_by (conv_keyword m) m ns c r l
 
     conv_as_by : (k : Keyword) (m : Node) (ns : Nodes) (c : Conversion) → IsConvBy sc k m ns c → GapsOnly G c → IsConvBy sc' k m ns c
-    conv_as_by refl_word m no_nodes c r l = r
     conv_as_by refl_word m (node n no_nodes) c (e, r, is) l = (e, expr_as n e r, is)
-    conv_as_by refl_word m (node n (node _ _)) c r l = r
-    conv_as_by sym_word m no_nodes c r l = r
     conv_as_by sym_word m (node n no_nodes) c (d, r, is) l = (d, conv_as n d r (subst (GapsOnly G) is l), is)
-    conv_as_by sym_word m (node n (node _ _)) c r l = r
-    conv_as_by unfold_word m no_nodes c r l = r
-    conv_as_by unfold_word m (node t no_nodes) c r l = r
-    conv_as_by unfold_word m (node t (node es no_nodes)) c r l = r
-    conv_as_by unfold_word m (node t (node es (node ys no_nodes))) c r l = r
     conv_as_by unfold_word m (node t (node es (node ys (node n no_nodes)))) c (u, fs, zs, d, k, e, v, r, is) l =
         (u, fs, zs, d, k, expr_list_as es fs e, v, conv_as n d r (subst (GapsOnly G) is l), is)
-    conv_as_by unfold_word m (node t (node es (node ys (node n (node _ _))))) c r l = r
-    conv_as_by sorry_word m no_nodes c r l = r
-    conv_as_by sorry_word m (node a no_nodes) c r l = r
     conv_as_by sorry_word m (node a (node b no_nodes)) c (f, g, may, x, y, is) l = (f, g, subst (GapsOnly G) is l, expr_as a f x, expr_as b g y, is)
-    conv_as_by sorry_word m (node a (node b (node _ _))) c r l = r
     conv_as_by conv_word m ns c r l = absurd r
     conv_as_by let_word m ns c r l = absurd r
-    conv_as_by no_word m no_nodes c r l = r
     conv_as_by no_word m (node n ns) c (t, d, ds, k, r, rs, is) l =
         let both : GapsOnly G d × AllGapsOnly G ds = subst (GapsOnly G) is l in
         (t, d, ds, k, conv_as n d r both.0, convs_as ns ds rs both.1, is)
+    conv_as_by _ m _ c r l = r
 
     convs_as : (ns : Nodes) (cs : Conversions) → AreConvs sc ns cs → AllGapsOnly G cs → AreConvs sc' ns cs
     convs_as no_nodes cs r l = r
@@ -91,34 +78,23 @@ module _ (h : Bool) (sc : Scope) where
   module _ (hyps : List (List ℕ)) where
     mutual
       proof_as : (lets : List (List ℕ)) (n : Node) (p : Proof) → IsProof sc hyps lets n p → LeavesOnly G p → IsProof sc' hyps lets n p
-      proof_as lets (atom at w) p r l = r
-      proof_as lets (list at no_nodes) p r l = r
       proof_as lets (list at (node m ns)) p r l = proof_as_by lets (proof_keyword m) m ns p r l
+      proof_as lets _ p r l = r
 
       proof_as_by : (lets : List (List ℕ)) (k : Keyword) (m : Node) (ns : Nodes) (p : Proof) → IsProofBy sc hyps lets k m ns p → LeavesOnly G p → IsProofBy sc' hyps lets k m ns p
-      proof_as_by lets conv_word m no_nodes p r l = r
-      proof_as_by lets conv_word m (node e no_nodes) p r l = r
-      proof_as_by lets conv_word m (node e (node c no_nodes)) p r l = r
       proof_as_by lets conv_word m (node e (node c (node q no_nodes))) p (f, d, s, x, y, z, is) l =
           let both : GapsOnly G d × LeavesOnly G s = subst (LeavesOnly G) is l in
           (f, d, s, expr_as e f x, conv_as c d y both.0, proof_as lets q s z both.1, is)
-      proof_as_by lets conv_word m (node e (node c (node q (node _ _)))) p r l = r
-      proof_as_by lets let_word m no_nodes p r l = r
-      proof_as_by lets let_word m (node x no_nodes) p r l = r
-      proof_as_by lets let_word m (node x (node q no_nodes)) p r l = r
       proof_as_by lets let_word m (node x (node q (node q' no_nodes))) p (w, s, s', n, y, z, is) l =
           let both : LeavesOnly G s × LeavesOnly G s' = subst (LeavesOnly G) is l in
           (w, s, s', n, proof_as lets q s y both.0, proof_as (lets ++ w ∷ []) q' s' z both.1, is)
-      proof_as_by lets let_word m (node x (node q (node q' (node _ _)))) p r l = r
-      proof_as_by lets sorry_word m no_nodes p r l = r
       proof_as_by lets sorry_word m (node e no_nodes) p (f, may, x, is) l = (f, subst (LeavesOnly G) is l, expr_as e f x, is)
-      proof_as_by lets sorry_word m (node e (node _ _)) p r l = r
       proof_as_by lets refl_word m ns p r l = absurd r
       proof_as_by lets sym_word m ns p r l = absurd r
       proof_as_by lets unfold_word m ns p r l = absurd r
-      proof_as_by lets no_word m no_nodes p r l = r
       proof_as_by lets no_word m (node es ns) p (T, fs, rs, k, e, ps, is) l =
           (T, fs, rs, k, expr_list_as es fs e, proofs_as lets ns rs ps (subst (LeavesOnly G) is l), is)
+      proof_as_by lets _ m _ p r l = r
 
       proofs_as : (lets : List (List ℕ)) (ns : Nodes) (ps : Proofs) → AreProofs sc hyps lets ns ps → AllLeaveOnly G ps → AreProofs sc' hyps lets ns ps
       proofs_as lets no_nodes ps r l = r
@@ -129,11 +105,8 @@ module _ (h : Bool) (sc : Scope) where
   -- ---- hypotheses
 
   hyp_as : (taken : List (List ℕ)) (n : Node) (w : List ℕ) (f : Tree) → IsHyp sc taken n w f → IsHyp sc' taken n w f
-  hyp_as taken (atom at v) w f r = r
-  hyp_as taken (list at no_nodes) w f r = r
-  hyp_as taken (list at (node x no_nodes)) w f r = r
   hyp_as taken (list at (node x (node e no_nodes))) w f (n, r) = (n, expr_as e f r)
-  hyp_as taken (list at (node x (node e (node _ _)))) w f r = r
+  hyp_as taken _ w f r = r
 
   hyps_as : (taken : List (List ℕ)) (ns : Nodes) (es : Trees) (after : List (List ℕ)) → AreHyps sc taken ns es after → AreHyps sc' taken ns es after
   hyps_as taken no_nodes es after r = r
@@ -155,19 +128,12 @@ module _ (h : Bool) (names : Names) where
   names' = in_mode h names
 
   param_as : (vars : List (List ℕ)) (n : Node) (w : List ℕ) (b : Binder) → IsParam names vars n w b → IsParam names' vars n w b
-  param_as vars (atom at v) w b r = r
-  param_as vars (list at no_nodes) w b r = r
-  param_as vars (list at (node x no_nodes)) w b r = r
-  param_as vars (list at (node x (node s no_nodes))) w b r = r
   param_as vars (list at (node x (node s (node ds no_nodes)))) w b r = r
-  param_as vars (list at (node x (node s (node ds (node _ _))))) w b r = r
+  param_as vars _ w b r = r
 
   dummy_as : (vars : List (List ℕ)) (n : Node) (w : List ℕ) (b : Binder) → IsDummy names vars n w b → IsDummy names' vars n w b
-  dummy_as vars (atom at v) w b r = r
-  dummy_as vars (list at no_nodes) w b r = r
-  dummy_as vars (list at (node x no_nodes)) w b r = r
   dummy_as vars (list at (node x (node s no_nodes))) w b r = r
-  dummy_as vars (list at (node x (node s (node _ _)))) w b r = r
+  dummy_as vars _ w b r = r
 
   params_as : (n : Node) (bs : List Binder) (after : List (List ℕ)) → AreParams names n bs after → AreParams names' n bs after
   params_as (atom at w) bs after r = r
@@ -178,11 +144,8 @@ module _ (h : Bool) (names : Names) where
   dummies_as vars (list at ns) bs after r = binders_as (IsDummy names) (IsDummy names') dummy_as vars ns bs after r
 
   result_as : (vars : List (List ℕ)) (n : Node) (t : ResultType) → IsResult names vars n t → IsResult names' vars n t
-  result_as vars (atom at w) t r = r
-  result_as vars (list at no_nodes) t r = r
-  result_as vars (list at (node s no_nodes)) t r = r
   result_as vars (list at (node s (node ds no_nodes))) t r = r
-  result_as vars (list at (node s (node ds (node _ _)))) t r = r
+  result_as vars _ t r = r
 
   -- ---- statements
 
@@ -190,35 +153,12 @@ module _ (h : Bool) (names : Names) where
   In s = HasGapsOnly (h ≡ true) s
 
   declared_as : (k : Kind) (ns : Nodes) (s : Statement) → IsDeclared names k ns s → In s → IsDeclared names' k ns s
-  declared_as sort_kind no_nodes s r l = r
-  declared_as sort_kind (node x ms) s r l = r
-  declared_as term_kind no_nodes s r l = r
-  declared_as term_kind (node x no_nodes) s r l = r
-  declared_as term_kind (node x (node ps no_nodes)) s r l = r
   declared_as term_kind (node x (node ps (node t no_nodes))) s (params, vars, result, n, p, q, e, i, j) l =
       (params, vars, result, n, params_as ps params vars p, result_as vars t result q, e, i, j)
-  declared_as term_kind (node x (node ps (node t (node _ _)))) s r l = r
-  declared_as axiom_kind no_nodes s r l = r
-  declared_as axiom_kind (node x no_nodes) s r l = r
-  declared_as axiom_kind (node x (node ps no_nodes)) s r l = r
-  declared_as axiom_kind (node x (node ps (node hs no_nodes))) s r l = r
   declared_as axiom_kind (node x (node ps (node hs (node c no_nodes)))) s (params, vars, hyps, conclusion, n, p, q, r, e, i, j) l =
       (params, vars, hyps, conclusion, n, params_as ps params vars p, expr_list_as h (scope_of names vars) hs hyps q, expr_as h (scope_of names vars) c conclusion r, e, i, j)
-  declared_as axiom_kind (node x (node ps (node hs (node c (node _ _))))) s r l = r
-  declared_as def_kind no_nodes s r l = r
-  declared_as def_kind (node x no_nodes) s r l = r
-  declared_as def_kind (node x (node ps no_nodes)) s r l = r
-  declared_as def_kind (node x (node ps (node t no_nodes))) s r l = r
-  declared_as def_kind (node x (node ps (node t (node ds no_nodes)))) s r l = r
   declared_as def_kind (node x (node ps (node t (node ds (node b no_nodes))))) s (params, vars, result, dummies, all, body, n, p, q, d, f, e, i, j) l =
       (params, vars, result, dummies, all, body, n, params_as ps params vars p, result_as vars t result q, dummies_as vars ds dummies all d, expr_as h (scope_of names all) b body f, e, i, j)
-  declared_as def_kind (node x (node ps (node t (node ds (node b (node _ _)))))) s r l = r
-  declared_as theorem_kind no_nodes s r l = r
-  declared_as theorem_kind (node x no_nodes) s r l = r
-  declared_as theorem_kind (node x (node ps no_nodes)) s r l = r
-  declared_as theorem_kind (node x (node ps (node hs no_nodes))) s r l = r
-  declared_as theorem_kind (node x (node ps (node hs (node c no_nodes)))) s r l = r
-  declared_as theorem_kind (node x (node ps (node hs (node c (node ds no_nodes))))) s r l = r
   declared_as theorem_kind (node x (node ps (node hs (node c (node ds (node q no_nodes)))))) s (params, vars, hyps, labels, conclusion, all, proof, n, p, k, f, d, r, e, j) l = (
     params,
     vars,
@@ -236,16 +176,13 @@ module _ (h : Bool) (names : Names) where
     e,
     j,
   )
-  declared_as theorem_kind (node x (node ps (node hs (node c (node ds (node q (node _ _))))))) s r l = r
-  declared_as no_kind ns s r l = r
+  declared_as sort_kind no_nodes s r l = r
+  declared_as _ _ s r l = r
 
   local_as : (k : Kind) (ns : Nodes) (s : Statement) → IsLocal names k ns s → In s → IsLocal names' k ns s
-  local_as sort_kind ns s r l = r
-  local_as term_kind ns s r l = r
-  local_as axiom_kind ns s r l = r
   local_as def_kind ns s r l = declared_as def_kind ns s r l
   local_as theorem_kind ns s r l = declared_as theorem_kind ns s r l
-  local_as no_kind ns s r l = r
+  local_as _ ns s r l = r
 
   marked_as : (b : Bool) (k : Node) (ns : Nodes) (s : Statement) → IsMarked b names k ns s → In s → IsMarked b names' k ns s
   marked_as false k ns s (mark, r) l = (mark, declared_as (kind_of k) ns s r l)
@@ -253,14 +190,12 @@ module _ (h : Bool) (names : Names) where
   marked_as true k (node m ns) s (mark, r) l = (mark, local_as (kind_of m) ns s r l)
 
   statement_as : (n : Node) (s : Statement) → IsStatement names n s → In s → IsStatement names' n s
-  statement_as (atom at w) s r l = r
-  statement_as (list at no_nodes) s r l = r
   statement_as (list at (node k ns)) s r l = marked_as (is_local_word k) k ns s r l
+  statement_as _ s r l = r
 
 mode_stays : (h : Bool) (names : Names) (w : List ℕ) (d : Declaration) → in_mode h (names_with names w d) ≡ names_with (in_mode h names) w d
 mode_stays h names w (sort_decl m) = refl
-mode_stays h names w (term_decl t) = refl
-mode_stays h names w (assertion_decl a) = refl
+mode_stays h names w _ = refl
 
 statements_as : (h : Bool) (names : Names) (ns : Nodes) (ss : List Statement) → AreStatements names ns ss → All (HasGapsOnly (h ≡ true)) ss → AreStatements (in_mode h names) ns ss
 statements_as h names no_nodes ss r l = r
@@ -272,12 +207,11 @@ statements_as h names (node n ns) ss (s, rest, r, rs, is) l =
 -- ---- what the proofs mean
 
 proved_as : (g h : Bool) (env : List Declaration) (d : Declaration) (ds : List Binder) (q : Option Proof) → SomeLeavesOnly (h ≡ true) q → IsProvedAsStated g env d ds q → IsProvedAsStated h env d ds q
-proved_as g h env (sort_decl m) ds q l r = tt
-proved_as g h env (term_decl t) ds q l r = tt
 proved_as g h env (assertion_decl a) ds q l r = λ thm.
     let k = r thm in
     let p : Proof = k.1.0 in
     (k.0, (p, k.1.1, (k.1.2.0, k.1.2.1, allowed h env p (subst (SomeLeavesOnly (h ≡ true)) k.1.1 l))))
+proved_as g h env _ ds q l r = tt
 
 legal_as : (g h : Bool) (env : List Declaration) (ss : List Statement) → All (HasGapsOnly (h ≡ true)) ss → LegalAsStatedAfter g env ss → LegalAsStatedAfter h env ss
 legal_as g h env [] l r = tt
@@ -303,12 +237,11 @@ module _ (F G : Type 0) (f : F → G) where
 
   mutual
     proof_leaves : (p : Proof) → LeavesOnly F p → LeavesOnly G p
-    proof_leaves (by_hyp i) l = tt
-    proof_leaves (by_name i) l = tt
     proof_leaves (by_citation T es ps) l = proofs_leave ps l
     proof_leaves (by_conv e c p) l = (conv_leaves c l.0, proof_leaves p l.1)
     proof_leaves (by_let p q) l = (proof_leaves p l.0, proof_leaves q l.1)
     proof_leaves (by_gap e) l = f l
+    proof_leaves _ l = tt
 
     proofs_leave : (ps : Proofs) → AllLeaveOnly F ps → AllLeaveOnly G ps
     proofs_leave no_proofs l = tt

@@ -39,9 +39,8 @@ total_one_more (u ∷ us) zero = omega (arith, sum_by-cons (λ v. v) (u + 1) us,
 total_one_more (u ∷ us) (suc x) = omega (arith, sum_by-cons (λ v. v) u (one_more us x), sum_by-cons (λ v. v) u us, total_one_more us x)
 
 length_one_more : (us : List ℕ) (x : ℕ) → length (one_more us x) ≡ length us
-length_one_more [] x = refl
-length_one_more (u ∷ us) zero = refl
 length_one_more (u ∷ us) (suc x) = ap suc (length_one_more us x)
+length_one_more _ _ = refl
 
 mutual
   pub total_counted : (us : List ℕ) (e : Tree) → total (counted us e) ≤ total us + size e
@@ -72,9 +71,8 @@ put_on_none none = refl
 put_on_none (more e es) = refl
 
 pub put_on_zeros : (es : Trees) (n : ℕ) → put_on es (replicate n 0) ≡ 0
-put_on_zeros none n = refl
-put_on_zeros (more e es) zero = refl
 put_on_zeros (more e es) (suc n) = omega (arith, put_on_zeros es n)
+put_on_zeros _ _ = refl
 
 put_on_one_more : (es : Trees) (us : List ℕ) (x : ℕ) → x < length us → put_on es (one_more us x) + 1 ≡ put_on es us + size (operand es x)
 put_on_one_more none us x below = refl
@@ -139,14 +137,12 @@ no_shape_at (s ∷ ss) (e ∷ es) (suc i) are past = no_shape_at ss es i are.1 (
 
 one_shape_more : (ss : List Shape) (es : List Tree) (s : Shape) (e : Tree) → AreShapes ss es → IsShapeOf s e → AreShapes (ss ++ s ∷ []) (es ++ e ∷ [])
 one_shape_more [] [] s e are is = (is, tt)
-one_shape_more [] (f ∷ es) s e are is = absurd are
-one_shape_more (t ∷ ss) [] s e are is = absurd are
 one_shape_more (t ∷ ss) (f ∷ es) s e are is = (are.0, one_shape_more ss es s e are.1 is)
+one_shape_more _ _ s e are is = absurd are
 
 read_mapped : {A : Type 0} (f : A → Tree) (xs : List A) (i : ℕ) (d : A) → get_or (map f xs) i (f d) ≡ f (get_or xs i d)
-read_mapped f [] i d = refl
-read_mapped f (x ∷ xs) zero d = refl
 read_mapped f (x ∷ xs) (suc i) d = read_mapped f xs i d
+read_mapped f _ _ d = refl
 
 pub body_at : (env : List Declaration) (t : ℕ) → get_or (bodies_of env) t (app 0 none) ≡ body_tree (term_at env t).form
 body_at env t = read_mapped (λ (d : Term). body_tree d.form) (terms env) t (record { signature = record { params = []; result = record { sort = 0; deps = [] } }; form = plain_form })

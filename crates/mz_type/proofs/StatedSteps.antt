@@ -1,4 +1,4 @@
--- A text's statements are checked one after another; what each declares and what it says beside that are kept apart.
+-- A text's statements are checked one after another; what each declares and what it says beside that are kept disjoint.
 use Rattle.std.proofs.Common.{ℕ, zero, suc, ◌≡◌, ◌<◌, ◌+◌, ◌^◌, List, [], ◌∷◌, ◌++◌, length, get_or, refl, sym, ap, ◌∙◌, subst, arith, Bool, Some, length-append, append-nil}
 use Rattle.std.specs.Prelude.{option_map, slice_get}
 use Rattle.mz_base.specs.Checks.{AllHold}
@@ -25,9 +25,8 @@ use Rattle.mz_type.proofs.Written.{few_weigh}
 pub statements_more : (ds : List Declaration) (bs : List Beside) (d : Declaration) (b : Beside) → length ds ≡ length bs
     → statements_of (ds ++ d ∷ []) (bs ++ b ∷ []) ≡ statements_of ds bs ++ with_decl d b ∷ []
 statements_more [] [] d b h = refl
-statements_more [] (x ∷ xs) d b h = absurd (omega (arith, h))
-statements_more (x ∷ xs) [] d b h = absurd (omega (arith, h))
 statements_more (x ∷ xs) (y ∷ ys) d b h = ap (λ ss. with_decl x y ∷ ss) (statements_more xs ys d b (omega (arith, h)))
+statements_more _ _ d b h = absurd (omega (arith, h))
 
 pub statements_many : (ds : List Declaration) (bs : List Beside) → length ds ≡ length bs → length (statements_of ds bs) ≡ length ds
 statements_many [] bs h = refl
@@ -36,10 +35,9 @@ statements_many (x ∷ xs) (y ∷ ys) h = ap suc (statements_many xs ys (omega (
 
 pub declared_at : (ds : List Declaration) (bs : List Beside) (i : ℕ) → length ds ≡ length bs
     → option_map (λ s. s.decl) (slice_get (statements_of ds bs) i) ≡ slice_get ds i
-declared_at [] bs i h = refl
 declared_at (x ∷ xs) [] i h = absurd (omega (arith, h))
-declared_at (x ∷ xs) (y ∷ ys) zero h = refl
 declared_at (x ∷ xs) (y ∷ ys) (suc i) h = declared_at xs ys i (omega (arith, h))
+declared_at _ _ _ h = refl
 
 -- what the i-th says beside its declaration
 pub beside_at : {A : Type 0} (f : Statement → A) (g : Beside → A) → ((d : Declaration) (b : Beside) → f (with_decl d b) ≡ g b) → (ds : List Declaration) (bs : List Beside) (i : ℕ) (b : Beside)

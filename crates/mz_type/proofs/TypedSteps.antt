@@ -30,14 +30,13 @@ AreMarked ns [] = ⊤
 AreMarked ns (s ∷ ss) = (is_local_word (first (parts (first ns))) ≡ s.is_local) × AreMarked (rest ns) ss
 
 mark_is : (names : Names) (n : Node) (s : Statement) → IsStatement names n s → is_local_word (first (parts n)) ≡ s.is_local
-mark_is names (atom _ _) s h = absurd h
-mark_is names (list _ no_nodes) s h = absurd h
 mark_is names (list _ (node k ns)) s h = go (is_local_word k) ns h
   where
     go : (b : Bool) (ns : Nodes) → IsMarked b names k ns s → b ≡ s.is_local
     go false ns h = sym h.0
     go true no_nodes h = absurd h
     go true (node _ _) h = sym h.0
+mark_is names _ s h = absurd h
 
 pub marks_are : (names : Names) (ns : Nodes) (ss : List Statement) → AreStatements names ns ss → AreMarked ns ss
 marks_are names no_nodes ss is = subst (AreMarked no_nodes) (sym is) tt

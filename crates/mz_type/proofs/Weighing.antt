@@ -37,11 +37,9 @@ proofs_size_step xs i p below is m h = (omega (arith, ap proofs_steps (proofs_cu
 
 -- a variable weighs as much as what stands for a missing operand
 operand_same : (es : Trees) (ys : List ℕ) (x : ℕ) → size (operand (followed_by es (variables ys)) x) ≡ size (operand es x)
-operand_same none [] x = refl
-operand_same none (y ∷ ys) zero = refl
 operand_same none (y ∷ ys) (suc x) = operand_same none ys x
-operand_same (more e es) ys zero = refl
 operand_same (more e es) ys (suc x) = operand_same es ys x
+operand_same _ _ _ = refl
 
 mutual
   pub same_size : (es : Trees) (ys : List ℕ) (e : Tree) → size (instance (followed_by es (variables ys)) e) ≡ size (instance es e)
@@ -53,6 +51,5 @@ mutual
   all_same_size es ys (more f fs) = ap (λ n. n + trees_size (instances (followed_by es (variables ys)) fs)) (same_size es ys f) ∙ ap (λ n. size (instance es f) + n) (all_same_size es ys fs)
 
 pub body_none : (f : Form) → body_of f ≡ none → body_tree f ≡ app 0 none
-body_none plain_form h = refl
-body_none abstract_form h = refl
 body_none (defined ds e) h = absurd (let k : more e none ≡ none = h in cc)
+body_none _ h = refl

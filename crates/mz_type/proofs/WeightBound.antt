@@ -13,9 +13,8 @@ use Rattle.mz_mmu_theory.specs.Weight.{conv_weight, convs_weight, proof_weight, 
 use Rattle.mz_type.specs.Sizes.{conv_size, convs_size, proof_size, proofs_size, statement_size, text_size, stated_size}
 
 operand_size : (f : Trees) (i : ℕ) → size (operand f i) ≤ trees_size f + 1
-operand_size none i = omega arith
-operand_size (more e f) zero = omega arith
 operand_size (more e f) (suc i) = omega (arith, operand_size f i)
+operand_size _ _ = omega arith
 
 -- (s + t) * k, in parts
 parts_of : (s t k m n : ℕ) → m ≤ s * k → n ≤ t * k → m + n ≤ (s + t) * k
@@ -81,8 +80,6 @@ module _ (env : List Declaration) (most : ℕ) (within : Within env most) where
 
   mutual
     pub proof_within : (p : Proof) → proof_weight env p ≤ proof_size p * (most + 1)
-    proof_within (by_hyp i) = at_least 1 most
-    proof_within (by_name i) = at_least 1 most
     proof_within (by_citation T es ps) =
         parts_of (1 + trees_size es) (proofs_size ps) (most + 1) _ _
         (own_part (trees_size es) (size (assertion_at env T).conclusion) most (size (instance es (assertion_at env T).conclusion)) (within.0 T) (instance_size es (assertion_at env T).conclusion))
@@ -92,6 +89,7 @@ module _ (env : List Declaration) (most : ℕ) (within : Within env most) where
         (parts_of (1 + size e) (conv_size c) (most + 1) _ _ (at_least (1 + size e) most) (conv_within c)) (proof_within p)
     proof_within (by_let p q) = parts_of (1 + proof_size p) (proof_size q) (most + 1) _ _ (parts_of 1 (proof_size p) (most + 1) 1 _ (at_least 1 most) (proof_within p)) (proof_within q)
     proof_within (by_gap e) = at_least (1 + size e) most
+    proof_within _ = at_least 1 most
 
     pub proofs_within : (ps : Proofs) → proofs_weight env ps ≤ proofs_size ps * (most + 1)
     proofs_within no_proofs = omega arith
@@ -137,8 +135,7 @@ body_within most pos (term_decl d ∷ ds) h (suc t) = body_within most pos ds h.
 
 body_fits : (f : Form) → size (body_tree f) ≤ trees_size (body_of f) + 1
 body_fits plain_form = omega arith
-body_fits abstract_form = omega arith
-body_fits (defined ds e) = omega arith
+body_fits _ = omega arith
 
 decl_fits : (most : ℕ) (d : Declaration) → declaration_weight d + 1 ≤ most → IsWithin most d
 decl_fits most (sort_decl _) h = tt

@@ -55,27 +55,14 @@ module _ (sc : Scope) where
     conv_written (list _ (node k ns)) c g = omega (arith, conv_written_by (conv_keyword k) k ns c g)
 
     conv_written_by : (k : Keyword) (h : Node) (ns : Nodes) (c : Conversion) → IsConvBy sc k h ns c → conv_size c ≤ 1 + nodes_size ns
-    conv_written_by refl_word h no_nodes c g = absurd g
     conv_written_by refl_word h (node n no_nodes) c (e, g, is) = omega (arith, ap conv_size is, expr_written n e g)
-    conv_written_by refl_word h (node n (node _ _)) c g = absurd g
-    conv_written_by sym_word h no_nodes c g = absurd g
     conv_written_by sym_word h (node n no_nodes) c (d, g, is) = omega (arith, ap conv_size is, conv_written n d g)
-    conv_written_by sym_word h (node n (node _ _)) c g = absurd g
-    conv_written_by unfold_word h no_nodes c g = absurd g
-    conv_written_by unfold_word h (node t no_nodes) c g = absurd g
-    conv_written_by unfold_word h (node t (node es no_nodes)) c g = absurd g
-    conv_written_by unfold_word h (node t (node es (node ys no_nodes))) c g = absurd g
     conv_written_by unfold_word h (node t (node es (node ys (node n no_nodes)))) c (u, fs, zs, d, _, are, vars, g, is) =
         omega (arith, ap conv_size is, expr_list_written es fs are, variable_list_written ys zs vars, conv_written n d g)
-    conv_written_by unfold_word h (node t (node es (node ys (node n (node _ _))))) c g = absurd g
     conv_written_by no_word h no_nodes c (t, _, is) = omega (arith, ap conv_size is)
     conv_written_by no_word h (node n ns) c (t, d, ds, _, g, gs, is) = omega (arith, ap conv_size is, conv_written n d g, convs_written ns ds gs)
-    conv_written_by conv_word h ns c g = absurd g
-    conv_written_by let_word h ns c g = absurd g
-    conv_written_by sorry_word h no_nodes c g = absurd g
-    conv_written_by sorry_word h (node l no_nodes) c g = absurd g
     conv_written_by sorry_word h (node l (node r no_nodes)) c (e, f, _, g, k, is) = omega (arith, ap conv_size is, expr_written l e g, expr_written r f k)
-    conv_written_by sorry_word h (node l (node r (node _ _))) c g = absurd g
+    conv_written_by _ h _ c g = absurd g
 
     convs_written : (ns : Nodes) (cs : Conversions) → AreConvs sc ns cs → convs_size cs ≤ nodes_size ns
     convs_written no_nodes cs is = omega (arith, ap convs_size is)
@@ -95,27 +82,14 @@ module _ (sc : Scope) where
       proof_written lets (list _ (node k ns)) p g = omega (arith, proof_written_by lets (proof_keyword k) k ns p g)
 
       proof_written_by : (lets : List (List ℕ)) (k : Keyword) (h : Node) (ns : Nodes) (p : Proof) → IsProofBy sc hyps lets k h ns p → proof_size p ≤ 1 + nodes_size ns
-      proof_written_by lets conv_word h no_nodes p g = absurd g
-      proof_written_by lets conv_word h (node e no_nodes) p g = absurd g
-      proof_written_by lets conv_word h (node e (node c no_nodes)) p g = absurd g
       proof_written_by lets conv_word h (node e (node c (node q no_nodes))) p (f, d, r, he, hc, hq, is) =
           omega (arith, ap proof_size is, expr_written e f he, conv_written c d hc, proof_written lets q r hq)
-      proof_written_by lets conv_word h (node e (node c (node q (node _ _)))) p g = absurd g
-      proof_written_by lets let_word h no_nodes p g = absurd g
-      proof_written_by lets let_word h (node x no_nodes) p g = absurd g
-      proof_written_by lets let_word h (node x (node q no_nodes)) p g = absurd g
       proof_written_by lets let_word h (node x (node q (node q' no_nodes))) p (w, r, r', _, hq, hq', is) =
           omega (arith, ap proof_size is, proof_written lets q r hq, proof_written (lets ++ w ∷ []) q' r' hq')
-      proof_written_by lets let_word h (node x (node q (node q' (node _ _)))) p g = absurd g
-      proof_written_by lets no_word h no_nodes p g = absurd g
       proof_written_by lets no_word h (node es ns) p (T, fs, rs, _, are, hs, is) =
           omega (arith, ap proof_size is, expr_list_written es fs are, proofs_written lets ns rs hs)
-      proof_written_by lets refl_word h ns p g = absurd g
-      proof_written_by lets sym_word h ns p g = absurd g
-      proof_written_by lets unfold_word h ns p g = absurd g
-      proof_written_by lets sorry_word h no_nodes p g = absurd g
       proof_written_by lets sorry_word h (node e no_nodes) p (f, _, g, is) = omega (arith, ap proof_size is, expr_written e f g)
-      proof_written_by lets sorry_word h (node e (node _ _)) p g = absurd g
+      proof_written_by lets _ h _ p g = absurd g
 
       proofs_written : (lets : List (List ℕ)) (ns : Nodes) (ps : Proofs) → AreProofs sc hyps lets ns ps → proofs_size ps ≤ nodes_size ns
       proofs_written lets no_nodes ps is = omega (arith, ap proofs_size is)
@@ -124,11 +98,8 @@ module _ (sc : Scope) where
   -- ---- hypotheses of a theorem
 
   hyp_written : (taken : List (List ℕ)) (n : Node) (w : List ℕ) (f : Tree) → IsHyp sc taken n w f → size f ≤ node_size n
-  hyp_written taken (atom _ _) w f h = absurd h
-  hyp_written taken (list _ no_nodes) w f h = absurd h
-  hyp_written taken (list _ (node x no_nodes)) w f h = absurd h
   hyp_written taken (list _ (node x (node e no_nodes))) w f h = omega (arith, expr_written e f h.1)
-  hyp_written taken (list _ (node x (node e (node _ _)))) w f h = absurd h
+  hyp_written taken _ w f h = absurd h
 
   hyps_written : (taken : List (List ℕ)) (ns : Nodes) (es : Trees) (after : List (List ℕ)) → AreHyps sc taken ns es after → trees_size es ≤ nodes_size ns
   hyps_written taken no_nodes es after (is, _) = omega (arith, ap trees_size is)
@@ -160,18 +131,9 @@ module _ (names : Names) where
   Written ns s = declaration_weight s.decl + length s.dummies + stated_size s.proof ≤ nodes_size ns
 
   declared_written : (k : Kind) (ns : Nodes) (s : Statement) → IsDeclared names k ns s → Written ns s
-  declared_written sort_kind no_nodes s h = absurd h
   declared_written sort_kind (node x ms) s (_, _, _, is, none, unproved) = omega (arith, ap declaration_weight is, ap length none, ap stated_size unproved)
-  declared_written term_kind no_nodes s h = absurd h
-  declared_written term_kind (node x no_nodes) s h = absurd h
-  declared_written term_kind (node x (node ps no_nodes)) s h = absurd h
   declared_written term_kind (node x (node ps (node r no_nodes))) s (params, vars, result, _, ps_are, _, is, none, unproved) =
       omega (arith, ap declaration_weight is, ap length none, ap stated_size unproved, params_written ps params vars ps_are)
-  declared_written term_kind (node x (node ps (node r (node _ _)))) s h = absurd h
-  declared_written axiom_kind no_nodes s h = absurd h
-  declared_written axiom_kind (node x no_nodes) s h = absurd h
-  declared_written axiom_kind (node x (node ps no_nodes)) s h = absurd h
-  declared_written axiom_kind (node x (node ps (node hs no_nodes))) s h = absurd h
   declared_written axiom_kind (node x (node ps (node hs (node e no_nodes)))) s (params, vars, hyps, conclusion, _, ps_are, hs_are, e_is, is, none, unproved) =
       omega (
         arith,
@@ -182,12 +144,6 @@ module _ (names : Names) where
         expr_list_written (scope_of names vars) hs hyps hs_are,
         expr_written (scope_of names vars) e conclusion e_is,
       )
-  declared_written axiom_kind (node x (node ps (node hs (node e (node _ _))))) s h = absurd h
-  declared_written def_kind no_nodes s h = absurd h
-  declared_written def_kind (node x no_nodes) s h = absurd h
-  declared_written def_kind (node x (node ps no_nodes)) s h = absurd h
-  declared_written def_kind (node x (node ps (node r no_nodes))) s h = absurd h
-  declared_written def_kind (node x (node ps (node r (node ds no_nodes)))) s h = absurd h
   declared_written def_kind (node x (node ps (node r (node ds (node e no_nodes))))) s (params, vars, result, dummies, all, body, _, ps_are, _, ds_are, e_is, is, none, unproved) =
       omega (
         arith,
@@ -198,13 +154,6 @@ module _ (names : Names) where
         dummies_written vars ds dummies all ds_are,
         expr_written (scope_of names all) e body e_is,
       )
-  declared_written def_kind (node x (node ps (node r (node ds (node e (node _ _)))))) s h = absurd h
-  declared_written theorem_kind no_nodes s h = absurd h
-  declared_written theorem_kind (node x no_nodes) s h = absurd h
-  declared_written theorem_kind (node x (node ps no_nodes)) s h = absurd h
-  declared_written theorem_kind (node x (node ps (node hs no_nodes))) s h = absurd h
-  declared_written theorem_kind (node x (node ps (node hs (node e no_nodes)))) s h = absurd h
-  declared_written theorem_kind (node x (node ps (node hs (node e (node ds no_nodes))))) s h = absurd h
   declared_written theorem_kind (node x (node ps (node hs (node e (node ds (node q no_nodes)))))) s (params, vars, hyps, labels, conclusion, all, proof, _, ps_are, hs_are, e_is, ds_are, q_is, is, proved) =
       omega (
         arith,
@@ -216,16 +165,12 @@ module _ (names : Names) where
         dummies_written vars ds s.dummies all ds_are,
         proof_written (scope_of names all) labels [] q proof q_is,
       )
-  declared_written theorem_kind (node x (node ps (node hs (node e (node ds (node q (node _ _))))))) s h = absurd h
-  declared_written no_kind ns s h = absurd h
+  declared_written _ _ s h = absurd h
 
   local_written : (k : Kind) (ns : Nodes) (s : Statement) → IsLocal names k ns s → Written ns s
   local_written def_kind ns s h = declared_written def_kind ns s h
   local_written theorem_kind ns s h = declared_written theorem_kind ns s h
-  local_written sort_kind ns s h = absurd h
-  local_written term_kind ns s h = absurd h
-  local_written axiom_kind ns s h = absurd h
-  local_written no_kind ns s h = absurd h
+  local_written _ ns s h = absurd h
 
   marked_written : (b : Bool) (k : Node) (ns : Nodes) (s : Statement) → IsMarked b names k ns s → Written ns s
   marked_written false k ns s h = declared_written (kind_of k) ns s h.1
@@ -233,9 +178,8 @@ module _ (names : Names) where
   marked_written true k (node k' ns) s h = omega (arith, local_written (kind_of k') ns s h.1)
 
   statement_written : (n : Node) (s : Statement) → IsStatement names n s → statement_size s ≤ node_size n
-  statement_written (atom _ _) s h = absurd h
-  statement_written (list _ no_nodes) s h = absurd h
   statement_written (list _ (node k ns)) s h = omega (arith, marked_written (is_local_word k) k ns s h, node_size_positive k)
+  statement_written _ s h = absurd h
 
 pub text_written : (names : Names) (ns : Nodes) (ss : List Statement) → AreStatements names ns ss → text_size ss ≤ nodes_size ns
 text_written names no_nodes ss is = omega (arith, ap text_size is)

@@ -65,7 +65,7 @@ fn shape_of(alloc: Global, expr: &Expr, places: usize) -> Result<Shape, AllocErr
     ensures { IfOk result (λ shape. IsShapeOf shape (tree expr.now)) }
 {
     let mut uses: Vec<u64> = vec![in alloc; 0; places]?;
-    count_uses(&expr.lent(), &mut uses);
+    count_uses(&expr.borrowed(), &mut uses);
     Ok(Shape {
         own: size_of(expr) as u64,
         uses,

@@ -27,19 +27,16 @@ use Rattle.mz_logic_theory.proofs.Offered.{none_read}
 use Rattle.mz_type_rules.proofs.Steps.{convs_cut}
 
 pub defined_by : (F : Form) (e : Tree) → body_of F ≡ more e none → IsTrue (is_defined F)
-defined_by plain_form e is = absurd cc
-defined_by abstract_form e is = absurd cc
 defined_by (defined ds b) e is = refl
+defined_by _ e is = absurd cc
 
 pub body_by : (F : Form) (e : Tree) → body_of F ≡ more e none → body_tree F ≡ e
-body_by plain_form e is = absurd cc
-body_by abstract_form e is = absurd cc
 body_by (defined ds b) e is = cc
+body_by _ e is = absurd cc
 
 pub not_defined : (F : Form) → body_of F ≡ none → IsTrue (is_defined F) → ⊥
-not_defined plain_form is h = true≢false (sym h)
-not_defined abstract_form is h = true≢false (sym h)
 not_defined (defined ds b) is h = cc
+not_defined _ is h = true≢false (sym h)
 
 -- ---- an unfolding's own rules
 

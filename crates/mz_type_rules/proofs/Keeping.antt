@@ -1,6 +1,6 @@
 -- Visible lets, and comparisons that are kept.
 use Rattle.std.proofs.Common.{ℕ, zero, suc, ◌≡◌, ◌<◌, ◌+◌, List, [], ◌∷◌, ◌++◌, length, Option, slice_get, Some, None, option_to_list, true≢false, refl, sym, ap, ◌∙◌, subst, arith, ⊎_elim}
-use Rattle.std.specs.Prelude.{IsSome}
+use Rattle.std.specs.Prelude.{IfSome, IsSome}
 use Rattle.std.proofs.lemmas.Option.{same_Some}
 use Rattle.mz_base.proofs.Offered.{slice_get-append, slice_get-last, slice_get-push_cases}
 use Rattle.mz_logic_theory.specs.Declaration.{Declaration}
@@ -9,7 +9,7 @@ use Rattle.mz_logic_theory.proofs.Offered.{instance-instance}
 use Rattle.mz_mmu_theory.specs.Proof.{Proof, by_hyp, by_name, by_citation, by_conv, by_let, by_gap}
 use Rattle.mz_mmu_theory.specs.Sides.{proved, with_fact}
 use Rattle.mz_type_rules.specs.Claims.{claim_tree}
-use Rattle.mz_type_rules.specs.Compared.{let_trees, wanted, IsPattern, IsKept, AreKept, AreNamed, Names, put_into, source}
+use Rattle.mz_type_rules.specs.Compared.{let_trees, wanted, IsPattern, IsKept, AreKept, AreNamed, IsNamed, Names, put_into, source}
 use Rattle.mz_type_rules.specs.Scopes.{Scope}
 use Rattle.mz_type_rules.specs.declared.claim.Claim.{Claim}
 use Rattle.mz_type_rules.specs.declared.lets.Key.{Key}
@@ -32,6 +32,14 @@ pub let_read : (ls : List Named) (i : ℕ) (l : Named) → slice_get ls i ≡ So
 let_read [] i l is = absurd (let e : None ≡ Some l = is in cc)
 let_read (m ∷ ls) zero l is = ap (λ n. claim_tree n.claim) (same_Some m l is)
 let_read (m ∷ ls) (suc i) l is = let_read ls i l is
+
+-- the visible let that a name stands for proves what it proves
+pub named_at : (ls : List Named) (i : ℕ) (o : Option Named) → o ≡ slice_get ls i → (c : Claim) (p : Proof) → p ≡ by_name i
+    → IfSome o (λ n. (env : List Declaration) (hyps : Trees) (named : List Claim) → AreNamed hyps named ls → claim_tree c ≡ proved env hyps (let_trees ls) p
+    → IsNamed hyps named n.claim n.name × (claim_tree n.claim ≡ claim_tree c))
+named_at ls i None is c p by = tt
+named_at ls i (Some n) is c p by = λ env hyps named are proves.
+    (are i n (sym is), sym (let_read ls i n (sym is)) ∙ ap (proved env hyps (let_trees ls)) (sym by) ∙ sym proves)
 
 pub length-lets : (ls : List Named) → length (listed (let_trees ls)) ≡ length ls
 length-lets [] = refl
@@ -65,20 +73,27 @@ closed old new None is some es x are =
 
 -- ---- what was named
 
+-- one more is visible
+pub named_one : (hyps : Trees) (named : List Claim) (ls after : List Named) (l : Named) → after ≡ ls ++ l ∷ [] → AreNamed hyps named ls → IsNamed hyps named l.claim l.name → AreNamed hyps named after
+named_one hyps named ls after l grown are h i m there =
+    ⊎_elim (are i m) (λ last. subst (λ n. IsNamed hyps named n.claim n.name) last.1 h) (slice_get-push_cases ls l i m (subst (λ ns. slice_get ns i ≡ Some m) grown there))
+
 module _ (named new : List Claim) (c : Claim) (is : new ≡ named ++ c ∷ []) where
   kept_get : (k : ℕ) (d : Claim) → slice_get named k ≡ Some d → slice_get new k ≡ Some d
   kept_get k d there = subst (λ cs. slice_get cs k ≡ Some d) (sym is) (slice_get-append named (c ∷ []) k d there)
 
-  pub named_more : (ls : List Named) → AreNamed named ls → AreNamed new ls
-  named_more ls are i l there = kept_get l.number l.claim (are i l there)
+  is-named_more : (hyps : Trees) (d : Claim) (name : Name) → IsNamed hyps named d name → IsNamed hyps new d name
+  is-named_more hyps d (names.Hyp i) h = h
+  is-named_more hyps d (names.Let k) h = kept_get k d h
+  is-named_more hyps d (names.Cited T) h = h
 
-  pub opened : (ls after : List Named) (l : Named) → after ≡ ls ++ l ∷ [] → l.claim ≡ c → l.number ≡ length named → AreNamed named ls → AreNamed new after
-  opened ls after l grown claim number are i m there =
-      ⊎_elim (λ before. kept_get m.number m.claim (are i m before))
-      (λ last. subst (λ n. slice_get new n.number ≡ Some n.claim) last.1
-      (subst (λ n. slice_get new n ≡ Some l.claim) (sym number) (subst (λ d. slice_get new (length named) ≡ Some d) (sym claim)
-      (subst (λ cs. slice_get cs (length named) ≡ Some c) (sym is) (slice_get-last named c)))))
-      (slice_get-push_cases ls l i m (subst (λ ns. slice_get ns i ≡ Some m) grown there))
+  pub named_more : (hyps : Trees) (ls : List Named) → AreNamed hyps named ls → AreNamed hyps new ls
+  named_more hyps ls are i l there = is-named_more hyps l.claim l.name (are i l there)
+
+  pub named_new : (hyps : Trees) (ls after : List Named) (k : ℕ) → k ≡ length named → after ≡ ls ++ record { claim = c; name = names.Let k } ∷ [] → AreNamed hyps named ls → AreNamed hyps new after
+  named_new hyps ls after k number grown are =
+      named_one hyps new ls after (record { claim = c; name = names.Let k }) grown (named_more hyps ls are)
+      (subst (λ n. slice_get new n ≡ Some c) (sym number) (subst (λ cs. slice_get cs (length named) ≡ Some c) (sym is) (slice_get-last named c)))
 
   pattern_more : (env : List Declaration) (hyps : Trees) (name : Name) (at : Trees) (p : Tree) → IsPattern env hyps named name at p → IsPattern env hyps new name at p
   pattern_more env hyps (names.Hyp i) at p h = h
@@ -93,14 +108,24 @@ module _ (named new : List Claim) (c : Claim) (is : new ≡ named ++ c ∷ []) w
 
 -- ---- what is kept
 
-module _ (env : List Declaration) (hyps : Trees) (named : List Claim) (ls : List Named) (are : AreNamed named ls) where
+module _ (env : List Declaration) (hyps : Trees) (named : List Claim) (ls : List Named) (are : AreNamed hyps named ls) where
+  -- what has the name is the pattern with the operands put in, if what has it is so
+  named_pattern : (c : Claim) (name : Name) → IsNamed hyps named c name → (at : Trees) (pattern : Tree) → IsPattern env hyps named name at pattern → claim_tree c ≡ instance at pattern
+  named_pattern c (names.Hyp i) n at pattern h = n ∙ h
+  named_pattern c (names.Let k) n at pattern h = ap claim_tree (same_Some c h.0 (sym n ∙ h.1)) ∙ h.2
+  named_pattern c (names.Cited T) n at pattern h = absurd n
+
+  pattern_named : (c : Claim) (name : Name) → IsNamed hyps named c name → (at : Trees) (pattern : Tree) → claim_tree c ≡ instance at pattern → IsPattern env hyps named name at pattern
+  pattern_named c (names.Hyp i) n at pattern h = sym n ∙ h
+  pattern_named c (names.Let k) n at pattern h = (c, n, h)
+  pattern_named c (names.Cited T) n at pattern h = absurd n
+
   -- what a subproof proves, where what has its name is known
   of_pattern : (p : Proof) (name : Name) → Names ls p name → (at : Trees) (pattern : Tree) → IsPattern env hyps named name at pattern
       → proved env hyps (let_trees ls) p ≡ instance (put_into p at) pattern
   of_pattern (by_hyp i) name is at pattern h = subst (λ n. IsPattern env hyps named n at pattern) is h
   of_pattern (by_name i) name is at pattern h =
-      let there = subst (λ n. IsPattern env hyps named n at pattern) is.2 h in
-      let_read ls i is.0 is.1 ∙ ap claim_tree (same_Some is.0.claim there.0 (sym (are i is.0 is.1) ∙ there.1)) ∙ there.2
+      let_read ls i is.0 is.1 ∙ named_pattern is.0.claim is.0.name (are i is.0 is.1) at pattern (subst (λ n. IsPattern env hyps named n at pattern) is.2 h)
   of_pattern (by_citation T es ps) name is at pattern h = ap (instance es) (subst (λ n. IsPattern env hyps named n at pattern) is h)
   of_pattern (by_conv e c p) name is at pattern h = absurd is
   of_pattern (by_let p q) name is at pattern h = absurd is
@@ -131,7 +156,7 @@ module _ (env : List Declaration) (hyps : Trees) (named : List Claim) (ls : List
         go (by_hyp i) n proves from = subst (λ m. IsPattern env hyps named m es (instance kept.vars hyp)) (sym n) (proves ∙ ap (instance es) from)
         go (by_name i) n proves from =
             subst (λ m. IsPattern env hyps named m es (instance kept.vars hyp)) (sym n.2)
-            (n.0.claim, are i n.0 n.1, sym (let_read ls i n.0 n.1) ∙ proves ∙ ap (instance es) from)
+            (pattern_named n.0.claim n.0.name (are i n.0 n.1) es (instance kept.vars hyp) (sym (let_read ls i n.0 n.1) ∙ proves ∙ ap (instance es) from))
         go (by_citation T fs ps) n proves from = subst (λ m. IsPattern env hyps named m es (instance kept.vars hyp)) (sym n) from
         go (by_conv e c q) n proves from = absurd n
         go (by_let q r) n proves from = absurd n

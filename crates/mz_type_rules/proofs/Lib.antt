@@ -9,5 +9,6 @@ pub mod ConvSteps
 pub mod ProofSteps
 pub mod Stacked
 pub mod Keeping
+pub mod BehindLets
 pub mod StatementSteps
 pub mod Offered

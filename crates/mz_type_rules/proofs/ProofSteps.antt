@@ -12,7 +12,7 @@ use Rattle.mz_logic_theory.specs.Tree.{Tree, Trees, more, listed, operand, insta
 use Rattle.mz_logic_theory.specs.Signature.{Signature}
 use Rattle.mz_logic_theory.specs.Declaration.{Assertion, Declaration, signatures}
 use Rattle.mz_logic_theory.specs.Sorts.{Fits}
-use Rattle.mz_logic_theory.specs.Variables.{Apart}
+use Rattle.mz_logic_theory.specs.Variables.{AreDisjoint}
 use Rattle.mz_logic_theory.specs.View.{tree, trees}
 use Rattle.mz_logic_theory.specs.declared.binder.Binder.{Binder}
 use Rattle.mz_logic_theory.specs.declared.expr.Expr.{Expr}
@@ -69,13 +69,13 @@ module _ (sigs : List Signature) (ctx : List Binder) (a : Assertion) (es claims 
     pub operands_stop : (s : Stop) → Stops s ops → Stops s whole
     operands_stop s h = stopped_asked _ _ _ s many (stopped_before ops _ s h)
 
-    pub apart_fails : (f : Fault) → AllHold ops → f ≡ fault (place n) U.Disjoint → (Apart ctx es a.params → ⊥) → FailsFirst whole f
-    apart_fails f h is out = inr (many, fails-after ops _ f h (inl (out, is)))
+    pub disjoint_rule_fails : (f : Fault) → AllHold ops → f ≡ fault (place n) U.Disjoint → (AreDisjoint ctx es a.params → ⊥) → FailsFirst whole f
+    disjoint_rule_fails f h is out = inr (many, fails-after ops _ f h (inl (out, is)))
 
-    pub subs_stop : (s : Stop) → AllHold ops → Apart ctx es a.params → Stops s subs → Stops s whole
+    pub subs_stop : (s : Stop) → AllHold ops → AreDisjoint ctx es a.params → Stops s subs → Stops s whole
     subs_stop s h apart k = stopped_asked _ _ _ s many (stopped_after ops _ s h (stopped_asked _ _ _ s apart k))
 
-    pub citation_holds : AllHold ops → Apart ctx es a.params → AllHold subs → AllHold whole
+    pub citation_holds : AllHold ops → AreDisjoint ctx es a.params → AllHold subs → AllHold whole
     citation_holds h apart k = (many, all_hold-both ops _ h (apart, k))
 
     pub operands_fit : ExprsThere (length sigs) (length ctx) es → AllHold (exprs_rules sigs ctx es (parts (part (parts n) 1))) → AllHold ops → Fits sigs ctx es a.params

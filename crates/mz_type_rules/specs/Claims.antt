@@ -6,7 +6,7 @@ use Rattle.mz_mmu_theory.specs.ConvCode.{convs_steps}
 use Rattle.mz_mmu_theory.specs.Sides.{sides}
 use Rattle.mz_type_rules.specs.declared.claim.Put.{Put}
 use Rattle.mz_type_rules.specs.declared.claim.Put.TheVariants.{Nothing, Operands}
-use Rattle.mz_type_rules.specs.declared.claim.LentExprs.{LentExprs}
+use Rattle.mz_type_rules.specs.declared.claim.BorrowedExprs.{BorrowedExprs}
 use Rattle.mz_type_rules.specs.declared.claim.Claim.{Claim}
 use Rattle.mz_type_rules.specs.declared.claim.Claim.TheVariants.{Var, App}
 use Rattle.mz_type_rules.specs.declared.claim.Lists.{Lists}
@@ -23,12 +23,12 @@ all_put_in Nothing es = es
 all_put_in (Operands fs ys) es = instances (followed_by fs.now (variables ys.now)) es
 
 -- the terms of a path over each expression
-abbrev pub lent_trees : LentExprs → Trees
-lent_trees l = trees (map (under l.path.now) l.exprs.now)
+abbrev pub borrowed_trees : BorrowedExprs → Trees
+borrowed_trees l = trees (map (under l.path.now) l.exprs.now)
 
 abbrev pub claim_tree : Claim → Tree
 claim_tree (Var x) = var x
-claim_tree (App t es put) = app t (all_put_in put (lent_trees es))
+claim_tree (App t es put) = app t (all_put_in put (borrowed_trees es))
 
 abbrev pub claim_trees : List Claim → Trees
 claim_trees [] = none
@@ -36,14 +36,14 @@ claim_trees (c ∷ cs) = more (claim_tree c) (claim_trees cs)
 
 -- lists that are left to compare
 abbrev pub AreSame : Lists → Type 0
-AreSame l = all_put_in l.p (lent_trees l.es) ≡ all_put_in l.q (lent_trees l.fs)
+AreSame l = all_put_in l.p (borrowed_trees l.es) ≡ all_put_in l.q (borrowed_trees l.fs)
 
 abbrev pub AllSame : List Lists → Type 0
 AllSame [] = ⊤
 AllSame (l ∷ ls) = AreSame l × AllSame ls
 
 abbrev pub lists_size : Lists → ℕ
-lists_size l = trees_size (all_put_in l.p (lent_trees l.es))
+lists_size l = trees_size (all_put_in l.p (borrowed_trees l.es))
 
 -- the turns that comparing them takes at most
 abbrev pub turns : List Lists → ℕ

@@ -36,16 +36,21 @@ pub record IsKept (env : List Declaration) (hyps : Trees) (named : List Claim) (
 abbrev pub AreKept : List Declaration → Trees → List Claim → List Kept → Type 0
 AreKept env hyps named ks = (i : ℕ) (k : Kept) → slice_get ks i ≡ Some k → IsKept env hyps named k
 
--- each visible let is among those that were named
-abbrev pub AreNamed : List Claim → List Named → Type 0
-AreNamed named ls = (i : ℕ) (l : Named) → slice_get ls i ≡ Some l → slice_get named l.number ≡ Some l.claim
+-- the name is that of a hypothesis, or of a let, which proves this
+abbrev pub IsNamed : Trees → List Claim → Claim → Name → Type 0
+IsNamed hyps named c (names.Hyp i) = claim_tree c ≡ operand hyps i
+IsNamed hyps named c (names.Let k) = slice_get named k ≡ Some c
+IsNamed hyps named c (names.Cited T) = ⊥
+
+abbrev pub AreNamed : Trees → List Claim → List Named → Type 0
+AreNamed hyps named ls = (i : ℕ) (l : Named) → slice_get ls i ≡ Some l → IsNamed hyps named l.claim l.name
 
 -- ---- subproofs
 
 -- the name of what the subproof proves
 abbrev pub Names : List Named → Proof → Name → Type 0
 Names ls (by_hyp i) name = name ≡ names.Hyp i
-Names ls (by_name i) name = (l : Named) × (slice_get ls i ≡ Some l) × (name ≡ names.Let l.number)
+Names ls (by_name i) name = (l : Named) × (slice_get ls i ≡ Some l) × (name ≡ l.name)
 Names ls (by_citation T es ps) name = name ≡ names.Cited T
 Names ls (by_conv e c p) name = ⊥
 Names ls (by_let p q) name = ⊥

@@ -5,7 +5,7 @@ ghost use Rattle.mz_logic_theory.specs.Tree.{var, operand, instance, followed_by
 ghost use Rattle.mz_logic_theory.specs.View.{tree};
 ghost use Rattle.mz_mmu_theory.specs.ConvCode.{conv_steps};
 ghost use Rattle.mz_mmu_theory.specs.ConvView.{conversion, conversions};
-ghost use Rattle.mz_type_rules.specs.Claims.{put_in, all_put_in, lent_trees, claim_tree, side_tree, side_steps, AreSame, AllSame, lists_size, turns};
+ghost use Rattle.mz_type_rules.specs.Claims.{put_in, all_put_in, borrowed_trees, claim_tree, side_tree, side_steps, AreSame, AllSame, lists_size, turns};
 ghost use Rattle.mz_mmu_theory.specs.Sides.{side, sides};
 
 use mz_logic_theory::{Expr, ExprRef, Exprs, Operands, Shape};
@@ -21,9 +21,9 @@ pub(crate) enum Put<'t> {
     Operands(&'t Exprs, &'t [u32]),
 }
 
-/// Expressions that are lent: the terms of a path over each of these.
+/// Expressions that are borrowed: the terms of a path over each of these.
 #[derive(Clone, Copy)]
-pub(crate) struct LentExprs<'t> {
+pub(crate) struct BorrowedExprs<'t> {
     path: &'t [u32],
     exprs: &'t [Expr],
 }
@@ -32,21 +32,21 @@ pub(crate) struct LentExprs<'t> {
 #[derive(Clone, Copy)]
 pub(crate) enum Claim<'t> {
     Var(u32),
-    App(u32, LentExprs<'t>, Put<'t>),
+    App(u32, BorrowedExprs<'t>, Put<'t>),
 }
 
-impl<'t> LentExprs<'t> {
+impl<'t> BorrowedExprs<'t> {
     /// The same expressions, in parts that can be copied.
-    pub(crate) fn of(es: &Operands<'t>) -> LentExprs<'t>
-        ensures { lent_trees result ≡ es.now }
+    pub(crate) fn of(es: &Operands<'t>) -> BorrowedExprs<'t>
+        ensures { borrowed_trees result ≡ es.now }
     {
         let (path, exprs) = es.parts();
-        LentExprs { path, exprs }
+        BorrowedExprs { path, exprs }
     }
 
     /// The same expressions, to be gone through.
     fn operands(&self) -> Operands<'t>
-        ensures { result ≡ lent_trees self.now }
+        ensures { result ≡ borrowed_trees self.now }
     {
         Operands::over(self.path, self.exprs)
     }
@@ -60,7 +60,7 @@ fn variable_at<'t>(vars: &'t [u32], place: usize) -> Claim<'t>
     if place < vars.len() {
         return Claim::Var(vars[place]);
     }
-    let none = LentExprs {
+    let none = BorrowedExprs {
         path: &[],
         exprs: &[],
     };
@@ -84,7 +84,7 @@ impl<'t> Claim<'t> {
     {
         match expr.shape() {
             Shape::Var(x) => Claim::Var(x),
-            Shape::App(t, es) => Claim::App(t, LentExprs::of(&es), Put::Nothing),
+            Shape::App(t, es) => Claim::App(t, BorrowedExprs::of(&es), Put::Nothing),
         }
     }
 
@@ -95,7 +95,7 @@ impl<'t> Claim<'t> {
         match (shape, put) {
             (Shape::Var(x), Put::Nothing) => Claim::Var(x),
             (Shape::Var(x), Put::Operands(es, vars)) => operand_at(es, vars, x as usize),
-            (Shape::App(t, es), put) => Claim::App(t, LentExprs::of(&es), put),
+            (Shape::App(t, es), put) => Claim::App(t, BorrowedExprs::of(&es), put),
         }
     }
 
@@ -117,9 +117,9 @@ impl<'t> Claim<'t> {
 /// Lists of expressions with something put in, which are left to compare.
 #[derive(Drop)]
 struct Lists<'t> {
-    es: LentExprs<'t>,
+    es: BorrowedExprs<'t>,
     p: Put<'t>,
-    fs: LentExprs<'t>,
+    fs: BorrowedExprs<'t>,
     q: Put<'t>,
 }
 
@@ -161,8 +161,8 @@ fn compare_first<'t>(waiting: &mut Vec<Lists<'t>>, lists: Lists<'t>) -> Result<b
     let Lists { es, p, fs, q } = lists;
     match (es.operands().split_first(), fs.operands().split_first()) {
         (Some((e, es)), Some((f, fs))) => {
-            let es = LentExprs::of(&es);
-            let fs = LentExprs::of(&fs);
+            let es = BorrowedExprs::of(&es);
+            let fs = BorrowedExprs::of(&fs);
             wait(waiting, Lists { es, p, fs, q })?;
             compare(
                 waiting,
@@ -270,7 +270,7 @@ pub(crate) fn is_side(
     match side_of(conv, right) {
         Side::Own(e) => same_claim(alloc, Claim::of(e), claim),
         Side::Term(t, es) => {
-            let es = LentExprs::of(&es.lent());
+            let es = BorrowedExprs::of(&es.borrowed());
             same_claim(alloc, Claim::App(t, es, Put::Nothing), claim)
         }
         Side::Under(t, parts, right) => match claim {

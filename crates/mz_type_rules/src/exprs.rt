@@ -10,7 +10,7 @@ ghost use Rattle.mz_logic_theory.specs.View.{tree};
 ghost use Rattle.mz_mmu_theory.specs.Rules.{expr_rules, exprs_rules, operand_rules, own_operand_rules, claim_rules};
 
 use crate::cursor::Cursor;
-use mz_logic::{is_claim, lent_is_bound_var, lent_sort_of};
+use mz_logic::{borrowed_is_bound_var, borrowed_sort_of, is_claim};
 use mz_logic_theory::{Binder, Context, Env, Expr, ExprRef, Exprs, Operands, Shape};
 use mz_mmu_theory::Fault;
 use mz_sexpr::U;
@@ -29,11 +29,16 @@ pub(crate) fn params_of<'e>(env: &'e Env, term: u32) -> &'e [Binder]
 pub(crate) fn check_expr(env: &Env, ctx: &Context, expr: &Expr, nodes: &Cursor) -> Result<(), Fault>
     ensures { Judges result (expr_rules (signatures env.now) ctx.now (tree expr.now) (first nodes.now)) }
 {
-    check_lent_expr(env, ctx, &expr.lent(), nodes)
+    check_borrowed_expr(env, ctx, &expr.borrowed(), nodes)
 }
 
-/// The same of an expression that is lent.
-fn check_lent_expr(env: &Env, ctx: &Context, expr: &ExprRef, nodes: &Cursor) -> Result<(), Fault>
+/// The same of an expression that is borrowed.
+fn check_borrowed_expr(
+    env: &Env,
+    ctx: &Context,
+    expr: &ExprRef,
+    nodes: &Cursor,
+) -> Result<(), Fault>
     ensures { Judges result (expr_rules (signatures env.now) ctx.now expr.now (first nodes.now)) }
 {
     match expr.shape() {
@@ -53,7 +58,7 @@ fn check_app(
 ) -> Result<(), Fault>
     ensures { Judges result (expr_rules (signatures env.now) ctx.now (app term es.now) (first nodes.now)) }
 {
-    check_lent_exprs(env, ctx, es, &nodes.parts_after(1))?;
+    check_borrowed_exprs(env, ctx, es, &nodes.parts_after(1))?;
     check_app_operands(env, ctx, term, es, nodes)
 }
 
@@ -74,19 +79,24 @@ fn check_app_operands(
     if es.len() != params.len() {
         return Err(nodes.fault(U::Arity));
     }
-    check_lent_operands(env, ctx, es, &nodes.parts_after(1), params)
+    check_borrowed_operands(env, ctx, es, &nodes.parts_after(1), params)
 }
 
 /// The rules of each expression, at its node.
 pub(crate) fn check_exprs(env: &Env, ctx: &Context, es: &Exprs, nodes: &Cursor) -> Result<(), Fault>
     ensures { Judges result (exprs_rules (signatures env.now) ctx.now es.now nodes.now) }
 {
-    check_lent_exprs(env, ctx, &es.lent(), nodes)
+    check_borrowed_exprs(env, ctx, &es.borrowed(), nodes)
 }
 
-/// The same of expressions that are lent.
+/// The same of expressions that are borrowed.
 #[cycle(check_app)]
-fn check_lent_exprs(env: &Env, ctx: &Context, es: &Operands, nodes: &Cursor) -> Result<(), Fault>
+fn check_borrowed_exprs(
+    env: &Env,
+    ctx: &Context,
+    es: &Operands,
+    nodes: &Cursor,
+) -> Result<(), Fault>
     ensures { Judges result (exprs_rules (signatures env.now) ctx.now es.now nodes.now) }
 {
     let mut left = nodes.after(0);
@@ -110,11 +120,11 @@ pub(crate) fn check_operands(
 ) -> Result<(), Fault>
     ensures { Judges result (operand_rules (signatures env.now) ctx.now es.now nodes.now params.now) }
 {
-    check_lent_operands(env, ctx, &es.lent(), nodes, params)
+    check_borrowed_operands(env, ctx, &es.borrowed(), nodes, params)
 }
 
-/// The same of operands that are lent.
-fn check_lent_operands(
+/// The same of operands that are borrowed.
+fn check_borrowed_operands(
     env: &Env,
     ctx: &Context,
     es: &Operands,
@@ -143,10 +153,10 @@ fn check_operand(
 ) -> Result<(), Fault>
     ensures { Judges result (own_operand_rules (signatures env.now) ctx.now expr.now (first nodes.now) param.now) }
 {
-    if lent_sort_of(env, ctx, expr) != param.sort {
+    if borrowed_sort_of(env, ctx, expr) != param.sort {
         return Err(nodes.fault(U::Sort));
     }
-    if param.bound && !lent_is_bound_var(ctx, expr) {
+    if param.bound && !borrowed_is_bound_var(ctx, expr) {
         return Err(nodes.fault(U::Bound));
     }
     Ok(())

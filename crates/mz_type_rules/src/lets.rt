@@ -1,14 +1,16 @@
 //! The visible lets, and what is kept of the subproofs that were compared with hypotheses.
-ghost use Rattle.std.specs.Prelude.{◌≡◌, ◌↔◌, ◌<◌, ℕ, IfSome, IfOk, IsTrue, OnOk, Some, length, slice_get};
-ghost use Rattle.mz_logic_theory.specs.Tree.{Tree, none, listed, operand, instance, instances};
+ghost use Rattle.std.specs.Prelude.{◌≡◌, ◌↔◌, ◌<◌, ℕ, List, IfSome, IfOk, IsTrue, OnOk, Some, length, slice_get};
+ghost use Rattle.mz_logic_theory.specs.Declaration.{Declaration};
+ghost use Rattle.mz_logic_theory.specs.Tree.{Tree, Trees, none, listed, operand, instance, instances};
 ghost use Rattle.mz_logic_theory.specs.View.{tree};
 ghost use Rattle.mz_mmu_theory.specs.ProofView.{proof_view};
 ghost use Rattle.mz_mmu_theory.specs.Sides.{assertion_at, proved};
 ghost use Rattle.mz_type_rules.specs.Claims.{claim_tree};
 ghost use Rattle.mz_type_rules.specs.Scopes.{Scope, with_let};
-ghost use Rattle.mz_type_rules.specs.Compared.{let_trees, Names, put_into, source};
+ghost use Rattle.mz_type_rules.specs.Compared.{let_trees, AreNamed, IsNamed, Names, put_into, source};
 
-use crate::claim::{Claim, LentExprs, Put, same_claim, same_claim_in};
+use crate::claim::{BorrowedExprs, Claim, Put, same_claim, same_claim_in};
+use crate::resolving::resolved;
 use mz_logic_theory::{Env, Expr, ExprRef, Exprs, Hyps, Operands, Shape};
 use mz_mmu_theory::Proof;
 use std::alloc::{AllocError, Global};
@@ -65,11 +67,11 @@ struct Kept<'t> {
     vars: Exprs,
 }
 
-/// A let that is visible.
+/// A let that is visible. Where what it proves has a name already, it has that one.
 #[derive(Clone, Copy)]
 struct Named<'t> {
     claim: Claim<'t>,
-    number: usize,
+    name: Name,
 }
 
 /// The visible lets of a theorem's proof, over the statements before it and its hypotheses.
@@ -78,7 +80,7 @@ pub(crate) struct Lets<'t> {
     env: &'t Env,
     hyps: &'t Hyps,
     visible: Vec<Named<'t>>,
-    // what all lets so far prove, those that are no longer visible too
+    // what all lets so far prove that have a name of their own, those that are no longer visible too
     named: Vec<Claim<'t>>,
     kept: Vec<Kept<'t>>,
     // by the keys' numbers; what is found here is asked of what is kept, so that nothing need be known of the map
@@ -96,7 +98,14 @@ impl<'t> Model for Lets<'t> {
 
     ghost view = { λ a. record { env = a.env.now; hyps = a.hyps.now; lets = let_trees a.visible.items } };
 
-    ghost invariant = { λ a. AreNamed a.named.items a.visible.items × AreKept a.env.now a.hyps.now a.named.items a.kept.items };
+    ghost invariant = { λ a. AreNamed a.hyps.now a.named.items a.visible.items × AreKept a.env.now a.hyps.now a.named.items a.kept.items };
+}
+
+/// The visible let at the place.
+fn visible_at<'t>(visible: &[Named<'t>], place: usize) -> Option<Named<'t>>
+    ensures { result ≡ slice_get visible.now place }
+{
+    visible.get(place).copied()
 }
 
 /// The name of what the subproof proves, if it has one.
@@ -106,12 +115,27 @@ fn name_of(visible: &[Named], proof: &Proof) -> Option<Name>
     match proof {
         Proof::Hyp(i) => Some(Name::Hyp(*i)),
         Proof::Name(i) => {
-            let Some(named) = visible.get(*i as usize).copied() else {
+            let Some(named) = visible_at(visible, *i as usize) else {
                 return None;
             };
-            Some(Name::Let(named.number))
+            Some(named.name)
         }
         Proof::Cite(number, _, _) => Some(Name::Cited(*number)),
+        _ => None,
+    }
+}
+
+/// The claim under the name of what proves it, if that is a hypothesis or a visible let.
+fn named_alike<'t>(visible: &[Named<'t>], claim: Claim<'t>, stated: &Proof) -> Option<Named<'t>>
+    ensures { IfSome result (λ n. (env : List Declaration) (hyps : Trees) (named : List Claim) → AreNamed hyps named visible.now
+        → claim_tree claim.entry ≡ proved env hyps (let_trees visible.now) (proof_view stated.now) → IsNamed hyps named n.claim n.name × (claim_tree n.claim ≡ claim_tree claim.entry)) }
+{
+    match stated {
+        Proof::Hyp(i) => Some(Named {
+            claim,
+            name: Name::Hyp(*i),
+        }),
+        Proof::Name(i) => visible_at(visible, *i as usize),
         _ => None,
     }
 }
@@ -170,8 +194,8 @@ fn find<'k, 't>(
 fn same_lists(alloc: Global, es: &Exprs, own: &Exprs, at: &Exprs, vars: &Exprs) -> bool
     ensures { IsTrue result → instances es.now own.now ≡ instances at.now vars.now }
 {
-    let own = LentExprs::of(&own.lent());
-    let vars = LentExprs::of(&vars.lent());
+    let own = BorrowedExprs::of(&own.borrowed());
+    let vars = BorrowedExprs::of(&vars.borrowed());
     let left = Claim::App(0, own, Put::Operands(es, &[]));
     let right = Claim::App(0, vars, Put::Operands(at, &[]));
     match same_claim(alloc, left, right) {
@@ -232,7 +256,7 @@ fn number_variables(
     numbers: &mut [Option<u32>],
 ) -> Result<(), AllocError> {
     let mut waiting: Vec<ExprRef> = Vec::new(alloc);
-    waiting.push(expr.lent())?;
+    waiting.push(expr.borrowed())?;
     number_waiting(&mut waiting, numbers)
 }
 
@@ -412,13 +436,36 @@ impl<'t> Lets<'t> {
         claim_named(&self.visible, place as usize)
     }
 
-    /// Lets what is proved be visible.
-    pub(crate) fn open(&mut self, claim: Claim<'t>) -> Result<(), AllocError>
+    /// Lets what the proof proves be visible.
+    pub(crate) fn open(
+        &mut self,
+        alloc: Global,
+        claim: Claim<'t>,
+        stated: &Proof,
+    ) -> Result<(), AllocError>
+        requires { claim_tree claim ≡ proved self.old.env self.old.hyps self.old.lets (proof_view stated.now) }
+        ensures { OnOk result (self.new ≡ with_let self.old (claim_tree claim.entry)) }
+    {
+        let stated = resolved(alloc, self.visible.len(), stated)?;
+        match named_alike(&self.visible, claim, stated) {
+            None => self.open_new(claim),
+            Some(named) => {
+                self.visible.push(named)?;
+                Ok(())
+            }
+        }
+    }
+
+    /// The same under a name of its own.
+    fn open_new(&mut self, claim: Claim<'t>) -> Result<(), AllocError>
         ensures { OnOk result (self.new ≡ with_let self.old (claim_tree claim.entry)) }
     {
         let number = self.named.len();
         self.named.push(claim)?;
-        self.visible.push(Named { claim, number })?;
+        self.visible.push(Named {
+            claim,
+            name: Name::Let(number),
+        })?;
         Ok(())
     }
 
@@ -481,6 +528,26 @@ impl<'t> Lets<'t> {
     /// the axiom or theorem. A long comparison is kept.
     #[inline(never)]
     pub(crate) fn is_hyp(
+        &mut self,
+        alloc: Global,
+        claim: Claim<'t>,
+        proof: &Proof,
+        number: u32,
+        place: usize,
+        hyp: &Expr,
+        es: &'t Exprs,
+    ) -> Result<bool, AllocError>
+        requires claim { claim_tree claim ≡ proved self.old.env self.old.hyps self.old.lets (proof_view proof.now) }
+        requires hyp { tree hyp.now ≡ operand (assertion_at self.old.env number).hyps place }
+        ensures is { IfOk result (λ is. IsTrue is ↔ (claim_tree claim.entry ≡ instance es.now (tree hyp.now))) }
+        ensures same { self.new ≡ self.old }
+    {
+        let proof = resolved(alloc, self.visible.len(), proof)?;
+        self.is_hyp_of(alloc, claim, proof, number, place, hyp, es)
+    }
+
+    /// The same where the subproof isn't a let.
+    fn is_hyp_of(
         &mut self,
         alloc: Global,
         claim: Claim<'t>,

@@ -18,6 +18,7 @@ mod cursor;
 mod exprs;
 mod lets;
 mod proofs;
+mod resolving;
 mod statements;
 
 pub use cursor::Cursor;

@@ -23,7 +23,7 @@ use crate::convs::{Checker, refuse};
 use crate::cursor::Cursor;
 use crate::exprs::{check_claim, check_expr, check_operands};
 use crate::lets::Lets;
-use mz_logic::are_apart;
+use mz_logic::are_disjoint;
 use mz_logic_theory::{Expr, Exprs, Hyps, ThmDecl};
 use mz_mmu_theory::{Conv, Proof, Proofs, Stop};
 use mz_sexpr::U;
@@ -93,15 +93,22 @@ fn claim_let<'t>(lets: &Lets<'t>, claims: &mut Vec<Claim<'t>>, place: u32) -> Re
     push_claim(claims, lets.at(place))
 }
 
-/// Takes the claims from a place on away, and lets the first of them be visible.
+/// Takes the claims from a place on away, and lets the first of them, which the proof proves, be visible.
 #[inline(never)]
-fn name_claim<'t>(lets: &mut Lets<'t>, claims: &mut Vec<Claim<'t>>, from: usize) -> Result<(), Stop>
-    requires { from < length claims.old.items }
+fn name_claim<'t>(
+    alloc: Global,
+    lets: &mut Lets<'t>,
+    claims: &mut Vec<Claim<'t>>,
+    from: usize,
+    stated: &Proof,
+) -> Result<(), Stop>
+    requires within { from < length claims.old.items }
+    requires stated { operand (claim_trees claims.old.items) from ≡ proved lets.old.env lets.old.hyps lets.old.lets (proof_view stated.now) }
     ensures stops { Judged result nothing }
     ensures lets { OnOk result (lets.new ≡ with_let lets.old (operand (claim_trees claims.old.items) from)) }
     ensures claims { OnOk result (claims.new.items ≡ take from claims.old.items) }
 {
-    lets.open(claim_at(claims, from))?;
+    lets.open(alloc, claim_at(claims, from), stated)?;
     claims.truncate(from);
     Ok(())
 }
@@ -160,7 +167,7 @@ impl<'t, 'c> Checker<'t, 'c> {
             return Err(Stop::Refused(nodes.fault(U::Arity)));
         }
         refuse(check_operands(self.env, self.ctx, es, &nodes.parts_of(1), params))?;
-        let apart = are_apart(self.alloc, self.env, self.ctx, es, params)?;
+        let apart = are_disjoint(self.alloc, self.env, self.ctx, es, params)?;
         if !apart {
             return Err(Stop::Refused(nodes.fault(U::Disjoint)));
         }
@@ -381,7 +388,7 @@ impl<'t, 'c> Checker<'t, 'c> {
     {
         let from = claims.len();
         self.check_proof(lets, claims, stated, &nodes.part(2))?;
-        name_claim(lets, claims, from)?;
+        name_claim(self.alloc, lets, claims, from, stated)?;
         self.check_proof(lets, claims, proof, &nodes.part(3))?;
         lets.close();
         Ok(())

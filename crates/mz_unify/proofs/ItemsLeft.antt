@@ -13,12 +13,12 @@ use Rattle.mz_cmd.specs.Reading.{first_command}
 use Rattle.mz_logic_theory.specs.Tree.{Tree}
 use Rattle.mz_logic_theory.specs.Signature.{Signature}
 use Rattle.mz_logic_theory.specs.declared.binder.Binder.{Binder}
-use Rattle.mz_unify_theory.specs.Steps.{◌>>=◌, ◌>>◌, need, want, at_place, Turn, over, goes_on, follow}
-use Rattle.mz_unify_theory.specs.Streams.{of_definition, UnifyCommand, u_term, u_term_save, u_ref, u_dummy, u_hyp, u_end, command_in, unify_command}
-use Rattle.mz_unify_theory.specs.Profile.{strict, Item, tree_parts}
-use Rattle.mz_unify_theory.specs.Tests.{same_tree}
-use Rattle.mz_unify_theory.specs.UnifyMachine.{at_end, in_definition, kind_of, UnifyState, top_target, operands_of, is_fresh, is_empty, unify_step, unify_turn_by, unify_turn, unify_from}
-use Rattle.mz_unify_theory.proofs.Offered.{from_need, taken-is}
+use Rattle.mz_machine_theory.specs.Steps.{◌>>=◌, ◌>>◌, need, want, at_place, Turn, over, goes_on, follow}
+use Rattle.mz_machine_theory.specs.Streams.{of_definition, UnifyCommand, u_term, u_term_save, u_ref, u_dummy, u_hyp, u_end, command_in, unify_command}
+use Rattle.mz_machine_theory.specs.Profile.{strict, Item, tree_parts}
+use Rattle.mz_machine_theory.specs.Tests.{same_tree}
+use Rattle.mz_machine_theory.specs.UnifyMachine.{at_end, in_definition, kind_of, UnifyState, top_target, operands_of, is_fresh, is_empty, unify_step, unify_turn_by, unify_turn, unify_from}
+use Rattle.mz_machine_theory.proofs.Offered.{from_need, taken-is}
 
 module _ (sigs : List Signature) (ctx : List Binder) where
   abbrev turned : Turn (UnifyState Tree) → Result (Turn (UnifyState Tree)) K

@@ -2,8 +2,8 @@
 use Rattle.std.proofs.Common.{◌≡◌, ℕ, Bool, true, false, List, Option, Some, None, refl}
 use Rattle.mz_logic_theory.specs.Tree.{Tree, var, app, listed}
 use Rattle.mz_store.specs.Sharing.{head_of, operands_of}
-use Rattle.mz_unify_theory.specs.Profile.{Profile, strict, tree_parts}
-use Rattle.mz_unify_theory.proofs.Offered.{same_tree-true, same_tree-refl}
+use Rattle.mz_machine_theory.specs.Profile.{Profile, strict, tree_parts}
+use Rattle.mz_machine_theory.proofs.Offered.{same_tree-true, same_tree-refl}
 
 pub record Parts (P : Profile) (head : P.T → Option ℕ) (operands : P.T → List P.T) : Type 0 where
   pub of_none : (e : P.T) → head e ≡ None → P.parts e ≡ None

@@ -7,9 +7,9 @@ use Rattle.mz_cmd.specs.declared.rule.K.{K}
 use Rattle.mz_cmd.specs.declared.rule.K.TheVariants as k
 use Rattle.mz_logic_theory.specs.Signature.{Signature}
 use Rattle.mz_logic_theory.specs.declared.binder.Binder.{Binder}
-use Rattle.mz_unify_theory.specs.Streams.{u_term, u_term_save, u_ref, u_dummy, u_hyp, u_end}
-use Rattle.mz_unify_theory.specs.Profile.{Profile, Item}
-use Rattle.mz_unify_theory.specs.UnifyMachine.{UnifyMode, UnifyState, is_empty, operands_of, is_fresh, nothing_left, next_hypothesis, unify_step}
+use Rattle.mz_machine_theory.specs.Streams.{u_term, u_term_save, u_ref, u_dummy, u_hyp, u_end}
+use Rattle.mz_machine_theory.specs.Profile.{Profile, Item}
+use Rattle.mz_machine_theory.specs.UnifyMachine.{UnifyMode, UnifyState, is_empty, operands_of, is_fresh, nothing_left, next_hypothesis, unify_step}
 use Rattle.mz_unify.specs.Rows.{with_targets}
 use Rattle.mz_unify.proofs.Parts.{Parts, differ}
 

@@ -10,18 +10,18 @@ use Rattle.mz_store.specs.Sharing.{Sharing, tree_of, IsIn, IsOver}
 use Rattle.mz_store.specs.declared.item.Id.{Id}
 use Rattle.mz_store.specs.declared.item.Item.{Item as Kept}
 use Rattle.mz_store.specs.declared.item.Item.TheVariants as kept
-use Rattle.mz_unify_theory.specs.Spells.{trees_of, variables_from}
-use Rattle.mz_unify_theory.specs.Profile.{strict, Item, proof}
-use Rattle.mz_unify_theory.specs.Sorted.{Sorted, AllSorted, ItemsSorted}
-use Rattle.mz_unify_theory.specs.UnifyMachine.{in_citation, at_end, in_definition, Matching, UnifyState, unify}
-use Rattle.mz_unify_theory.specs.Laws.{RunsLeaving, own_assertion, unfolding_by}
+use Rattle.mz_machine_theory.specs.Spells.{trees_of, variables_from}
+use Rattle.mz_machine_theory.specs.Profile.{strict, Item, proof}
+use Rattle.mz_machine_theory.specs.Sorted.{Sorted, AllSorted, ItemsSorted}
+use Rattle.mz_machine_theory.specs.UnifyMachine.{in_citation, at_end, in_definition, Matching, UnifyState, unify}
+use Rattle.mz_machine_theory.specs.UnifyLaws.{RunsLeaving, own_assertion, unfolding_by}
 use Rattle.mz_unify.specs.Stored.{trees_at, item_at, items_at, AreItemsIn, matching_at, AreLeft, Says, EndsWith}
 use Rattle.mz_unify.specs.Patterns.{IsCitation, IsOwnAssertion, IsInstanceOfBody, IsInstance, AreOperandsFor, IsNoInstance}
 use Rattle.mz_unify.specs.declared.unified.UnifyMode.{UnifyMode}
 use Rattle.mz_unify.specs.declared.unified.UnifyMode.TheVariants.{Use, Final, Body}
 use Rattle.mz_unify.specs.declared.unified.Unified.{Unified}
 use Rattle.mz_unify.specs.declared.unified.Unified.TheVariants.{Done, Refused, Mem}
-use Rattle.mz_unify_theory.proofs.Offered.{citations-exact, unfoldings-exact, assertions-spelled, cited-spells, unfolded-spells}
+use Rattle.mz_machine_theory.proofs.Offered.{citations-exact, unfoldings-exact, assertions-spelled, cited-spells, unfolded-spells}
 use Rattle.mz_unify.proofs.ItemsLeft.{ends-empty, with_items, put, run-items}
 
 -- ---- counting

@@ -1,17 +1,21 @@
 -- Lists of ids and the trees that they stand for.
-use Rattle.std.proofs.Common.{◌≡◌, ℕ, zero, suc, true, List, [], ◌∷◌, ◌++◌, length, map, Option, Some, None, refl, sym, ap, subst, ◌∙◌, arith, append_assoc, length-append}
+use Rattle.std.proofs.Common.{◌≡◌, ℕ, zero, suc, true, false, List, [], ◌∷◌, ◌++◌, length, map, Option, Some, None, refl, sym, ap, subst, ◌∙◌, arith, append_assoc, length-append}
 use Rattle.std.proofs.lemmas.Option.{slice_get-map}
 use Rattle.std.proofs.Math.Dec.{eqb-suc-zero}
 use Rattle.std.specs.Option.{option_map}
-use Rattle.std.specs.Prelude.{reverse, slice_get, ◌==◌, IfSome, option_to_list}
-use Rattle.std.proofs.lemmas.List.{reverse-append, map-append, reverse-reverse, length-map, length-reverse}
+use Rattle.std.specs.Prelude.{reverse, slice_get, ◌==◌, option_to_list}
+use Rattle.std.proofs.lemmas.List.{append-nil, reverse-append, map-append, reverse-reverse, length-map, length-reverse}
 use Rattle.mz_logic_theory.specs.Tree.{Tree, listed}
 use Rattle.mz_store.specs.Sharing.{Sharing, tree_of, IsIn, AreIn, KeepsIds, trees_of, operands_of}
 use Rattle.mz_store.specs.declared.item.Id.{Id}
 use Rattle.mz_store.specs.declared.item.Item.{Item as Kept}
 use Rattle.mz_store.specs.declared.item.Item.TheVariants.{Proof}
-use Rattle.mz_unify_theory.specs.UnifyMachine.{is_empty}
+use Rattle.mz_machine_theory.specs.UnifyMachine.{is_empty}
+use Rattle.mz_unify.specs.Rows.{all_targets}
 use Rattle.mz_unify.specs.Stored.{trees_at, stack_at, item_at, items_at, AreItemsIn}
+
+true-false : true ≡ false → ⊥
+true-false e = cc
 
 module _ (s : Sharing) where
   -- ---- ids of the store
@@ -79,11 +83,24 @@ module _ (s : Sharing) where
   pub items-push : (xs : List Kept) (x : Kept) → items_at s (xs ++ x ∷ []) ≡ item_at s x ∷ items_at s xs
   items-push xs x = ap (map (item_at s)) (reverse-append xs (x ∷ []))
 
-  pub popped : (old new : List Id) (r : Option Id) → old ≡ new ++ option_to_list r → AreIn s old → IfSome r (λ id. IsIn s id.0 × AreIn s new)
-  popped old new None is h = tt
-  popped old new (Some x) is h =
+  -- the first one of the operands that are left, and without these the last one of the others
+  pub taken-first : (front rest others : List Id) (x : Id) → front ≡ x ∷ rest → all_targets front others ≡ all_targets rest others ++ x ∷ []
+  taken-first front rest others x is = ap (λ (xs : List Id). others ++ xs) (ap reverse is ∙ reverse-append (x ∷ []) rest) ∙ sym (append_assoc others (reverse rest) (x ∷ []))
+
+  none-first : (front others : List Id) → length front ≡ 0 → all_targets front others ≡ others
+  none-first [] others e = append-nil others
+  none-first (x ∷ xs) others e = absurd cc
+
+  pub taken-last : (front old new : List Id) (x : Id) → length front ≡ 0 → old ≡ new ++ x ∷ [] → all_targets front old ≡ all_targets front new ++ x ∷ []
+  taken-last front old new x none is = none-first front old none ∙ is ∙ ap (λ (xs : List Id). xs ++ x ∷ []) (sym (none-first front new none))
+
+  pub taken-ids : (old new : List Id) (x : Id) → old ≡ new ++ x ∷ [] → AreIn s old → IsIn s x.0 × AreIn s new
+  taken-ids old new x is h =
       let both : AreIn s (new ++ x ∷ []) = subst (AreIn s) is h in
       ((are-in-right new (x ∷ []) both).0, are-in-left new (x ∷ []) both)
+
+  taken-stack : (old new : List Id) (x : Id) → old ≡ new ++ x ∷ [] → stack_at s old ≡ tree_of s x.0 ∷ stack_at s new
+  taken-stack old new x is = ap (stack_at s) is ∙ stack-push new x
 
   -- ---- one of them
 
@@ -102,12 +119,19 @@ module _ (s : Sharing) where
   pub stack-empty : (xs : List Id) → is_empty (stack_at s xs) ≡ (length xs == 0)
   stack-empty xs = empty-length (stack_at s xs) ∙ ap (λ n. n == 0) (length-map (reverse xs) (λ (i : Id). tree_of s i.0) ∙ length-reverse xs)
 
-  pub alone : (xs : List Id) (x : Id) → is_empty (stack_at s xs) ≡ true → stack_at s (xs ++ x ∷ []) ≡ tree_of s x.0 ∷ []
-  alone xs x h = stack-push xs x ∙ ap (λ (es : List Tree). tree_of s x.0 ∷ es) (nothing (stack_at s xs) h)
-    where
-      nothing : (es : List Tree) → is_empty es ≡ true → es ≡ []
-      nothing [] e = refl
-      nothing (y ∷ ys) e = absurd cc
+  none-left : (front others : List Id) → (length front == 0) ≡ true → is_empty (stack_at s (all_targets front others)) ≡ (length others == 0)
+  none-left [] others e = ap (λ (xs : List Id). is_empty (stack_at s xs)) (append-nil others) ∙ stack-empty others
+  none-left (x ∷ xs) others e = absurd (true-false (sym e ∙ eqb-suc-zero (length xs)))
+
+  pub some-left : (front others : List Id) → (length front == 0) ≡ false → is_empty (stack_at s (all_targets front others)) ≡ false
+  some-left [] others e = absurd cc
+  some-left (x ∷ xs) others e = ap is_empty (taken-stack (all_targets (x ∷ xs) others) (all_targets xs others) x (taken-first (x ∷ xs) xs others x refl))
+
+  -- where none are left, one that comes is the only one
+  pub alone : (front others : List Id) (x : Id) → is_empty (stack_at s (all_targets front others)) ≡ true → all_targets front (others ++ x ∷ []) ≡ x ∷ []
+  alone [] [] x e = refl
+  alone [] (y ∷ ys) x e = absurd (true-false (sym e ∙ none-left [] (y ∷ ys) refl ∙ eqb-suc-zero (length ys)))
+  alone (z ∷ zs) others x e = absurd (true-false (sym e ∙ some-left (z ∷ zs) others (eqb-suc-zero (length zs))))
 
   -- ---- the next hypothesis
 

@@ -11,9 +11,9 @@ use Rattle.mz_cmd.specs.Codes.{unify_code}
 use Rattle.mz_cmd.specs.Reading.{first_command}
 use Rattle.mz_logic_theory.specs.Signature.{Signature}
 use Rattle.mz_logic_theory.specs.declared.binder.Binder.{Binder}
-use Rattle.mz_unify_theory.specs.Streams.{StreamKind, of_assertion, of_definition, UnifyCommand, u_dummy, u_end, IsEnd, command_in, unify_command}
-use Rattle.mz_unify_theory.specs.Profile.{Profile, Item}
-use Rattle.mz_unify_theory.specs.UnifyMachine.{UnifyMode as Mode, in_citation, at_end, in_definition, kind_of, Matching, UnifyState, unify_step, unify_from, unify_steps_from, at_start, unify, unify_steps}
+use Rattle.mz_machine_theory.specs.Streams.{StreamKind, of_assertion, of_definition, UnifyCommand, u_dummy, u_end, IsEnd, command_in, unify_command}
+use Rattle.mz_machine_theory.specs.Profile.{Profile, Item}
+use Rattle.mz_machine_theory.specs.UnifyMachine.{UnifyMode as Mode, in_citation, at_end, in_definition, kind_of, Matching, UnifyState, unify_step, unify_from, unify_steps_from, at_start, unify, unify_steps}
 use Rattle.mz_unify.specs.Stored.{AreLeft, EndsWith, IsRun, OnDone, Says, UnlessMem}
 use Rattle.mz_unify.specs.Rows.{command_of, StopsBy, stopped_at}
 use Rattle.mz_unify.specs.declared.unified.Unified.{Unified}

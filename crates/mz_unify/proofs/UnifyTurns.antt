@@ -7,11 +7,11 @@ use Rattle.mz_cmd.specs.declared.command.CmdFault.{CmdFault}
 use Rattle.mz_cmd.specs.Reading.{first_command}
 use Rattle.mz_logic_theory.specs.Signature.{Signature}
 use Rattle.mz_logic_theory.specs.declared.binder.Binder.{Binder}
-use Rattle.mz_unify_theory.specs.Steps.{at_place, over, goes_on, follow, goes_to, if_read}
-use Rattle.mz_unify_theory.specs.Streams.{UnifyCommand, u_end, IsEnd, unify_command}
-use Rattle.mz_unify_theory.specs.Profile.{Profile}
-use Rattle.mz_unify_theory.specs.UnifyMachine.{UnifyMode, kind_of, UnifyState, unify_step, unify_turn_by, unify_turn, unify_from, unify_steps_from}
-use Rattle.mz_unify_theory.proofs.Offered.{follow-same, goes_to-same, if_read-same, drop-less, went-on, bound-never-ends, count-is-whole}
+use Rattle.mz_machine_theory.specs.Steps.{at_place, over, goes_on, follow, goes_to, if_read}
+use Rattle.mz_machine_theory.specs.Streams.{UnifyCommand, u_end, IsEnd, unify_command}
+use Rattle.mz_machine_theory.specs.Profile.{Profile}
+use Rattle.mz_machine_theory.specs.UnifyMachine.{UnifyMode, kind_of, UnifyState, unify_step, unify_turn_by, unify_turn, unify_from, unify_steps_from}
+use Rattle.mz_machine_theory.proofs.Offered.{follow-same, goes_to-same, if_read-same, drop-less, went-on, stream-bound-never-ends, stream-count-is-whole}
 
 module _ (P : Profile) (sigs : List Signature) (ctx : List Binder) (mode : UnifyMode) where
   -- what is left of a run, and of its count
@@ -26,7 +26,7 @@ module _ (P : Profile) (sigs : List Signature) (ctx : List Binder) (mode : Unify
   one-turn at [] st = refl
   one-turn at (x ∷ xs) st =
       follow-same at (unify_turn P sigs ctx mode st (first_command (x ∷ xs))) _ _ λ len s turn.
-      bound-never-ends P sigs ctx mode (length xs) (at + len) (drop len (x ∷ xs)) s (drop-less (x ∷ xs) len (length xs) (went-on P sigs ctx mode (x ∷ xs) st s len turn).0 (omega arith))
+      stream-bound-never-ends P sigs ctx mode (length xs) (at + len) (drop len (x ∷ xs)) s (drop-less (x ∷ xs) len (length xs) (went-on P sigs ctx mode (x ∷ xs) st s len turn).0 (omega arith))
 
   one-count : (bytes : List ℕ) (st : UnifyState P.T) → count_left bytes st ≡ if_read (first_command bytes) (λ c. suc (goes_to (unify_turn P sigs ctx mode st (Ok c)) (λ len s. count_left (drop len bytes) s)))
   unfolding unify_steps_from
@@ -35,7 +35,7 @@ module _ (P : Profile) (sigs : List Signature) (ctx : List Binder) (mode : Unify
       if_read-same (first_command (x ∷ xs)) _ _ λ c read.
       ap suc (goes_to-same (unify_turn P sigs ctx mode st (Ok c)) _ _ λ len s turn.
       let longer : 1 ≤ len = (went-on P sigs ctx mode (x ∷ xs) st s len (subst (λ (r : Result Cmd CmdFault). unify_turn P sigs ctx mode st r ≡ Ok (goes_on len s)) (sym read) turn)).0 in
-      count-is-whole P sigs ctx mode (length xs) (drop len (x ∷ xs)) s (drop-less (x ∷ xs) len (length xs) longer (omega arith)))
+      stream-count-is-whole P sigs ctx mode (length xs) (drop len (x ∷ xs)) s (drop-less (x ∷ xs) len (length xs) longer (omega arith)))
 
   -- ---- a command that isn't whole, or unknown
 

@@ -4,8 +4,8 @@ use Rattle.std.proofs.lemmas.Bool.{le-ltb}
 use Rattle.mz_cmd.specs.Codes.{is_known}
 use Rattle.mz_cmd.specs.Spelling.{operand_len}
 use Rattle.mz_cmd.specs.Reading.{first_command}
-use Rattle.mz_unify_theory.specs.Streams.{unify_command}
-use Rattle.mz_unify_theory.specs.UnifyMachine.{UnifyMode as Mode, kind_of}
+use Rattle.mz_machine_theory.specs.Streams.{unify_command}
+use Rattle.mz_machine_theory.specs.UnifyMachine.{UnifyMode as Mode, kind_of}
 use Rattle.mz_unify.specs.Rows.{command_of, IsNext}
 use Rattle.mz_unify.specs.declared.command.Command.{Command}
 

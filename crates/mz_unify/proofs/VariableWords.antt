@@ -17,13 +17,13 @@ use Rattle.mz_store.specs.declared.item.DepsMode.{DepsMode}
 use Rattle.mz_store.specs.declared.item.DepsMode.TheVariants as of
 use Rattle.mz_unify.specs.Stored.{trees_at, IsVariable, AreVariables, TellsAllOf}
 use Rattle.mz_unify.specs.Rows.{InAnyV, TellsAny}
-use Rattle.mz_unify_theory.specs.Profile.{strict}
+use Rattle.mz_machine_theory.specs.Profile.{strict}
 use Rattle.mz_logic_theory.specs.Sorts.{HasSort, IsBoundVar}
 use Rattle.mz_logic_theory.specs.Legality.{sort_of}
 use Rattle.mz_store.proofs.Offered.{bound-has}
-use Rattle.mz_unify_theory.specs.Tests.{in_v, is_bound_var}
-use Rattle.mz_unify_theory.specs.UnifyMachine.{within_any, is_fresh}
-use Rattle.mz_unify_theory.proofs.Offered.{bound-is, is-bound, in-v-true, v-in}
+use Rattle.mz_machine_theory.specs.Tests.{in_v, is_bound_var}
+use Rattle.mz_machine_theory.specs.UnifyMachine.{within_any, is_fresh}
+use Rattle.mz_machine_theory.proofs.Offered.{bound-is, is-bound, in-v-true, v-in}
 use Rattle.mz_unify.proofs.StoredIds.{trees-append}
 
 pub tells-none : (places : List ℕ) (P : ℕ → Type 0) → ((x : ℕ) → P x → ⊥) → Tells places 0 P

@@ -4,11 +4,11 @@ use Rattle.std.specs.Prelude.{◌≡◌, ℕ, List, [], length, map, reverse}
 use Rattle.mz_logic_theory.specs.Tree.{Tree, Trees, none, listed}
 use Rattle.mz_logic_theory.specs.Signature.{Signature}
 use Rattle.mz_logic_theory.specs.declared.binder.Binder.{Binder}
-use Rattle.mz_unify_theory.specs.Streams.{of_assertion, of_definition}
-use Rattle.mz_unify_theory.specs.Spells.{trees_of, variables_from, Marks, SpellsText}
-use Rattle.mz_unify_theory.specs.Profile.{Item, proof}
-use Rattle.mz_unify_theory.specs.UnifyMachine.{Matching}
-use Rattle.mz_unify_theory.specs.Laws.{instances_of, IsCitedAs, IsUnfolded}
+use Rattle.mz_machine_theory.specs.Streams.{of_assertion, of_definition}
+use Rattle.mz_machine_theory.specs.Spells.{trees_of, variables_from, Marks, SpellsText}
+use Rattle.mz_machine_theory.specs.Profile.{Item, proof}
+use Rattle.mz_machine_theory.specs.UnifyMachine.{Matching}
+use Rattle.mz_machine_theory.specs.UnifyLaws.{instances_of, IsCitedAs, IsUnfolded}
 use Rattle.mz_unify.specs.Stored.{Says}
 use Rattle.mz_unify.specs.declared.unified.Unified.{Unified}
 use Rattle.mz_unify.specs.declared.unified.UnifyMode.{UnifyMode}

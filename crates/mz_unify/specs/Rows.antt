@@ -1,5 +1,5 @@
 -- One command over a store: how the code's state stands for the machine's.
-use Rattle.std.specs.Prelude.{◌≡◌, ℕ, ⊤, ◌⊎◌, List, [], ◌∷◌, MatchResult, Some, Result, Ok, Err}
+use Rattle.std.specs.Prelude.{◌≡◌, ℕ, ⊤, ◌⊎◌, List, [], ◌∷◌, ◌++◌, reverse, MatchResult, Some, Result, Ok, Err}
 use Rattle.mz_cmd.specs.declared.rule.K.{K}
 use Rattle.mz_cmd.specs.Reading.{first_command}
 use Rattle.mz_logic_theory.specs.Tree.{Tree}
@@ -9,8 +9,8 @@ use Rattle.mz_store.specs.Bits.{Tells, bound_vars}
 use Rattle.mz_store.specs.Sharing.{Sharing}
 use Rattle.mz_store.specs.declared.item.Id.{Id}
 use Rattle.mz_store.specs.declared.item.Item.{Item as Kept}
-use Rattle.mz_unify_theory.specs.Streams.{UnifyCommand, u_term, u_term_save, u_ref, u_dummy, u_hyp, u_end, unify_command}
-use Rattle.mz_unify_theory.specs.UnifyMachine.{UnifyMode as Mode, kind_of, in_definition, UnifyState}
+use Rattle.mz_machine_theory.specs.Streams.{UnifyCommand, u_term, u_term_save, u_ref, u_dummy, u_hyp, u_end, unify_command}
+use Rattle.mz_machine_theory.specs.UnifyMachine.{UnifyMode as Mode, kind_of, in_definition, UnifyState}
 use Rattle.mz_unify.specs.Stored.{trees_at, stack_at, items_at}
 use Rattle.mz_unify.specs.declared.unified.Unified.{Unified}
 use Rattle.mz_unify.specs.declared.unified.Unified.TheVariants as said
@@ -50,6 +50,10 @@ TellsAny ctx word es = Tells (bound_vars ctx) word (InAnyV ctx es)
 -- the word names the variables of all of these, where the stream may meet dummies
 abbrev pub TellsFor : Mode → List Binder → ℕ → List Tree → Type 0
 TellsFor mode ctx word es = mode ≡ in_definition → TellsAny ctx word es
+
+-- the stack of all targets: what is left of an application's operands, the first one on top, and the others
+abbrev pub all_targets : List Id → List Id → List Id
+all_targets front others = others ++ reverse front
 
 -- the machine's state: what a dummy is kept apart from has no ids, only the word of its variables
 abbrev pub state_at : Sharing → List Id → List Tree → List Id → List Kept → UnifyState Tree

@@ -7,8 +7,8 @@ use Rattle.mz_store.specs.declared.item.Id.{Id}
 use Rattle.mz_store.specs.declared.item.Item.{Item as Kept}
 use Rattle.mz_store.specs.declared.item.Item.TheVariants.{Expr, Proof, Obligation, Conversion}
 use Rattle.mz_store.specs.declared.item.DepsMode.TheVariants as of
-use Rattle.mz_unify_theory.specs.Profile.{Item, expr, proof, obligation, conversion}
-use Rattle.mz_unify_theory.specs.UnifyMachine.{UnifyMode as Mode, in_citation, at_end, in_definition, Matching, UnifyState}
+use Rattle.mz_machine_theory.specs.Profile.{Item, expr, proof, obligation, conversion}
+use Rattle.mz_machine_theory.specs.UnifyMachine.{UnifyMode as Mode, in_citation, at_end, in_definition, Matching, UnifyState}
 use Rattle.mz_unify.specs.declared.unified.UnifyMode.{UnifyMode}
 use Rattle.mz_unify.specs.declared.unified.UnifyMode.TheVariants.{Use, Final, Body}
 use Rattle.mz_unify.specs.declared.unified.Unified.{Unified}

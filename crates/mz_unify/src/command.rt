@@ -1,7 +1,7 @@
 //! The commands of a stream.
 ghost use Rattle.std.specs.Prelude.{◌≡◌, ◌≤◌, IfSome, IfNone, Some, None, Ok, length, drop};
-ghost use Rattle.mz_unify_theory.specs.Streams.{unify_command};
-ghost use Rattle.mz_unify_theory.specs.UnifyMachine.{kind_of};
+ghost use Rattle.mz_machine_theory.specs.Streams.{unify_command};
+ghost use Rattle.mz_machine_theory.specs.UnifyMachine.{kind_of};
 ghost use Rattle.mz_cmd.specs.declared.command.Cmd.{Cmd as Read};
 ghost use Rattle.mz_cmd.specs.Reading.{first_command, command_at};
 ghost use Rattle.mz_unify.specs.Stored.{mode_of};

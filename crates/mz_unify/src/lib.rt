@@ -1,6 +1,6 @@
 //! The unify machine as it runs over a store: whether a stream of unify commands matches.
 //!
-//! `unify` says that a stream runs, exactly where the machine of `mz_unify_theory` does, and leaves its heap and
+//! `unify` says that a stream runs, exactly where the machine of `mz_machine_theory` does, and leaves its heap and
 //! items; or it gives the first command that fails and its rule; else memory ran out. So it runs exactly where target
 //! and hypotheses are an instance of what the stream spells (`exact`). Steps are counted, one a byte at the most.
 //!
@@ -18,7 +18,7 @@ mod stop;
 mod unified;
 
 pub use command::{Command, decoded};
-pub use rows::{heap_at, kept_apart};
+pub use rows::{heap_at, kept_disjoint};
 pub use running::{unify, unify_in};
 pub use stop::{Stop, push, push_operands};
 pub use unified::{Unified, UnifyMode};

@@ -4,12 +4,12 @@ ghost use Rattle.mz_cmd.specs.declared.rule.K.{K};
 ghost use Rattle.mz_logic_theory.specs.Tree.{Tree};
 ghost use Rattle.mz_logic_theory.specs.Signature.{Signature};
 ghost use Rattle.mz_store.specs.Sharing.{IsIn, AreIn, tree_of, IsOver};
-ghost use Rattle.mz_unify_theory.specs.Profile.{strict};
-ghost use Rattle.mz_unify_theory.specs.Streams.{UnifyCommand, u_term, u_term_save, u_ref, u_dummy, u_hyp, u_end};
-ghost use Rattle.mz_unify_theory.specs.UnifyMachine.{UnifyMode as Mode, in_definition, UnifyState, unify_step, is_fresh, next_hypothesis, nothing_left};
+ghost use Rattle.mz_machine_theory.specs.Profile.{strict};
+ghost use Rattle.mz_machine_theory.specs.Streams.{UnifyCommand, u_term, u_term_save, u_ref, u_dummy, u_hyp, u_end};
+ghost use Rattle.mz_machine_theory.specs.UnifyMachine.{UnifyMode as Mode, in_definition, UnifyState, unify_step, is_empty, is_fresh, next_hypothesis, nothing_left};
 ghost use Rattle.mz_unify.specs.Stored.{mode_of, trees_at, stack_at, items_at, AreItemsIn, AreLeft, TellsAllOf};
 ghost use Rattle.mz_unify.specs.declared.command.Command.TheVariants.{Dummy};
-ghost use Rattle.mz_unify.specs.Rows.{command_of, StopsBy, TellsAny, TellsFor, state_at, with_targets, IsRow};
+ghost use Rattle.mz_unify.specs.Rows.{command_of, StopsBy, TellsAny, TellsFor, all_targets, state_at, with_targets, IsRow};
 
 use crate::command::Command;
 use crate::stop::{Stop, push, push_operands};
@@ -17,7 +17,7 @@ use crate::unified::UnifyMode;
 use mz_cmd::K;
 use mz_store::{Id, Item, Store};
 
-/// The word of the variables of all these.
+/// The word of the variables of all front.
 fn variables(store: &Store, ids: &[Id]) -> u64
     requires ids { AreIn store.now ids.now }
     requires told { TellsAllOf store.now ids.now }
@@ -30,10 +30,10 @@ fn variables(store: &Store, ids: &[Id]) -> u64
     word
 }
 
-/// The word of the variables of the operands, from which a definition's dummies are kept apart. Other
+/// The word of the variables of the operands, from which a definition's dummies are kept disjoint. Other
 /// streams have no dummies.
 #[inline(always)]
-pub fn kept_apart(store: &Store, mode: UnifyMode, operands: &[Id]) -> u64
+pub fn kept_disjoint(store: &Store, mode: UnifyMode, operands: &[Id]) -> u64
     requires ids { AreIn store.now operands.now }
     requires told { TellsAllOf store.now operands.now }
     ensures { (sigs : List Signature) → IsOver sigs store.now → TellsFor (mode_of mode) store.now.context result (trees_at store.now operands.now) }
@@ -44,35 +44,44 @@ pub fn kept_apart(store: &Store, mode: UnifyMode, operands: &[Id]) -> u64
     }
 }
 
-/// Takes the top target.
+/// Takes the top target, and says which of an application's operands are left.
 #[inline(always)]
-fn take_top(store: &Store, targets: &mut Vec<Id>) -> Option<Id>
-    requires { AreIn store.now targets.old.items }
-    ensures ids { IfSome result (λ id. IsIn store.now id.0 × AreIn store.now targets.new.items) }
-    ensures some { IfSome result (λ id. stack_at store.now targets.old.items ≡ tree_of store.now id.0 ∷ stack_at store.now targets.new.items) }
-    // As ids too, for what is put there next.
-    ensures items { IfSome result (λ id. targets.old.items ≡ targets.new.items ++ id ∷ []) }
-    ensures none { IfNone result (stack_at store.now targets.old.items ≡ []) }
+fn take_top<'s>(store: &Store, front: &'s [Id], targets: &mut Vec<Id>) -> Option<(Id, &'s [Id])>
+    requires { AreIn store.now (all_targets front.now targets.old.items) }
+    ensures ids { IfSome result (λ top. IsIn store.now top.0.0 × AreIn store.now (all_targets top.1.now targets.new.items)) }
+    ensures some { IfSome result (λ top. stack_at store.now (all_targets front.now targets.old.items) ≡ tree_of store.now top.0.0 ∷ stack_at store.now (all_targets top.1.now targets.new.items)) }
+    ensures none { IfNone result (stack_at store.now (all_targets front.now targets.old.items) ≡ []) }
 {
-    targets.pop()
+    if let Some((top, rest)) = front.split_first() {
+        return Some((*top, rest));
+    }
+    match targets.pop() {
+        Some(top) => Some((top, front)),
+        None => None,
+    }
 }
 
-/// Takes an application of the term from the top, and puts its operands there.
+/// Takes an application of the term from the top; its operands are what is left of it.
 #[inline(always)]
-fn open(store: &Store, term: u32, targets: &mut Vec<Id>) -> Result<Id, Stop>
-    requires { AreIn store.now targets.old.items }
-    ensures ids { IfOk result (λ id. IsIn store.now id.0 × AreIn store.now targets.new.items) }
-    ensures plain { (sigs : List Signature) (mode : Mode) (st : UnifyState Tree) → st.targets ≡ stack_at store.now targets.old.items → IsRow (unify_step strict sigs store.now.context mode (u_term term) st) result (λ _. with_targets st (stack_at store.now targets.new.items)) }
-    ensures saved { (sigs : List Signature) (mode : Mode) (st : UnifyState Tree) → st.targets ≡ stack_at store.now targets.old.items → IsRow (unify_step strict sigs store.now.context mode (u_term_save term) st) result (λ id. record (with_targets st (stack_at store.now targets.new.items)) { heap = st.heap ++ tree_of store.now id.0 ∷ [] }) }
+fn open<'s>(
+    store: &'s Store,
+    term: u32,
+    front: &'s [Id],
+    targets: &mut Vec<Id>,
+) -> Result<(Id, &'s [Id]), Stop>
+    requires { AreIn store.now (all_targets front.now targets.old.items) }
+    ensures ids { IfOk result (λ top. IsIn store.now top.0.0 × AreIn store.now (all_targets top.1.now targets.new.items)) }
+    ensures plain { (sigs : List Signature) (mode : Mode) (st : UnifyState Tree) → st.targets ≡ stack_at store.now (all_targets front.now targets.old.items) → IsRow (unify_step strict sigs store.now.context mode (u_term term) st) result (λ top. with_targets st (stack_at store.now (all_targets top.1.now targets.new.items))) }
+    ensures saved { (sigs : List Signature) (mode : Mode) (st : UnifyState Tree) → st.targets ≡ stack_at store.now (all_targets front.now targets.old.items) → IsRow (unify_step strict sigs store.now.context mode (u_term_save term) st) result (λ top. record (with_targets st (stack_at store.now (all_targets top.1.now targets.new.items))) { heap = st.heap ++ tree_of store.now top.0.0 ∷ [] }) }
 {
-    let Some(top) = take_top(store, targets) else {
+    let Some((top, rest)) = take_top(store, front, targets) else {
         return Err(Stop::Rule(K::UnifyRest));
     };
     if store.head(top) != Some(term) {
         return Err(Stop::Rule(K::UnifyTerm));
     }
-    push_operands(targets, store.args(top))?;
-    Ok(top)
+    push_operands(targets, rest)?;
+    Ok((top, store.args(top)))
 }
 
 /// What stands at a place of the heap: the operands come first, and then what was saved.
@@ -89,19 +98,20 @@ pub fn heap_at(operands: &[Id], saved: &[Id], place: u32) -> Option<Id>
 
 /// Takes the top, which is what stands at a place of the heap.
 #[inline(always)]
-fn refer(
+fn refer<'s>(
     store: &Store,
     place: u32,
     operands: &[Id],
     saved: &[Id],
+    front: &'s [Id],
     targets: &mut Vec<Id>,
-) -> Result<(), Stop>
+) -> Result<&'s [Id], Stop>
     requires heap { AreIn store.now (operands.now ++ saved.now) }
-    requires targets { AreIn store.now targets.old.items }
-    ensures ids { OnOk result (AreIn store.now targets.new.items) }
-    ensures row { (sigs : List Signature) (mode : Mode) (st : UnifyState Tree) → st.heap ≡ trees_at store.now (operands.now ++ saved.now) → st.targets ≡ stack_at store.now targets.old.items → IsRow (unify_step strict sigs store.now.context mode (u_ref place) st) result (λ _. with_targets st (stack_at store.now targets.new.items)) }
+    requires targets { AreIn store.now (all_targets front.now targets.old.items) }
+    ensures ids { IfOk result (λ rest. AreIn store.now (all_targets rest.now targets.new.items)) }
+    ensures row { (sigs : List Signature) (mode : Mode) (st : UnifyState Tree) → st.heap ≡ trees_at store.now (operands.now ++ saved.now) → st.targets ≡ stack_at store.now (all_targets front.now targets.old.items) → IsRow (unify_step strict sigs store.now.context mode (u_ref place) st) result (λ rest. with_targets st (stack_at store.now (all_targets rest.now targets.new.items))) }
 {
-    let Some(top) = take_top(store, targets) else {
+    let Some((top, rest)) = take_top(store, front, targets) else {
         return Err(Stop::Rule(K::UnifyRest));
     };
     let Some(met) = heap_at(operands, saved, place) else {
@@ -110,7 +120,7 @@ fn refer(
     if !store.same(met, top) {
         return Err(Stop::Rule(K::UnifyReference));
     }
-    Ok(())
+    Ok(rest)
 }
 
 /// Whether the expression is a bound variable of the sort, in V of nothing whose variables the word names.
@@ -122,21 +132,27 @@ fn is_fresh(store: &Store, sort: u32, id: Id, apart: u64) -> bool
     store.is_bound(id) && store.sort_of(id) == sort && store.deps(id) & apart == 0
 }
 
-/// Takes a fresh bound variable of the sort from the top; `apart` is then also kept apart from it.
-fn dummy(store: &Store, sort: u32, targets: &mut Vec<Id>, apart: &mut u64) -> Result<Id, Stop>
-    requires { AreIn store.now targets.old.items }
-    ensures ids { IfOk result (λ id. IsIn store.now id.0 × AreIn store.now targets.new.items) }
-    ensures told { (sigs : List Signature) (es : List Tree) → IsOver sigs store.now → TellsAny store.now.context apart.old es → IfOk result (λ id. TellsAny store.now.context apart.new (es ++ tree_of store.now id.0 ∷ [])) }
-    ensures row { (sigs : List Signature) (mode : Mode) (st : UnifyState Tree) → IsOver sigs store.now → TellsAny store.now.context apart.old st.apart → st.targets ≡ stack_at store.now targets.old.items → IsRow (unify_step strict sigs store.now.context mode (u_dummy sort) st) result (λ id. record (with_targets st (stack_at store.now targets.new.items)) { heap = st.heap ++ tree_of store.now id.0 ∷ []; apart = st.apart ++ tree_of store.now id.0 ∷ [] }) }
+/// Takes a fresh bound variable of the sort from the top; `apart` is then also kept disjoint from it.
+fn dummy<'s>(
+    store: &Store,
+    sort: u32,
+    front: &'s [Id],
+    targets: &mut Vec<Id>,
+    apart: &mut u64,
+) -> Result<(Id, &'s [Id]), Stop>
+    requires { AreIn store.now (all_targets front.now targets.old.items) }
+    ensures ids { IfOk result (λ top. IsIn store.now top.0.0 × AreIn store.now (all_targets top.1.now targets.new.items)) }
+    ensures told { (sigs : List Signature) (es : List Tree) → IsOver sigs store.now → TellsAny store.now.context apart.old es → IfOk result (λ top. TellsAny store.now.context apart.new (es ++ tree_of store.now top.0.0 ∷ [])) }
+    ensures row { (sigs : List Signature) (mode : Mode) (st : UnifyState Tree) → IsOver sigs store.now → TellsAny store.now.context apart.old st.apart → st.targets ≡ stack_at store.now (all_targets front.now targets.old.items) → IsRow (unify_step strict sigs store.now.context mode (u_dummy sort) st) result (λ top. record (with_targets st (stack_at store.now (all_targets top.1.now targets.new.items))) { heap = st.heap ++ tree_of store.now top.0.0 ∷ []; apart = st.apart ++ tree_of store.now top.0.0 ∷ [] }) }
 {
-    let Some(top) = take_top(store, targets) else {
+    let Some((top, rest)) = take_top(store, front, targets) else {
         return Err(Stop::Rule(K::UnifyRest));
     };
     if !is_fresh(store, sort, top, *apart) {
         return Err(Stop::Rule(K::UnifyDummy));
     }
     *apart |= store.deps(top);
-    Ok(top)
+    Ok((top, rest))
 }
 
 /// The rule that asks for a hypothesis where none is left.
@@ -171,15 +187,16 @@ fn take_hypothesis(store: &Store, mode: UnifyMode, hyps: &mut Vec<Item>) -> Resu
 fn hypothesis(
     store: &Store,
     mode: UnifyMode,
+    front: &[Id],
     targets: &mut Vec<Id>,
     hyps: &mut Vec<Item>,
 ) -> Result<(), Stop>
     requires { AreItemsIn store.now hyps.old.items }
-    ensures ids { OnOk result (AreIn store.now targets.new.items × AreItemsIn store.now hyps.new.items) }
+    ensures ids { OnOk result (AreIn store.now (all_targets front.now targets.new.items) × AreItemsIn store.now hyps.new.items) }
     ensures left { OnOk result (AreLeft hyps.old.items hyps.new.items 1) }
-    ensures row { (sigs : List Signature) (st : UnifyState Tree) → st.targets ≡ stack_at store.now targets.old.items → st.items ≡ items_at store.now hyps.old.items → IsRow (unify_step strict sigs store.now.context (mode_of mode) u_hyp st) result (λ _. record (with_targets st (stack_at store.now targets.new.items)) { items = items_at store.now hyps.new.items }) }
+    ensures row { (sigs : List Signature) (st : UnifyState Tree) → st.targets ≡ stack_at store.now (all_targets front.now targets.old.items) → st.items ≡ items_at store.now hyps.old.items → IsRow (unify_step strict sigs store.now.context (mode_of mode) u_hyp st) result (λ _. record (with_targets st (stack_at store.now (all_targets front.now targets.new.items))) { items = items_at store.now hyps.new.items }) }
 {
-    if !targets.is_empty() {
+    if !are_none(store, front, targets) {
         return Err(Stop::Rule(K::UnifyRest));
     }
     match take_hypothesis(store, mode, hyps) {
@@ -189,6 +206,14 @@ fn hypothesis(
         }
         Err(rule) => Err(Stop::Rule(rule)),
     }
+}
+
+/// Whether no targets are left.
+#[inline(always)]
+fn are_none(store: &Store, front: &[Id], targets: &[Id]) -> bool
+    ensures { result ≡ is_empty (stack_at store.now (all_targets front.now targets.now)) }
+{
+    front.is_empty() && targets.is_empty()
 }
 
 /// Whether no hypothesis is left that must be taken.
@@ -204,10 +229,16 @@ fn nothing_left(store: &Store, mode: UnifyMode, hyps: &[Item]) -> bool
 
 /// Ends the stream: no targets are left, nor at an assertion's own end hypotheses.
 #[inline(always)]
-fn end(store: &Store, mode: UnifyMode, targets: &[Id], hyps: &[Item]) -> Result<(), Stop>
-    ensures { (sigs : List Signature) (st : UnifyState Tree) → st.targets ≡ stack_at store.now targets.now → st.items ≡ items_at store.now hyps.now → IsRow (unify_step strict sigs store.now.context (mode_of mode) u_end st) result (λ _. st) }
+fn end(
+    store: &Store,
+    mode: UnifyMode,
+    front: &[Id],
+    targets: &[Id],
+    hyps: &[Item],
+) -> Result<(), Stop>
+    ensures { (sigs : List Signature) (st : UnifyState Tree) → st.targets ≡ stack_at store.now (all_targets front.now targets.now) → st.items ≡ items_at store.now hyps.now → IsRow (unify_step strict sigs store.now.context (mode_of mode) u_end st) result (λ _. st) }
 {
-    if !targets.is_empty() {
+    if !are_none(store, front, targets) {
         return Err(Stop::Rule(K::UnifyRest));
     }
     if !nothing_left(store, mode, hyps) {
@@ -216,52 +247,54 @@ fn end(store: &Store, mode: UnifyMode, targets: &[Id], hyps: &[Item]) -> Result<
     Ok(())
 }
 
-/// Executes a command, which stands in streams of the mode.
+/// Executes a command, which stands in streams of the mode. The targets are these of an application's
+/// operands, the first one on top, and those of the list.
 #[inline(always)]
-pub(crate) fn step(
-    store: &Store,
+pub(crate) fn step<'s>(
+    store: &'s Store,
     mode: UnifyMode,
     command: Command,
     operands: &[Id],
     saved: &mut Vec<Id>,
     apart: &mut u64,
+    front: &'s [Id],
     targets: &mut Vec<Id>,
     hyps: &mut Vec<Item>,
-) -> Result<(), Stop>
+) -> Result<&'s [Id], Stop>
     requires stands { (sort : ℕ) → command ≡ Dummy sort → mode_of mode ≡ in_definition }
     requires heap { AreIn store.now (operands.now ++ saved.old.items) }
-    requires targets { AreIn store.now targets.old.items }
+    requires targets { AreIn store.now (all_targets front.now targets.old.items) }
     requires hyps { AreItemsIn store.now hyps.old.items }
-    ensures ids { OnOk result (AreIn store.now (operands.now ++ saved.new.items) × AreIn store.now targets.new.items × AreItemsIn store.now hyps.new.items) }
+    ensures ids { IfOk result (λ rest. AreIn store.now (operands.now ++ saved.new.items) × AreIn store.now (all_targets rest.now targets.new.items) × AreItemsIn store.now hyps.new.items) }
     ensures left { OnOk result ((taken : ℕ) × (taken ≤ 1) × AreLeft hyps.old.items hyps.new.items taken) }
-    ensures row { (sigs : List Signature) (es : List Tree) → IsOver sigs store.now → TellsFor (mode_of mode) store.now.context apart.old es → MatchResult result (λ _. (fs : List Tree) × TellsFor (mode_of mode) store.now.context apart.new fs × (unify_step strict sigs store.now.context (mode_of mode) (command_of command) (state_at store.now (operands.now ++ saved.old.items) es targets.old.items hyps.old.items) ≡ Ok (state_at store.now (operands.now ++ saved.new.items) fs targets.new.items hyps.new.items))) (λ stop. StopsBy stop (λ k. unify_step strict sigs store.now.context (mode_of mode) (command_of command) (state_at store.now (operands.now ++ saved.old.items) es targets.old.items hyps.old.items) ≡ Err k)) }
+    ensures row { (sigs : List Signature) (es : List Tree) → IsOver sigs store.now → TellsFor (mode_of mode) store.now.context apart.old es → MatchResult result (λ rest. (fs : List Tree) × TellsFor (mode_of mode) store.now.context apart.new fs × (unify_step strict sigs store.now.context (mode_of mode) (command_of command) (state_at store.now (operands.now ++ saved.old.items) es (all_targets front.now targets.old.items) hyps.old.items) ≡ Ok (state_at store.now (operands.now ++ saved.new.items) fs (all_targets rest.now targets.new.items) hyps.new.items))) (λ stop. StopsBy stop (λ k. unify_step strict sigs store.now.context (mode_of mode) (command_of command) (state_at store.now (operands.now ++ saved.old.items) es (all_targets front.now targets.old.items) hyps.old.items) ≡ Err k)) }
 {
     match command {
         Command::Term(term) => {
-            open(store, term, targets)?;
-            Ok(())
+            let (_, rest) = open(store, term, front, targets)?;
+            Ok(rest)
         }
         Command::TermSave(term) => {
-            let whole = open(store, term, targets)?;
+            let (whole, rest) = open(store, term, front, targets)?;
             push(saved, whole)?;
-            Ok(())
+            Ok(rest)
         }
         Command::Ref(place) => {
-            refer(store, place, operands, saved, targets)?;
-            Ok(())
+            let rest = refer(store, place, operands, saved, front, targets)?;
+            Ok(rest)
         }
         Command::Dummy(sort) => {
-            let met = dummy(store, sort, targets, apart)?;
+            let (met, rest) = dummy(store, sort, front, targets, apart)?;
             push(saved, met)?;
-            Ok(())
+            Ok(rest)
         }
         Command::Hyp => {
-            hypothesis(store, mode, targets, hyps)?;
-            Ok(())
+            hypothesis(store, mode, front, targets, hyps)?;
+            Ok(front)
         }
         Command::End => {
-            end(store, mode, targets, hyps)?;
-            Ok(())
+            end(store, mode, front, targets, hyps)?;
+            Ok(front)
         }
     }
 }

@@ -4,14 +4,14 @@ ghost use Rattle.mz_logic_theory.specs.Words.{signatures_of};
 ghost use Rattle.mz_logic_theory.specs.Signature.{Signature};
 ghost use Rattle.mz_logic_theory.specs.declared.binder.Binder.{Binder};
 ghost use Rattle.mz_store.specs.Sharing.{IsIn, AreIn, IsOver};
-ghost use Rattle.mz_unify_theory.specs.Profile.{strict};
-ghost use Rattle.mz_unify_theory.specs.UnifyMachine.{unify, unify_from, unify_steps, unify_steps_from};
+ghost use Rattle.mz_machine_theory.specs.Profile.{strict};
+ghost use Rattle.mz_machine_theory.specs.UnifyMachine.{unify, unify_from, unify_steps, unify_steps_from};
 ghost use Rattle.mz_unify.specs.Stored.{mode_of, trees_at, items_at, AreItemsIn, TellsAllOf, matching_at, OnDone, UnlessMem, IsRun, AreLeft};
 ghost use Rattle.mz_unify.specs.Patterns.{AreOperandsFor, IsExact};
-ghost use Rattle.mz_unify.specs.Rows.{TellsFor, state_at};
+ghost use Rattle.mz_unify.specs.Rows.{TellsFor, all_targets, state_at};
 
 use crate::command::{Command, next_at};
-use crate::rows::{kept_apart, step};
+use crate::rows::{kept_disjoint, step};
 use crate::stop::Stop;
 use crate::unified::{Unified, UnifyMode};
 use mz_cmd::{K, Steps, cmd_at};
@@ -56,7 +56,7 @@ pub fn unify<T: Terms, L: Ledger>(
     let alloc = *heap.allocator();
     let mut saved = Vec::new(alloc);
     let mut targets = Vec::new(alloc);
-    let apart = kept_apart(store, mode, heap);
+    let apart = kept_disjoint(store, mode, heap);
     let said = unify_in(
         terms,
         stream,
@@ -76,7 +76,7 @@ pub fn unify<T: Terms, L: Ledger>(
     }
 }
 
-/// Runs a unify stream as `unify` does, with operands that are only lent. The word names the variables
+/// Runs a unify stream as `unify` does, with operands that are only borrowed. The word names the variables
 /// of the operands, where the stream may have dummies. What is saved and met for dummies, and the
 /// targets, stand in lists of the caller's, whatever these held.
 ///
@@ -109,37 +109,37 @@ pub fn unify_in<T: Terms, L: Ledger>(
 {
     saved.clear();
     targets.clear();
-    let Ok(()) = targets.push(target) else {
-        return Unified::Mem;
-    };
+    let front = [target];
     run(
-        stream, mode, operands, apart, saved, targets, hyps, store, steps,
+        stream, mode, operands, apart, saved, &front, targets, hyps, store, steps,
     )
 }
 
-/// Runs a stream on these targets, the top one last, with a heap that holds the operands and what was
-/// saved. The word names the variables of the operands.
+/// Runs a stream on these targets, those of the slice first, with a heap that holds the operands and what
+/// was saved. The word names the variables of the operands. The slice is what is left of the operands of
+/// the application that was opened last.
 #[inline(always)]
-fn run<L: Ledger>(
+fn run<'s, L: Ledger>(
     stream: &[u8],
     mode: UnifyMode,
     operands: &[Id],
     mut apart: u64,
     saved: &mut Vec<Id>,
+    mut front: &'s [Id],
     targets: &mut Vec<Id>,
     hyps: &mut Vec<Item>,
-    store: &Store,
+    store: &'s Store,
     steps: &mut Steps<L>,
 ) -> Unified
     requires stream { length stream.now < 2 ^ 32 }
     requires heap { AreIn store.now (operands.now ++ saved.old.items) }
     requires apart { TellsFor (mode_of mode) store.now.context apart (trees_at store.now operands.now) }
-    requires targets { AreIn store.now targets.old.items }
+    requires targets { AreIn store.now (all_targets front.now targets.old.items) }
     requires hyps { AreItemsIn store.now hyps.old.items }
-    ensures run { (sigs : List Signature) → IsOver sigs store.now → IsRun (unify_from strict sigs store.now.context (mode_of mode) (length stream.now) 0 stream.now (state_at store.now (operands.now ++ saved.old.items) (trees_at store.now operands.now) targets.old.items hyps.old.items)) result (trees_at store.now (operands.now ++ saved.new.items)) (items_at store.now hyps.new.items) }
+    ensures run { (sigs : List Signature) → IsOver sigs store.now → IsRun (unify_from strict sigs store.now.context (mode_of mode) (length stream.now) 0 stream.now (state_at store.now (operands.now ++ saved.old.items) (trees_at store.now operands.now) (all_targets front.now targets.old.items) hyps.old.items)) result (trees_at store.now (operands.now ++ saved.new.items)) (items_at store.now hyps.new.items) }
     ensures taken { OnDone result (λ taken. AreLeft hyps.old.items hyps.new.items taken) }
     ensures ids { OnDone result (λ _. AreIn store.now (operands.now ++ saved.new.items) × AreItemsIn store.now hyps.new.items) }
-    ensures steps { (sigs : List Signature) → IsOver sigs store.now → UnlessMem result (steps.new ≡ steps.old + unify_steps_from strict sigs store.now.context (mode_of mode) (length stream.now) stream.now (state_at store.now (operands.now ++ saved.old.items) (trees_at store.now operands.now) targets.old.items hyps.old.items)) }
+    ensures steps { (sigs : List Signature) → IsOver sigs store.now → UnlessMem result (steps.new ≡ steps.old + unify_steps_from strict sigs store.now.context (mode_of mode) (length stream.now) stream.now (state_at store.now (operands.now ++ saved.old.items) (trees_at store.now operands.now) (all_targets front.now targets.old.items) hyps.old.items)) }
     ensures most { steps.new ≤ steps.old + length stream.now }
 {
     let held = hyps.len();
@@ -153,11 +153,12 @@ fn run<L: Ledger>(
             return Unified::stopped(at, Stop::Rule(K::Command));
         };
         steps.tick();
-        if let Err(stop) = step(
-            store, mode, next, operands, saved, &mut apart, targets, hyps,
+        front = match step(
+            store, mode, next, operands, saved, &mut apart, front, targets, hyps,
         ) {
-            return Unified::stopped(at, stop);
-        }
+            Ok(rest) => rest,
+            Err(stop) => return Unified::stopped(at, stop),
+        };
         if let Command::End = next {
             let taken = (held - hyps.len()) as u32;
             return Unified::Done { taken };

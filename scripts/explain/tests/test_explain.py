@@ -143,8 +143,13 @@ class Kinds(Folder):
             (("compile", self.binary, "o.mmb"), ["a.mmb is a binary, and a proof text belongs there", "meant is: ./mz decompile SPEC a.mmb a.mmu"]),
             (("compile", self.spec, "o.mmb"), ["a.mm0 is a specification, and a proof text belongs there", "meant is: ./mz check a.mm0"]),
             (("show", self.text), ["a.mmu is a proof text, and a binary belongs there", "meant is: ./mz compile a.mmu a.mmb"]),
+            (("check", self.binary), ["a.mmb is a binary, and a specification belongs there", "meant is: ./mz check a.mm0"]),
+            (("assemble", self.binary, "o.mmb"), ["a.mmb is a binary, and a listing belongs there", "meant is: ./mz show a.mmb"]),
+            (("decompile", self.binary, self.text, "o.mmu"), ["a.mmb is a binary, and a specification belongs there", "a.mmu is a proof text, and a binary belongs there",
+                                                              "meant is: ./mz decompile a.mm0 a.mmb o.mmu"]),
         ]
-        refused = {"verify": "specification statement 1 at byte 0: S3", "compile": "text statement 1 at byte 0: U3"}
+        of_spec = "specification statement 1 at byte 0: S3"
+        refused = {"verify": of_spec, "check": of_spec, "decompile": of_spec, "compile": "text statement 1 at byte 0: U3", "assemble": "listing line 1: A1"}
         for words, wanted in cases:
             of = "binary statement 1 at byte 0: K1" if words[1] == self.spec and words[0] == "verify" else refused.get(words[0], "binary statement 1 at byte 0: K1")
             self.assertEqual(self.said(*words, of=of), wanted, words)

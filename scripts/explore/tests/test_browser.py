@@ -53,6 +53,8 @@ async function read() {
   await whole("#find");
   await typed("twice");
   await typed("c -> b->a");
+  await typed("c -> (b -> a)");
+  await typed("(");
   await typed("nothing like it");
   await typed("a1i");
   inside().querySelector("#found a").click();
@@ -81,7 +83,7 @@ async function read() {
 }
 read().catch(fault => say(`fault: ${fault}`));
 </script>"""
-SEEN = ["twice: twice", "c -> b->a: twice", "nothing like it: ", "a1i: a1i", "clicked: a1i", "back: /index.html", "by address: twice",
+SEEN = ["twice: twice", "c -> b->a: twice", "c -> (b -> a): twice", "(: ", "nothing like it: ", "a1i: a1i", "clicked: a1i", "back: /index.html", "by address: twice",
         "over a1i: a := b -> a; b := c", "folded: 1", "unfolded: 0", "about: Says less.", "done"]
 
 

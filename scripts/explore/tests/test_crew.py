@@ -51,12 +51,26 @@ class OfACrew(unittest.TestCase):
         moved = SPEC.replace("theorem twice", "\ntheorem twice")
         renamed = SPEC.replace("theorem a1i (a b: wff): $ a $ > $ b -> a $", "theorem a1i (a c: wff): $ a $ > $ c -> a $")
         with tempfile.TemporaryDirectory() as room:
-            for spec, text, kept in ((SPEC, TEXT, 0), (SPEC, TEXT, 2), (SPEC, other, 1), (moved, other, 1), (renamed, other, 0), (SPEC, TEXT, 0)):
+            for spec, text, kept in ((SPEC, TEXT, 0), (SPEC, TEXT, 2), (SPEC, other, 1), (moved, other, 2), (renamed, other, 0), (SPEC, TEXT, 0)):
                 counts = made(spec, text, room)
                 self.assertEqual((counts.kept, counts.theorems), (kept, 2), (spec, text))
                 with tempfile.TemporaryDirectory() as fresh:
                     made(spec, text, fresh)
                     self.assertEqual(contents(room), contents(fresh))
+
+    def test_what_a_run_has_made_that_was_ended_stays(self):
+        """Its list ends in the middle of a line; a list of another form is none."""
+        for left, kept in ((lambda text: text[:-40], 1), (lambda text: "", 0), (lambda text: '{"theorems/a1i.html":["0","","",""]}', 0)):
+            with tempfile.TemporaryDirectory() as room, tempfile.TemporaryDirectory() as fresh:
+                made(SPEC, TEXT, room)
+                with open(os.path.join(room, "made.json"), "r+", encoding="utf-8") as file:
+                    text = file.read()
+                    file.seek(0)
+                    file.truncate()
+                    file.write(left(text))
+                self.assertEqual(made(SPEC, TEXT, room).kept, kept)
+                made(SPEC, TEXT, fresh)
+                self.assertEqual(contents(room), contents(fresh))
 
     def test_the_pages_are_the_same(self):
         written, batch = [], site.BATCH

@@ -1,6 +1,7 @@
 """Tests of the reader, the printer, the proofs and the pages; those of pages of whole developments want the program."""
 import os
 import re
+import subprocess
 import sys
 import tempfile
 import unittest
@@ -18,6 +19,7 @@ from explore.names import Names  # noqa: E402
 from explore.notations import Notations  # noqa: E402
 from explore.printer import Page, Printer, ReadBack, plain  # noqa: E402
 from explore.program import Refused, run  # noqa: E402
+from explore.proofs import Proof, outline  # noqa: E402
 from explore.site import Site  # noqa: E402
 from explore.specification import Reader, parameter_list, read_specification  # noqa: E402
 from explore.texts import Text, nodes  # noqa: E402
@@ -178,6 +180,41 @@ class Nodes(unittest.TestCase):
             list(nodes("(a (b)"))
 
 
+class Proofs(unittest.TestCase):
+    """A proof of the theorem `one`, over NUMBERS; `h` is its hypothesis, and what it proves in the end stands behind it."""
+
+    def proof(self, body):
+        statements, theory = read_specification(NUMBERS)
+        text = Text(TERMS + "(local axiom k ((a wff ()) (b wff ())) (a) (im b a))"
+                    f"(local theorem one ((a wff ()) (b wff ())) ((h a)) (im b (im b a)) () {body})", theory, Names(statements, theory))
+        *_, theorem = text.statements()
+        return Proof(text, theorem), outline(text, theorem)
+
+    def test_lets(self):
+        """Of each: the steps, and what is cited. A let may have the name of a hypothesis, or of another let."""
+        twice = "(k ((im b a) b) (k (a b) h))"
+        cases = [(twice, 3), (f"(:let l (k (a b) h) (k ((im b a) b) l))", 3), (f"(:let l (k (b b) h) {twice})", 3),
+                 ("(:let h (k (a b) h) (k ((im b a) b) h))", 3), ("(:let l h (:let l (k (a b) l) (k ((im b a) b) l)))", 3),
+                 ("(:let l (:let m (k (a b) h) m) (:let m h (:let n (k (a b) m) (k ((im b a) b) l))))", 3)]
+        for body, steps in cases:
+            proof, known = self.proof(body)
+            self.assertEqual(([it.kind for it in proof.steps], proof.steps[proof.last].says), (["hypothesis", "cited", "cited"][:steps], proof.conclusion), body)
+            self.assertEqual((known.cited, known.unfolded, known.has_gap), (proof.cited, [], False), body)
+
+    def test_an_outline_says_what_the_proof_says(self):
+        sources = glob(os.path.join(TOP, "examples", "*", "*.proofs"))
+        self.assertGreater(len(sources), 4)
+        for path in sources:
+            base = os.path.splitext(path)[0]
+            with open(base + ".mm0", encoding="ascii") as spec, open(base + ".mmu", encoding="ascii") as source:
+                statements, theory = read_specification(spec.read())
+                text = Text(source.read(), theory, Names(statements, theory))
+            for it in text.statements():
+                if getattr(it, "node", None):
+                    proof, known = Proof(text, it), outline(text, it)
+                    self.assertEqual((set(known.cited), known.unfolded, known.has_gap), (set(proof.cited), proof.unfolded, proof.has_gap), it.name)
+
+
 class Pages(unittest.TestCase):
     def written(self, development, check):
         with tempfile.TemporaryDirectory() as folder:
@@ -223,6 +260,12 @@ class Pages(unittest.TestCase):
                     file.write(text)
             count, dead = dead_links(folder)
             self.assertEqual((count, sorted(it for _, it in dead)), (3, ["#d", "b.html#c", "e.html"]))
+
+    def test_a_file_where_a_folder_belongs(self):
+        with tempfile.NamedTemporaryFile() as file:
+            words = [sys.executable, "-B", os.path.join(TOP, "scripts", "explore"), "no.mm0", "no.mmb", file.name]
+            ran = subprocess.run(words, capture_output=True, text=True, check=False)
+        self.assertEqual((ran.returncode, ran.stdout, ran.stderr), (3, "", f"{file.name} is no folder\n"))
 
     def test_names_that_differ_by_capitals(self):
         development = self.draft()

@@ -27,10 +27,14 @@ class Examples(unittest.TestCase):
                 self.assertEqual((it.name, ran.returncode, ran.stderr), (it.name, 0, b""))
 
     def test_pages_that_are_named_are_there(self):
-        for it in manual.read().commands:
-            for word in it.read.replace(",", "").split():
-                if word.endswith(".md"):
-                    self.assertTrue(os.path.exists(os.path.join(TOP, word)), word)
+        """And the page's part, by its heading or by its number."""
+        for it in (it for it in manual.read().commands if it.read):
+            path, _, part = it.read.partition(", ")
+            with open(os.path.join(TOP, path), encoding="utf-8") as file:
+                text = file.read()
+            number = re.match(r"sections? (\d+(?:\.\d+)?)", part)
+            if part:
+                self.assertRegex(text, rf"(?m)^#+ {number[1] if number else re.escape(part)}\b", it.name)
 
 
 class Pages(unittest.TestCase):

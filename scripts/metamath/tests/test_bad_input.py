@@ -107,5 +107,12 @@ class TestBadInput(Room):
         printed = self.mz("import", self.path("none.mm"), self.path("made"), status=3)
         self.assertEqual(printed.strip(), f"mz import: {self.path('none.mm')} can't be read: No such file or directory")
 
+    def test_a_database_that_would_be_written_over(self):
+        self.put("good.mm0", GOOD)
+        printed = self.mz("import", self.path("good.mm0"), self.path("."), status=2)
+        self.assertIn("is read, and would be written", printed)
+        with open(self.path("good.mm0"), encoding="utf-8") as file:
+            self.assertEqual(file.read(), GOOD)
+
     def test_a_name_that_is_a_path(self):
         self.fails(GOOD, "--name ../x is no name of a file", "--name", "../x", status=2)

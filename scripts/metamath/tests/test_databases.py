@@ -1,7 +1,8 @@
 """Tests of how databases and formulas are read."""
+import itertools
 import unittest
 
-from metamath.building import _NUMBERS, _VALUE
+from metamath.building import _PARTS, _numbers
 from metamath.database_text import letters
 from metamath.databases import Database, Faulty
 from metamath.grammar import Grammar
@@ -55,7 +56,7 @@ class TestProofs(unittest.TestCase):
 
     def test_numbers_of_letters(self):
         word = "".join(map(letters, range(650)))
-        self.assertEqual(list(map(_VALUE, _NUMBERS.findall(word + "Z"))), [*range(1, 651), 0])
+        self.assertEqual(_PARTS(word + "Z"), [*itertools.islice(_numbers(), 650), "Z"])
 
     def test_labels_of_a_proof(self):
         made = Database("$c |- $. a $a |- $. b $p |- $= ( a ) A $. c $p |- $= a $.")

@@ -52,6 +52,11 @@ class TestExport(Room):
             run(command, self.path("law.mmu"), self.path(made))
         return self.path("law.mm0"), self.path("law.mmb")
 
+    def test_a_definition_that_nothing_unfolds(self):
+        _, made = self.back(*self.compiled("""(sort wff provable) (term im ((a wff ()) (b wff ())) (wff ()))
+            (def self ((a wff ())) (wff ()) () (im a a)) (axiom id ((a wff ())) () (self a))"""), "--definitions")
+        self.assertIn("df-self $a defeq-wff self _v0 := im _v0 _v0 $.", made)
+
     def test_two_provable_sorts(self):
         _, made = self.back(*self.compiled("""(sort wff provable) (sort nat provable) (sort free)
             (term im ((a wff ()) (b wff ())) (wff ())) (axiom id ((a wff ())) () (im a a))

@@ -63,7 +63,17 @@ class TestRounds(Room):
         # two is df-ss alone, which is proved by way of biid; another theorem's axioms aren't its
         names = rounds.Names(self.path("pair"))
         self.assertEqual((names.reached(False), names.reached(True)), ({"df_ss"}, {"biid"}))
-        self.assertEqual(rounds.other_axioms(self.path("little.mm"), "sub", self.path("pair")), ["axioms: here alone df_ss, there alone df_sub"])
+        self.assertEqual(rounds.other_axioms({"df-sub"}, self.path("pair")), ["axioms: here alone df_ss, there alone df_sub"])
+
+    @unittest.skipUnless(opinion.is_there(), "metamath isn't installed")
+    def test_a_database_that_is_kept(self):
+        kept = rounds.Kept(self.path("little.mm"), ["two", "sub"])
+        self.assertEqual(kept.axioms, {"two": {"df-ss"}, "sub": {"df-sub"}})  # each cites its definition alone
+        for label in ("two", "sub", "two"):
+            self.assertEqual(rounds.round_trip(self.path("little.mm"), self.room, label, kept).faults, [])
+        kept.axioms["two"] = {"df-sub"}
+        self.assertEqual(rounds.round_trip(self.path("little.mm"), self.room, "two", kept).faults,
+                         ["axioms: here alone df_ss, there alone df_sub"])
 
     @unittest.skipUnless(opinion.is_there(), "metamath isn't installed")
     def test_a_whole_database_with_operators(self):

@@ -66,8 +66,7 @@ class TestSame(Room):
         report = compared(SPECIFICATION)
         self.assertEqual((report.faults, report.dropped, report.written), ([], [], []))
         # 9 terms, of which wss and wsub are definitions; 9 axioms of the database but the two definitions' and an instance
-        counts = report.counts
-        self.assertEqual((counts.terms, counts.definitions, counts.axioms, counts.theorems, counts.copies), (9, 2, 8, 4, 1))
+        self.assertEqual((report.terms, report.definitions, report.axioms, report.theorems, report.copies), (9, 2, 8, 4, 1))
 
     def test_a_statement(self):
         self.assertEqual(self.changed(("A. y ph -> A. y A. x ph", "A. y ph -> A. x A. y ph")), ["ax_11: the statement differs"])

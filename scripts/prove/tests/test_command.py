@@ -102,6 +102,14 @@ class Folders(unittest.TestCase):
             run(path, "--text", StandIn())
             self.assertIn("b.mmu", os.listdir(path))
 
+    def test_the_folder_in_which_one_works(self):
+        self.addCleanup(os.chdir, os.getcwd())
+        with room(b_mm0=MONOID + LEFT, b_proofs=RIGHT) as path:
+            os.chdir(path)
+            run(".", "--text", StandIn())
+            self.assertIn("b.mmu", os.listdir(path))
+            os.chdir("..")
+
     def test_none_and_several(self):
         with room(a_mm0=MONOID) as path:
             self.assertIn("has no proof source", typed("--check", path)[0])

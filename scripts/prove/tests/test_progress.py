@@ -23,6 +23,12 @@ def said(stream, seconds):
 
 
 class Said(unittest.TestCase):
+    def test_what_is_done_meanwhile(self):
+        for stream, wanted in ((Terminal(), "reading ..\r\x1b[K"), (io.StringIO(), "")):
+            with contextlib.redirect_stderr(stream), contextlib.suppress(ValueError), progress.shown("reading"):
+                raise ValueError
+            self.assertEqual(stream.getvalue(), wanted)
+
     def test_each(self):
         self.assertEqual(said(Terminal(), 0.1), "")
         self.assertEqual(said(io.StringIO(), 1.5), "")

@@ -61,6 +61,12 @@ class OfGoals(Opened):
         _, problems = self.workspace.examined(document)
         self.assertEqual([it.why for it in problems], ["in left: k proves something else than is wanted here"])
 
+    def test_a_hover_shows_the_comment_that_documents_a_theorem(self):
+        for comment in ("-- A title.\n--| Says it from the left.\n", "--| Says it\n--| from the left.\n"):
+            document = self.opened(SOURCE, MONOID + comment + LEFT)
+            said = self.answers.hover(document, SOURCE.index("left"))["contents"]["value"]
+            self.assertIn("\nSays it from the left.\n", said + "\n")
+
     def test_a_fault_of_another_file_is_told_with_its_place(self):
         document = self.opened(SOURCE, MONOID.replace("one: elt", "one: elf") + LEFT)
         found = Diagnostics(self.workspace).of(document)

@@ -6,8 +6,8 @@ ghost use Rattle.mz_layout_tables.specs.Tables.{term_row};
 ghost use Rattle.mz_store.specs.Sharing.{IsIn, IsOver, head_of, operands_of, tree_of};
 ghost use Rattle.mz_store.specs.declared.item.Item.TheVariants.{Obligation};
 ghost use Rattle.mz_store.specs.declared.item.DepsMode.TheVariants.{All};
-ghost use Rattle.mz_unify_theory.specs.Profile.{strict};
-ghost use Rattle.mz_unify_theory.specs.UnifyMachine.{in_definition};
+ghost use Rattle.mz_machine_theory.specs.Profile.{strict};
+ghost use Rattle.mz_machine_theory.specs.UnifyMachine.{in_definition};
 ghost use Rattle.mz_unify.specs.Stored.{items_at, item_at, AreItemsIn, IsItemIn};
 ghost use Rattle.mz_machine_theory.specs.Premises.{pop_sides};
 ghost use Rattle.mz_machine_theory.specs.MachineState.{RowsBefore, State};
@@ -21,7 +21,7 @@ ghost use Rattle.mz_machine.specs.OpenEquations.{stored, opened_on};
 use crate::stack::{pop, pop_conversion, pop_expr, pop_obligation, pop_proof};
 use mz_cmd::{K, Steps};
 use mz_logic_theory::Terms;
-use mz_machine_env::{Earlier, Spare, put_back};
+use mz_machine_env::{CommandBuffers, Environment, put_back};
 use mz_store::{Id, Item, Store};
 use mz_unify::{Stop, UnifyMode, push, unify_in};
 use std::sync::ledger::Ledger;
@@ -93,27 +93,27 @@ pub(crate) fn cong(store: &Store, stack: &mut Vec<Item>) -> Result<(Id, Id), K>
 /// From an obligation whose left side is a definition's application, and what it unfolds to, to the
 /// obligation between that and the right side. The definition's stream runs on what it unfolds to.
 pub(crate) fn unfold<L: Ledger>(
-    earlier: &Earlier,
+    env: &Environment,
     store: &Store,
     stack: &mut Vec<Item>,
-    spare: &mut Spare,
+    spare: &mut CommandBuffers,
     steps: &mut Steps<L>,
 ) -> Result<(), Stop>
-    requires over { IsOver (signatures_of earlier.now) store.now }
+    requires over { IsOver (signatures_of env.now) store.now }
     requires mode { store.now.mode ≡ All }
     requires stack { AreItemsIn store.now stack.old.items }
     ensures ids { OnOk result (AreItemsIn store.now stack.new.items) }
-    ensures row { (at n : ℕ) (st : State Tree) → st.ctx ≡ store.now.context → st.stack ≡ items_at store.now stack.old.items → Gives (proof_step strict (tables_of earlier.now) at code.Unfold n st) result (λ _. with_stack st (items_at store.now stack.new.items)) }
-    ensures steps { (n : ℕ) (st : State Tree) → st.ctx ≡ store.now.context → st.stack ≡ items_at store.now stack.old.items → Counts result steps.old steps.new (row_steps strict (tables_of earlier.now) code.Unfold n st) (length earlier.now.file) }
+    ensures row { (at n : ℕ) (st : State Tree) → st.ctx ≡ store.now.context → st.stack ≡ items_at store.now stack.old.items → Gives (proof_step strict (tables_of env.now) at code.Unfold n st) result (λ _. with_stack st (items_at store.now stack.new.items)) }
+    ensures steps { (n : ℕ) (st : State Tree) → st.ctx ≡ store.now.context → st.stack ≡ items_at store.now stack.old.items → Counts result steps.old steps.new (row_steps strict (tables_of env.now) code.Unfold n st) (length env.now.file) }
 {
-    let (unfolded, left, right, term) = match take_unfolding(earlier, store, stack) {
+    let (unfolded, left, right, term) = match take_unfolding(env, store, stack) {
         Ok(taken) => taken,
         Err(rule) => return Err(Stop::Rule(rule)),
     };
-    let stream = earlier.stream_of_term(term);
+    let stream = env.stream_of_term(term);
     spare.hyps.clear();
     match unify_in(
-        earlier,
+        env,
         stream,
         UnifyMode::Body,
         store.args(left),
@@ -135,21 +135,21 @@ pub(crate) fn unfold<L: Ledger>(
 /// What an unfolding matches: what is unfolded to, the two sides of the obligation, and the definition
 /// whose application the left side is, and whose operands it has. It takes no memory.
 fn take_unfolding(
-    earlier: &Earlier,
+    env: &Environment,
     store: &Store,
     stack: &mut Vec<Item>,
 ) -> Result<(Id, Id, Id, u32), K>
-    requires over { IsOver (signatures_of earlier.now) store.now }
+    requires over { IsOver (signatures_of env.now) store.now }
     requires stack { AreItemsIn store.now stack.old.items }
-    ensures ids { IfOk result (λ r. IsIn store.now r.0.0 × IsIn store.now r.1.0 × IsIn store.now r.2.0 × (r.3 < earlier.now.rows.terms) × AreItemsIn store.now stack.new.items) }
+    ensures ids { IfOk result (λ r. IsIn store.now r.0.0 × IsIn store.now r.1.0 × IsIn store.now r.2.0 × (r.3 < env.now.rows.terms) × AreItemsIn store.now stack.new.items) }
     ensures head { IfOk result (λ r. head_of (tree_of store.now r.1.0) ≡ Some r.3) }
-    ensures taken { (st : State Tree) → st.stack ≡ items_at store.now stack.old.items → GivesRule (unfolding_of strict (tables_of earlier.now) st) result (λ r. (record { mode = in_definition; stream = drop (term_row earlier.now.file r.3).stream_at earlier.now.file; operands = listed (operands_of (tree_of store.now r.1.0)); target = tree_of store.now r.0.0; items = [] }, tree_of store.now r.2.0, items_at store.now stack.new.items)) }
+    ensures taken { (st : State Tree) → st.stack ≡ items_at store.now stack.old.items → GivesRule (unfolding_of strict (tables_of env.now) st) result (λ r. (record { mode = in_definition; stream = drop (term_row env.now.file r.3).stream_at env.now.file; operands = listed (operands_of (tree_of store.now r.1.0)); target = tree_of store.now r.0.0; items = [] }, tree_of store.now r.2.0, items_at store.now stack.new.items)) }
 {
     let (unfolded, left, right) = pop_unfolding(store, stack)?;
     let Some(term) = store.head(left) else {
         return Err(K::Unfold);
     };
-    if !earlier.has_body(term) {
+    if !env.has_body(term) {
         return Err(K::Unfold);
     }
     Ok((unfolded, left, right, term))

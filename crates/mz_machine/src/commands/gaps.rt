@@ -3,7 +3,7 @@ ghost use Rattle.std.specs.Prelude.{ℕ, ◌≡◌, ◌≤◌, OnOk, vec_capacit
 ghost use Rattle.mz_cmd.specs.declared.code.ProofCode.TheVariants as code;
 ghost use Rattle.mz_logic_theory.specs.Tree.{Tree};
 ghost use Rattle.mz_store.specs.Sharing.{IsOver};
-ghost use Rattle.mz_unify_theory.specs.Profile.{draft};
+ghost use Rattle.mz_machine_theory.specs.Profile.{draft};
 ghost use Rattle.mz_unify.specs.Stored.{items_at, AreItemsIn};
 ghost use Rattle.mz_machine_theory.specs.MachineState.{State};
 ghost use Rattle.mz_machine_theory.specs.ProofMachine.{proof_step};
@@ -14,21 +14,21 @@ use crate::commands::heap::is_provable;
 use crate::stack::pop;
 use mz_cmd::K;
 use mz_logic_theory::Terms;
-use mz_machine_env::{Earlier, put_back};
+use mz_machine_env::{Environment, put_back};
 use mz_store::{Item, Store};
 
 /// Leaves a gap: the expression on top becomes a proof of it, or the obligation on top is dropped. It
 /// takes no memory.
-pub(crate) fn gap(earlier: &Earlier, store: &Store, stack: &mut Vec<Item>) -> Result<(), K>
-    requires over { IsOver (signatures_of earlier.now) store.now }
+pub(crate) fn gap(env: &Environment, store: &Store, stack: &mut Vec<Item>) -> Result<(), K>
+    requires over { IsOver (signatures_of env.now) store.now }
     requires stack { AreItemsIn store.now stack.old.items }
     ensures ids { OnOk result (AreItemsIn store.now stack.new.items) }
-    ensures row { (at n : ℕ) (st : State Tree) → st.ctx ≡ store.now.context → st.stack ≡ items_at store.now stack.old.items → GivesRule (proof_step draft (tables_of earlier.now) at code.Sorry n st) result (λ _. with_stack st (items_at store.now stack.new.items)) }
+    ensures row { (at n : ℕ) (st : State Tree) → st.ctx ≡ store.now.context → st.stack ≡ items_at store.now stack.old.items → GivesRule (proof_step draft (tables_of env.now) at code.Sorry n st) result (λ _. with_stack st (items_at store.now stack.new.items)) }
     ensures capacity { vec_capacity stack.old ≤ vec_capacity stack.new }
 {
     match pop(store, stack)? {
         Item::Expr(claim) => {
-            if !is_provable(earlier, store.sort_of(claim)) {
+            if !is_provable(env, store.sort_of(claim)) {
                 return Err(K::NotProvable);
             }
             put_back(stack, Item::Proof(claim));

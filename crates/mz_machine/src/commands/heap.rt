@@ -5,7 +5,7 @@ ghost use Rattle.mz_logic_theory.specs.Tree.{Tree};
 ghost use Rattle.mz_store.specs.Sharing.{IsIn, IsOver, tree_of};
 ghost use Rattle.mz_store.specs.declared.item.Item.TheVariants.{Conversion};
 ghost use Rattle.mz_store.specs.declared.item.Id.{Id};
-ghost use Rattle.mz_unify_theory.specs.Profile.{strict, expr, proof, conversion};
+ghost use Rattle.mz_machine_theory.specs.Profile.{strict, expr, proof, conversion};
 ghost use Rattle.mz_unify.specs.Stored.{items_at, item_at, AreItemsIn, IsItemIn};
 ghost use Rattle.mz_machine_theory.specs.MachineState.{RowsBefore, State};
 ghost use Rattle.mz_machine_theory.specs.Premises.{is_provable_sort, may_be_dummy_sort};
@@ -17,7 +17,7 @@ use crate::commands::by_rule;
 use crate::stack::{conversion_of, pop_expr, pop_obligation};
 use mz_cmd::K;
 use mz_logic_theory::Terms;
-use mz_machine_env::{Earlier, is_obligation, kept_at, top};
+use mz_machine_env::{Environment, is_obligation, kept_at, top};
 use mz_store::{Id, Item, Store};
 use mz_unify::{Stop, push};
 
@@ -114,25 +114,25 @@ pub(crate) fn save(store: &Store, stack: &[Item]) -> Result<Item, K>
 }
 
 /// Whether dummies may have the sort: it is declared, neither strict nor free.
-fn may_be_dummy(earlier: &Earlier, sort: u32) -> bool
-    ensures { result ≡ may_be_dummy_sort (slice_get (tables_of earlier.now).sorts sort) }
+fn may_be_dummy(env: &Environment, sort: u32) -> bool
+    ensures { result ≡ may_be_dummy_sort (slice_get (tables_of env.now).sorts sort) }
 {
-    if sort >= earlier.sorts() {
+    if sort >= env.sorts() {
         return false;
     }
-    let mods = earlier.mods(sort);
+    let mods = env.mods(sort);
     !mods.is_strict() && !mods.is_free()
 }
 
 /// A new bound variable of the sort, for the heap and the stack.
-pub(crate) fn dummy(earlier: &Earlier, sort: u32, store: &mut Store) -> Result<Id, Stop>
-    requires over { IsOver (signatures_of earlier.now) store.old }
-    ensures grows { OnOk result (Grows (signatures_of earlier.now) store.old store.new) }
+pub(crate) fn dummy(env: &Environment, sort: u32, store: &mut Store) -> Result<Id, Stop>
+    requires over { IsOver (signatures_of env.now) store.old }
+    ensures grows { OnOk result (Grows (signatures_of env.now) store.old store.new) }
     ensures nodes { length store.new.entries ≤ length store.old.entries + 1 }
     ensures ids { IfOk result (λ id. IsIn store.new id.0) }
-    ensures row { (at : ℕ) (st : State Tree) → st.ctx ≡ store.old.context → Gives (proof_step strict (tables_of earlier.now) at code.Dummy sort st) result (λ id. record { ctx = store.new.context; heap = st.heap ++ expr (tree_of store.new id.0) ∷ []; stack = expr (tree_of store.new id.0) ∷ st.stack; hyps = st.hyps }) }
+    ensures row { (at : ℕ) (st : State Tree) → st.ctx ≡ store.old.context → Gives (proof_step strict (tables_of env.now) at code.Dummy sort st) result (λ id. record { ctx = store.new.context; heap = st.heap ++ expr (tree_of store.new id.0) ∷ []; stack = expr (tree_of store.new id.0) ∷ st.stack; hyps = st.hyps }) }
 {
-    if !may_be_dummy(earlier, sort) {
+    if !may_be_dummy(env, sort) {
         return Err(Stop::Rule(K::DummySort));
     }
     if store.bound_count() >= 55 {
@@ -145,25 +145,25 @@ pub(crate) fn dummy(earlier: &Earlier, sort: u32, store: &mut Store) -> Result<I
 }
 
 /// Whether claims may have the sort: it is declared and provable.
-pub(crate) fn is_provable(earlier: &Earlier, sort: u32) -> bool
-    ensures { result ≡ is_provable_sort (slice_get (tables_of earlier.now).sorts sort) }
+pub(crate) fn is_provable(env: &Environment, sort: u32) -> bool
+    ensures { result ≡ is_provable_sort (slice_get (tables_of env.now).sorts sort) }
 {
-    if sort >= earlier.sorts() {
+    if sort >= env.sorts() {
         return false;
     }
-    earlier.mods(sort).is_provable()
+    env.mods(sort).is_provable()
 }
 
 /// Takes an expression of a provable sort from the stack: a hypothesis, of which the heap has a
 /// proof from then on.
-pub(crate) fn hyp(earlier: &Earlier, store: &Store, stack: &mut Vec<Item>) -> Result<Id, K>
-    requires over { IsOver (signatures_of earlier.now) store.now }
+pub(crate) fn hyp(env: &Environment, store: &Store, stack: &mut Vec<Item>) -> Result<Id, K>
+    requires over { IsOver (signatures_of env.now) store.now }
     requires stack { AreItemsIn store.now stack.old.items }
     ensures ids { IfOk result (λ id. IsIn store.now id.0 × AreItemsIn store.now stack.new.items) }
-    ensures row { (at n : ℕ) (st : State Tree) → st.ctx ≡ store.now.context → st.stack ≡ items_at store.now stack.old.items → GivesRule (proof_step strict (tables_of earlier.now) at code.Hyp n st) result (λ id. record { ctx = st.ctx; heap = st.heap ++ proof (tree_of store.now id.0) ∷ []; stack = items_at store.now stack.new.items; hyps = st.hyps ++ tree_of store.now id.0 ∷ [] }) }
+    ensures row { (at n : ℕ) (st : State Tree) → st.ctx ≡ store.now.context → st.stack ≡ items_at store.now stack.old.items → GivesRule (proof_step strict (tables_of env.now) at code.Hyp n st) result (λ id. record { ctx = st.ctx; heap = st.heap ++ proof (tree_of store.now id.0) ∷ []; stack = items_at store.now stack.new.items; hyps = st.hyps ++ tree_of store.now id.0 ∷ [] }) }
 {
     let claim = pop_expr(store, stack)?;
-    if is_provable(earlier, store.sort_of(claim)) {
+    if is_provable(env, store.sort_of(claim)) {
         Ok(claim)
     } else {
         Err(K::NotProvable)

@@ -10,7 +10,7 @@ ghost use Rattle.mz_machine_theory.specs.Bodies.{row_steps};
 ghost use Rattle.mz_machine_env.specs.Before.{tables_of, signatures_of};
 ghost use Rattle.mz_machine.specs.OverStore.{GivesRule, Gives, UnlessMem};
 ghost use Rattle.mz_pmachine.specs.OverNodes.{with_stack, pop_unfolding};
-ghost use Rattle.mz_unify_theory.specs.Profile.{obligation};
+ghost use Rattle.mz_machine_theory.specs.Profile.{obligation};
 ghost use Rattle.mz_machine.specs.OpenEquations.{opened_on};
 ghost use Rattle.mz_pmachine.specs.OpenNodes.{of_nodes};
 ghost use Rattle.mz_pmachine_theory.specs.NodeIdentity.{Numbered, portable};
@@ -18,7 +18,7 @@ ghost use Rattle.mz_pmachine_theory.specs.NodeIdentity.{Numbered, portable};
 use crate::stack::{pop_conversion, pop_expr, pop_obligation, pop_proof};
 use mz_cmd::{K, Steps};
 use mz_logic_theory::Terms;
-use mz_machine_env::{Earlier, Spare, put_back};
+use mz_machine_env::{CommandBuffers, Environment, put_back};
 use mz_pmachine_unify::{Nodes, unify_in};
 use mz_store::{Id, Item};
 use mz_unify::{Stop, UnifyMode, push};
@@ -89,18 +89,18 @@ pub(crate) fn cong(nodes: &Nodes, stack: &mut Vec<Item>) -> Result<(Id, Id), K>
 /// obligation between that and the right side. The definition's stream runs on what it unfolds to.
 #[tactic(auto, unfolding(mz_machine_theory::specs::ProofMachine::proof_step))]
 pub(crate) fn unfold<L: Ledger>(
-    earlier: &Earlier,
+    env: &Environment,
     nodes: &Nodes,
     stack: &mut Vec<Item>,
-    spare: &mut Spare,
+    spare: &mut CommandBuffers,
     steps: &mut Steps<L>,
 ) -> Result<(), Stop>
-    requires over { IsOver (signatures_of earlier.now) nodes.now }
+    requires over { IsOver (signatures_of env.now) nodes.now }
     requires stack { AreItemsIn nodes.now stack.old.items }
     ensures ids { OnOk result (AreItemsIn nodes.now stack.new.items) }
-    ensures row { (at n : ℕ) (st : State Numbered) → st.ctx ≡ nodes.now.context → st.stack ≡ items_at nodes.now stack.old.items → Gives (proof_step portable (tables_of earlier.now) at code.Unfold n st) result (λ _. with_stack st (items_at nodes.now stack.new.items)) }
-    ensures steps { (n : ℕ) (st : State Numbered) → st.ctx ≡ nodes.now.context → st.stack ≡ items_at nodes.now stack.old.items → UnlessMem result (steps.new ≡ steps.old + row_steps portable (tables_of earlier.now) code.Unfold n st) }
-    ensures most { steps.new ≤ steps.old + length earlier.now.file }
+    ensures row { (at n : ℕ) (st : State Numbered) → st.ctx ≡ nodes.now.context → st.stack ≡ items_at nodes.now stack.old.items → Gives (proof_step portable (tables_of env.now) at code.Unfold n st) result (λ _. with_stack st (items_at nodes.now stack.new.items)) }
+    ensures steps { (n : ℕ) (st : State Numbered) → st.ctx ≡ nodes.now.context → st.stack ≡ items_at nodes.now stack.old.items → UnlessMem result (steps.new ≡ steps.old + row_steps portable (tables_of env.now) code.Unfold n st) }
+    ensures most { steps.new ≤ steps.old + length env.now.file }
 {
     let (unfolded, left, right) = match pop_unfolding(nodes, stack) {
         Ok(items) => items,
@@ -109,13 +109,13 @@ pub(crate) fn unfold<L: Ledger>(
     let Some(term) = nodes.head(left) else {
         return Err(Stop::Rule(K::Unfold));
     };
-    if !earlier.has_body(term) {
+    if !env.has_body(term) {
         return Err(Stop::Rule(K::Unfold));
     }
     spare.hyps.clear();
-    let stream = earlier.stream_of_term(term);
+    let stream = env.stream_of_term(term);
     unify_in(
-        earlier,
+        env,
         stream,
         UnifyMode::Body,
         nodes.args(left),

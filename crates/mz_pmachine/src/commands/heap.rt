@@ -4,7 +4,7 @@ ghost use Rattle.mz_cmd.specs.declared.code.ProofCode.TheVariants as code;
 ghost use Rattle.mz_pmachine_unify.specs.Numbering.{IsIn, IsOver, expr_of};
 ghost use Rattle.mz_store.specs.declared.item.Item.TheVariants.{Conversion};
 ghost use Rattle.mz_store.specs.declared.item.Id.{Id};
-ghost use Rattle.mz_unify_theory.specs.Profile.{expr, proof, conversion};
+ghost use Rattle.mz_machine_theory.specs.Profile.{expr, proof, conversion};
 ghost use Rattle.mz_pmachine_unify.specs.Stored.{items_at, item_at, AreItemsIn, IsItemIn};
 ghost use Rattle.mz_machine_theory.specs.MachineState.{RowsBefore, State};
 ghost use Rattle.mz_machine_theory.specs.Premises.{is_provable_sort, may_be_dummy_sort};
@@ -18,7 +18,7 @@ use crate::stack::{conversion_of, pop_expr, pop_obligation};
 use mz_cmd::K;
 use mz_logic_theory::Terms;
 use mz_machine::by_rule;
-use mz_machine_env::{Earlier, is_obligation, kept_at, top};
+use mz_machine_env::{Environment, is_obligation, kept_at, top};
 use mz_pmachine_unify::Nodes;
 use mz_store::{Id, Item};
 use mz_unify::{Stop, push};
@@ -86,26 +86,26 @@ pub(crate) fn save(nodes: &Nodes, stack: &[Item]) -> Result<Item, K>
 }
 
 /// Whether dummies may have the sort: it is declared, neither portable nor free.
-fn may_be_dummy(earlier: &Earlier, sort: u32) -> bool
-    ensures { result ≡ may_be_dummy_sort (slice_get (tables_of earlier.now).sorts sort) }
+fn may_be_dummy(env: &Environment, sort: u32) -> bool
+    ensures { result ≡ may_be_dummy_sort (slice_get (tables_of env.now).sorts sort) }
 {
-    if sort >= earlier.sorts() {
+    if sort >= env.sorts() {
         return false;
     }
-    let mods = earlier.mods(sort);
+    let mods = env.mods(sort);
     !mods.is_strict() && !mods.is_free()
 }
 
 /// A new bound variable of the sort, for the heap and the stack.
-pub(crate) fn dummy(earlier: &Earlier, sort: u32, nodes: &mut Nodes) -> Result<Id, Stop>
-    requires over { IsOver (signatures_of earlier.now) nodes.old }
-    ensures grows { OnOk result (Grows (signatures_of earlier.now) nodes.old nodes.new) }
+pub(crate) fn dummy(env: &Environment, sort: u32, nodes: &mut Nodes) -> Result<Id, Stop>
+    requires over { IsOver (signatures_of env.now) nodes.old }
+    ensures grows { OnOk result (Grows (signatures_of env.now) nodes.old nodes.new) }
     ensures nodes { length nodes.new.entries ≤ length nodes.old.entries + 1 }
     ensures next { OnOk result (nodes.new.next ≡ nodes.old.next) }
     ensures ids { IfOk result (λ id. IsIn nodes.new id.0) }
-    ensures row { (at : ℕ) (st : State Numbered) → st.ctx ≡ nodes.old.context → Gives (proof_step portable (tables_of earlier.now) at code.Dummy sort st) result (λ id. record { ctx = nodes.new.context; heap = st.heap ++ expr (expr_of nodes.new id.0) ∷ []; stack = expr (expr_of nodes.new id.0) ∷ st.stack; hyps = st.hyps }) }
+    ensures row { (at : ℕ) (st : State Numbered) → st.ctx ≡ nodes.old.context → Gives (proof_step portable (tables_of env.now) at code.Dummy sort st) result (λ id. record { ctx = nodes.new.context; heap = st.heap ++ expr (expr_of nodes.new id.0) ∷ []; stack = expr (expr_of nodes.new id.0) ∷ st.stack; hyps = st.hyps }) }
 {
-    if !may_be_dummy(earlier, sort) {
+    if !may_be_dummy(env, sort) {
         return Err(Stop::Rule(K::DummySort));
     }
     if nodes.bound_count() >= 55 {
@@ -118,25 +118,25 @@ pub(crate) fn dummy(earlier: &Earlier, sort: u32, nodes: &mut Nodes) -> Result<I
 }
 
 /// Whether claims may have the sort: it is declared and provable.
-pub(crate) fn is_provable(earlier: &Earlier, sort: u32) -> bool
-    ensures { result ≡ is_provable_sort (slice_get (tables_of earlier.now).sorts sort) }
+pub(crate) fn is_provable(env: &Environment, sort: u32) -> bool
+    ensures { result ≡ is_provable_sort (slice_get (tables_of env.now).sorts sort) }
 {
-    if sort >= earlier.sorts() {
+    if sort >= env.sorts() {
         return false;
     }
-    earlier.mods(sort).is_provable()
+    env.mods(sort).is_provable()
 }
 
 /// Takes an expression of a provable sort from the stack: a hypothesis, of which the heap has a
 /// proof from then on.
-pub(crate) fn hyp(earlier: &Earlier, nodes: &Nodes, stack: &mut Vec<Item>) -> Result<Id, K>
-    requires over { IsOver (signatures_of earlier.now) nodes.now }
+pub(crate) fn hyp(env: &Environment, nodes: &Nodes, stack: &mut Vec<Item>) -> Result<Id, K>
+    requires over { IsOver (signatures_of env.now) nodes.now }
     requires stack { AreItemsIn nodes.now stack.old.items }
     ensures ids { IfOk result (λ id. IsIn nodes.now id.0 × AreItemsIn nodes.now stack.new.items) }
-    ensures row { (at n : ℕ) (st : State Numbered) → st.ctx ≡ nodes.now.context → st.stack ≡ items_at nodes.now stack.old.items → GivesRule (proof_step portable (tables_of earlier.now) at code.Hyp n st) result (λ id. record { ctx = st.ctx; heap = st.heap ++ proof (expr_of nodes.now id.0) ∷ []; stack = items_at nodes.now stack.new.items; hyps = st.hyps ++ expr_of nodes.now id.0 ∷ [] }) }
+    ensures row { (at n : ℕ) (st : State Numbered) → st.ctx ≡ nodes.now.context → st.stack ≡ items_at nodes.now stack.old.items → GivesRule (proof_step portable (tables_of env.now) at code.Hyp n st) result (λ id. record { ctx = st.ctx; heap = st.heap ++ proof (expr_of nodes.now id.0) ∷ []; stack = items_at nodes.now stack.new.items; hyps = st.hyps ++ expr_of nodes.now id.0 ∷ [] }) }
 {
     let claim = pop_expr(nodes, stack)?;
-    if is_provable(earlier, nodes.sort_of(claim)) {
+    if is_provable(env, nodes.sort_of(claim)) {
         Ok(claim)
     } else {
         Err(K::NotProvable)

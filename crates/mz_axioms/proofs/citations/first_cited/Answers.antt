@@ -1,5 +1,5 @@
 use Rattle.std.proofs.Common.{rules, ◌+◌, sym, subst, arith, ℕ}
-use Rattle.mz_unify_theory.proofs.Offered.{further}
+use Rattle.mz_machine_theory.proofs.Offered.{further}
 use Rattle.mz_axioms.specs.Citations.{IsFirstCitation}
 use Rattle.mz_axioms.proofs.Citing.{Passed, passed-first, passed-more, passed-here, passed-none}
 use Rattle.mz_axioms.proofs.citations.first_cited.Goals as goal

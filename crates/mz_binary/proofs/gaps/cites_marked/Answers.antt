@@ -1,7 +1,7 @@
 use Rattle.std.proofs.Common.{◌∙◌, ◌+◌, ℕ, refl, drop, sym, ap, arith, subst, List}
 use Rattle.std.specs.Prelude.{◌↔◌}
 use Rattle.std.proofs.lemmas.List.{drop-drop}
-use Rattle.mz_unify_theory.proofs.Offered.{further}
+use Rattle.mz_machine_theory.proofs.Offered.{further}
 use Rattle.mz_binary_theory.specs.Gapped.{CitesMarked}
 use Rattle.mz_binary.proofs.CitedMarks.{cited-here, cited-later, none-then}
 use Rattle.mz_binary.proofs.gaps.cites_marked.Goals as goal

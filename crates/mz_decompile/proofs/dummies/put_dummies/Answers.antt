@@ -1,6 +1,6 @@
 use Rattle.std.proofs.Common.{◌+◌, [], ◌∷◌, drop, get_or, map}
 use Rattle.std.proofs.lemmas.Result.{on_ok_weaker}
-use Rattle.mz_unify_theory.specs.Spells.{dummy_of}
+use Rattle.mz_machine_theory.specs.Spells.{dummy_of}
 use Rattle.mz_decompile_text.specs.Phrasing.{binder, binders}
 use Rattle.mz_decompile_text.specs.Naming.{vocabulary_by}
 use Rattle.mz_decompile.proofs.Adding.{added-first, added-more, added-there, added-last}

@@ -1,5 +1,5 @@
 use Rattle.std.proofs.Common.{◌∙◌, map, refl, sym, ap}
-use Rattle.mz_unify_theory.specs.Spells.{dummy_of}
+use Rattle.mz_machine_theory.specs.Spells.{dummy_of}
 use Rattle.mz_trace.specs.Traces.{under_lets}
 use Rattle.mz_trace.specs.Runs.{dummies_in, lets_in, root_in}
 use Rattle.mz_decompile.proofs.proof.prove.Goals as goal

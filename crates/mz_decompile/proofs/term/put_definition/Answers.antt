@@ -1,6 +1,6 @@
 use Rattle.std.proofs.Common.{◌∷◌, [], ℕ, List, subst, arith, map}
 use Rattle.mz_layout_tables.proofs.Offered.{length-term_words}
-use Rattle.mz_unify_theory.specs.Spells.{dummy_of}
+use Rattle.mz_machine_theory.specs.Spells.{dummy_of}
 use Rattle.mz_decompile_text.specs.Phrases.{a_list}
 use Rattle.mz_decompile_text.specs.Phrasing.{binders}
 use Rattle.mz_decompile_text.specs.Naming.{vocabulary_by}

@@ -1,5 +1,5 @@
 use Rattle.std.proofs.Common.{◌<◌, ◌∷◌, [], ℕ, All, List, subst, sym, length, map, arith}
-use Rattle.mz_unify_theory.specs.Spells.{dummy_of}
+use Rattle.mz_machine_theory.specs.Spells.{dummy_of}
 use Rattle.mz_decompile_text.specs.Phrases.{a_list}
 use Rattle.mz_decompile_text.specs.Phrasing.{binders}
 use Rattle.mz_decompile_text.specs.Naming.{vocabulary_by}

@@ -1,5 +1,5 @@
 use Rattle.std.proofs.Common.{◌<◌, ◌∙◌, length, subst, sym}
-use Rattle.mz_unify_theory.specs.Streams.{StreamIs}
+use Rattle.mz_machine_theory.specs.Streams.{StreamIs}
 use Rattle.mz_decompile_text.proofs.Commands.{begins, ended, never_ok, one_more}
 use Rattle.mz_decompile_text.proofs.command.first_step.Goals as goal
 

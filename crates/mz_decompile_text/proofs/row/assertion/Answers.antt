@@ -3,9 +3,9 @@ use Rattle.std.proofs.lemmas.List.{reverse-reverse}
 use Rattle.mz_logic_theory.specs.Tree.{listed}
 use Rattle.mz_logic_theory.proofs.Offered.{length-binders}
 use Rattle.mz_layout_tables.specs.Tables.{thm_row}
-use Rattle.mz_unify_theory.specs.Spells.{at_first}
-use Rattle.mz_unify_theory.specs.Streams.{StreamIs, of_assertion}
-use Rattle.mz_unify_theory.proofs.Offered.{trees_of-listed}
+use Rattle.mz_machine_theory.specs.Spells.{at_first}
+use Rattle.mz_machine_theory.specs.Streams.{StreamIs, of_assertion}
+use Rattle.mz_machine_theory.proofs.Offered.{trees_of-listed}
 use Rattle.mz_decompile_text.specs.Naming.{vocabulary_by}
 use Rattle.mz_decompile_text.specs.Phrasing.{expression, expressions}
 use Rattle.mz_decompile_text.specs.Numbers.{AreAt}

@@ -2,8 +2,8 @@ use Rattle.std.proofs.Common.{◌≡◌, ◌∙◌, [], ap, arith, drop, length,
 use Rattle.mz_logic_theory.proofs.Offered.{length-binders}
 use Rattle.mz_layout_tables.specs.Tables.{term_row}
 use Rattle.mz_layout_tables.proofs.Offered.{length-term_words}
-use Rattle.mz_unify_theory.specs.Spells.{Marks, at_first}
-use Rattle.mz_unify_theory.specs.Streams.{StreamIs, of_definition}
+use Rattle.mz_machine_theory.specs.Spells.{Marks, at_first}
+use Rattle.mz_machine_theory.specs.Streams.{StreamIs, of_definition}
 use Rattle.mz_decompile_text.specs.Naming.{vocabulary_by}
 use Rattle.mz_decompile_text.specs.Phrasing.{expression}
 use Rattle.mz_decompile_text.proofs.RowNumbers.{is_phrase}

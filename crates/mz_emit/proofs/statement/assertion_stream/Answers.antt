@@ -4,7 +4,7 @@ use Rattle.mz_emit_theory.specs.SymbolicState.{from_to}
 use Rattle.mz_store.specs.Sharing.{tree_of, trees_of}
 use Rattle.mz_emit_theory.specs.InReach.{AllInReach, InReach}
 use Rattle.mz_emit_theory.specs.StreamWriting.{assertion_written, stream_of, write, writing_start}
-use Rattle.mz_unify_theory.proofs.Offered.{length-params}
+use Rattle.mz_machine_theory.proofs.Offered.{length-params}
 use Rattle.mz_emit.proofs.Going.{marks_after}
 use Rattle.mz_emit.proofs.Starting.{assertion_end, one_cut, statement_of}
 use Rattle.mz_emit.proofs.statement.assertion_stream.Goals as goal

@@ -4,7 +4,7 @@ use Rattle.mz_store.specs.Sharing.{sort_of, tree_of}
 use Rattle.mz_emit_theory.specs.InReach.{InReach}
 use Rattle.mz_emit_theory.proofs.Offered.{reach_of_sort}
 use Rattle.mz_emit_theory.specs.StreamWriting.{definition_written, stream_of, writing_start}
-use Rattle.mz_unify_theory.proofs.Offered.{length-params}
+use Rattle.mz_machine_theory.proofs.Offered.{length-params}
 use Rattle.mz_emit.specs.Going.{spelled}
 use Rattle.mz_emit.proofs.Starting.{ended, one_cut, statement_of}
 use Rattle.mz_emit.proofs.statement.definition_stream.Goals as goal

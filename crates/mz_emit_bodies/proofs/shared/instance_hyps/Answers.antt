@@ -8,14 +8,14 @@ use Rattle.mz_emit_bodies.proofs.shared.instance_hyps.Goals as goal
 
 pub instance_id-requires : goal.instance_id-requires
 instance_id-requires g c =
-    let cut = past-at c.args.hyps.now c.loop-i.i c.lent.result (c.at.ensures ∙ ap Some (sym c.lent.ensures)) in
+    let cut = past-at c.args.hyps.now c.loop-i.i c.borrowed.result (c.at.ensures ∙ ap Some (sym c.borrowed.ensures)) in
     let can = can_make _ _ _ c.args.operands.now _ _ _ _ _ cut c.requires.ids c.loop-i.invariant in
     search (rules, can.0, can.1, can.2, can.3)
 
 pub loop-i-preserved : goal.loop-i-preserved
 loop-i-preserved g c =
     let hs = c.args.hyps.now in
-    let cut = past-at hs c.loop-i.i c.lent.result (c.at.ensures ∙ ap Some (sym c.lent.ensures)) in
+    let cut = past-at hs c.loop-i.i c.borrowed.result (c.at.ensures ∙ ap Some (sym c.borrowed.ensures)) in
     subst (λ ids. Making (signatures_of (g.T.Terms.all_terms c.args.terms.now)) c.args.store.now c.instance_id.new.store c.args.operands.now ids (past (c.loop-i.i + 1) hs) hs)
     (sym c.in_ok-push.ensures.items)
     (made _ _ _ c.args.operands.now _ _ _ _ _ cut c.requires.ids c.loop-i.invariant _ c.in_ok-id.id c.in_ok-id.ensures.holds c.in_ok-id.ensures.grows c.in_ok-id.ensures.over)

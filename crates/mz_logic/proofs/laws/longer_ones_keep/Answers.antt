@@ -1,4 +1,4 @@
-use Rattle.mz_logic_theory.proofs.Offered.{keep_sorts, keep_fits, keep_variables, keep_apart, keep_conversions, keep_derivations}
+use Rattle.mz_logic_theory.proofs.Offered.{keep_sorts, keep_fits, keep_variables, keep_disjoint, keep_conversions, keep_derivations}
 use Rattle.mz_logic.proofs.laws.longer_ones_keep.Goals as goal
 
 pub returns-clause-sorts : goal.returns-clause-sorts
@@ -11,7 +11,7 @@ pub returns-clause-variables : goal.returns-clause-variables
 returns-clause-variables c = keep_variables
 
 pub returns-clause-apart : goal.returns-clause-apart
-returns-clause-apart c = keep_apart
+returns-clause-apart c = keep_disjoint
 
 pub returns-clause-conversions : goal.returns-clause-conversions
 returns-clause-conversions c = keep_conversions

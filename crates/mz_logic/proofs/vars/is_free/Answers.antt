@@ -6,7 +6,7 @@ use Rattle.mz_logic.proofs.vars.is_free.Goals as goal
 
 pub in_free_tree-requires : goal.in_free_tree-requires
 in_free_tree-requires c =
-    subst (InRange (signatures c.args.env.now) (length c.args.ctx.now)) (sym c.lent.ensures) (range_of_sort (signatures c.args.env.now) c.args.ctx.now c.args.expr.now c.requires.sorted.0 c.requires.sorted.1)
+    subst (InRange (signatures c.args.env.now) (length c.args.ctx.now)) (sym c.borrowed.ensures) (range_of_sort (signatures c.args.env.now) c.args.ctx.now c.args.expr.now c.requires.sorted.0 c.requires.sorted.1)
 
 pub returns-then-not-is_bound : goal.returns-then-not-is_bound
 returns-then-not-is_bound c = (

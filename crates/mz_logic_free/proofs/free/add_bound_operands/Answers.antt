@@ -13,9 +13,9 @@ loop-place-preserved c =
     let P : ℕ → ℕ → Type 0 = λ j x. IsBoundAt c.args.params.now j × (operand c.args.es.now j ≡ var x) in
     let W : ℕ → Type 0 = λ x. Contains c.args.variables.now x ⊎ IsOperandAt c.args.params.now c.args.es.now c.args.places.now x in
     let p = get_or items c.loop-place.place-index 0 in
-    elim c.match-lent_bound_operand.branch [
+    elim c.match-borrowed_bound_operand.branch [
       | in-Some+in_ok-add w ↦ (
-          let New : ℕ → Type 0 = Contains c.match-lent_bound_operand.variables in
+          let New : ℕ → Type 0 = Contains c.match-borrowed_bound_operand.variables in
           let (first, grown) = c.loop-place.invariant.grows in
           let (more, added) = w.in_ok-add.ensures.grows in
           let has = subst (λ (xs : List ℕ). (y : ℕ) → Contains xs y ↔ (Contains c.loop-place.variables y ⊎ (y ≡ w.in-Some.x))) (sym w.variables-is) w.in_ok-add.ensures.has in
@@ -25,7 +25,7 @@ loop-place-preserved c =
             has = reaches-step P (Contains c.loop-place.variables) New W items c.loop-place.place-index 0 c.loop-place-test.true c.loop-place.invariant.has step;
           })
       | in_default w ↦ (
-          let New : ℕ → Type 0 = Contains c.match-lent_bound_operand.variables in
+          let New : ℕ → Type 0 = Contains c.match-borrowed_bound_operand.variables in
           let (first, grown) = c.loop-place.invariant.grows in
           let step = no-place P (Contains c.loop-place.variables) New p (λ y at. w.in_default.ensures y at.0 at.1)
           (λ y. (subst (λ (xs : List ℕ). Contains xs y) w.variables-is, subst (λ (xs : List ℕ). Contains xs y) (sym w.variables-is))) in

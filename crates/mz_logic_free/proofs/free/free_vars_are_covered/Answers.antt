@@ -10,7 +10,7 @@ use Rattle.mz_logic_free.proofs.free.free_vars_are_covered.Goals as goal
 
 pub covers-requires : goal.covers-requires
 covers-requires c = record {
-  there = subst (InRange (signatures c.args.env.now) (length c.args.ctx.now)) (sym c.lent.ensures) (range_of_sort (signatures c.args.env.now) c.args.ctx.now c.args.expr.now c.requires.sorted.0 c.requires.sorted.1);
+  there = subst (InRange (signatures c.args.env.now) (length c.args.ctx.now)) (sym c.borrowed.ensures) (range_of_sort (signatures c.args.env.now) c.args.ctx.now c.args.expr.now c.requires.sorted.0 c.requires.sorted.1);
   known = λ y at. absurd (contains_none y (subst (λ (ys : List ℕ). Contains ys y) c.requires.known at));
 }
 
@@ -20,10 +20,10 @@ returns c =
     let covered = c.in_ok-cover_places.ensures in
     IfOk-weaker c.covers.result _ _
     (λ b e. (
-      λ is x free. elim ((covered x).0 (e.0 is x (subst (Free x) (sym c.lent.ensures) free))) [
+      λ is x free. elim ((covered x).0 (e.0 is x (subst (Free x) (sym c.borrowed.ensures) free))) [
         | inl none ↦ absurd (contains_none x (subst (λ (ys : List ℕ). Contains ys x) c.requires.empty none))
         | inr here ↦ here
       ],
-      λ all. e.1 (λ x free. (covered x).1 (inr (all x (subst (Free x) c.lent.ensures free)))),
+      λ all. e.1 (λ x free. (covered x).1 (inr (all x (subst (Free x) c.borrowed.ensures free)))),
     ))
     c.covers.ensures.answer

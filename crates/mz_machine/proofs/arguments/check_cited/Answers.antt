@@ -16,7 +16,7 @@ use Rattle.mz_machine.proofs.arguments.check_cited.Goals as goal
 use Rattle.mz_machine.proofs.arguments.check_cited.Goals.{then-bound+in_ok-push, else-bound}
 
 pub operands-init : goal.operands-init
-operands-init c = (refl, ap (λ (ps : List ℕ). ps ++ bound_places 0 (params_of c.args.earlier.now.file c.args.row)) c.clear.ensures.items)
+operands-init c = (refl, ap (λ (ps : List ℕ). ps ++ bound_places 0 (params_of c.args.env.now.file c.args.row)) c.clear.ensures.items)
 
 pub check_operand-requires : goal.check_operand-requires
 check_operand-requires c =
@@ -27,17 +27,17 @@ pub returns-in-Err-clause-fit : goal.returns-in-Err-clause-fit
 returns-in-Err-clause-fit c =
     let here : c.operands.j < length c.args.operands.now = omega (arith, c.requires.many, c.arity_of-j-end.ensures, c.operands-test.true) in
     sym c.operands.invariant.0
-    ∙ fit-step (signatures_of c.args.earlier.now) c.args.store.now.context (trees_at c.args.store.now c.args.operands.now) (params_of c.args.earlier.now.file c.args.row) c.operands.j _ c.word_from-word.result _
-    (tree-at c.args.store.now c.args.operands.now c.operands.j _ (slice_get-get_or _ _ _ here)) c.word_from-word.ensures (λ q s b. c.in-Err.ensures (signatures_of c.args.earlier.now) q c.requires.over s b)
+    ∙ fit-step (signatures_of c.args.env.now) c.args.store.now.context (trees_at c.args.store.now c.args.operands.now) (params_of c.args.env.now.file c.args.row) c.operands.j _ c.word_from-word.result _
+    (tree-at c.args.store.now c.args.operands.now c.operands.j _ (slice_get-get_or _ _ _ here)) c.word_from-word.ensures (λ q s b. c.in-Err.ensures (signatures_of c.args.env.now) q c.requires.over s b)
 
 pub operands-preserved : goal.operands-preserved
 operands-preserved c =
-    let ws = params_of c.args.earlier.now.file c.args.row in
+    let ws = params_of c.args.env.now.file c.args.row in
     let here : c.operands.j < length c.args.operands.now = omega (arith, c.requires.many, c.arity_of-j-end.ensures, c.operands-test.true) in
     let rest = bound_places (c.operands.j + 1) (drop (c.operands.j + 1) ws) in (
       rw (add-one c.operands.j)
-          (sym (fit-step (signatures_of c.args.earlier.now) c.args.store.now.context (trees_at c.args.store.now c.args.operands.now) ws c.operands.j _ c.word_from-word.result _
-          (tree-at c.args.store.now c.args.operands.now c.operands.j _ (slice_get-get_or _ _ _ here)) c.word_from-word.ensures (λ q s b. c.in_default.ensures (signatures_of c.args.earlier.now) q c.requires.over s b)) ∙ c.operands.invariant.0),
+          (sym (fit-step (signatures_of c.args.env.now) c.args.store.now.context (trees_at c.args.store.now c.args.operands.now) ws c.operands.j _ c.word_from-word.result _
+          (tree-at c.args.store.now c.args.operands.now c.operands.j _ (slice_get-get_or _ _ _ here)) c.word_from-word.ensures (λ q s b. c.in_default.ensures (signatures_of c.args.env.now) q c.requires.over s b)) ∙ c.operands.invariant.0),
       elim c.if-bound.branch [
         | then-bound+in_ok-push r ↦
             ap (λ b. b.items ++ rest) r.places-is ∙ ap (λ (ps : List ℕ). ps ++ rest) r.in_ok-push.ensures.ok
@@ -54,11 +54,11 @@ pub returns-clause-fit : goal.returns-clause-fit
 returns-clause-fit c =
     let past : length (trees_at c.args.store.now c.args.operands.now) ≤ c.operands.j = omega (arith, length-map c.args.operands.now (λ (i : Id). tree_of c.args.store.now i.0), c.requires.many, c.arity_of-j-end.ensures, c.operands-test.false) in
     sym c.operands.invariant.0
-    ∙ fit-end (signatures_of c.args.earlier.now) c.args.store.now.context (trees_at c.args.store.now c.args.operands.now) _ c.operands.j past
+    ∙ fit-end (signatures_of c.args.env.now) c.args.store.now.context (trees_at c.args.store.now c.args.operands.now) _ c.operands.j past
 
 pub returns-clause-places : goal.returns-clause-places
 returns-clause-places c =
-    let ws = params_of c.args.earlier.now.file c.args.row in
+    let ws = params_of c.args.env.now.file c.args.row in
     places-all ws c.operands.j c.operands.places.items (bound_places 0 ws) (omega (arith, c.arity_of-j-end.ensures, c.operands-test.false)) c.operands.invariant.1
 
 pub returns-in_err-push-clause-fit : goal.returns-in_err-push-clause-fit

@@ -25,18 +25,18 @@ returns-in_err-check_operand c =
     let here : c.operands.j < length c.args.operands.now = omega (arith, c.requires.many, c.arity_of-j-end.ensures, c.operands-test.true) in
     rw (p.1, p.2)
     (sym c.operands.invariant
-    ∙ fit-step (signatures_of c.args.earlier.now) c.args.store.now.context (trees_at c.args.store.now c.args.operands.now) (params_of c.args.earlier.now.file c.args.row) c.operands.j _ c.word_from-word.result _
-    (tree-at c.args.store.now c.args.operands.now c.operands.j _ (slice_get-get_or _ _ _ here)) c.word_from-word.ensures (λ q s b. c.in_err-check_operand.ensures (signatures_of c.args.earlier.now) q c.requires.over s b))
+    ∙ fit-step (signatures_of c.args.env.now) c.args.store.now.context (trees_at c.args.store.now c.args.operands.now) (params_of c.args.env.now.file c.args.row) c.operands.j _ c.word_from-word.result _
+    (tree-at c.args.store.now c.args.operands.now c.operands.j _ (slice_get-get_or _ _ _ here)) c.word_from-word.ensures (λ q s b. c.in_err-check_operand.ensures (signatures_of c.args.env.now) q c.requires.over s b))
 
 pub operands-preserved : goal.operands-preserved
 operands-preserved c =
     let here : c.operands.j < length c.args.operands.now = omega (arith, c.requires.many, c.arity_of-j-end.ensures, c.operands-test.true) in
     rw (add-one c.operands.j)
-    (sym (fit-step (signatures_of c.args.earlier.now) c.args.store.now.context (trees_at c.args.store.now c.args.operands.now) (params_of c.args.earlier.now.file c.args.row) c.operands.j _ c.word_from-word.result _
-    (tree-at c.args.store.now c.args.operands.now c.operands.j _ (slice_get-get_or _ _ _ here)) c.word_from-word.ensures (λ q s b. c.in_ok-check_operand.ensures (signatures_of c.args.earlier.now) q c.requires.over s b)) ∙ c.operands.invariant)
+    (sym (fit-step (signatures_of c.args.env.now) c.args.store.now.context (trees_at c.args.store.now c.args.operands.now) (params_of c.args.env.now.file c.args.row) c.operands.j _ c.word_from-word.result _
+    (tree-at c.args.store.now c.args.operands.now c.operands.j _ (slice_get-get_or _ _ _ here)) c.word_from-word.ensures (λ q s b. c.in_ok-check_operand.ensures (signatures_of c.args.env.now) q c.requires.over s b)) ∙ c.operands.invariant)
 
 pub returns : goal.returns
 returns c =
     let past : length (trees_at c.args.store.now c.args.operands.now) ≤ c.operands.j = omega (arith, length-map c.args.operands.now (λ (i : Id). tree_of c.args.store.now i.0), c.requires.many, c.arity_of-j-end.ensures, c.operands-test.false) in
     sym c.operands.invariant
-    ∙ fit-end (signatures_of c.args.earlier.now) c.args.store.now.context (trees_at c.args.store.now c.args.operands.now) _ c.operands.j past
+    ∙ fit-end (signatures_of c.args.env.now) c.args.store.now.context (trees_at c.args.store.now c.args.operands.now) _ c.operands.j past

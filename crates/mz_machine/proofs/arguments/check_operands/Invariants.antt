@@ -9,5 +9,5 @@ use Rattle.mz_machine.proofs.arguments.check_operands.Given as goal
 -- the operands that are left decide
 abbrev pub invariant-operands : goal.invariant-operands
 invariant-operands l =
-    operands_fit (signatures_of l.earlier) l.store.context (drop l.j (trees_at l.store l.operands)) (drop l.j (binders_of (params_of l.earlier.file l.row)))
-    ≡ operands_fit (signatures_of l.earlier) l.store.context (trees_at l.store l.operands) (binders_of (params_of l.earlier.file l.row))
+    operands_fit (signatures_of l.env) l.store.context (drop l.j (trees_at l.store l.operands)) (drop l.j (binders_of (params_of l.env.file l.row)))
+    ≡ operands_fit (signatures_of l.env) l.store.context (trees_at l.store l.operands) (binders_of (params_of l.env.file l.row))

@@ -12,4 +12,4 @@ returns-in-Good c =
     let t = c.args.setting.now in
     let s = c.args.parts.now.store in
     let running = subst (λ (r : BodyChecked). WhereGood r (IsRunning t c.args.parts.now)) c.in-Good.is c.requires in
-    remembered t.earlier.file t.row (kind_at (byte_of t.kind)) t.entered running.1 s running.0.mode running.0.context running.0.params _ running.0.over
+    remembered t.env.file t.row (kind_at (byte_of t.kind)) t.entered running.1 s running.0.mode running.0.context running.0.params _ running.0.over

@@ -1,14 +1,13 @@
 use Rattle.std.proofs.Common.{◌≡◌, ℕ, ◌+◌, ◌∙◌, length, sym, ap, subst, arith}
 use Rattle.mz_store.specs.Sharing.{Sharing}
-use Rattle.mz_machine.specs.Rooms.{OneACommand}
+use Rattle.mz_machine.specs.Tidiness.{OneACommand}
 use Rattle.mz_machine.specs.Running.{IsRunning, machine_of}
 use Rattle.mz_machine.specs.Stepping.{reference}
 use Rattle.mz_machine.specs.Steps.{tables_for, heading_for}
-use Rattle.mz_unify_theory.specs.Profile.{plain}
-use Rattle.mz_unify_theory.proofs.Offered.{further}
+use Rattle.mz_machine_theory.specs.Profile.{plain}
+use Rattle.mz_machine_theory.proofs.Offered.{further, more-steps, within-steps}
 use Rattle.mz_machine_env.proofs.Offered.{at-first, cut-whole, long-whole, end-whole, end-refused, end-many, refused-whole, refused-many, goes-on, ends-there, goes-further}
 use Rattle.mz_machine.proofs.BodyRunning.{itself, goes, row-over, steps-over, most-over, end-answer, end-counts, stop-answer, stop-counts, place-fits, none-last, none-so-far, one-last, one-so-far, whatever}
-use Rattle.mz_machine_theory.proofs.Offered.{more-steps, within-steps}
 use Rattle.mz_machine.proofs.GapWalk.{gap-at-first, gap-ends, gap-goes-on}
 use Rattle.mz_machine.proofs.KnownParams.{where-good, stopped-good}
 use Rattle.mz_machine.proofs.Referring.{read-at}

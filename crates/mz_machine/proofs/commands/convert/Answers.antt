@@ -3,7 +3,7 @@ use Rattle.std.specs.Prelude.{IsTrue}
 use Rattle.std.proofs.lemmas.Result.{on_ok_weaker}
 use Rattle.mz_cmd.specs.declared.code.ProofCode.TheVariants as code
 use Rattle.mz_cmd.specs.declared.rule.K.TheVariants as k
-use Rattle.mz_unify_theory.specs.Profile.{strict}
+use Rattle.mz_machine_theory.specs.Profile.{strict}
 use Rattle.mz_unify.specs.declared.stop.Stop.TheVariants.{Rule}
 use Rattle.mz_unify.proofs.Offered.{items-in-both}
 use Rattle.mz_machine_theory.specs.ProofMachine.{proof_step}
@@ -19,7 +19,7 @@ use Rattle.mz_machine.proofs.commands.convert.Goals as goal
 
 pub returns-in-Conv-clause-done : goal.returns-in-Conv-clause-done
 returns-in-Conv-clause-done g c value hyps hyps_in =
-    let E = c.args.earlier.now in
+    let E = c.args.env.now in
     let s = c.args.store.now in
     let heap = c.args.heap.now.items in
     let stack = c.args.stack.now.items in
@@ -29,11 +29,11 @@ returns-in-Conv-clause-done g c value hyps hyps_in =
     (λ at. c.conv.ensures.row (tables_of E) at value st refl) (λ none. c.conv.ensures.capacity))
 
 pub returns-in-Conv-clause-steps : goal.returns-in-Conv-clause-steps
-returns-in-Conv-clause-steps g c value hyps = rw c.in-Conv.is (quiet c.by_rule.result c.args.steps.now (length c.args.earlier.now.file))
+returns-in-Conv-clause-steps g c value hyps = rw c.in-Conv.is (quiet c.by_rule.result c.args.steps.now (length c.args.env.now.file))
 
 pub returns-in-Refl-clause-done : goal.returns-in-Refl-clause-done
 returns-in-Refl-clause-done g c value hyps hyps_in =
-    let E = c.args.earlier.now in
+    let E = c.args.env.now in
     let s = c.args.store.now in
     let heap = c.args.heap.now.items in
     let stack = c.args.stack.now.items in
@@ -43,11 +43,11 @@ returns-in-Refl-clause-done g c value hyps hyps_in =
     (λ at. c.refl.ensures.row (tables_of E) at value st refl) (λ none. c.refl.ensures.capacity))
 
 pub returns-in-Refl-clause-steps : goal.returns-in-Refl-clause-steps
-returns-in-Refl-clause-steps g c value hyps = rw c.in-Refl.is (quiet c.by_rule-in-Refl.result c.args.steps.now (length c.args.earlier.now.file))
+returns-in-Refl-clause-steps g c value hyps = rw c.in-Refl.is (quiet c.by_rule-in-Refl.result c.args.steps.now (length c.args.env.now.file))
 
 pub returns-in-Symm-clause-done : goal.returns-in-Symm-clause-done
 returns-in-Symm-clause-done g c value hyps hyps_in =
-    let E = c.args.earlier.now in
+    let E = c.args.env.now in
     let s = c.args.store.now in
     let heap = c.args.heap.now.items in
     let stack = c.args.stack.now.items in
@@ -57,13 +57,13 @@ returns-in-Symm-clause-done g c value hyps hyps_in =
     (λ at. c.symm.ensures.row (tables_of E) at value st refl) (λ none. c.symm.ensures.capacity))
 
 pub returns-in-Symm-clause-steps : goal.returns-in-Symm-clause-steps
-returns-in-Symm-clause-steps g c value hyps = rw c.in-Symm.is (quiet c.by_rule-in-Symm.result c.args.steps.now (length c.args.earlier.now.file))
+returns-in-Symm-clause-steps g c value hyps = rw c.in-Symm.is (quiet c.by_rule-in-Symm.result c.args.steps.now (length c.args.env.now.file))
 
 -- ---- Unfold
 
 pub returns-in-Unfold-clause-done : goal.returns-in-Unfold-clause-done
 returns-in-Unfold-clause-done g c value hyps hyps_in =
-    let E = c.args.earlier.now in
+    let E = c.args.env.now in
     let s = c.args.store.now in
     let heap = c.args.heap.now.items in
     let stack = c.args.stack.now.items in
@@ -80,7 +80,7 @@ returns-in-Unfold-clause-steps g c value hyps =
 
 pub returns-in-ConvCut-clause-done : goal.returns-in-ConvCut-clause-done
 returns-in-ConvCut-clause-done g c value hyps hyps_in =
-    let E = c.args.earlier.now in
+    let E = c.args.env.now in
     let s = c.args.store.now in
     let heap = c.args.heap.now.items in
     let stack = c.args.stack.now.items in
@@ -90,13 +90,13 @@ returns-in-ConvCut-clause-done g c value hyps hyps_in =
     (λ at. c.conv_cut.ensures.row (tables_of E) at value st refl) (λ none. absurd (true-false (sym none))) (λ none. absurd (true-false (sym none))))
 
 pub returns-in-ConvCut-clause-steps : goal.returns-in-ConvCut-clause-steps
-returns-in-ConvCut-clause-steps g c value hyps = rw c.in-ConvCut.is (quiet c.conv_cut.result c.args.steps.now (length c.args.earlier.now.file))
+returns-in-ConvCut-clause-steps g c value hyps = rw c.in-ConvCut.is (quiet c.conv_cut.result c.args.steps.now (length c.args.env.now.file))
 
 -- ---- ConvSave
 
 pub returns-in-Ok-clause-done : goal.returns-in-Ok-clause-done
 returns-in-Ok-clause-done g c value hyps hyps_in =
-    let E = c.args.earlier.now in
+    let E = c.args.env.now in
     let s = c.args.store.now in
     let heap = c.args.heap.now.items in
     let stack = c.args.stack.now.items in
@@ -119,23 +119,23 @@ returns-in-Ok-clause-done g c value hyps hyps_in =
     c.put.ensures.err)
 
 pub returns-in-Ok-clause-steps : goal.returns-in-Ok-clause-steps
-returns-in-Ok-clause-steps g c value hyps = rw c.in-ConvSave.is (quiet c.put.result c.args.steps.now (length c.args.earlier.now.file))
+returns-in-Ok-clause-steps g c value hyps = rw c.in-ConvSave.is (quiet c.put.result c.args.steps.now (length c.args.env.now.file))
 
 pub returns-in-Err-clause-done : goal.returns-in-Err-clause-done
 returns-in-Err-clause-done g c value hyps hyps_in =
-    rw c.in-ConvSave.is (λ at. c.in-Err.ensures.row (tables_of c.args.earlier.now) at value (state_at c.args.store.now c.args.heap.now.items c.args.stack.now.items hyps) refl)
+    rw c.in-ConvSave.is (λ at. c.in-Err.ensures.row (tables_of c.args.env.now) at value (state_at c.args.store.now c.args.heap.now.items c.args.stack.now.items hyps) refl)
 
 pub returns-in-Err-clause-steps : goal.returns-in-Err-clause-steps
-returns-in-Err-clause-steps g c value hyps = rw c.in-ConvSave.is (quiet {A = Unit {0}} (Err (Rule c.in-Err.rule)) c.args.steps.now (length c.args.earlier.now.file))
+returns-in-Err-clause-steps g c value hyps = rw c.in-ConvSave.is (quiet {A = Unit {0}} (Err (Rule c.in-Err.rule)) c.args.steps.now (length c.args.env.now.file))
 
 -- ---- Sorry
 
 pub returns-in-Sorry-clause-done : goal.returns-in-Sorry-clause-done
 returns-in-Sorry-clause-done g c value hyps hyps_in =
-    rw c.in-Sorry.is (λ at. sorry-row strict (tables_of c.args.earlier.now) at value (state_at c.args.store.now c.args.heap.now.items c.args.stack.now.items hyps) refl)
+    rw c.in-Sorry.is (λ at. sorry-row strict (tables_of c.args.env.now) at value (state_at c.args.store.now c.args.heap.now.items c.args.stack.now.items hyps) refl)
 
 pub returns-in-Sorry-clause-steps : goal.returns-in-Sorry-clause-steps
-returns-in-Sorry-clause-steps g c value hyps = rw c.in-Sorry.is (quiet {A = Unit {0}} (Err (Rule k.Sorry)) c.args.steps.now (length c.args.earlier.now.file))
+returns-in-Sorry-clause-steps g c value hyps = rw c.in-Sorry.is (quiet {A = Unit {0}} (Err (Rule k.Sorry)) c.args.steps.now (length c.args.env.now.file))
 
 -- ---- what the calls ask
 

@@ -3,7 +3,7 @@ use Rattle.std.specs.Prelude.{slice_get, IsTrue}
 use Rattle.std.proofs.lemmas.Result.{on_ok_weaker}
 use Rattle.mz_cmd.specs.declared.code.ProofCode.TheVariants as code
 use Rattle.mz_store.specs.declared.item.Item.TheVariants.{Expr, Proof}
-use Rattle.mz_unify_theory.specs.Profile.{strict}
+use Rattle.mz_machine_theory.specs.Profile.{strict}
 use Rattle.mz_unify.proofs.Offered.{items-in-both, are-in-both, are-still-in}
 use Rattle.mz_unify.specs.Stored.{items_at}
 use Rattle.mz_machine_theory.specs.ProofMachine.{proof_step}
@@ -19,7 +19,7 @@ use Rattle.mz_machine.proofs.commands.keep.Goals as goal
 
 pub returns-in-Ref-clause-done : goal.returns-in-Ref-clause-done
 returns-in-Ref-clause-done c =
-    let E = c.args.earlier.now in
+    let E = c.args.env.now in
     let s = c.args.store.now in
     let heap = c.args.heap.now.items in
     let stack = c.args.stack.now.items in
@@ -34,7 +34,7 @@ returns-in-Ref-clause-done c =
 
 pub returns-in-ConvRef-clause-done : goal.returns-in-ConvRef-clause-done
 returns-in-ConvRef-clause-done c =
-    let E = c.args.earlier.now in
+    let E = c.args.env.now in
     let s = c.args.store.now in
     let heap = c.args.heap.now.items in
     let stack = c.args.stack.now.items in
@@ -50,7 +50,7 @@ returns-in-ConvRef-clause-done c =
 
 pub returns-in-Ok-clause-done : goal.returns-in-Ok-clause-done
 returns-in-Ok-clause-done c =
-    let E = c.args.earlier.now in
+    let E = c.args.env.now in
     let s = c.args.store.now in
     let heap = c.args.heap.now.items in
     let stack = c.args.stack.now.items in
@@ -76,7 +76,7 @@ returns-in-Ok-clause-done c =
 
 pub returns-in-Err-clause-done : goal.returns-in-Err-clause-done
 returns-in-Err-clause-done c =
-    let E = c.args.earlier.now in
+    let E = c.args.env.now in
     let s = c.args.store.now in
     let heap = c.args.heap.now.items in
     let stack = c.args.stack.now.items in
@@ -90,7 +90,7 @@ returns-in-Err-clause-done c =
 
 pub returns-in-Ok-hyp-clause-done : goal.returns-in-Ok-hyp-clause-done
 returns-in-Ok-hyp-clause-done c =
-    let E = c.args.earlier.now in
+    let E = c.args.env.now in
     let s = c.args.store.now in
     let heap = c.args.heap.now.items in
     let stack = c.args.stack.now.items in
@@ -120,7 +120,7 @@ returns-in-Err-hyp-clause-done c at =
 
 pub returns-in-Ok-save-clause-done : goal.returns-in-Ok-save-clause-done
 returns-in-Ok-save-clause-done c =
-    let E = c.args.earlier.now in
+    let E = c.args.env.now in
     let s = c.args.store.now in
     let heap = c.args.heap.now.items in
     let stack = c.args.stack.now.items in
@@ -143,7 +143,7 @@ returns-in-Ok-save-clause-done c =
 
 pub returns-in-Err-save-clause-done : goal.returns-in-Err-save-clause-done
 returns-in-Err-save-clause-done c at =
-    rw c.in-Save.is (c.in-Err-save.ensures.row (tables_of c.args.earlier.now) at c.args.value (state_at c.args.store.now c.args.heap.now.items c.args.stack.now.items c.args.hyps.now.items)
+    rw c.in-Save.is (c.in-Err-save.ensures.row (tables_of c.args.env.now) at c.args.value (state_at c.args.store.now c.args.heap.now.items c.args.stack.now.items c.args.hyps.now.items)
     (ap (items_at c.args.store.now) (sym c.deref.ensures.value)))
 
 -- ---- what the calls ask

@@ -2,7 +2,7 @@ use Rattle.std.proofs.Common.{◌≡◌, Err, length, refl}
 use Rattle.std.proofs.lemmas.Result.{on_ok_weaker}
 use Rattle.mz_cmd.specs.declared.code.ProofCode.TheVariants as code
 use Rattle.mz_store.specs.declared.item.Item.TheVariants.{Expr, Proof}
-use Rattle.mz_unify_theory.specs.Profile.{strict}
+use Rattle.mz_machine_theory.specs.Profile.{strict}
 use Rattle.mz_machine_theory.specs.ProofMachine.{proof_step}
 use Rattle.mz_machine_env.specs.Before.{signatures_of, tables_of}
 use Rattle.mz_machine.specs.OverStore.{state_at}
@@ -18,7 +18,7 @@ use Rattle.mz_machine.proofs.commands.make.Goals as goal
 
 pub returns-in-Ok-clause-done : goal.returns-in-Ok-clause-done
 returns-in-Ok-clause-done g c hyps hyps_in =
-    let E = c.args.earlier.now in
+    let E = c.args.env.now in
     let s = c.args.store.now in
     let heap = c.args.heap.now.items in
     let stack = c.args.stack.now.items in
@@ -30,7 +30,7 @@ returns-in-Ok-clause-done g c hyps hyps_in =
 
 pub returns-in-Err-clause-done : goal.returns-in-Err-clause-done
 returns-in-Err-clause-done g c hyps hyps_in =
-    let E = c.args.earlier.now in
+    let E = c.args.env.now in
     let s = c.args.store.now in
     let heap = c.args.heap.now.items in
     let stack = c.args.stack.now.items in
@@ -40,16 +40,16 @@ returns-in-Err-clause-done g c hyps hyps_in =
     (λ at. stops-as c.in-Err.stop _ (λ k. proof_step strict (tables_of E) at code.Term n st ≡ Err k) (λ k h. term-of strict (tables_of E) at n st (Err k) h) (c.in-Err.ensures.built at st refl refl)))
 
 pub returns-in-Ok-clause-steps : goal.returns-in-Ok-clause-steps
-returns-in-Ok-clause-steps g c hyps = rw c.in-Term.is (quiet c.push.result c.args.steps.now (length c.args.earlier.now.file))
+returns-in-Ok-clause-steps g c hyps = rw c.in-Term.is (quiet c.push.result c.args.steps.now (length c.args.env.now.file))
 
 pub returns-in-Err-clause-steps : goal.returns-in-Err-clause-steps
-returns-in-Err-clause-steps g c hyps = rw c.in-Term.is (quiet {A = Unit {0}} (Err c.in-Err.stop) c.args.steps.now (length c.args.earlier.now.file))
+returns-in-Err-clause-steps g c hyps = rw c.in-Term.is (quiet {A = Unit {0}} (Err c.in-Err.stop) c.args.steps.now (length c.args.env.now.file))
 
 -- ---- TermSave
 
 pub returns-in-Ok-build-clause-done : goal.returns-in-Ok-build-clause-done
 returns-in-Ok-build-clause-done g c hyps hyps_in =
-    let E = c.args.earlier.now in
+    let E = c.args.env.now in
     let s = c.args.store.now in
     let heap = c.args.heap.now.items in
     let stack = c.args.stack.now.items in
@@ -61,7 +61,7 @@ returns-in-Ok-build-clause-done g c hyps hyps_in =
 
 pub returns-in-Err-build-clause-done : goal.returns-in-Err-build-clause-done
 returns-in-Err-build-clause-done g c hyps hyps_in =
-    let E = c.args.earlier.now in
+    let E = c.args.env.now in
     let s = c.args.store.now in
     let heap = c.args.heap.now.items in
     let stack = c.args.stack.now.items in
@@ -71,16 +71,16 @@ returns-in-Err-build-clause-done g c hyps hyps_in =
     (λ at. stops-as c.in-Err-build.stop _ (λ k. proof_step strict (tables_of E) at code.TermSave n st ≡ Err k) (λ k h. term-save-of strict (tables_of E) at n st (Err k) h) (c.in-Err-build.ensures.built at st refl refl)))
 
 pub returns-in-Ok-build-clause-steps : goal.returns-in-Ok-build-clause-steps
-returns-in-Ok-build-clause-steps g c hyps = rw c.in-TermSave.is (quiet c.push_both.result c.args.steps.now (length c.args.earlier.now.file))
+returns-in-Ok-build-clause-steps g c hyps = rw c.in-TermSave.is (quiet c.push_both.result c.args.steps.now (length c.args.env.now.file))
 
 pub returns-in-Err-build-clause-steps : goal.returns-in-Err-build-clause-steps
-returns-in-Err-build-clause-steps g c hyps = rw c.in-TermSave.is (quiet {A = Unit {0}} (Err c.in-Err-build.stop) c.args.steps.now (length c.args.earlier.now.file))
+returns-in-Err-build-clause-steps g c hyps = rw c.in-TermSave.is (quiet {A = Unit {0}} (Err c.in-Err-build.stop) c.args.steps.now (length c.args.env.now.file))
 
 -- ---- Thm
 
 pub returns-in-Ok-cite-clause-done : goal.returns-in-Ok-cite-clause-done
 returns-in-Ok-cite-clause-done g c hyps hyps_in =
-    let E = c.args.earlier.now in
+    let E = c.args.env.now in
     let s = c.args.store.now in
     let heap = c.args.heap.now.items in
     let stack = c.args.stack.now.items in
@@ -92,7 +92,7 @@ returns-in-Ok-cite-clause-done g c hyps hyps_in =
 
 pub returns-in-Err-cite-clause-done : goal.returns-in-Err-cite-clause-done
 returns-in-Err-cite-clause-done g c hyps hyps_in =
-    let E = c.args.earlier.now in
+    let E = c.args.env.now in
     let s = c.args.store.now in
     let heap = c.args.heap.now.items in
     let stack = c.args.stack.now.items in
@@ -103,7 +103,7 @@ returns-in-Err-cite-clause-done g c hyps hyps_in =
 
 pub returns-in-Ok-cite-clause-steps : goal.returns-in-Ok-cite-clause-steps
 returns-in-Ok-cite-clause-steps g c hyps =
-    let E = c.args.earlier.now in
+    let E = c.args.env.now in
     let s = c.args.store.now in
     let heap = c.args.heap.now.items in
     let stack = c.args.stack.now.items in
@@ -113,7 +113,7 @@ returns-in-Ok-cite-clause-steps g c hyps =
 
 pub returns-in-Err-cite-clause-steps : goal.returns-in-Err-cite-clause-steps
 returns-in-Err-cite-clause-steps g c hyps =
-    let E = c.args.earlier.now in
+    let E = c.args.env.now in
     let s = c.args.store.now in
     let heap = c.args.heap.now.items in
     let stack = c.args.stack.now.items in
@@ -125,7 +125,7 @@ returns-in-Err-cite-clause-steps g c hyps =
 
 pub returns-in-Ok-cite-2-clause-done : goal.returns-in-Ok-cite-2-clause-done
 returns-in-Ok-cite-2-clause-done g c hyps hyps_in =
-    let E = c.args.earlier.now in
+    let E = c.args.env.now in
     let s = c.args.store.now in
     let heap = c.args.heap.now.items in
     let stack = c.args.stack.now.items in
@@ -137,7 +137,7 @@ returns-in-Ok-cite-2-clause-done g c hyps hyps_in =
 
 pub returns-in-Err-cite-2-clause-done : goal.returns-in-Err-cite-2-clause-done
 returns-in-Err-cite-2-clause-done g c hyps hyps_in =
-    let E = c.args.earlier.now in
+    let E = c.args.env.now in
     let s = c.args.store.now in
     let heap = c.args.heap.now.items in
     let stack = c.args.stack.now.items in
@@ -148,7 +148,7 @@ returns-in-Err-cite-2-clause-done g c hyps hyps_in =
 
 pub returns-in-Ok-cite-2-clause-steps : goal.returns-in-Ok-cite-2-clause-steps
 returns-in-Ok-cite-2-clause-steps g c hyps =
-    let E = c.args.earlier.now in
+    let E = c.args.env.now in
     let s = c.args.store.now in
     let heap = c.args.heap.now.items in
     let stack = c.args.stack.now.items in
@@ -158,7 +158,7 @@ returns-in-Ok-cite-2-clause-steps g c hyps =
 
 pub returns-in-Err-cite-2-clause-steps : goal.returns-in-Err-cite-2-clause-steps
 returns-in-Err-cite-2-clause-steps g c hyps =
-    let E = c.args.earlier.now in
+    let E = c.args.env.now in
     let s = c.args.store.now in
     let heap = c.args.heap.now.items in
     let stack = c.args.stack.now.items in

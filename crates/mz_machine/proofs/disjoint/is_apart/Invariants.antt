@@ -8,5 +8,5 @@ use Rattle.mz_machine.proofs.disjoint.is_apart.Given as goal
 
 -- the places that are left decide, by the bits that are left
 abbrev pub invariant-places : goal.invariant-places
-invariant-places l = (w : Word) → slice_get (params_of l.earlier.file l.fn.row) l.i ≡ Some w
-    → Decides l.store.context (trees_at l.store l.operands) (params_of l.earlier.file l.fn.row) l.i w (tree_of l.store l.id.0) l.bits (drop l.place-index l.bound)
+invariant-places l = (w : Word) → slice_get (params_of l.env.file l.fn.row) l.i ≡ Some w
+    → Decides l.store.context (trees_at l.store l.operands) (params_of l.env.file l.fn.row) l.i w (tree_of l.store l.id.0) l.bits (drop l.place-index l.bound)

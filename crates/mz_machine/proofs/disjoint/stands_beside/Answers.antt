@@ -1,6 +1,6 @@
 use Rattle.mz_store.specs.Sharing.{tree_of, deps_of}
 use Rattle.mz_machine_env.proofs.Offered.{apart-words}
-use Rattle.mz_machine.proofs.Apartness.{tells-v}
+use Rattle.mz_machine.proofs.Disjointness.{tells-v}
 use Rattle.mz_machine.proofs.disjoint.stands_beside.Goals as goal
 
 pub returns-else-exempt : goal.returns-else-exempt

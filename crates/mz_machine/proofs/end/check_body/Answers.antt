@@ -2,7 +2,7 @@ use Rattle.std.proofs.Common.{◌∙◌, true, false, length, sym, ap, subst}
 use Rattle.mz_logic_theory.specs.Sorts.{HasSort}
 use Rattle.mz_logic_theory.specs.Words.{word_sort}
 use Rattle.mz_store.specs.Sharing.{tree_of}
-use Rattle.mz_unify_theory.specs.Profile.{strict}
+use Rattle.mz_machine_theory.specs.Profile.{strict}
 use Rattle.mz_machine_theory.specs.FreeVars.{free_within}
 use Rattle.mz_machine_theory.specs.MachineState.{is_definition}
 use Rattle.mz_machine_env.specs.Before.{signatures_of, tables_of}
@@ -12,7 +12,7 @@ use Rattle.mz_machine.proofs.end.check_body.Goals as goal
 
 pub returns-then-sort_of-sort : goal.returns-then-sort_of-sort
 returns-then-sort_of-sort c st ctx =
-    let E = c.args.earlier.now in
+    let E = c.args.env.now in
     let e = tree_of c.args.store.now c.args.target.0 in
     body-sort strict (tables_of E) (heading_by E.file c.args.row is_definition) st e c.sort_of.result
     (subst (λ bs. HasSort (signatures_of E) bs e c.sort_of.result) (sym ctx) (c.sort_of.ensures.sort _ c.requires.over))
@@ -20,7 +20,7 @@ returns-then-sort_of-sort c st ctx =
 
 pub returns-then-not-are_free_within : goal.returns-then-not-are_free_within
 returns-then-not-are_free_within c st ctx =
-    let E = c.args.earlier.now in
+    let E = c.args.env.now in
     let e = tree_of c.args.store.now c.args.target.0 in
     let h = heading_by E.file c.args.row is_definition in
     body-free strict (tables_of E) h st e c.sort_of.result false
@@ -30,7 +30,7 @@ returns-then-not-are_free_within c st ctx =
 
 pub returns : goal.returns
 returns c st ctx =
-    let E = c.args.earlier.now in
+    let E = c.args.env.now in
     let e = tree_of c.args.store.now c.args.target.0 in
     let h = heading_by E.file c.args.row is_definition in
     body-free strict (tables_of E) h st e c.sort_of.result true

@@ -1,6 +1,6 @@
 use Rattle.std.proofs.Common.{◌∙◌, true, false, sym, ap}
 use Rattle.mz_store.specs.Sharing.{tree_of}
-use Rattle.mz_unify_theory.specs.Profile.{strict}
+use Rattle.mz_machine_theory.specs.Profile.{strict}
 use Rattle.mz_machine_theory.specs.MachineState.{is_axiom}
 use Rattle.mz_machine_theory.specs.ProofMachine.{has_provable_sort}
 use Rattle.mz_machine_env.specs.Before.{tables_of}
@@ -11,7 +11,7 @@ use Rattle.mz_machine.proofs.end.check_claim.Goals as goal
 
 pub returns-then-is_provable : goal.returns-then-is_provable
 returns-then-is_provable c st ctx =
-    let E = c.args.earlier.now in
+    let E = c.args.env.now in
     let s = c.args.store.now in
     let e = tree_of s c.args.target.0 in
     claim-ends strict (tables_of E) (heading_by E.file c.args.row is_axiom) st e
@@ -20,7 +20,7 @@ returns-then-is_provable c st ctx =
 
 pub returns-else-is_provable : goal.returns-else-is_provable
 returns-else-is_provable c st ctx =
-    let E = c.args.earlier.now in
+    let E = c.args.env.now in
     let s = c.args.store.now in
     let e = tree_of s c.args.target.0 in
     claim-other strict (tables_of E) (heading_by E.file c.args.row is_axiom) st e

@@ -1,7 +1,7 @@
 use Rattle.std.proofs.Common.{◌∙◌, ap, sym, subst, refl}
 use Rattle.mz_store.specs.Sharing.{tree_of, AreIn}
 use Rattle.mz_unify.specs.Stored.{items_at, trees_at, AreItemsIn, AreVariables}
-use Rattle.mz_unify_theory.specs.UnifyMachine.{unify, unify_steps}
+use Rattle.mz_machine_theory.specs.UnifyMachine.{unify, unify_steps}
 use Rattle.mz_machine_env.specs.OwnRow.{first_ids, kind_of}
 use Rattle.mz_machine_theory.specs.Headings.{heading_by}
 use Rattle.mz_machine_env.specs.Before.{tables_of, signatures_of}
@@ -9,7 +9,7 @@ use Rattle.mz_machine_theory.specs.ProofMachine.{last_item, ending}
 use Rattle.mz_machine_theory.specs.MachineState.{Kind}
 use Rattle.mz_machine.specs.OverStore.{state_at}
 use Rattle.mz_machine.specs.Endings.{IsOwnRun}
-use Rattle.mz_unify_theory.specs.Profile.{strict}
+use Rattle.mz_machine_theory.specs.Profile.{strict}
 use Rattle.mz_machine_env.proofs.Offered.{kind-is}
 use Rattle.mz_machine.proofs.EndRows.{no-last-item, not-ending, is-ending, stopped-end, no-end-steps, end-steps, own-end}
 use Rattle.mz_machine.proofs.Ending.{own-matching, first-trees, first-in, first-variables, own-items, own-items-in}
@@ -33,7 +33,7 @@ run_own-requires-clause-proofs g c =
 
 pub returns-in-Err-clause-row : goal.returns-in-Err-clause-row
 returns-in-Err-clause-row g c heap =
-    let E = c.args.earlier.now in
+    let E = c.args.env.now in
     let s = c.args.store.now in
     let kind = kind_of c.args.kind in
     let h = heading_by E.file c.args.row kind in
@@ -44,7 +44,7 @@ returns-in-Err-clause-row g c heap =
 
 pub returns-in-Err-clause-steps : goal.returns-in-Err-clause-steps
 returns-in-Err-clause-steps g c heap =
-    let E = c.args.earlier.now in
+    let E = c.args.env.now in
     let s = c.args.store.now in
     let kind = kind_of c.args.kind in
     let h = heading_by E.file c.args.row kind in
@@ -55,7 +55,7 @@ returns-in-Err-clause-steps g c heap =
 
 pub returns-in-Err-check_target-clause-row : goal.returns-in-Err-check_target-clause-row
 returns-in-Err-check_target-clause-row g c heap =
-    let E = c.args.earlier.now in
+    let E = c.args.env.now in
     let s = c.args.store.now in
     let kind = kind_of c.args.kind in
     let h = heading_by E.file c.args.row kind in
@@ -67,7 +67,7 @@ returns-in-Err-check_target-clause-row g c heap =
 
 pub returns-in-Err-check_target-clause-steps : goal.returns-in-Err-check_target-clause-steps
 returns-in-Err-check_target-clause-steps g c heap =
-    let E = c.args.earlier.now in
+    let E = c.args.env.now in
     let s = c.args.store.now in
     let kind = kind_of c.args.kind in
     let h = heading_by E.file c.args.row kind in
@@ -79,7 +79,7 @@ returns-in-Err-check_target-clause-steps g c heap =
 
 pub returns-clause-row : goal.returns-clause-row
 returns-clause-row g c heap =
-    let E = c.args.earlier.now in
+    let E = c.args.env.now in
     let s = c.args.store.now in
     let kind = kind_of c.args.kind in
     let h = heading_by E.file c.args.row kind in
@@ -93,7 +93,7 @@ returns-clause-row g c heap =
 
 pub returns-clause-steps : goal.returns-clause-steps
 returns-clause-steps g c heap =
-    let E = c.args.earlier.now in
+    let E = c.args.env.now in
     let s = c.args.store.now in
     let kind = kind_of c.args.kind in
     let h = heading_by E.file c.args.row kind in

@@ -1,7 +1,7 @@
 use Rattle.std.proofs.Common.{◌<◌, ◌≤◌, ◌∙◌, List, ◌∷◌, length, sym, ap, subst, arith, inl, inr}
 use Rattle.std.specs.Prelude.{reverse}
 use Rattle.mz_logic_theory.specs.Tree.{Tree}
-use Rattle.mz_unify_theory.specs.Profile.{Item as UnifyItem}
+use Rattle.mz_machine_theory.specs.Profile.{Item as UnifyItem}
 use Rattle.mz_unify.specs.Stored.{items_at, item_at}
 use Rattle.mz_unify.proofs.Offered.{items-push}
 use Rattle.mz_machine.specs.OpenEquations.{stored, AreOpen, AreSettled, IsInHand, whole_stack}

@@ -9,8 +9,8 @@ arity_of-requires c = omega (arith, c.terms.ensures.rows, c.if-t-terms.true)
 
 pub returns-then-t-terms : goal.returns-then-t-terms
 returns-then-t-terms c =
-    let below : c.args.t < c.args.earlier.now.rows.terms = omega (arith, c.terms.ensures.rows, c.if-t-terms.true) in
-    omega (arith, c.arity_of.ensures, ap many_of_term (term-before c.args.earlier.now c.args.t below), binders_many (term_row c.args.earlier.now.file c.args.t).words.params)
+    let below : c.args.t < c.args.env.now.rows.terms = omega (arith, c.terms.ensures.rows, c.if-t-terms.true) in
+    omega (arith, c.arity_of.ensures, ap many_of_term (term-before c.args.env.now c.args.t below), binders_many (term_row c.args.env.now.file c.args.t).words.params)
 
 pub returns-else-t-terms : goal.returns-else-t-terms
-returns-else-t-terms c = sym (ap many_of_term (no-term-before c.args.earlier.now c.args.t (omega (arith, c.terms.ensures.rows, c.if-t-terms.false))))
+returns-else-t-terms c = sym (ap many_of_term (no-term-before c.args.env.now c.args.t (omega (arith, c.terms.ensures.rows, c.if-t-terms.false))))

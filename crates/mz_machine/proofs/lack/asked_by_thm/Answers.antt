@@ -9,8 +9,8 @@ arity_of-requires c = omega (arith, c.thms.ensures.rows, c.if-t-thms.true)
 
 pub returns-then-t-thms : goal.returns-then-t-thms
 returns-then-t-thms c =
-    let below : c.args.t < c.args.earlier.now.rows.thms = omega (arith, c.thms.ensures.rows, c.if-t-thms.true) in
-    omega (arith, c.arity_of.ensures, ap many_of_thm (thm-before c.args.earlier.now c.args.t below), binders_many (thm_row c.args.earlier.now.file c.args.t).params)
+    let below : c.args.t < c.args.env.now.rows.thms = omega (arith, c.thms.ensures.rows, c.if-t-thms.true) in
+    omega (arith, c.arity_of.ensures, ap many_of_thm (thm-before c.args.env.now c.args.t below), binders_many (thm_row c.args.env.now.file c.args.t).params)
 
 pub returns-else-t-thms : goal.returns-else-t-thms
-returns-else-t-thms c = sym (ap many_of_thm (no-thm-before c.args.earlier.now c.args.t (omega (arith, c.thms.ensures.rows, c.if-t-thms.false))))
+returns-else-t-thms c = sym (ap many_of_thm (no-thm-before c.args.env.now c.args.t (omega (arith, c.thms.ensures.rows, c.if-t-thms.false))))

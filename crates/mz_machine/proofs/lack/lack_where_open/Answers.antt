@@ -9,15 +9,15 @@ use Rattle.mz_machine.proofs.lack.lack_where_open.Goals as goal
 
 pub returns-in_default-clause-none : goal.returns-in_default-clause-none
 returns-in_default-clause-none c =
-    no-lack-by (tables_of c.args.earlier.now) (kind_of c.args.kind) c.args.cmd c.args.written c.args.equations.now
+    no-lack-by (tables_of c.args.env.now) (kind_of c.args.kind) c.args.cmd c.args.written c.args.equations.now
     λ d one. absurd (asks-none (kind_of c.args.kind) c.args.cmd (c.in_default.ensures.none c.args.cmd.value) d one)
 
 pub returns-then-asked-written-clause-none : goal.returns-then-asked-written-clause-none
 returns-then-asked-written-clause-none c =
-    no-lack-by (tables_of c.args.earlier.now) (kind_of c.args.kind) c.args.cmd c.args.written c.args.equations.now
+    no-lack-by (tables_of c.args.env.now) (kind_of c.args.kind) c.args.cmd c.args.written c.args.equations.now
     λ d one. (
     let same = asks-one (kind_of c.args.kind) c.args.cmd (code_of c.in-Some.command) d (c.in-Some.ensures.some c.args.cmd.value) one in
-    subst (λ (k : ProofCode). asked_by (tables_of c.args.earlier.now) k c.args.cmd.value ≤ c.args.written) same (omega (arith, c.asked_by-asked.ensures, c.if-asked-written.true))
+    subst (λ (k : ProofCode). asked_by (tables_of c.args.env.now) k c.args.cmd.value ≤ c.args.written) same (omega (arith, c.asked_by-asked.ensures, c.if-asked-written.true))
     )
 
 pub returns-then-reach-clause-some : goal.returns-then-reach-clause-some

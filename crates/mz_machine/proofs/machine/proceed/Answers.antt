@@ -1,6 +1,6 @@
 use Rattle.std.proofs.Common.{◌≡◌, ◌≤◌, List, Ok, Err, length, sym, subst, arith}
 use Rattle.mz_base.specs.Gaps.{gaps_of}
-use Rattle.mz_unify_theory.specs.Profile.{plain}
+use Rattle.mz_machine_theory.specs.Profile.{plain}
 use Rattle.mz_unify.specs.Stored.{items_at}
 use Rattle.mz_machine_theory.specs.Bodies.{body_command}
 use Rattle.mz_machine_env.specs.Before.{signatures_of, tables_of}
@@ -18,7 +18,7 @@ use Rattle.mz_machine.proofs.machine.proceed.Goals as goal
 
 pub returns-in-Some-clause-done : goal.returns-in-Some-clause-done
 returns-in-Some-clause-done g c at =
-    let E = c.args.earlier.now in
+    let E = c.args.env.now in
     let s = c.args.store.now in
     let heap = c.args.heap.now.items in
     let stack = c.args.stack.now.items in
@@ -34,7 +34,7 @@ returns-in-Some-clause-done g c at =
 
 pub returns-in-Some-clause-steps : goal.returns-in-Some-clause-steps
 returns-in-Some-clause-steps g c =
-    let E = c.args.earlier.now in
+    let E = c.args.env.now in
     let s = c.args.store.now in
     let heap = c.args.heap.now.items in
     let stack = c.args.stack.now.items in
@@ -52,7 +52,7 @@ returns-in-Some-clause-steps g c =
 
 pub returns-in-Err-clause-done : goal.returns-in-Err-clause-done
 returns-in-Err-clause-done g c =
-    let E = c.args.earlier.now in
+    let E = c.args.env.now in
     let s = c.args.store.now in
     let heap = c.args.heap.now.items in
     let stack = c.args.stack.now.items in
@@ -70,7 +70,7 @@ returns-in-Err-clause-done g c =
 
 pub returns-in-Err-clause-steps : goal.returns-in-Err-clause-steps
 returns-in-Err-clause-steps g c =
-    let E = c.args.earlier.now in
+    let E = c.args.env.now in
     let s = c.args.store.now in
     let heap = c.args.heap.now.items in
     let stack = c.args.stack.now.items in
@@ -90,7 +90,7 @@ returns-in-Err-clause-steps g c =
 
 pub returns-in-Ok-clause-done : goal.returns-in-Ok-clause-done
 returns-in-Ok-clause-done g c =
-    let E = c.args.earlier.now in
+    let E = c.args.env.now in
     let s = c.args.store.now in
     let heap = c.args.heap.now.items in
     let stack = c.args.stack.now.items in
@@ -104,14 +104,14 @@ returns-in-Ok-clause-done g c =
     let u = body_command (plain gaps) kind c.args.cmd.code c.args.cmd.value in
     let asks : AsksWithin gaps (tables_of E) s heap stack hyps es u =
     no-lack-asks gaps (tables_of E) st kind c.args.cmd (stored s) es xs c.len.result many (subst (λ (fs : List Equation). IsNoLack (tables_of E) kind c.args.cmd c.len.result fs) c.deref.ensures.value c.in_default.ensures.none) in
-    let room = c.args.stack.now.cap in
-    let few : length xs ≤ room = omega (arith, items-many s stack, c.args.stack.now.ok.0, c.args.stack.now.ok.1) in
-    resumed gaps (tables_of E) s heap stack hyps es u c.requires.settled asks (signatures_of E) c.obey.new.store c.obey.new.heap.items c.obey.new.stack.items c.obey.new.hyps.items room c.obey.new.stack.cap c.in-Ok.opened c.in-Ok.ensures.done
+    let scratch = c.args.stack.now.cap in
+    let few : length xs ≤ scratch = omega (arith, items-many s stack, c.args.stack.now.ok.0, c.args.stack.now.ok.1) in
+    resumed gaps (tables_of E) s heap stack hyps es u c.requires.settled asks (signatures_of E) c.obey.new.store c.obey.new.heap.items c.obey.new.stack.items c.obey.new.hyps.items scratch c.obey.new.stack.cap c.in-Ok.opened c.in-Ok.ensures.done
     c.requires.ready.stack_in c.resume.result c.resume.new.equations.items c.resume.new.stack.items few c.resume.ensures
 
 pub returns-in-Ok-clause-steps : goal.returns-in-Ok-clause-steps
 returns-in-Ok-clause-steps g c =
-    let E = c.args.earlier.now in
+    let E = c.args.env.now in
     let s = c.args.store.now in
     let heap = c.args.heap.now.items in
     let stack = c.args.stack.now.items in
@@ -148,7 +148,7 @@ resume-requires-clause-stack g c = c.in-Ok.ensures.done.stack_in
 
 pub resume-requires-clause-standing : goal.resume-requires-clause-standing
 resume-requires-clause-standing g c =
-    let E = c.args.earlier.now in
+    let E = c.args.env.now in
     let s = c.args.store.now in
     let heap = c.args.heap.now.items in
     let stack = c.args.stack.now.items in

@@ -11,22 +11,22 @@ use Rattle.mz_machine.proofs.params.enter.Goals as goal
 
 pub restart-requires-clause-there : goal.restart-requires-clause-there
 restart-requires-clause-there c =
-    let r = subst (λ o. IfSome o (λ (e : Entered). Remembers c.args.earlier.now.file e c.args.store.now)) c.in-Some.is c.requires.last in
+    let r = subst (λ o. IfSome o (λ (e : Entered). Remembers c.args.env.now.file e c.args.store.now)) c.in-Some.is c.requires.last in
     first-many c.args.store.now c.in-Some.last.params r.first
 
 pub restart-requires-clause-first : goal.restart-requires-clause-first
 restart-requires-clause-first c =
-    let r = subst (λ o. IfSome o (λ (e : Entered). Remembers c.args.earlier.now.file e c.args.store.now)) c.in-Some.is c.requires.last in
+    let r = subst (λ o. IfSome o (λ (e : Entered). Remembers c.args.env.now.file e c.args.store.now)) c.in-Some.is c.requires.last in
     λ i less. (r.first i less).1
 
 pub restart-requires-clause-bound : goal.restart-requires-clause-bound
 restart-requires-clause-bound c =
-    let r = subst (λ o. IfSome o (λ (e : Entered). Remembers c.args.earlier.now.file e c.args.store.now)) c.in-Some.is c.requires.last in
-    bound-again c.args.earlier.now.file c.in-Some.last c.args.store.now r
+    let r = subst (λ o. IfSome o (λ (e : Entered). Remembers c.args.env.now.file e c.args.store.now)) c.in-Some.is c.requires.last in
+    bound-again c.args.env.now.file c.in-Some.last c.args.store.now r
 
 pub returns-then-is_of-clause-entered : goal.returns-then-is_of-clause-entered
 returns-then-is_of-clause-entered c =
-    let E = c.args.earlier.now in
+    let E = c.args.env.now in
     let kind = kind_of c.args.kind in
     let r = subst (λ o. IfSome o (λ (e : Entered). Remembers E.file e c.args.store.now)) c.in-Some.is c.requires.last in
     let told = c.if-is_of.ensures refl in
@@ -49,7 +49,7 @@ returns-clause-entered c =
 
 pub returns-then-is_of-clause-own : goal.returns-then-is_of-clause-own
 returns-then-is_of-clause-own c =
-    let E = c.args.earlier.now in
+    let E = c.args.env.now in
     let r = subst (λ o. IfSome o (λ (e : Entered). Remembers E.file e c.args.store.now)) c.in-Some.is c.requires.last in
     let told = c.if-is_of.ensures refl in
     record { mode = told.1; words = told.0; bound = r.bound }
@@ -61,7 +61,7 @@ overflow_cast-params c =
 
 pub returns-clause-own : goal.returns-clause-own
 returns-clause-own c =
-    let E = c.args.earlier.now in
+    let E = c.args.env.now in
     let words = c.as_slice.ensures.value ∙ c.in_ok-read_words.ensures in
     let from = c.own_words_at-at.ensures ∙ ap (words_from E.file c.own_words_at-at.result) (sym (c.len-params.ensures ∙ c.in_ok-begin.ensures.many ∙ ap length words)) in
     record {

@@ -5,9 +5,9 @@ use Rattle.mz_machine_env.proofs.own.own_words_at.Goals as goal
 
 pub returns-in-Axiom : goal.returns-in-Axiom
 returns-in-Axiom c = elim c.in-Axiom.is [
-  | inl is ↦ rw is (own-from-at c.args.earlier.now.file c.args.row is_axiom c.own_thm_words_at.result c.own_thm_words_at.ensures)
-  | inr is ↦ rw is (own-from-at c.args.earlier.now.file c.args.row is_theorem c.own_thm_words_at.result c.own_thm_words_at.ensures)
+  | inl is ↦ rw is (own-from-at c.args.env.now.file c.args.row is_axiom c.own_thm_words_at.result c.own_thm_words_at.ensures)
+  | inr is ↦ rw is (own-from-at c.args.env.now.file c.args.row is_theorem c.own_thm_words_at.result c.own_thm_words_at.ensures)
 ]
 
 pub returns-in-Definition : goal.returns-in-Definition
-returns-in-Definition c = rw c.in-Definition.is (own-from-at c.args.earlier.now.file c.args.row is_definition c.own_term_words_at.result c.own_term_words_at.ensures)
+returns-in-Definition c = rw c.in-Definition.is (own-from-at c.args.env.now.file c.args.row is_definition c.own_term_words_at.result c.own_term_words_at.ensures)

@@ -11,7 +11,7 @@ params-init c = c.reserve.ensures.items ∙ c.clear.ensures.items
 pub params-preserved : goal.params-preserved
 params-preserved c =
     c.in_ok-push.ensures.items ∙ ap (λ (ws : List Word). ws ++ c.own_word.result ∷ []) c.params.invariant
-    ∙ take-next (own_words c.args.earlier.now.file c.args.row (kind_of c.args.kind)) c.params.j c.own_word.result c.own_word.ensures
+    ∙ take-next (own_words c.args.env.now.file c.args.row (kind_of c.args.kind)) c.params.j c.own_word.result c.own_word.ensures
 
 pub returns : goal.returns
-returns c = c.params.invariant ∙ taken-all (own_words c.args.earlier.now.file c.args.row (kind_of c.args.kind)) c.params.j (omega (arith, c.own_arity-count.ensures.words, c.params-test.false))
+returns c = c.params.invariant ∙ taken-all (own_words c.args.env.now.file c.args.row (kind_of c.args.kind)) c.params.j (omega (arith, c.own_arity-count.ensures.words, c.params-test.false))

@@ -1,5 +1,5 @@
 use Rattle.std.proofs.Common.{refl}
-use Rattle.mz_unify_theory.specs.UnifyMachine.{unify_step, unify_from, unify}
+use Rattle.mz_machine_theory.specs.UnifyMachine.{unify_step, unify_from, unify}
 use Rattle.mz_machine_theory.specs.ProofMachine.{built, citation, cited, unfolding_of, proof_step, ends_with, proof_end}
 use Rattle.mz_machine_theory.specs.Bodies.{body_from}
 use Rattle.mz_machine_theory.proofs.examples.changed_bodies.Goals as goal

@@ -1,4 +1,4 @@
-use Rattle.mz_unify_theory.specs.Profile.{plain}
+use Rattle.mz_machine_theory.specs.Profile.{plain}
 use Rattle.mz_machine_theory.proofs.Outcomes.{bodies-checked}
 use Rattle.mz_machine_theory.proofs.laws.bodies_are_checked.Goals as goal
 

@@ -1,4 +1,4 @@
-use Rattle.mz_unify_theory.specs.Profile.{plain}
+use Rattle.mz_machine_theory.specs.Profile.{plain}
 use Rattle.mz_machine_theory.proofs.BodyRuns.{bound-never-ends, count-is-whole}
 use Rattle.mz_machine_theory.proofs.laws.bound_never_ends.Goals as goal
 

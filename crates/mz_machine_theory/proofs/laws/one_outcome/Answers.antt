@@ -1,4 +1,4 @@
-use Rattle.mz_unify_theory.specs.Profile.{plain}
+use Rattle.mz_machine_theory.specs.Profile.{plain}
 use Rattle.mz_machine_theory.proofs.Outcomes.{one-outcome}
 use Rattle.mz_machine_theory.proofs.laws.one_outcome.Goals as goal
 

@@ -1,5 +1,5 @@
 use Rattle.std.proofs.Common.{length, arith}
-use Rattle.mz_unify_theory.specs.Profile.{plain}
+use Rattle.mz_machine_theory.specs.Profile.{plain}
 use Rattle.mz_machine_theory.proofs.BodyRuns.{steps-le}
 use Rattle.mz_machine_theory.proofs.ListSteps.{list-steps}
 use Rattle.mz_machine_theory.proofs.laws.steps_bounded.Goals as goal

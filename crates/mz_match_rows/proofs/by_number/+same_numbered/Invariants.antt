@@ -1,7 +1,7 @@
 use Rattle.std.proofs.Common.{◌≡◌, ◌≤◌, ◌+◌, ◌*◌, ℕ, length}
 use Rattle.std.specs.Prelude.{◌↔◌}
 use Rattle.mz_logic_theory.specs.Tree.{Trees, listed}
-use Rattle.mz_unify_theory.specs.Spells.{Marks}
+use Rattle.mz_machine_theory.specs.Spells.{Marks}
 use Rattle.mz_match_rows.specs.Beside.{IsPlainStream}
 use Rattle.mz_match_rows.specs.Numbers.{AreNumbered, AreSaidTrees}
 use Rattle.mz_match_rows.specs.Streams.{AreSaid}

@@ -1,6 +1,6 @@
 use Rattle.std.proofs.Common.{◌≡◌, ◌+◌, ◌*◌, length}
 use Rattle.mz_logic_theory.specs.Tree.{Trees, listed, past, size, trees_size}
-use Rattle.mz_unify_theory.specs.Spells.{Marks}
+use Rattle.mz_machine_theory.specs.Spells.{Marks}
 use Rattle.mz_match_rows.specs.declared.stream.Cursor.{Cursor}
 use Rattle.mz_spec_proved_theory.specs.Comparison.{all_compared}
 use Rattle.mz_match_rows.specs.Beside.{AllSaidAt, IsStream, beside}

@@ -17,4 +17,4 @@ returns c = λ m f to stream said.
     let few = stream.marks.few in
     same-body (beside c.args.sides.now m) pairs.result c.same_at.new.pairs (tree c.args.body.now) f c.same_at.result to c.is_some.result
     (says-nothing pairs.result pairs.ensures.none_yet) (omega (arith, few, pairs.ensures.many)) c.is_some.ensures
-    (subst (λ (e : Tree). Answers c.same_at.result c.same_at.new.pairs (compared (beside c.args.sides.now m) pairs.result e f) to) c.lent.ensures (c.same_at.ensures m f to stream said))
+    (subst (λ (e : Tree). Answers c.same_at.result c.same_at.new.pairs (compared (beside c.args.sides.now m) pairs.result e f) to) c.borrowed.ensures (c.same_at.ensures m f to stream said))

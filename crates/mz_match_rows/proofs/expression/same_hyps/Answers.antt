@@ -6,7 +6,7 @@ use Rattle.mz_cmd.specs.declared.code.UnifyCode.TheVariants as codes
 use Rattle.mz_logic_theory.specs.Tree.{Tree, listed}
 use Rattle.mz_logic_theory.specs.View.{tree, trees}
 use Rattle.mz_logic_theory.proofs.Offered.{expr-at, exprs_of, length-exprs, trees-exprs}
-use Rattle.mz_unify_theory.specs.Spells.{trees_of}
+use Rattle.mz_machine_theory.specs.Spells.{trees_of}
 use Rattle.mz_spec_proved_theory.specs.AlphaTrees.{SameTrees}
 use Rattle.mz_match_rows.specs.Streams.{step_at, Passes, Says}
 use Rattle.mz_match_rows.proofs.Steps.{step-takes}

@@ -3,7 +3,7 @@ use Rattle.std.specs.Prelude.{◌↔◌}
 use Rattle.mz_logic_theory.specs.Tree.{Tree}
 use Rattle.mz_logic_theory.specs.View.{trees}
 use Rattle.mz_logic_theory.proofs.Offered.{exprs_of}
-use Rattle.mz_unify_theory.specs.Spells.{Marks, trees_of}
+use Rattle.mz_machine_theory.specs.Spells.{Marks, trees_of}
 use Rattle.mz_spec_proved_theory.specs.AlphaTrees.{SameTrees}
 use Rattle.mz_match_rows.specs.Streams.{Passes, HypsAreSaid}
 use Rattle.mz_match_rows.specs.Beside.{HypsSaidAt, IsHypAt, IsPlainStream}

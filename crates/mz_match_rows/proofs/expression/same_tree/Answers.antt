@@ -16,4 +16,4 @@ returns c = λ m f to plain said.
     plain-answer (beside c.args.sides.now m) [] c.same_at.new.pairs (tree c.args.expr.now) f c.same_at.result to c.is_some.result plain.none_beside
     (says-nothing [] refl) (let none = ap length plain.no_dummies in omega (arith, none))
     (said-below c.args.sides.now.mmb.now c.args.sides.now.params c.args.sides.now.start m plain.stream.marks plain.no_dummies c.args.from.at c.args.from.dummies f to.at to.dummies said)
-    c.is_some.ensures (subst (λ (e : Tree). Answers c.same_at.result c.same_at.new.pairs (compared (beside c.args.sides.now m) [] e f) to) c.lent.ensures (c.same_at.ensures m f to plain.stream said))
+    c.is_some.ensures (subst (λ (e : Tree). Answers c.same_at.result c.same_at.new.pairs (compared (beside c.args.sides.now m) [] e f) to) c.borrowed.ensures (c.same_at.ensures m f to plain.stream said))

@@ -9,6 +9,6 @@ use Rattle.mz_pmachine.proofs.arguments.check_cited.Given as goal
 -- the operands that are left decide; the places so far, followed by those of the parameters that are left, are all
 abbrev pub invariant-operands : goal.invariant-operands
 invariant-operands l =
-    (operands_fit (signatures_of l.earlier) l.nodes.context (drop l.j (trees_at l.nodes l.operands)) (drop l.j (binders_of (params_of l.earlier.file l.row)))
-    ≡ operands_fit (signatures_of l.earlier) l.nodes.context (trees_at l.nodes l.operands) (binders_of (params_of l.earlier.file l.row)))
-    × (l.places.items ++ bound_places l.j (drop l.j (params_of l.earlier.file l.row)) ≡ bound_places 0 (params_of l.earlier.file l.row))
+    (operands_fit (signatures_of l.env) l.nodes.context (drop l.j (trees_at l.nodes l.operands)) (drop l.j (binders_of (params_of l.env.file l.row)))
+    ≡ operands_fit (signatures_of l.env) l.nodes.context (trees_at l.nodes l.operands) (binders_of (params_of l.env.file l.row)))
+    × (l.places.items ++ bound_places l.j (drop l.j (params_of l.env.file l.row)) ≡ bound_places 0 (params_of l.env.file l.row))

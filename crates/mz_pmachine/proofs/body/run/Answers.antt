@@ -1,13 +1,12 @@
 use Rattle.std.proofs.Common.{◌+◌, ◌∙◌, length, sym, ap, subst, arith}
 use Rattle.mz_pmachine_unify.specs.Numbering.{Numbering}
-use Rattle.mz_machine.specs.Rooms.{OneACommand}
+use Rattle.mz_machine.specs.Tidiness.{OneACommand}
 use Rattle.mz_pmachine.specs.Running.{machine_of}
 use Rattle.mz_pmachine.specs.Steps.{tables_for, heading_for}
 use Rattle.mz_pmachine_theory.specs.NodeIdentity.{portable}
-use Rattle.mz_unify_theory.proofs.Offered.{further}
+use Rattle.mz_machine_theory.proofs.Offered.{further, more-steps, within-steps}
 use Rattle.mz_machine_env.proofs.Offered.{at-first, cut-whole, long-whole, end-whole, end-refused, end-many, refused-whole, refused-many, goes-on, ends-there, goes-further}
 use Rattle.mz_pmachine.proofs.BodyRunning.{itself, goes, row-over, steps-over, most-over, end-answer, end-counts, stop-answer, stop-counts}
-use Rattle.mz_machine_theory.proofs.Offered.{more-steps, within-steps}
 use Rattle.mz_machine.proofs.Offered.{none-last, none-so-far, one-last, one-so-far, place-fits, whatever}
 use Rattle.mz_pmachine.proofs.body.run.Goals as goal
 

@@ -14,7 +14,7 @@ invariant-commands g l = record {
   same : IsSameBody (machine_of l.setting l.fn.parts) (machine_of l.setting l.parts);
   underway : IsUnderway portable (tables_for (machine_of l.setting l.fn.parts)) (heading_for (machine_of l.setting l.fn.parts)) l.from l.bytes (machine_of l.setting l.fn.parts).state l.fn.steps l.at (machine_of l.setting l.parts).state l.steps;
   first : (machine_of l.setting l.parts).next ≤ l.from + l.at;
-  most : l.steps ≤ l.fn.steps + l.at * (length l.setting.earlier.file + 1);
+  most : l.steps ≤ l.fn.steps + l.at * (length l.setting.env.file + 1);
   nodes : OneSoFar (length l.fn.parts.nodes.entries) l.bytes l.at (length l.parts.nodes.entries);
 }
 

@@ -15,7 +15,7 @@ returns-in-Conv-clause-ids g c =
 pub returns-in-Conv-clause-row : goal.returns-in-Conv-clause-row
 returns-in-Conv-clause-row g c at value hyps =
     rw c.in-Conv.is (ruled-gives c.conv.result c.by_rule.result _ _ c.by_rule.ensures
-    (c.conv.ensures.row (tables_of c.args.earlier.now) at value (state_at c.args.nodes.now c.args.heap.now.items c.args.stack.now.items hyps) refl))
+    (c.conv.ensures.row (tables_of c.args.env.now) at value (state_at c.args.nodes.now c.args.heap.now.items c.args.stack.now.items hyps) refl))
 
 pub returns-in-Conv-clause-steps : goal.returns-in-Conv-clause-steps
 returns-in-Conv-clause-steps g c value hyps = rw c.in-Conv.is (unless-mem c.by_rule.result (no-more _ _ refl))
@@ -27,7 +27,7 @@ returns-in-Refl-clause-ids g c =
 pub returns-in-Refl-clause-row : goal.returns-in-Refl-clause-row
 returns-in-Refl-clause-row g c at value hyps =
     rw c.in-Refl.is (ruled-gives c.refl.result c.by_rule-in-Refl.result _ _ c.by_rule-in-Refl.ensures
-    (c.refl.ensures.row (tables_of c.args.earlier.now) at value (state_at c.args.nodes.now c.args.heap.now.items c.args.stack.now.items hyps) refl))
+    (c.refl.ensures.row (tables_of c.args.env.now) at value (state_at c.args.nodes.now c.args.heap.now.items c.args.stack.now.items hyps) refl))
 
 pub returns-in-Refl-clause-steps : goal.returns-in-Refl-clause-steps
 returns-in-Refl-clause-steps g c value hyps = rw c.in-Refl.is (unless-mem c.by_rule-in-Refl.result (no-more _ _ refl))
@@ -39,7 +39,7 @@ returns-in-Symm-clause-ids g c =
 pub returns-in-Symm-clause-row : goal.returns-in-Symm-clause-row
 returns-in-Symm-clause-row g c at value hyps =
     rw c.in-Symm.is (ruled-gives c.symm.result c.by_rule-in-Symm.result _ _ c.by_rule-in-Symm.ensures
-    (c.symm.ensures.row (tables_of c.args.earlier.now) at value (state_at c.args.nodes.now c.args.heap.now.items c.args.stack.now.items hyps) refl))
+    (c.symm.ensures.row (tables_of c.args.env.now) at value (state_at c.args.nodes.now c.args.heap.now.items c.args.stack.now.items hyps) refl))
 
 pub returns-in-Symm-clause-steps : goal.returns-in-Symm-clause-steps
 returns-in-Symm-clause-steps g c value hyps = rw c.in-Symm.is (unless-mem c.by_rule-in-Symm.result (no-more _ _ refl))
@@ -61,7 +61,7 @@ returns-in-ConvCut-clause-ids g c = on_ok_weaker c.conv_cut.result (λ stack. (c
 
 pub returns-in-ConvCut-clause-row : goal.returns-in-ConvCut-clause-row
 returns-in-ConvCut-clause-row g c at value hyps =
-    rw c.in-ConvCut.is (c.conv_cut.ensures.row (tables_of c.args.earlier.now) at value (state_at c.args.nodes.now c.args.heap.now.items c.args.stack.now.items hyps) refl)
+    rw c.in-ConvCut.is (c.conv_cut.ensures.row (tables_of c.args.env.now) at value (state_at c.args.nodes.now c.args.heap.now.items c.args.stack.now.items hyps) refl)
 
 pub returns-in-ConvCut-clause-steps : goal.returns-in-ConvCut-clause-steps
 returns-in-ConvCut-clause-steps g c value hyps = rw c.in-ConvCut.is (unless-mem c.conv_cut.result (no-more _ _ refl))
@@ -78,7 +78,7 @@ pub returns-in-Ok-clause-row : goal.returns-in-Ok-clause-row
 returns-in-Ok-clause-row g c at value hyps =
     let s = c.args.nodes.now in
     let after = state_at s [] c.conv_save.new.stack.items hyps in
-    let row = c.in-Ok.ensures.row (tables_of c.args.earlier.now) at value (state_at s c.args.heap.now.items c.args.stack.now.items hyps) refl in
+    let row = c.in-Ok.ensures.row (tables_of c.args.env.now) at value (state_at s c.args.heap.now.items c.args.stack.now.items hyps) refl in
     rw c.in-ConvSave.is (pushed-gives c.push.result _ _
     (on_ok_weaker c.push.result (λ is. row ∙ ap (λ heap. Ok (record after { heap = heap }))
     (sym (heap-pushed s c.args.heap.now.items c.push.new.items.items c.in-Ok.item is))) c.push.ensures.ok) c.push.ensures.err)
@@ -88,14 +88,14 @@ returns-in-Ok-clause-steps g c value hyps = rw c.in-ConvSave.is (unless-mem c.pu
 
 pub returns-in-Err-clause-row : goal.returns-in-Err-clause-row
 returns-in-Err-clause-row g c at value hyps =
-    rw c.in-ConvSave.is (c.in-Err.ensures.row (tables_of c.args.earlier.now) at value (state_at c.args.nodes.now c.args.heap.now.items c.args.stack.now.items hyps) refl)
+    rw c.in-ConvSave.is (c.in-Err.ensures.row (tables_of c.args.env.now) at value (state_at c.args.nodes.now c.args.heap.now.items c.args.stack.now.items hyps) refl)
 
 pub returns-in-Err-clause-steps : goal.returns-in-Err-clause-steps
 returns-in-Err-clause-steps g c value hyps = rw c.in-ConvSave.is (no-more _ _ refl)
 
 pub returns-in-Sorry-clause-row : goal.returns-in-Sorry-clause-row
 returns-in-Sorry-clause-row g c at value hyps =
-    rw c.in-Sorry.is (sorry-row portable (tables_of c.args.earlier.now) at value (state_at c.args.nodes.now c.args.heap.now.items c.args.stack.now.items hyps) refl)
+    rw c.in-Sorry.is (sorry-row portable (tables_of c.args.env.now) at value (state_at c.args.nodes.now c.args.heap.now.items c.args.stack.now.items hyps) refl)
 
 pub returns-in-Sorry-clause-steps : goal.returns-in-Sorry-clause-steps
 returns-in-Sorry-clause-steps g c value hyps = rw c.in-Sorry.is (no-more _ _ refl)

@@ -44,7 +44,7 @@ returns-in-Keeps-clause-row g c = rw c.in-Keeps.is (c.keep.ensures.row c.args.at
 pub returns-in-Keeps-clause-steps : goal.returns-in-Keeps-clause-steps
 returns-in-Keeps-clause-steps g c =
     let st = state_at c.args.nodes.now c.args.heap.now.items c.args.stack.now.items c.args.hyps.now.items in
-    rw c.in-Keeps.is (unless-mem c.keep.result (no-more _ _ (keeping-steps portable (tables_of c.args.earlier.now) c.in-Keeps.keeping c.args.value st)))
+    rw c.in-Keeps.is (unless-mem c.keep.result (no-more _ _ (keeping-steps portable (tables_of c.args.env.now) c.in-Keeps.keeping c.args.value st)))
 
 pub returns-in-Converts-clause-grows : goal.returns-in-Converts-clause-grows
 returns-in-Converts-clause-grows g c = on-ok c.convert.result (grows-not _ c.args.nodes.now c.requires.over)

@@ -21,7 +21,7 @@ returns-in-Ref-clause-few c = on-ok c.refer.result c.requires.few
 
 pub returns-in-Ref-clause-row : goal.returns-in-Ref-clause-row
 returns-in-Ref-clause-row c at =
-    rw c.in-Ref.is (c.refer.ensures.row (tables_of c.args.earlier.now) at (state_at c.args.nodes.now c.args.heap.now.items c.args.stack.now.items c.args.hyps.now.items)
+    rw c.in-Ref.is (c.refer.ensures.row (tables_of c.args.env.now) at (state_at c.args.nodes.now c.args.heap.now.items c.args.stack.now.items c.args.hyps.now.items)
     (ap (heap_at c.args.nodes.now) (sym c.deref.ensures.value)) refl)
 
 pub returns-in_ok-push-in-Dummy-2-clause-ids : goal.returns-in_ok-push-in-Dummy-2-clause-ids
@@ -98,14 +98,14 @@ pub returns-in-Ok-save-clause-row : goal.returns-in-Ok-save-clause-row
 returns-in-Ok-save-clause-row c at =
     let s = c.args.nodes.now in
     let st = (state_at c.args.nodes.now c.args.heap.now.items c.args.stack.now.items c.args.hyps.now.items) in
-    let row = c.in-Ok-save.ensures.row (tables_of c.args.earlier.now) at c.args.value st (ap (items_at s) (sym c.deref-in-Save.ensures.value)) in
+    let row = c.in-Ok-save.ensures.row (tables_of c.args.env.now) at c.args.value st (ap (items_at s) (sym c.deref-in-Save.ensures.value)) in
     rw c.in-Save.is (pushed-gives c.push-in-Ok-save.result _ _
     (on_ok_weaker c.push-in-Ok-save.result (λ is. row ∙ ap (λ heap. Ok (record st { heap = heap }))
     (sym (heap-pushed s c.args.heap.now.items c.push-in-Ok-save.new.items.items c.in-Ok-save.item is))) c.push-in-Ok-save.ensures.ok) c.push-in-Ok-save.ensures.err)
 
 pub returns-in-Err-save-clause-row : goal.returns-in-Err-save-clause-row
 returns-in-Err-save-clause-row c at =
-    rw c.in-Save.is (c.in-Err-save.ensures.row (tables_of c.args.earlier.now) at c.args.value (state_at c.args.nodes.now c.args.heap.now.items c.args.stack.now.items c.args.hyps.now.items)
+    rw c.in-Save.is (c.in-Err-save.ensures.row (tables_of c.args.env.now) at c.args.value (state_at c.args.nodes.now c.args.heap.now.items c.args.stack.now.items c.args.hyps.now.items)
     (ap (items_at c.args.nodes.now) (sym c.deref-in-Save.ensures.value)))
 
 -- ---- the number of the next node

@@ -7,7 +7,7 @@ use Rattle.mz_logic_theory.specs.declared.word.Word.{Word}
 use Rattle.mz_pmachine_unify.specs.Numbering.{tree_of, vars_of}
 use Rattle.mz_pmachine_unify.specs.Stored.{trees_at}
 use Rattle.mz_pmachine_unify.proofs.Offered.{is-in-at, length-trees, tree-at}
-use Rattle.mz_unify_theory.proofs.Offered.{some_is}
+use Rattle.mz_machine_theory.proofs.Offered.{some_is}
 use Rattle.mz_machine_env.specs.Before.{signatures_of}
 use Rattle.mz_layout_tables.specs.Rows.{params_of}
 use Rattle.mz_machine_env.proofs.Offered.{apart-at-once, place-below, place-fits, decides-first, decides-end, decides-not, decides-next, row-asked}
@@ -22,13 +22,13 @@ pub returns-then-vars-all-eq0 : goal.returns-then-vars-all-eq0
 returns-then-vars-all-eq0 c e p eat pat =
     let s = c.args.nodes.now in
     let es = trees_at s c.args.operands.now in
-    let ws = params_of c.args.earlier.now.file c.args.row in
+    let ws = params_of c.args.env.now.file c.args.row in
     let there : c.args.i < length c.args.operands.now = omega (arith, c.requires.many, c.requires.place) in
     let at = slice_get-get_or c.args.operands.now c.args.i _ there in
     let (w, wat) = slice_get-some ws c.args.i c.requires.place in
     let none = ap (λ (n : ℕ). bit_and n c.args.all) (sym c.vars.ensures.kept) ∙ c.if-vars-all-eq0.true in
     let many : length es ≡ length ws = length-trees s c.args.operands.now ∙ c.requires.many in
-    sym (apart-at-once (signatures_of c.args.earlier.now) s.context c.args.operands.now es (λ id. tree_of s id.0) (λ id. vars_of s id.0) (tree-at s c.args.operands.now)
+    sym (apart-at-once (signatures_of c.args.env.now) s.context c.args.operands.now es (λ id. tree_of s id.0) (λ id. vars_of s id.0) (tree-at s c.args.operands.now)
     (λ k id kat. (c.requires.over id.0 (is-in-at s c.args.operands.now k id c.requires.ids kat)).1.1)
     ws c.requires.many many c.requires.fit c.args.bound.now c.requires.bound c.args.all c.requires.all c.args.i _ w at wat none)
     ∙ row-asked s.context es ws c.args.i w _ e p wat (tree-at s c.args.operands.now c.args.i _ at) eat pat
@@ -37,14 +37,14 @@ pub places-init : goal.places-init
 places-init c w wat =
     let s = c.args.nodes.now in
     let es = trees_at s c.args.operands.now in
-    let ws = params_of c.args.earlier.now.file c.args.row in
+    let ws = params_of c.args.env.now.file c.args.row in
     let many : length es ≡ length ws = length-trees s c.args.operands.now ∙ c.requires.many in
     decides-first s.context es ws many c.args.i w _ c.dependencies-bits.result c.args.bound.now c.requires.bound
     (c.dependencies-bits.ensures ∙ ap (λ (v : Word). if word_bound v then 0 else word_deps v) (some_is c.word_of-word.ensures wat))
 
 pub bounds-operands-place : goal.bounds-operands-place
 bounds-operands-place c =
-    let low = place-below (params_of c.args.earlier.now.file c.args.row) c.args.bound.now c.requires.bound c.places.place-index _ (slice_get-get_or _ _ 0 c.places-test.true) in
+    let low = place-below (params_of c.args.env.now.file c.args.row) c.args.bound.now c.requires.bound c.places.place-index _ (slice_get-get_or _ _ 0 c.places-test.true) in
     omega (arith, low, c.requires.many)
 
 pub stands_beside-requires-clause-id : goal.stands_beside-requires-clause-id
@@ -54,7 +54,7 @@ stands_beside-requires-clause-id c =
 
 pub stands_beside-requires-clause-bound : goal.stands_beside-requires-clause-bound
 stands_beside-requires-clause-bound c =
-    let low = place-below (params_of c.args.earlier.now.file c.args.row) c.args.bound.now c.requires.bound c.places.place-index _ (slice_get-get_or _ _ 0 c.places-test.true) in
+    let low = place-below (params_of c.args.env.now.file c.args.row) c.args.bound.now c.requires.bound c.places.place-index _ (slice_get-get_or _ _ 0 c.places-test.true) in
     is-in-at c.args.nodes.now c.args.operands.now _ _ c.requires.ids
     (slice_get-get_or _ _ _ (let e : get_or c.args.bound.now c.places.place-index 0 < length c.args.operands.now = omega (arith, low, c.requires.many) in e))
 
@@ -62,38 +62,38 @@ pub returns-then-not-stands_beside : goal.returns-then-not-stands_beside
 returns-then-not-stands_beside c e p eat pat =
     let s = c.args.nodes.now in
     let es = trees_at s c.args.operands.now in
-    let ws = params_of c.args.earlier.now.file c.args.row in
+    let ws = params_of c.args.env.now.file c.args.row in
     let there : c.args.i < length c.args.operands.now = omega (arith, c.requires.many, c.requires.place) in
     let k = c.places.place-index in
     let at = slice_get-get_or c.args.bound.now k 0 c.places-test.true in
     let low = place-below ws c.args.bound.now c.requires.bound k _ at in
     let inside : get_or c.args.bound.now k 0 < length c.args.operands.now = omega (arith, low, c.requires.many) in
     let f = tree-at s c.args.operands.now _ _ (slice_get-get_or c.args.operands.now _ _ inside) in
-    let fits = place-fits s.context es ws (signatures_of c.args.earlier.now) tt c.requires.fit c.args.bound.now c.requires.bound k _ at _ f in
+    let fits = place-fits s.context es ws (signatures_of c.args.env.now) tt c.requires.fit c.args.bound.now c.requires.bound k _ at _ f in
     sym (decides-not s.context es ws c.args.i c.word_of-word.result _ c.places.bits c.args.bound.now k (c.places.invariant c.word_of-word.result c.word_of-word.ensures) _ _ at f
-    c.may_meet-exempt.result c.stands_beside.result c.may_meet-exempt.ensures (c.stands_beside.ensures (signatures_of c.args.earlier.now) c.requires.over fits) c.if-not-stands_beside.true)
+    c.may_meet-exempt.result c.stands_beside.result c.may_meet-exempt.ensures (c.stands_beside.ensures (signatures_of c.args.env.now) c.requires.over fits) c.if-not-stands_beside.true)
     ∙ row-asked s.context es ws c.args.i c.word_of-word.result _ e p c.word_of-word.ensures (tree-at s c.args.operands.now c.args.i _ (slice_get-get_or _ _ _ there)) eat pat
 
 pub places-preserved : goal.places-preserved
 places-preserved c w wat =
     let s = c.args.nodes.now in
     let es = trees_at s c.args.operands.now in
-    let ws = params_of c.args.earlier.now.file c.args.row in
+    let ws = params_of c.args.env.now.file c.args.row in
     let k = c.places.place-index in
     let at = slice_get-get_or c.args.bound.now k 0 c.places-test.true in
     let low = place-below ws c.args.bound.now c.requires.bound k _ at in
     let inside : get_or c.args.bound.now k 0 < length c.args.operands.now = omega (arith, low, c.requires.many) in
     let f = tree-at s c.args.operands.now _ _ (slice_get-get_or c.args.operands.now _ _ inside) in
-    let fits = place-fits s.context es ws (signatures_of c.args.earlier.now) tt c.requires.fit c.args.bound.now c.requires.bound k _ at _ f in
+    let fits = place-fits s.context es ws (signatures_of c.args.env.now) tt c.requires.fit c.args.bound.now c.requires.bound k _ at _ f in
     rw (add-one k)
     (decides-next s.context es ws c.args.i w _ c.places.bits c.args.bound.now k (c.places.invariant w wat) _ _ at f
-    c.may_meet-exempt.result c.stands_beside.result c.may_meet-exempt.ensures (c.stands_beside.ensures (signatures_of c.args.earlier.now) c.requires.over fits) c.if-not-stands_beside.false)
+    c.may_meet-exempt.result c.stands_beside.result c.may_meet-exempt.ensures (c.stands_beside.ensures (signatures_of c.args.env.now) c.requires.over fits) c.if-not-stands_beside.false)
 
 pub returns : goal.returns
 returns c e p eat pat =
     let s = c.args.nodes.now in
     let es = trees_at s c.args.operands.now in
-    let ws = params_of c.args.earlier.now.file c.args.row in
+    let ws = params_of c.args.env.now.file c.args.row in
     let there : c.args.i < length c.args.operands.now = omega (arith, c.requires.many, c.requires.place) in
     sym (decides-end s.context es ws c.args.i c.word_of-word.result _ c.places.bits c.args.bound.now c.places.place-index (c.places.invariant c.word_of-word.result c.word_of-word.ensures) (omega (arith, c.places-test.false)))
     ∙ row-asked s.context es ws c.args.i c.word_of-word.result _ e p c.word_of-word.ensures (tree-at s c.args.operands.now c.args.i _ (slice_get-get_or _ _ _ there)) eat pat

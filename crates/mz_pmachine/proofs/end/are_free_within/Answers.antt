@@ -8,7 +8,7 @@ use Rattle.mz_pmachine.proofs.end.are_free_within.Goals as goal
 
 pub returns : goal.returns
 returns c =
-    let E = c.args.earlier.now in
+    let E = c.args.env.now in
     let s = c.args.nodes.now in
     let i = c.args.target.0 in
     let row = c.requires.row in

@@ -12,7 +12,7 @@ use Rattle.mz_pmachine.proofs.end.check_body.Goals as goal
 
 pub returns-then-sort_of-sort : goal.returns-then-sort_of-sort
 returns-then-sort_of-sort c st ctx =
-    let E = c.args.earlier.now in
+    let E = c.args.env.now in
     let e = expr_of c.args.nodes.now c.args.target.0 in
     body-sort portable (tables_of E) (heading_by E.file c.args.row is_definition) st e c.sort_of.result
     (subst (λ bs. HasSort (signatures_of E) bs (tree_of e) c.sort_of.result) (sym ctx) (c.sort_of.ensures.sort _ c.requires.over))
@@ -20,7 +20,7 @@ returns-then-sort_of-sort c st ctx =
 
 pub returns-then-not-are_free_within : goal.returns-then-not-are_free_within
 returns-then-not-are_free_within c st ctx =
-    let E = c.args.earlier.now in
+    let E = c.args.env.now in
     let e = expr_of c.args.nodes.now c.args.target.0 in
     let h = heading_by E.file c.args.row is_definition in
     body-free portable (tables_of E) h st e c.sort_of.result false
@@ -30,7 +30,7 @@ returns-then-not-are_free_within c st ctx =
 
 pub returns : goal.returns
 returns c st ctx =
-    let E = c.args.earlier.now in
+    let E = c.args.env.now in
     let e = expr_of c.args.nodes.now c.args.target.0 in
     let h = heading_by E.file c.args.row is_definition in
     body-free portable (tables_of E) h st e c.sort_of.result true

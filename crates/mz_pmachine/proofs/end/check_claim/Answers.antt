@@ -10,7 +10,7 @@ use Rattle.mz_pmachine.proofs.end.check_claim.Goals as goal
 
 pub returns-then-is_provable : goal.returns-then-is_provable
 returns-then-is_provable c st ctx =
-    let E = c.args.earlier.now in
+    let E = c.args.env.now in
     let s = c.args.nodes.now in
     let e = expr_of s c.args.target.0 in
     claim-ends portable (tables_of E) (heading_by E.file c.args.row is_axiom) st e
@@ -19,7 +19,7 @@ returns-then-is_provable c st ctx =
 
 pub returns-else-is_provable : goal.returns-else-is_provable
 returns-else-is_provable c st ctx =
-    let E = c.args.earlier.now in
+    let E = c.args.env.now in
     let s = c.args.nodes.now in
     let e = expr_of s c.args.target.0 in
     claim-other portable (tables_of E) (heading_by E.file c.args.row is_axiom) st e

@@ -1,7 +1,7 @@
 use Rattle.std.proofs.Common.{◌∙◌, ap, sym, subst, refl}
 use Rattle.mz_pmachine_unify.specs.Numbering.{expr_of, AreIn}
 use Rattle.mz_pmachine_unify.specs.Stored.{items_at, exprs_at, AreItemsIn}
-use Rattle.mz_unify_theory.specs.UnifyMachine.{unify, unify_steps}
+use Rattle.mz_machine_theory.specs.UnifyMachine.{unify, unify_steps}
 use Rattle.mz_machine_env.specs.OwnRow.{first_ids, kind_of}
 use Rattle.mz_machine_theory.specs.Headings.{heading_by}
 use Rattle.mz_machine_env.specs.Before.{tables_of, signatures_of}
@@ -27,7 +27,7 @@ run_own-requires-clause-proofs g c =
 
 pub returns-in-Err-clause-row : goal.returns-in-Err-clause-row
 returns-in-Err-clause-row g c heap =
-    let E = c.args.earlier.now in
+    let E = c.args.env.now in
     let s = c.args.nodes.now in
     let kind = kind_of c.args.kind in
     let h = heading_by E.file c.args.row kind in
@@ -38,7 +38,7 @@ returns-in-Err-clause-row g c heap =
 
 pub returns-in-Err-clause-steps : goal.returns-in-Err-clause-steps
 returns-in-Err-clause-steps g c heap =
-    let E = c.args.earlier.now in
+    let E = c.args.env.now in
     let s = c.args.nodes.now in
     let kind = kind_of c.args.kind in
     let h = heading_by E.file c.args.row kind in
@@ -49,7 +49,7 @@ returns-in-Err-clause-steps g c heap =
 
 pub returns-in-Err-check_target-clause-row : goal.returns-in-Err-check_target-clause-row
 returns-in-Err-check_target-clause-row g c heap =
-    let E = c.args.earlier.now in
+    let E = c.args.env.now in
     let s = c.args.nodes.now in
     let kind = kind_of c.args.kind in
     let h = heading_by E.file c.args.row kind in
@@ -61,7 +61,7 @@ returns-in-Err-check_target-clause-row g c heap =
 
 pub returns-in-Err-check_target-clause-steps : goal.returns-in-Err-check_target-clause-steps
 returns-in-Err-check_target-clause-steps g c heap =
-    let E = c.args.earlier.now in
+    let E = c.args.env.now in
     let s = c.args.nodes.now in
     let kind = kind_of c.args.kind in
     let h = heading_by E.file c.args.row kind in
@@ -73,7 +73,7 @@ returns-in-Err-check_target-clause-steps g c heap =
 
 pub returns-clause-row : goal.returns-clause-row
 returns-clause-row g c heap =
-    let E = c.args.earlier.now in
+    let E = c.args.env.now in
     let s = c.args.nodes.now in
     let kind = kind_of c.args.kind in
     let h = heading_by E.file c.args.row kind in
@@ -87,7 +87,7 @@ returns-clause-row g c heap =
 
 pub returns-clause-steps : goal.returns-clause-steps
 returns-clause-steps g c heap =
-    let E = c.args.earlier.now in
+    let E = c.args.env.now in
     let s = c.args.nodes.now in
     let kind = kind_of c.args.kind in
     let h = heading_by E.file c.args.row kind in

@@ -4,7 +4,7 @@ use Rattle.std.proofs.lemmas.List.{append-nil}
 use Rattle.std.proofs.lemmas.Result.{on_ok_weaker}
 use Rattle.mz_cmd.specs.declared.code.ProofCode.TheVariants.{Cong}
 use Rattle.mz_store.specs.declared.item.Item.{Item as Kept}
-use Rattle.mz_unify_theory.specs.Profile.{Item as UnifyItem}
+use Rattle.mz_machine_theory.specs.Profile.{Item as UnifyItem}
 use Rattle.mz_machine.specs.OpenEquations.{AreOpen, AreSettled, opened_on, whole_stack}
 use Rattle.mz_machine.proofs.Offered.{all-less, asks-within, memory-stops, pushed-gives}
 use Rattle.mz_pmachine_theory.specs.NodeIdentity.{Numbered}

@@ -1,7 +1,7 @@
 use Rattle.std.proofs.Common.{◌<◌, ◌≤◌, ◌∙◌, List, ◌∷◌, length, sym, ap, subst, arith, inl, inr}
 use Rattle.std.specs.Prelude.{reverse}
 use Rattle.std.proofs.lemmas.Result.{on_ok_weaker}
-use Rattle.mz_unify_theory.specs.Profile.{Item as UnifyItem}
+use Rattle.mz_machine_theory.specs.Profile.{Item as UnifyItem}
 use Rattle.mz_machine.specs.OpenEquations.{AreOpen, AreSettled, whole_stack}
 use Rattle.mz_machine.specs.declared.equations.Equation.{Equation}
 use Rattle.mz_machine.proofs.Offered.{FollowsBy, first-open, last-first, none-settled, now-settled, popped-first, same-settled}

@@ -1,7 +1,7 @@
 use Rattle.std.proofs.Common.{◌≡◌, ◌∙◌, List, Some, None, Ok, Err, length, sym, ap, subst, arith, suc}
 use Rattle.std.proofs.lemmas.Result.{on_ok_weaker}
 use Rattle.mz_cmd.specs.declared.rule.K.{K}
-use Rattle.mz_unify_theory.specs.Profile.{Item as UnifyItem}
+use Rattle.mz_machine_theory.specs.Profile.{Item as UnifyItem}
 use Rattle.mz_machine_theory.specs.Bodies.{proves}
 use Rattle.mz_machine_theory.specs.ProofMachine.{proof_step}
 use Rattle.mz_machine_env.specs.Before.{signatures_of, tables_of}
@@ -23,12 +23,12 @@ use Rattle.mz_pmachine.proofs.machine.obey.Goals as goal
 
 pub returns-in_default-clause-done : goal.returns-in_default-clause-done
 returns-in_default-clause-done g c =
-    ap (row_by (tables_of c.args.earlier.now) c.args.at (whole_state c.args.nodes.now c.args.heap.now.items c.args.equations.now.items c.args.stack.now.items c.args.hyps.now.items)) (c.in_default.ensures.none c.args.cmd.value)
+    ap (row_by (tables_of c.args.env.now) c.args.at (whole_state c.args.nodes.now c.args.heap.now.items c.args.equations.now.items c.args.stack.now.items c.args.hyps.now.items)) (c.in_default.ensures.none c.args.cmd.value)
 
 pub returns-in_default-clause-steps : goal.returns-in_default-clause-steps
 returns-in_default-clause-steps g c =
     let whole = whole_state c.args.nodes.now c.args.heap.now.items c.args.equations.now.items c.args.stack.now.items c.args.hyps.now.items in
-    omega (arith, ap (steps_by (tables_of c.args.earlier.now) whole) (c.in_default.ensures.none c.args.cmd.value), c.tick.ensures)
+    omega (arith, ap (steps_by (tables_of c.args.env.now) whole) (c.in_default.ensures.none c.args.cmd.value), c.tick.ensures)
 
 pub returns-in_default-clause-most : goal.returns-in_default-clause-most
 returns-in_default-clause-most g c = omega (arith, c.tick.ensures)
@@ -38,7 +38,7 @@ returns-in_default-clause-most g c = omega (arith, c.tick.ensures)
 pub returns-in-Some-lack-clause-done : goal.returns-in-Some-lack-clause-done
 returns-in-Some-lack-clause-done g c =
     let s = c.args.nodes.now in
-    let E = c.args.earlier.now in
+    let E = c.args.env.now in
     let es = c.args.equations.now.items in
     let code = code_of c.in-Some.command in
     let xs = items_at s c.args.stack.now.items in
@@ -51,7 +51,7 @@ returns-in-Some-lack-clause-done g c =
 pub returns-in-Some-lack-clause-steps : goal.returns-in-Some-lack-clause-steps
 returns-in-Some-lack-clause-steps g c =
     let s = c.args.nodes.now in
-    let E = c.args.earlier.now in
+    let E = c.args.env.now in
     let es = c.args.equations.now.items in
     let code = code_of c.in-Some.command in
     let xs = items_at s c.args.stack.now.items in
@@ -69,7 +69,7 @@ returns-in-Some-lack-clause-most g c = omega (arith, c.tick.ensures)
 pub returns-then-is_cong-clause-done : goal.returns-then-is_cong-clause-done
 returns-then-is_cong-clause-done g c =
     let s = c.args.nodes.now in
-    let E = c.args.earlier.now in
+    let E = c.args.env.now in
     let whole = whole_state s c.args.heap.now.items c.args.equations.now.items c.args.stack.now.items c.args.hyps.now.items in
     let here = c.in-Some.ensures.some c.args.cmd.value ∙ ap (λ (k : Command). Some (proves (code_of k) c.args.cmd.value)) (c.is_cong.ensures.0 c.if-is_cong.true) in
     proceeds (signatures_of E) c.args.at s s (grows-not (signatures_of E) s c.requires.over) c.args.heap.now.items c.requires.heap c.args.hyps.now.items c.requires.hyps c.requires.few (omega (arith, c.requires.number))
@@ -78,7 +78,7 @@ returns-then-is_cong-clause-done g c =
 
 pub returns-then-is_cong-clause-steps : goal.returns-then-is_cong-clause-steps
 returns-then-is_cong-clause-steps g c =
-    let E = c.args.earlier.now in
+    let E = c.args.env.now in
     let whole = whole_state c.args.nodes.now c.args.heap.now.items c.args.equations.now.items c.args.stack.now.items c.args.hyps.now.items in
     let here = c.in-Some.ensures.some c.args.cmd.value ∙ ap (λ (k : Command). Some (proves (code_of k) c.args.cmd.value)) (c.is_cong.ensures.0 c.if-is_cong.true) in
     unless-mem c.open_equation.result (omega (arith, ap (steps_by (tables_of E) whole) here, c.tick.ensures))
@@ -92,7 +92,7 @@ pub returns-in-Ok-clause-done : goal.returns-in-Ok-clause-done
 returns-in-Ok-clause-done g c =
     let s = c.args.nodes.now in
     let s' = c.execute.new.nodes in
-    let E = c.args.earlier.now in
+    let E = c.args.env.now in
     let es = c.args.equations.now.items in
     let code = code_of c.in-Some.command in
     let xs = items_at s c.args.stack.now.items in
@@ -110,7 +110,7 @@ returns-in-Ok-clause-done g c =
 pub returns-in-Ok-clause-steps : goal.returns-in-Ok-clause-steps
 returns-in-Ok-clause-steps g c =
     let s = c.args.nodes.now in
-    let E = c.args.earlier.now in
+    let E = c.args.env.now in
     let es = c.args.equations.now.items in
     let code = code_of c.in-Some.command in
     let xs = items_at s c.args.stack.now.items in
@@ -128,7 +128,7 @@ returns-in-Ok-clause-most g c = omega (arith, c.execute.ensures.most, c.tick.ens
 pub returns-in-Err-clause-done : goal.returns-in-Err-clause-done
 returns-in-Err-clause-done g c =
     let s = c.args.nodes.now in
-    let E = c.args.earlier.now in
+    let E = c.args.env.now in
     let es = c.args.equations.now.items in
     let code = code_of c.in-Some.command in
     let xs = items_at s c.args.stack.now.items in
@@ -142,7 +142,7 @@ returns-in-Err-clause-done g c =
 pub returns-in-Err-clause-steps : goal.returns-in-Err-clause-steps
 returns-in-Err-clause-steps g c =
     let s = c.args.nodes.now in
-    let E = c.args.earlier.now in
+    let E = c.args.env.now in
     let es = c.args.equations.now.items in
     let code = code_of c.in-Some.command in
     let xs = items_at s c.args.stack.now.items in
@@ -212,7 +212,7 @@ settle-requires-clause-stack g c = c.in-Ok.ensures.ids.1
 pub settle-requires-clause-standing : goal.settle-requires-clause-standing
 settle-requires-clause-standing g c =
     let s = c.args.nodes.now in
-    let E = c.args.earlier.now in
+    let E = c.args.env.now in
     let es = c.args.equations.now.items in
     let code = code_of c.in-Some.command in
     let xs = items_at s c.args.stack.now.items in

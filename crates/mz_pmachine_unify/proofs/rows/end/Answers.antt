@@ -1,6 +1,6 @@
 use Rattle.std.proofs.Common.{◌∙◌, sym, ap}
 use Rattle.mz_pmachine_unify.proofs.StoredIds.{stack-empty}
-use Rattle.mz_unify_theory.specs.UnifyMachine.{is_empty, nothing_left}
+use Rattle.mz_machine_theory.specs.UnifyMachine.{is_empty, nothing_left}
 use Rattle.mz_unify.specs.Stored.{mode_of}
 use Rattle.mz_unify.proofs.Offered.{end-target, end-left, end-row}
 use Rattle.mz_pmachine_theory.specs.NodeIdentity.{portable}

@@ -2,7 +2,7 @@ use Rattle.std.proofs.Common.{◌∙◌, ◌≡◌, true, sym, ap}
 use Rattle.std.specs.Prelude.{◌==◌}
 use Rattle.mz_pmachine_unify.specs.Numbering.{expr_of}
 use Rattle.mz_pmachine_unify.proofs.StoredIds.{stack-empty, alone}
-use Rattle.mz_unify_theory.specs.UnifyMachine.{is_empty, next_hypothesis}
+use Rattle.mz_machine_theory.specs.UnifyMachine.{is_empty, next_hypothesis}
 use Rattle.mz_unify.specs.Stored.{mode_of}
 use Rattle.mz_pmachine_unify.specs.Stored.{stack_at, items_at}
 use Rattle.mz_unify.proofs.Offered.{hyp-target, hyp-stop, hyp-row}

@@ -1,10 +1,10 @@
 use Rattle.std.proofs.Common.{◌∙◌, ◌+◌, ◌++◌, ◌≤◌, length, drop, map, refl, sym, ap, subst, arith}
-use Rattle.mz_unify_theory.specs.Streams.{IsEnd}
+use Rattle.mz_machine_theory.specs.Streams.{IsEnd}
 use Rattle.mz_pmachine_unify.specs.Stored.{exprs_at, items_at}
 use Rattle.mz_unify.specs.Rows.{TellsAny, command_of}
 use Rattle.mz_pmachine_theory.specs.NodeIdentity.{tree_of}
 use Rattle.mz_pmachine_unify.specs.Rows.{state_at}
-use Rattle.mz_unify_theory.proofs.Offered.{command-long, further}
+use Rattle.mz_machine_theory.proofs.Offered.{command-long, further}
 use Rattle.mz_unify.proofs.Offered.{cut-whole, cut-many, other-whole, other-many, stopped-whole, stopped-many, ended-whole, ended-many, goes-on, left-both, left-none, not-end, stopped-not-done, taken-there, taken-exactly, taken-fits, counted-within, counted-once}
 use Rattle.mz_pmachine_unify.proofs.running.run.Goals as goal
 

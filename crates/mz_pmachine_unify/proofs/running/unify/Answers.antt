@@ -6,4 +6,4 @@ use Rattle.mz_pmachine_unify.proofs.running.unify.Goals as goal
 
 pub unify_in-said-requires-clause-apart : goal.unify_in-said-requires-clause-apart
 unify_in-said-requires-clause-apart g c =
-    subst (λ is. TellsAny c.args.nodes.now.context c.kept_apart-apart.result (map tree_of (exprs_at c.args.nodes.now is))) (c.deref.ensures.value ∙ sym c.deref-2.ensures.value) (c.kept_apart-apart.ensures _ c.requires.over)
+    subst (λ is. TellsAny c.args.nodes.now.context c.kept_disjoint-apart.result (map tree_of (exprs_at c.args.nodes.now is))) (c.deref.ensures.value ∙ sym c.deref-2.ensures.value) (c.kept_disjoint-apart.ensures _ c.requires.over)

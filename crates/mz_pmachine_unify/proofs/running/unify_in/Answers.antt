@@ -3,7 +3,7 @@ use Rattle.std.proofs.lemmas.List.{append-nil}
 use Rattle.mz_logic_theory.specs.Words.{signatures_of}
 use Rattle.mz_store.specs.declared.item.Id.{Id}
 use Rattle.mz_store.specs.declared.item.Item.{Item as Kept}
-use Rattle.mz_unify_theory.specs.UnifyMachine.{at_start}
+use Rattle.mz_machine_theory.specs.UnifyMachine.{at_start}
 use Rattle.mz_unify.specs.declared.unified.UnifyMode.{UnifyMode}
 use Rattle.mz_unify.proofs.Offered.{whole-run, whole-count}
 use Rattle.mz_pmachine_theory.specs.NodeIdentity.{portable}

@@ -7,7 +7,7 @@ use Rattle.mz_prefix.proofs.Shared.{short_repeated}
 use Rattle.mz_prefix.proofs.omitted.are_short.Goals as goal
 
 pub loop-i-init : goal.loop-i-init
-loop-i-init c = λ v. short_repeated v c.lent-formulas.result c.args.hyps.now (subst (λ es. Repeats es c.args.hyps.now) (sym c.lent-formulas.ensures) c.formulas.ensures)
+loop-i-init c = λ v. short_repeated v c.borrowed-formulas.result c.args.hyps.now (subst (λ es. Repeats es c.args.hyps.now) (sym c.borrowed-formulas.ensures) c.formulas.ensures)
 
 pub returns-then-not-is_short : goal.returns-then-not-is_short
 returns-then-not-is_short c = λ v. (
@@ -24,6 +24,6 @@ loop-i-preserved c = λ v.
 
 pub returns : goal.returns
 returns c = λ v. (
-  λ _. (c.loop-i.invariant v).0 (at-end (AreShort v) c.lent-formulas.result c.loop-i.i (omega (arith, c.len-i-end.ensures, c.loop-i-test.false)) tt),
+  λ _. (c.loop-i.invariant v).0 (at-end (AreShort v) c.borrowed-formulas.result c.loop-i.i (omega (arith, c.len-i-end.ensures, c.loop-i-test.false)) tt),
   λ _. refl,
 )

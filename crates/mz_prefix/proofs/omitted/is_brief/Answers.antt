@@ -5,7 +5,7 @@ use Rattle.mz_prefix.proofs.omitted.is_brief.Goals as goal
 
 pub returns-then-are_short : goal.returns-then-are_short
 returns-then-are_short c = rw c.in-Thm.is (λ v.
-    let short = c.is_short.ensures v ∙ ap (is_short v) c.lent.ensures in (
+    let short = c.is_short.ensures v ∙ ap (is_short v) c.borrowed.ensures in (
       λ is. ((c.are_short.ensures v).0 c.if-are_short.true, short-is v c.in-Thm.thm.conclusion (sym short ∙ is)),
       λ brief. short ∙ is-short v c.in-Thm.thm.conclusion brief.1,
     ))

@@ -1,7 +1,7 @@
 use Rattle.std.proofs.Common.{◌∙◌, sym, arith}
 use Rattle.mz_logic_theory.specs.Words.{signatures_of, term_at}
 use Rattle.mz_store.specs.Sharing.{tree_of}
-use Rattle.mz_unify_theory.proofs.Offered.{two-fit}
+use Rattle.mz_machine_theory.proofs.Offered.{two-fit}
 use Rattle.mz_read_tests.proofs.unify.can_take.Goals as goal
 
 pub returns : goal.returns

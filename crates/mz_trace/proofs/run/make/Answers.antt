@@ -1,6 +1,5 @@
 use Rattle.std.proofs.Common.{◌∙◌, ◌+◌, ◌≤◌, length, arith, sym}
-use Rattle.mz_unify_theory.proofs.Offered.{further}
-use Rattle.mz_machine_theory.proofs.Offered.{more-steps, within-steps}
+use Rattle.mz_machine_theory.proofs.Offered.{further, more-steps, within-steps}
 use Rattle.mz_trace.specs.Commands.{stage_of}
 use Rattle.mz_trace.proofs.Bodies.{goes-over, goes-further, ends-there, reads-on}
 use Rattle.mz_trace.proofs.run.make.Goals as goal

@@ -1,5 +1,5 @@
 use Rattle.std.proofs.Common.{◌∙◌, arith, sym}
-use Rattle.mz_unify_theory.proofs.Offered.{further}
+use Rattle.mz_machine_theory.proofs.Offered.{further}
 use Rattle.mz_trace.proofs.StreamsHyps.{none-taken, reads-on, all-taken, more-taken, few-taken}
 use Rattle.mz_trace.proofs.streams.hypotheses.Goals as goal
 

@@ -1,5 +1,5 @@
 use Rattle.std.proofs.Common.{◌∙◌, ◌++◌, ◌∷◌, [], arith, sym, ap}
-use Rattle.mz_unify_theory.proofs.Offered.{further}
+use Rattle.mz_machine_theory.proofs.Offered.{further}
 use Rattle.mz_trace.proofs.StreamsMet.{none-met, reads-on, all-met, may-go-on, more-met}
 use Rattle.mz_trace.proofs.streams.met_variables.Goals as goal
 

@@ -13,7 +13,7 @@ pub is_side-returns-in-Own : goal.is_side-returns-in-Own
 is_side-returns-in-Own t c = same_as c.same_claim.result (c.of.ensures ∙ c.in-Own.ensures.same) refl c.same_claim.ensures
 
 pub is_side-returns-in-Term : goal.is_side-returns-in-Term
-is_side-returns-in-Term t c = same_as c.same_claim-in-Term.result (ap (app c.in-Term.t) (c.of-es.ensures ∙ c.lent.ensures) ∙ c.in-Term.ensures.same) refl c.same_claim-in-Term.ensures
+is_side-returns-in-Term t c = same_as c.same_claim-in-Term.result (ap (app c.in-Term.t) (c.of-es.ensures ∙ c.borrowed.ensures) ∙ c.in-Term.ensures.same) refl c.same_claim-in-Term.ensures
 
 pub is_side-returns-in-Var : goal.is_side-returns-in-Var
 is_side-returns-in-Var t c = never (λ e. no_variable (c.in-Under.ensures.same ∙ e ∙ ap claim_tree c.in-Var.is))

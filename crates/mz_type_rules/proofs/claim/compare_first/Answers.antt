@@ -1,7 +1,7 @@
 use Rattle.std.proofs.Common.{◌∙◌, ap, arith, refl, sym, true≢false}
 use Rattle.std.proofs.lemmas.Result.{on_ok_weaker}
 use Rattle.mz_logic_theory.specs.Tree.{trees_size}
-use Rattle.mz_type_rules.specs.Claims.{all_put_in, lent_trees, claim_tree, AllSame}
+use Rattle.mz_type_rules.specs.Claims.{all_put_in, borrowed_trees, claim_tree, AllSame}
 use Rattle.mz_type_rules.proofs.ClaimSides.{first_compared, no_end, put_end, put_first}
 use Rattle.mz_type_rules.proofs.claim.compare_first.Goals as goal
 
@@ -12,7 +12,7 @@ returns-in_ok-wait-in-Some-Some-clause-same c =
     let left = put_first p c.operands.ensures c.in-Some-Some.ensures c.with.ensures c.shape.ensures c.of-es.ensures in
     let right = put_first q c.operands-2.ensures c.in-Some-Some.ensures' c.with-in-Some-Some.ensures c.shape-in-Some-Some.ensures c.of-fs.ensures in
     first_compared c.compare.result (AllSame c.compare.new.waiting.items) (AllSame c.wait.new.waiting.items) (AllSame c.args.waiting.now.items)
-    (claim_tree c.with.result) (claim_tree c.with-in-Some-Some.result) (all_put_in p (lent_trees c.of-es.result)) (all_put_in q (lent_trees c.of-fs.result)) _ _ left right
+    (claim_tree c.with.result) (claim_tree c.with-in-Some-Some.result) (all_put_in p (borrowed_trees c.of-es.result)) (all_put_in q (borrowed_trees c.of-fs.result)) _ _ left right
     c.in_ok-wait-in-Some-Some.ensures.same c.compare.ensures.same
 
 pub returns-in_ok-wait-in-Some-Some-clause-less : goal.returns-in_ok-wait-in-Some-Some-clause-less

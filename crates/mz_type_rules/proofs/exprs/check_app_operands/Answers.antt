@@ -21,8 +21,8 @@ returns c =
     let ctx = c.args.ctx.now in
     let es = c.args.es.now in
     let ns = rest (parts (first c.args.nodes.now)) in
-    judges-after (exprs_rules sigs ctx es ns) _ c.check_lent_operands.result c.requires
-    (judges_asked _ _ (operand_rules sigs ctx es ns _) c.check_lent_operands.result
+    judges-after (exprs_rules sigs ctx es ns) _ c.check_borrowed_operands.result c.requires
+    (judges_asked _ _ (operand_rules sigs ctx es ns _) c.check_borrowed_operands.result
     (sym c.len.ensures ∙ c.if-len-params.false ∙ ap length c.params_of-params.ensures)
-    (subst (λ ps. Judges c.check_lent_operands.result (operand_rules sigs ctx es ns ps)) c.params_of-params.ensures
-    (subst (λ ms. Judges c.check_lent_operands.result (operand_rules sigs ctx es ms c.params_of-params.result.now)) c.parts_after.ensures c.check_lent_operands.ensures)))
+    (subst (λ ps. Judges c.check_borrowed_operands.result (operand_rules sigs ctx es ns ps)) c.params_of-params.ensures
+    (subst (λ ms. Judges c.check_borrowed_operands.result (operand_rules sigs ctx es ms c.params_of-params.result.now)) c.parts_after.ensures c.check_borrowed_operands.ensures)))

@@ -7,4 +7,4 @@ use Rattle.mz_type_rules.proofs.exprs.check_expr.Goals as goal
 
 pub returns : goal.returns
 returns c =
-    subst (λ e. Judges c.check_lent_expr.result (expr_rules (signatures c.args.env.now) c.args.ctx.now e (first c.args.nodes.now))) c.lent.ensures c.check_lent_expr.ensures
+    subst (λ e. Judges c.check_borrowed_expr.result (expr_rules (signatures c.args.env.now) c.args.ctx.now e (first c.args.nodes.now))) c.borrowed.ensures c.check_borrowed_expr.ensures

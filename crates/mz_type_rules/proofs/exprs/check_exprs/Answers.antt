@@ -6,4 +6,4 @@ use Rattle.mz_type_rules.proofs.exprs.check_exprs.Goals as goal
 
 pub returns : goal.returns
 returns c =
-    subst (λ es. Judges c.check_lent_exprs.result (exprs_rules (signatures c.args.env.now) c.args.ctx.now es c.args.nodes.now)) c.lent.ensures c.check_lent_exprs.ensures
+    subst (λ es. Judges c.check_borrowed_exprs.result (exprs_rules (signatures c.args.env.now) c.args.ctx.now es c.args.nodes.now)) c.borrowed.ensures c.check_borrowed_exprs.ensures

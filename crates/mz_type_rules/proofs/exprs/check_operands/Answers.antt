@@ -6,5 +6,5 @@ use Rattle.mz_type_rules.proofs.exprs.check_operands.Goals as goal
 
 pub returns : goal.returns
 returns c =
-    subst (λ es. Judges c.check_lent_operands.result (operand_rules (signatures c.args.env.now) c.args.ctx.now es c.args.nodes.now c.args.params.now)) c.lent.ensures
-    c.check_lent_operands.ensures
+    subst (λ es. Judges c.check_borrowed_operands.result (operand_rules (signatures c.args.env.now) c.args.ctx.now es c.args.nodes.now c.args.params.now)) c.borrowed.ensures
+    c.check_borrowed_operands.ensures

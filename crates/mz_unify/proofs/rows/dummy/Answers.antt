@@ -2,7 +2,7 @@ use Rattle.std.proofs.Common.{◌∙◌, sym}
 use Rattle.mz_store.specs.Sharing.{tree_of}
 use Rattle.mz_unify.proofs.VariableWords.{tells-any-push, tells-bound}
 use Rattle.mz_unify.proofs.RowValues.{dummy-no-target, dummy-other, dummy-row}
-use Rattle.mz_unify_theory.specs.Profile.{strict}
+use Rattle.mz_machine_theory.specs.Profile.{strict}
 use Rattle.mz_unify.proofs.rows.dummy.Goals as goal
 
 pub returns-in_default-clause-row : goal.returns-in_default-clause-row

@@ -1,10 +1,11 @@
 use Rattle.std.proofs.Common.{◌≡◌, ◌++◌, Some, ◌∙◌, sym}
 use Rattle.std.specs.Prelude.{reverse}
 use Rattle.mz_store.specs.Sharing.{tree_of, head_of}
+use Rattle.mz_unify.specs.Rows.{all_targets}
 use Rattle.mz_unify.specs.Stored.{stack_at}
 use Rattle.mz_unify.proofs.StoredIds.{are-in-both, are-in-reverse, put-there}
 use Rattle.mz_unify.proofs.RowValues.{term-none, save-none, term-other, save-other, term-row, save-row, heads-differ, heads-same}
-use Rattle.mz_unify_theory.specs.Profile.{strict}
+use Rattle.mz_machine_theory.specs.Profile.{strict}
 use Rattle.mz_unify.proofs.Parts.{of-trees}
 use Rattle.mz_unify.proofs.rows.open.Goals as goal
 
@@ -27,10 +28,16 @@ returns-clause-ids c = (c.in-Some.ensures.ids.0, rw c.in_ok-push_operands.ensure
 
 pub returns-clause-plain : goal.returns-clause-plain
 returns-clause-plain c sigs mode st is =
-    let h : head_of (tree_of c.args.store.now c.in-Some.top.0) ≡ Some c.args.term = sym c.head.ensures ∙ heads-same c.head.result c.args.term (sym c.ne.ensures ∙ c.if-ne.false) in
-    rw c.in_ok-push_operands.ensures.ok (term-row strict sigs c.args.store.now.context mode st of-trees c.args.term (tree_of c.args.store.now c.in-Some.top.0) (stack_at c.args.store.now c.take_top.new.targets.items) (stack_at c.args.store.now (c.take_top.new.targets.items ++ reverse c.args-2.result.now)) (is ∙ c.in-Some.ensures.some) h (put-there c.args.store.now (tree_of c.args.store.now c.in-Some.top.0) c.take_top.new.targets.items c.args-2.result.now c.args-2.ensures.trees))
+    let s = c.args.store.now in
+    let e = tree_of s c.in-Some.top.0 in
+    let left = all_targets c.in-Some.rest.now c.take_top.new.targets.items in
+    let h : head_of e ≡ Some c.args.term = sym c.head.ensures ∙ heads-same c.head.result c.args.term (sym c.ne.ensures ∙ c.if-ne.false) in
+    rw c.in_ok-push_operands.ensures.ok (term-row strict sigs s.context mode st of-trees c.args.term e (stack_at s left) (stack_at s (left ++ reverse c.args-2.result.now)) (is ∙ c.in-Some.ensures.some) h (put-there s e left c.args-2.result.now c.args-2.ensures.trees))
 
 pub returns-clause-saved : goal.returns-clause-saved
 returns-clause-saved c sigs mode st is =
-    let h : head_of (tree_of c.args.store.now c.in-Some.top.0) ≡ Some c.args.term = sym c.head.ensures ∙ heads-same c.head.result c.args.term (sym c.ne.ensures ∙ c.if-ne.false) in
-    rw c.in_ok-push_operands.ensures.ok (save-row strict sigs c.args.store.now.context mode st of-trees c.args.term (tree_of c.args.store.now c.in-Some.top.0) (stack_at c.args.store.now c.take_top.new.targets.items) (stack_at c.args.store.now (c.take_top.new.targets.items ++ reverse c.args-2.result.now)) (is ∙ c.in-Some.ensures.some) h (put-there c.args.store.now (tree_of c.args.store.now c.in-Some.top.0) c.take_top.new.targets.items c.args-2.result.now c.args-2.ensures.trees))
+    let s = c.args.store.now in
+    let e = tree_of s c.in-Some.top.0 in
+    let left = all_targets c.in-Some.rest.now c.take_top.new.targets.items in
+    let h : head_of e ≡ Some c.args.term = sym c.head.ensures ∙ heads-same c.head.result c.args.term (sym c.ne.ensures ∙ c.if-ne.false) in
+    rw c.in_ok-push_operands.ensures.ok (save-row strict sigs s.context mode st of-trees c.args.term e (stack_at s left) (stack_at s (left ++ reverse c.args-2.result.now)) (is ∙ c.in-Some.ensures.some) h (put-there s e left c.args-2.result.now c.args-2.ensures.trees))

@@ -2,7 +2,7 @@ use Rattle.std.proofs.Common.{true, false, ◌∙◌, ◌≡◌, ◌++◌, refl,
 use Rattle.std.specs.Prelude.{slice_get}
 use Rattle.mz_unify.proofs.StoredIds.{tree-at, tree-past, is-in-at}
 use Rattle.mz_unify.proofs.RowValues.{ref-no-target, ref-no-place, ref-other, ref-row}
-use Rattle.mz_unify_theory.specs.Profile.{strict}
+use Rattle.mz_machine_theory.specs.Profile.{strict}
 use Rattle.mz_unify.proofs.Parts.{of-trees}
 use Rattle.mz_unify.proofs.rows.refer.Goals as goal
 

@@ -1,9 +1,9 @@
 use Rattle.std.proofs.Common.{◌∙◌, ◌+◌, ◌++◌, ◌≤◌, length, drop, refl, sym, ap, subst, arith}
-use Rattle.mz_unify_theory.specs.Streams.{IsEnd}
+use Rattle.mz_machine_theory.specs.Streams.{IsEnd}
 use Rattle.mz_unify.specs.Stored.{mode_of, trees_at, items_at}
-use Rattle.mz_unify.specs.Rows.{command_of, TellsFor, state_at}
+use Rattle.mz_unify.specs.Rows.{command_of, TellsFor, all_targets, state_at}
 use Rattle.mz_unify.proofs.Underway.{not-end, dummy-stands, left-none, left-both, stopped-not-done, taken-there, taken-exactly, taken-fits, counted-within, counted-once, cut-whole, cut-many, other-whole, other-many, stopped-whole, stopped-many, ended-whole, ended-many, goes-on}
-use Rattle.mz_unify_theory.proofs.Offered.{command-long, further}
+use Rattle.mz_machine_theory.proofs.Offered.{command-long, further}
 use Rattle.mz_unify.proofs.running.run.Goals as goal
 
 pub commands-init : goal.commands-init
@@ -43,12 +43,12 @@ returns-in-Err-clause-steps g c sigs over =
 pub returns-in-End-clause-run : goal.returns-in-End-clause-run
 returns-in-End-clause-run g c sigs over =
     let (code, value, read, here) = c.in-Some.ensures.some in
-    ended-whole (c.commands.invariant.underway sigs over) (record { code = code; value = value; len = c.in-Some.len }) read (command_of c.in-Some.next) here (λ fs. TellsFor (mode_of c.args.mode) c.args.store.now.context c.step.new.apart fs) (λ fs. state_at c.args.store.now (c.args.operands.now ++ c.step.new.saved.items) fs c.step.new.targets.items c.step.new.hyps.items) (trees_at c.args.store.now (c.args.operands.now ++ c.step.new.saved.items)) (items_at c.args.store.now c.step.new.hyps.items) (λ _. (refl, refl)) (subst IsEnd (ap command_of (sym c.in-End.is)) tt) (λ es told. c.in_default-step.ensures.row sigs es over told)
+    ended-whole (c.commands.invariant.underway sigs over) (record { code = code; value = value; len = c.in-Some.len }) read (command_of c.in-Some.next) here (λ fs. TellsFor (mode_of c.args.mode) c.args.store.now.context c.step.new.apart fs) (λ fs. state_at c.args.store.now (c.args.operands.now ++ c.step.new.saved.items) fs (all_targets c.in-Ok-step.rest.now c.step.new.targets.items) c.step.new.hyps.items) (trees_at c.args.store.now (c.args.operands.now ++ c.step.new.saved.items)) (items_at c.args.store.now c.step.new.hyps.items) (λ _. (refl, refl)) (subst IsEnd (ap command_of (sym c.in-End.is)) tt) (λ es told. c.in-Ok-step.ensures.row sigs es over told)
 
 pub returns-in-End-clause-steps : goal.returns-in-End-clause-steps
 returns-in-End-clause-steps g c sigs over =
     let (code, value, read, here) = c.in-Some.ensures.some in
-    c.tick-in-commands.ensures ∙ ended-many (c.commands.invariant.underway sigs over) (record { code = code; value = value; len = c.in-Some.len }) read (command_of c.in-Some.next) here (λ fs. TellsFor (mode_of c.args.mode) c.args.store.now.context c.step.new.apart fs) (λ fs. state_at c.args.store.now (c.args.operands.now ++ c.step.new.saved.items) fs c.step.new.targets.items c.step.new.hyps.items) (subst IsEnd (ap command_of (sym c.in-End.is)) tt) (λ es told. c.in_default-step.ensures.row sigs es over told)
+    c.tick-in-commands.ensures ∙ ended-many (c.commands.invariant.underway sigs over) (record { code = code; value = value; len = c.in-Some.len }) read (command_of c.in-Some.next) here (λ fs. TellsFor (mode_of c.args.mode) c.args.store.now.context c.step.new.apart fs) (λ fs. state_at c.args.store.now (c.args.operands.now ++ c.step.new.saved.items) fs (all_targets c.in-Ok-step.rest.now c.step.new.targets.items) c.step.new.hyps.items) (subst IsEnd (ap command_of (sym c.in-End.is)) tt) (λ es told. c.in-Ok-step.ensures.row sigs es over told)
 
 pub overflow_add-at : goal.overflow_add-at
 overflow_add-at g c =
@@ -67,18 +67,18 @@ pub commands-preserved : goal.commands-preserved
 commands-preserved g c =
     let (code, value, read, here) = c.in-Some.ensures.some in
     let on = further c.args.stream.now c.commands.at (record { code = code; value = value; len = c.in-Some.len }) read c.commands.invariant.in_range in
-    let start = state_at c.args.store.now (c.args.operands.now ++ c.args.saved.now.items) (trees_at c.args.store.now c.args.operands.now) c.args.targets.now.items c.args.hyps.now.items in
+    let start = state_at c.args.store.now (c.args.operands.now ++ c.args.saved.now.items) (trees_at c.args.store.now c.args.operands.now) (all_targets c.args.front.now c.args.targets.now.items) c.args.hyps.now.items in
     let before = c.commands.invariant.left in
-    let after = c.in_default-step.ensures.left in
+    let after = c.in-Ok-step.ensures.left in
     record {
       in_range = on.1;
-      heap = c.in_default-step.ensures.ids.0;
-      targets = c.in_default-step.ensures.ids.1;
-      hyps = c.in_default-step.ensures.ids.2;
+      heap = c.in-Ok-step.ensures.ids.0;
+      targets = c.in-Ok-step.ensures.ids.1;
+      hyps = c.in-Ok-step.ensures.ids.2;
       ticked = rw (c.tick-in-commands.ensures) (omega (arith, (command-long (drop c.commands.at c.args.stream.now) (record { code = code; value = value; len = c.in-Some.len }) read).0, c.commands.invariant.ticked));
       held = c.commands.invariant.held;
       left = (before.0 + after.0, (omega arith), left-both c.args.hyps.now.items c.commands.hyps.items c.step.new.hyps.items before.0 after.0 before.2 after.2);
-      underway = λ sigs over. rw (c.tick-in-commands.ensures) (goes-on {start = start} (c.commands.invariant.underway sigs over) (record { code = code; value = value; len = c.in-Some.len }) read (command_of c.in-Some.next) here (λ fs. TellsFor (mode_of c.args.mode) c.args.store.now.context c.step.new.apart fs) (λ fs. state_at c.args.store.now (c.args.operands.now ++ c.step.new.saved.items) fs c.step.new.targets.items c.step.new.hyps.items) (not-end c.in-Some.next c.in_default-next.not-End) (λ es told. c.in_default-step.ensures.row sigs es over told));
+      underway = λ sigs over. rw (c.tick-in-commands.ensures) (goes-on {start = start} (c.commands.invariant.underway sigs over) (record { code = code; value = value; len = c.in-Some.len }) read (command_of c.in-Some.next) here (λ fs. TellsFor (mode_of c.args.mode) c.args.store.now.context c.step.new.apart fs) (λ fs. state_at c.args.store.now (c.args.operands.now ++ c.step.new.saved.items) fs (all_targets c.in-Ok-step.rest.now c.step.new.targets.items) c.step.new.hyps.items) (not-end c.in-Some.next c.in_default-next.not-End) (λ es told. c.in-Ok-step.ensures.row sigs es over told));
     }
 
 pub step-requires-clause-stands : goal.step-requires-clause-stands
@@ -135,11 +135,11 @@ returns-in-End-clause-most g c =
 -- ---- the end
 
 pub returns-in-End-clause-ids : goal.returns-in-End-clause-ids
-returns-in-End-clause-ids g c = (c.in_default-step.ensures.ids.0, c.in_default-step.ensures.ids.2)
+returns-in-End-clause-ids g c = (c.in-Ok-step.ensures.ids.0, c.in-Ok-step.ensures.ids.2)
 
 pub overflow_sub-taken : goal.overflow_sub-taken
 overflow_sub-taken g c =
-    taken-there c.args.hyps.now.items c.commands.hyps.items c.step.new.hyps.items c.commands.at c.len-held.result c.len.result c.commands.invariant.left c.in_default-step.ensures.left
+    taken-there c.args.hyps.now.items c.commands.hyps.items c.step.new.hyps.items c.commands.at c.len-held.result c.len.result c.commands.invariant.left c.in-Ok-step.ensures.left
     c.commands.invariant.held (c.len.ensures ∙ c.step.new.hyps.ok.0)
 
 pub overflow_cast-taken : goal.overflow_cast-taken
@@ -148,12 +148,12 @@ overflow_cast-taken g c =
     let on = further c.args.stream.now c.commands.at (record { code = code; value = value; len = c.in-Some.len }) read c.commands.invariant.in_range in
     let long = command-long (drop c.commands.at c.args.stream.now) (record { code = code; value = value; len = c.in-Some.len }) read in
     record {
-      fits = taken-fits c.args.hyps.now.items c.commands.hyps.items c.step.new.hyps.items c.commands.at c.len-held.result c.len.result c.commands.invariant.left c.in_default-step.ensures.left
+      fits = taken-fits c.args.hyps.now.items c.commands.hyps.items c.step.new.hyps.items c.commands.at c.len-held.result c.len.result c.commands.invariant.left c.in-Ok-step.ensures.left
           c.commands.invariant.held (c.len.ensures ∙ c.step.new.hyps.ok.0)
           c.in-Some.len (length c.args.stream.now) 4294967296 long.0 on.1 c.requires.stream;
     }
 
 pub returns-in-End-clause-taken : goal.returns-in-End-clause-taken
 returns-in-End-clause-taken g c =
-    taken-exactly c.args.hyps.now.items c.commands.hyps.items c.step.new.hyps.items c.commands.at c.len-held.result c.len.result c.commands.invariant.left c.in_default-step.ensures.left
+    taken-exactly c.args.hyps.now.items c.commands.hyps.items c.step.new.hyps.items c.commands.at c.len-held.result c.len.result c.commands.invariant.left c.in-Ok-step.ensures.left
     c.commands.invariant.held (c.len.ensures ∙ c.step.new.hyps.ok.0)

@@ -5,4 +5,4 @@ use Rattle.mz_unify.proofs.running.unify.Goals as goal
 
 pub unify_in-said-requires-clause-apart : goal.unify_in-said-requires-clause-apart
 unify_in-said-requires-clause-apart g c =
-    subst (λ is. TellsFor (mode_of c.args.mode) c.args.store.now.context c.kept_apart-apart.result (trees_at c.args.store.now is)) (c.deref.ensures.value ∙ sym c.deref-2.ensures.value) (c.kept_apart-apart.ensures _ c.requires.over)
+    subst (λ is. TellsFor (mode_of c.args.mode) c.args.store.now.context c.kept_disjoint-apart.result (trees_at c.args.store.now is)) (c.deref.ensures.value ∙ sym c.deref-2.ensures.value) (c.kept_disjoint-apart.ensures _ c.requires.over)

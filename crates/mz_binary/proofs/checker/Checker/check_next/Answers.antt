@@ -5,7 +5,7 @@ use Rattle.mz_cmd.specs.Codes.{statement_byte}
 use Rattle.mz_cmd.specs.StatementList.{statement_at}
 use Rattle.mz_machine_env.specs.Before.{taken_before}
 use Rattle.mz_binary_theory.specs.FileRun.{list_ends, find_at, after_kind}
-use Rattle.mz_binary.specs.Progress.{Progress, IsReached, CountsRows, StandsAt, found_of, is_assertion_kind}
+use Rattle.mz_binary.specs.Progress.{Progress, IsReached, CountsRows, StandsAt, found_of, is_assertion_kind, Place, under}
 use Rattle.mz_binary.specs.Remembering.{AreRight}
 use Rattle.mz_binary.proofs.Finding.{find-head}
 use Rattle.mz_binary.proofs.GapMarks.{alone-kind, theorem-too}
@@ -17,15 +17,15 @@ use Rattle.mz_binary.proofs.checker.Checker.check_next.Goals as goal
 
 pub returns-in-Ok-End-clause-next : goal.returns-in-Ok-End-clause-next
 returns-in-Ok-End-clause-next g c = λ ss env before.
-    let p : Progress = c.args.self in
-    let here : find_at p.file (taken_before p.file p.rows) p.at ≡ Ok list_ends = subst (λ (q : Progress). find_at q.file (taken_before q.file q.rows) q.at ≡ Ok list_ends) c.self.view_is
+    let p : Progress = under g.B.Bodies.STANDARD c.args.self in
+    let here : find_at p.file (taken_before p.file p.rows) p.at ≡ Ok list_ends = subst (λ (q : Place). find_at q.file (taken_before q.file q.rows) q.at ≡ Ok list_ends) c.self.view_is
     (c.in-Ok-End.ensures.found ∙ ap (λ s. Ok (found_of c.self.inside.mmb.now c.self.inside.rows s)) c.in-Ok-End.field-0-is) in
-    (ends-here p ss env before (subst IsReached c.self.view_is c.self.invariant.0) here, subst (λ (q : Progress). CountsRows q.rows env) (sym c.self.view_is) before.rows)
+    (ends-here p ss env before (subst (λ (q : Place). IsReached (under g.B.Bodies.STANDARD q)) c.self.view_is c.self.invariant.0) here, subst (λ (q : Place). CountsRows q.rows env) (sym c.self.view_is) before.rows)
 
 pub returns-in-Ok-End-clause-left : goal.returns-in-Ok-End-clause-left
 returns-in-Ok-End-clause-left g c =
-    let p : Progress = c.args.self in
-    let here : find_at p.file (taken_before p.file p.rows) p.at ≡ Ok list_ends = subst (λ (q : Progress). find_at q.file (taken_before q.file q.rows) q.at ≡ Ok list_ends) c.self.view_is
+    let p : Progress = under g.B.Bodies.STANDARD c.args.self in
+    let here : find_at p.file (taken_before p.file p.rows) p.at ≡ Ok list_ends = subst (λ (q : Place). find_at q.file (taken_before q.file q.rows) q.at ≡ Ok list_ends) c.self.view_is
     (c.in-Ok-End.ensures.found ∙ ap (λ s. Ok (found_of c.self.inside.mmb.now c.self.inside.rows s)) c.in-Ok-End.field-0-is) in
     left-at-end p (run-of p.standard p.file (taken_before p.file p.rows) p.at list_ends here)
 
@@ -49,10 +49,10 @@ pub past-requires-clause-body : goal.past-requires-clause-body
 past-requires-clause-body g c is = absurd (false≢true (sym (no-assertion g c) ∙ is))
 
 pub past-requires-clause-right : goal.past-requires-clause-right
-past-requires-clause-right g c = subst (λ (q : Progress). AreRight q.file c.found_at.new.right) c.self.view_is c.found_at.ensures.right
+past-requires-clause-right g c = subst (λ (q : Place). AreRight q.file c.found_at.new.right) c.self.view_is c.found_at.ensures.right
 
 pub past_body-requires-clause-right : goal.past_body-requires-clause-right
-past_body-requires-clause-right g c = subst (λ (q : Progress). AreRight q.file c.found_at.new.right) c.self.view_is c.found_at.ensures.right
+past_body-requires-clause-right g c = subst (λ (q : Place). AreRight q.file c.found_at.new.right) c.self.view_is c.found_at.ensures.right
 
 pub found_at-requires-clause-right : goal.found_at-requires-clause-right
 found_at-requires-clause-right g c = c.self.invariant.1

@@ -1,7 +1,7 @@
 use Rattle.std.proofs.Common.{◌≡◌, ◌+◌, ◌-◌, ◌*◌, ◌∙◌, ℕ, List, length, refl, sym, ap, subst, arith}
 use Rattle.mz_cmd.specs.Codes.{statement_byte}
 use Rattle.mz_binary_theory.specs.declared.statement.Statement.{Statement as Reported}
-use Rattle.mz_binary.specs.Progress.{Progress, IsReached, marks_past, most_left}
+use Rattle.mz_binary.specs.Progress.{Progress, IsReached, marks_past, most_left, Place, under}
 use Rattle.mz_binary.specs.Remembering.{AreRight}
 use Rattle.mz_layout_tables.specs.Heads.{next_row, rows_after}
 use Rattle.mz_binary_theory.proofs.Offered.{head-at}
@@ -20,43 +20,43 @@ after_of g c = record { standard = g.B.Bodies.STANDARD; file = c.self.inside.mmb
 abbrev reported_of : (g : Over) → goal.After-after g → Reported
 reported_of g c = record { number = c.self.inside.passed + 1; at = c.self.inside.at; kind = c.kind_of.result; row = c.next.result; local = c.is_local.result; gap = c.args.gap }
 
-past-of : (g : Over) (c : goal.After-after g) → IsPast c.args.self (after_of g c) (reported_of g c) c.args.head
+past-of : (g : Over) (c : goal.After-after g) → IsPast (under g.B.Bodies.STANDARD c.args.self) (after_of g c) (reported_of g c) c.args.head
 past-of g c = record {
-  same_file = ap (λ (q : Progress). q.file) c.self.view_is;
-  same_standard = ap (λ (q : Progress). q.standard) c.self.view_is;
+  same_file = ap (λ (q : Place). q.file) c.self.view_is;
+  same_standard = refl;
   goes_on = refl;
-  one_more = ap (λ (q : Progress). q.passed + 1) c.self.view_is;
-  rows_are = c.after.ensures ∙ ap (λ (q : Progress). rows_after q.rows c.args.head.code) c.self.view_is;
-  number = ap (λ (q : Progress). q.passed + 1) c.self.view_is;
-  place = ap (λ (q : Progress). q.at) c.self.view_is;
+  one_more = ap (λ (q : Place). q.passed + 1) c.self.view_is;
+  rows_are = c.after.ensures ∙ ap (λ (q : Place). rows_after q.rows c.args.head.code) c.self.view_is;
+  number = ap (λ (q : Place). q.passed + 1) c.self.view_is;
+  place = ap (λ (q : Place). q.at) c.self.view_is;
   kind = c.kind_of.ensures;
-  row = c.next.ensures ∙ ap (λ (q : Progress). next_row q.rows c.args.head.code) c.self.view_is;
+  row = c.next.ensures ∙ ap (λ (q : Place). next_row q.rows c.args.head.code) c.self.view_is;
   mark = c.is_local.ensures;
   gap = c.requires.gap;
-  marks_are = c.in-Ok.ensures.ok ∙ ap (λ s. marks_past (lets_gaps s) c.args.head.code c.args.gap c.self.inside.gapped.items) c.STANDARD.ensures ∙ ap (λ (q : Progress). marks_past (lets_gaps q.standard) c.args.head.code c.args.gap q.marks) c.self.view_is;
+  marks_are = c.in-Ok.ensures.ok ∙ ap (λ b. marks_past b c.args.head.code c.args.gap c.self.inside.gapped.items) c.allows_gaps.ensures ∙ ap (λ (q : Place). marks_past (lets_gaps g.B.Bodies.STANDARD) c.args.head.code c.args.gap q.marks) c.self.view_is;
 }
 
 pub invariant_of-after : goal.invariant_of-after
 invariant_of-after g c = (
-  reached c.args.self (after_of g c) (reported_of g c) c.args.head (past-of g c) c.requires.head c.requires.at c.requires.runs (subst IsReached c.self.view_is c.self.invariant.0),
-  subst (λ (q : Progress). AreRight q.file c.args.right) (sym c.self.view_is) c.requires.right,
+  reached (under g.B.Bodies.STANDARD c.args.self) (after_of g c) (reported_of g c) c.args.head (past-of g c) c.requires.head c.requires.at c.requires.runs (subst (λ (q : Place). IsReached (under g.B.Bodies.STANDARD q)) c.self.view_is c.self.invariant.0),
+  subst (λ (q : Place). AreRight q.file c.args.right) (sym c.self.view_is) c.requires.right,
   c.self.invariant.2,
 )
 
 pub returns-clause-next : goal.returns-clause-next
-returns-clause-next g c = λ ss env before. passes c.args.self (after_of g c) (reported_of g c) c.args.head (past-of g c) c.requires.head c.requires.at c.requires.runs ss env before
+returns-clause-next g c = λ ss env before. passes (under g.B.Bodies.STANDARD c.args.self) (after_of g c) (reported_of g c) c.args.head (past-of g c) c.requires.head c.requires.at c.requires.runs ss env before
 
 pub returns-clause-left : goal.returns-clause-left
 returns-clause-left g c =
-    let r : IsReached c.args.self = subst IsReached c.self.view_is c.self.invariant.0 in
+    let r : IsReached (under g.B.Bodies.STANDARD c.args.self) = subst (λ (q : Place). IsReached (under g.B.Bodies.STANDARD q)) c.self.view_is c.self.invariant.0 in
     let past = past-of g c in
-    let on = further c.args.self (after_of g c) (reported_of g c) c.args.head past c.requires.head c.requires.at c.requires.runs r in
-    left-past c.args.self (after_of g c) c.args.head.next _ c.requires.runs
-    (taken-past c.args.self (after_of g c) (reported_of g c) c.args.head past c.requires.head c.requires.at c.requires.runs r) refl past.same_file past.same_standard on.0 on.1
+    let on = further (under g.B.Bodies.STANDARD c.args.self) (after_of g c) (reported_of g c) c.args.head past c.requires.head c.requires.at c.requires.runs r in
+    left-past (under g.B.Bodies.STANDARD c.args.self) (after_of g c) c.args.head.next _ c.requires.runs
+    (taken-past (under g.B.Bodies.STANDARD c.args.self) (after_of g c) (reported_of g c) c.args.head past c.requires.head c.requires.at c.requires.runs r) refl past.same_file past.same_standard on.0 on.1
 
 pub returns-clause-most : goal.returns-clause-most
 returns-clause-most g c = λ old new few.
-    let p : Progress = c.args.self in
+    let p : Progress = under g.B.Bodies.STANDARD c.args.self in
     let head = c.args.head in
     let same : most_left (after_of g c) ≡ (length p.file - head.next) * (length p.file + 1) = ap (λ (f : List ℕ). (length f - head.next) * (length f + 1)) (past-of g c).same_file in
     let at-head = head-at p.file head.at (statement_byte head.code) head.body head.next c.requires.head in
@@ -66,12 +66,12 @@ returns-clause-most g c = λ old new few.
 
 pub returns-in_default-clause-next : goal.returns-in_default-clause-next
 returns-in_default-clause-next g c = λ ss env before.
-    let p : Progress = c.args.self in
+    let p : Progress = under g.B.Bodies.STANDARD c.args.self in
     subst (λ (t : Taken). RunsBody p.file t p.at) (sym (taken p ss env before)) (c.requires.body c.in_default.ensures.err)
 
 pub returns-in_default-clause-most : goal.returns-in_default-clause-most
 returns-in_default-clause-most g c = λ old new few.
-    let p : Progress = c.args.self in
+    let p : Progress = under g.B.Bodies.STANDARD c.args.self in
     let head = c.args.head in
     let at-head = head-at p.file head.at (statement_byte head.code) head.body head.next c.requires.head in
     most-here (length p.file) p.at head.body head.next old new (omega (arith, at-head.before, c.requires.at)) at-head.order at-head.within few

@@ -1,8 +1,8 @@
 use Rattle.std.proofs.Common.{List, length}
 use Rattle.mz_logic_theory.specs.Tree.{Tree}
 use Rattle.mz_decompile_text.specs.Naming.{vocabulary_by}
-use Rattle.mz_unify_theory.specs.Spells.{Marks, SpellsHyps}
-use Rattle.mz_unify_theory.specs.Streams.{UnifyCommand}
+use Rattle.mz_machine_theory.specs.Spells.{Marks, SpellsHyps}
+use Rattle.mz_machine_theory.specs.Streams.{UnifyCommand}
 use Rattle.mz_decompile_text.specs.Reading.{AreRead, IsBetween, Over}
 use Rattle.mz_decompile_text.specs.ByNumber.{Grows}
 use Rattle.mz_decompile_text.proofs.reading.Reading.hypotheses.Given as goal

@@ -1,6 +1,6 @@
 use Rattle.std.proofs.Common.{[], ap, map, sym, subst}
 use Rattle.mz_decompile_text.specs.Naming.{vocabulary_by}
-use Rattle.mz_unify_theory.specs.Spells.{dummy_of}
+use Rattle.mz_machine_theory.specs.Spells.{dummy_of}
 use Rattle.mz_decompile_text.specs.Numbers.{AreAt}
 use Rattle.mz_decompile_text.proofs.Frames.{params_marked}
 use Rattle.mz_decompile_text.proofs.reading.Reading.new.Goals as goal

@@ -9,7 +9,7 @@ use Rattle.mz_logic_theory.specs.declared.binder.Binder.{Binder}
 use Rattle.mz_logic_theory.specs.declared.word.Word.{Word}
 use Rattle.mz_store.specs.Bits.{bound_vars}
 use Rattle.mz_store.specs.Sharing.{tree_of, trees_of}
-use Rattle.mz_unify_theory.specs.Sorted.{Sorted}
+use Rattle.mz_machine_theory.specs.Sorted.{Sorted}
 use Rattle.mz_machine_env.proofs.Offered.{binders_many}
 use Rattle.mz_type_rules.specs.Answers.{stated}
 use Rattle.mz_emit_theory.specs.InReach.{AreSorted}

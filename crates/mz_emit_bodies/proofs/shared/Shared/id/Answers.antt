@@ -5,15 +5,15 @@ use Rattle.mz_emit_bodies.proofs.Owned.{shared_grown, one_reach, one_own, one_so
 use Rattle.mz_emit_bodies.proofs.shared.Shared.id.Goals as goal
 
 pub instance_id-requires-clause-there : goal.instance_id-requires-clause-there
-instance_id-requires-clause-there c = rw c.lent.ensures (one_reach _ _ _ _ c.deref.ensures.value c.requires.shared c.args.expr.now c.requires.sorted)
+instance_id-requires-clause-there c = rw c.borrowed.ensures (one_reach _ _ _ _ c.deref.ensures.value c.requires.shared c.args.expr.now c.requires.sorted)
 
 pub instance_id-requires-clause-sorted : goal.instance_id-requires-clause-sorted
-instance_id-requires-clause-sorted c = rw c.lent.ensures (one_sorted _ _ _ _ c.deref.ensures.value c.requires.shared c.args.expr.now c.requires.sorted)
+instance_id-requires-clause-sorted c = rw c.borrowed.ensures (one_sorted _ _ _ _ c.deref.ensures.value c.requires.shared c.args.expr.now c.requires.sorted)
 
 pub returns-clause-holds : goal.returns-clause-holds
 returns-clause-holds c = (
   c.in_ok-id.ensures.holds.0,
-  c.in_ok-id.ensures.holds.1 ∙ ap (instance (trees_of c.args.self.now.store c.deref.result.now)) c.lent.ensures ∙ one_own _ _ _ _ c.deref.ensures.value c.requires.shared c.args.expr.now c.requires.sorted,
+  c.in_ok-id.ensures.holds.1 ∙ ap (instance (trees_of c.args.self.now.store c.deref.result.now)) c.borrowed.ensures ∙ one_own _ _ _ _ c.deref.ensures.value c.requires.shared c.args.expr.now c.requires.sorted,
 )
 
 pub returns-clause-shared : goal.returns-clause-shared

@@ -1,7 +1,7 @@
 use Rattle.std.proofs.Common.{◌∙◌, ap, sym}
 use Rattle.std.proofs.lemmas.Result.{err_from_is_err_and}
 use Rattle.mz_unify.proofs.Offered.{heads-differ, heads-same, of-trees}
-use Rattle.mz_unify_theory.specs.Profile.{strict}
+use Rattle.mz_machine_theory.specs.Profile.{strict}
 use Rattle.mz_machine_theory.specs.Premises.{pop_obligation}
 use Rattle.mz_machine.proofs.ConversionRows.{cong-unowed, cong-variable, cong-other, cong-row}
 use Rattle.mz_machine.proofs.commands.conversions.cong.Goals as goal

@@ -1,7 +1,7 @@
 use Rattle.std.proofs.Common.{◌∙◌, ◌∷◌, ap, sym, refl}
 use Rattle.std.proofs.lemmas.Result.{err_from_is_err_and}
 use Rattle.mz_machine_theory.specs.Premises.{pop_sides}
-use Rattle.mz_unify_theory.specs.Profile.{strict}
+use Rattle.mz_machine_theory.specs.Profile.{strict}
 use Rattle.mz_unify.specs.Stored.{items_at, item_at}
 use Rattle.mz_machine.proofs.Converting.{no-item, pop-is, sides-none, sides-same, sides-other, true-false}
 use Rattle.mz_machine.proofs.commands.conversions.pop_sides.Goals as goal

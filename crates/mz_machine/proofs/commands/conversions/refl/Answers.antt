@@ -1,6 +1,6 @@
 use Rattle.std.proofs.Common.{◌∙◌, ap, sym, refl}
 use Rattle.std.proofs.lemmas.Result.{err_from_is_err_and}
-use Rattle.mz_unify_theory.specs.Profile.{strict}
+use Rattle.mz_machine_theory.specs.Profile.{strict}
 use Rattle.mz_machine_theory.specs.Premises.{pop_obligation}
 use Rattle.mz_unify.proofs.Offered.{of-trees}
 use Rattle.mz_machine.proofs.ConversionRows.{refl-row, refl-other, refl-unowed}

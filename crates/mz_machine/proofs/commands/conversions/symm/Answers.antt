@@ -1,6 +1,6 @@
 use Rattle.std.proofs.Common.{◌∙◌, Ok, sym, ap}
 use Rattle.std.proofs.lemmas.Result.{err_from_is_err_and}
-use Rattle.mz_unify_theory.specs.Profile.{strict}
+use Rattle.mz_machine_theory.specs.Profile.{strict}
 use Rattle.mz_unify.specs.Stored.{items_at}
 use Rattle.mz_unify.proofs.Offered.{items-push}
 use Rattle.mz_store.specs.declared.item.Item.TheVariants.{Obligation}

@@ -2,7 +2,7 @@ use Rattle.std.proofs.Common.{◌∙◌, ap, sym}
 use Rattle.std.proofs.lemmas.Result.{err_from_is_err_and}
 use Rattle.mz_machine_env.specs.Before.{tables_of}
 use Rattle.mz_machine.specs.OverStore.{pop_unfolding}
-use Rattle.mz_unify_theory.specs.Profile.{strict}
+use Rattle.mz_machine_theory.specs.Profile.{strict}
 use Rattle.mz_unify.proofs.Offered.{of-trees}
 use Rattle.mz_machine.proofs.ConversionRows.{not-taken, of-variable, not-defined, is-unfolding}
 use Rattle.mz_machine.proofs.Unfoldings.{term-there, row-there, stream-there, no-stream}
@@ -24,7 +24,7 @@ returns-in_default-clause-taken c st is = of-variable strict _ st of-trees _ _ _
 
 pub returns-then-not-has_body-clause-taken : goal.returns-then-not-has_body-clause-taken
 returns-then-not-has_body-clause-taken c st is =
-    let E = c.args.earlier.now in
+    let E = c.args.env.now in
     let t = c.in-Some.term in
     let h = sym c.head.ensures ∙ c.in-Some.is in
     let there = row-there E t (term-there E c.args.store.now c.requires.over c.in_ok-unfolded.left.0 t c.in_ok-unfolded.ensures.ids.1 h) in
@@ -33,7 +33,7 @@ returns-then-not-has_body-clause-taken c st is =
 pub returns-clause-ids : goal.returns-clause-ids
 returns-clause-ids c =
     let ids = c.in_ok-unfolded.ensures.ids in
-    let there = row-there c.args.earlier.now c.in-Some.term (term-there c.args.earlier.now c.args.store.now c.requires.over c.in_ok-unfolded.left.0 c.in-Some.term ids.1 (sym c.head.ensures ∙ c.in-Some.is)) in
+    let there = row-there c.args.env.now c.in-Some.term (term-there c.args.env.now c.args.store.now c.requires.over c.in_ok-unfolded.left.0 c.in-Some.term ids.1 (sym c.head.ensures ∙ c.in-Some.is)) in
     (ids.0, ids.1, ids.2, there, ids.3)
 
 pub returns-clause-head : goal.returns-clause-head
@@ -41,7 +41,7 @@ returns-clause-head c = sym c.head.ensures ∙ c.in-Some.is
 
 pub returns-clause-taken : goal.returns-clause-taken
 returns-clause-taken c st is =
-    let E = c.args.earlier.now in
+    let E = c.args.env.now in
     let t = c.in-Some.term in
     let h = sym c.head.ensures ∙ c.in-Some.is in
     let there = row-there E t (term-there E c.args.store.now c.requires.over c.in_ok-unfolded.left.0 t c.in_ok-unfolded.ensures.ids.1 h) in
@@ -56,4 +56,4 @@ pub head-requires : goal.head-requires
 head-requires c = c.in_ok-unfolded.ensures.ids.1
 
 pub has_body-requires : goal.has_body-requires
-has_body-requires c = term-there c.args.earlier.now c.args.store.now c.requires.over c.in_ok-unfolded.left.0 c.in-Some.term c.in_ok-unfolded.ensures.ids.1 (sym c.head.ensures ∙ c.in-Some.is)
+has_body-requires c = term-there c.args.env.now c.args.store.now c.requires.over c.in_ok-unfolded.left.0 c.in-Some.term c.in_ok-unfolded.ensures.ids.1 (sym c.head.ensures ∙ c.in-Some.is)

@@ -7,7 +7,7 @@ use Rattle.mz_logic_theory.specs.Tree.{listed}
 use Rattle.mz_store.specs.Sharing.{IsOver, operands_of, tree_of}
 use Rattle.mz_unify.specs.Stored.{items_at}
 use Rattle.mz_machine_env.proofs.Offered.{signatures-before}
-use Rattle.mz_unify_theory.specs.Profile.{strict}
+use Rattle.mz_machine_theory.specs.Profile.{strict}
 use Rattle.mz_unify.proofs.Offered.{stopped-through, tells-operands, went-through}
 use Rattle.mz_machine.proofs.ConversionRows.{unfold-stopped, stopped-steps, unfold-refused, unfold-row, unfold-steps, gives-stack}
 use Rattle.mz_machine.proofs.Converting.{operand-trees}
@@ -19,12 +19,12 @@ returns-in-Err-clause-ids g c = tt
 
 pub returns-in-Err-clause-row : goal.returns-in-Err-clause-row
 returns-in-Err-clause-row g c at n st ctx is =
-    let tables = tables_of c.args.earlier.now in
+    let tables = tables_of c.args.env.now in
     unfold-stopped strict tables st at n c.in-Err.rule (c.in-Err.ensures.taken st is)
 
 pub returns-in-Err-clause-steps : goal.returns-in-Err-clause-steps
 returns-in-Err-clause-steps g c n st ctx is =
-    let tables = tables_of c.args.earlier.now in
+    let tables = tables_of c.args.env.now in
     (no-more _ _ (stopped-steps strict tables st n c.in-Err.rule (c.in-Err.ensures.taken st is)), omega arith)
 
 pub returns-in-Ok-through-clause-ids : goal.returns-in-Ok-through-clause-ids
@@ -34,7 +34,7 @@ returns-in-Ok-through-clause-ids g c =
 
 pub returns-in-Ok-through-clause-row : goal.returns-in-Ok-through-clause-row
 returns-in-Ok-through-clause-row g c at n st ctx is =
-    let E = c.args.earlier.now in
+    let E = c.args.env.now in
     let s = c.args.store.now in
     let ids = c.in-Ok.ensures.ids in
     let taken = c.in-Ok.ensures.taken st is in
@@ -49,7 +49,7 @@ returns-in-Ok-through-clause-row g c at n st ctx is =
 
 pub returns-in-Err-through-clause-row : goal.returns-in-Err-through-clause-row
 returns-in-Err-through-clause-row g c at n st ctx is =
-    let E = c.args.earlier.now in
+    let E = c.args.env.now in
     let s = c.args.store.now in
     let ids = c.in-Ok.ensures.ids in
     let taken = c.in-Ok.ensures.taken st is in
@@ -63,7 +63,7 @@ returns-in-Err-through-clause-row g c at n st ctx is =
 
 pub returns-in-Ok-through-clause-steps : goal.returns-in-Ok-through-clause-steps
 returns-in-Ok-through-clause-steps g c n st ctx is =
-    let E = c.args.earlier.now in
+    let E = c.args.env.now in
     let s = c.args.store.now in
     let ids = c.in-Ok.ensures.ids in
     let taken = c.in-Ok.ensures.taken st is in
@@ -79,7 +79,7 @@ returns-in-Ok-through-clause-steps g c n st ctx is =
 
 pub returns-in-Err-through-clause-steps : goal.returns-in-Err-through-clause-steps
 returns-in-Err-through-clause-steps g c n st ctx is =
-    let E = c.args.earlier.now in
+    let E = c.args.env.now in
     let s = c.args.store.now in
     let ids = c.in-Ok.ensures.ids in
     let taken = c.in-Ok.ensures.taken st is in
@@ -106,7 +106,7 @@ pub stream_of_term-stream-requires : goal.stream_of_term-stream-requires
 stream_of_term-stream-requires g c = c.in-Ok.ensures.ids.3
 
 pub unify_in-requires-clause-over : goal.unify_in-requires-clause-over
-unify_in-requires-clause-over g c = subst (λ sigs. IsOver sigs c.args.store.now) (sym (signatures-before c.args.earlier.now)) c.requires.over
+unify_in-requires-clause-over g c = subst (λ sigs. IsOver sigs c.args.store.now) (sym (signatures-before c.args.env.now)) c.requires.over
 
 pub unify_in-requires-clause-operands : goal.unify_in-requires-clause-operands
 unify_in-requires-clause-operands g c = c.args-2.ensures.ids

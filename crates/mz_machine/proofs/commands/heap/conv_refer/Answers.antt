@@ -1,7 +1,7 @@
 use Rattle.std.proofs.Common.{◌∙◌, Some, refl, sym, ap, subst}
 use Rattle.std.specs.Prelude.{slice_get}
 use Rattle.mz_store.specs.Sharing.{tree_of}
-use Rattle.mz_unify_theory.specs.Profile.{conversion, strict}
+use Rattle.mz_machine_theory.specs.Profile.{conversion, strict}
 use Rattle.mz_unify.specs.Stored.{item_at, IsItemIn}
 use Rattle.mz_machine.proofs.Popping.{item-in-at, item-at-heap, no-item-at-heap}
 use Rattle.mz_machine.proofs.RowResults.{conv-ref-none, conv-ref-other, conv-ref-row}

@@ -1,7 +1,7 @@
 use Rattle.std.proofs.Common.{◌≡◌, ◌∙◌, true, false, sym, ap, subst}
 use Rattle.std.proofs.lemmas.Result.{err_from_is_err_and}
 use Rattle.mz_store.specs.Sharing.{tree_of}
-use Rattle.mz_unify_theory.specs.Profile.{strict}
+use Rattle.mz_machine_theory.specs.Profile.{strict}
 use Rattle.mz_machine_theory.specs.Premises.{pop_expr}
 use Rattle.mz_machine_theory.specs.ProofMachine.{has_provable_sort}
 use Rattle.mz_machine_env.specs.Before.{tables_of}
@@ -11,19 +11,19 @@ use Rattle.mz_machine.proofs.commands.heap.hyp.Goals as goal
 pub returns-in_err-claim-clause-row : goal.returns-in_err-claim-clause-row
 returns-in_err-claim-clause-row c at n st ctx is =
     let p = err_from_is_err_and c.from_residual.result c.from_residual.ensures.1 in
-    rw (p.1, p.2) (hyp-err strict (tables_of c.args.earlier.now) at n st _ (ap pop_expr is ∙ c.in_err-claim.ensures.taken))
+    rw (p.1, p.2) (hyp-err strict (tables_of c.args.env.now) at n st _ (ap pop_expr is ∙ c.in_err-claim.ensures.taken))
 
 pub returns-then-is_provable-clause-row : goal.returns-then-is_provable-clause-row
 returns-then-is_provable-clause-row c at n st ctx is =
-    hyp-row strict (tables_of c.args.earlier.now) at n st _ _ (ap pop_expr is ∙ c.in_ok-claim.ensures.taken)
-    (subst (λ x. has_provable_sort strict (tables_of c.args.earlier.now) x (tree_of c.args.store.now c.in_ok-claim.claim.0) ≡ true) (sym ctx)
-    (provable strict c.args.earlier.now c.args.store.now.context _ c.sort_of.result true (c.sort_of.ensures.sort _ c.requires.over) (sym c.is_provable.ensures ∙ c.if-is_provable.true)))
+    hyp-row strict (tables_of c.args.env.now) at n st _ _ (ap pop_expr is ∙ c.in_ok-claim.ensures.taken)
+    (subst (λ x. has_provable_sort strict (tables_of c.args.env.now) x (tree_of c.args.store.now c.in_ok-claim.claim.0) ≡ true) (sym ctx)
+    (provable strict c.args.env.now c.args.store.now.context _ c.sort_of.result true (c.sort_of.ensures.sort _ c.requires.over) (sym c.is_provable.ensures ∙ c.if-is_provable.true)))
 
 pub returns-else-is_provable-clause-row : goal.returns-else-is_provable-clause-row
 returns-else-is_provable-clause-row c at n st ctx is =
-    hyp-other strict (tables_of c.args.earlier.now) at n st _ _ (ap pop_expr is ∙ c.in_ok-claim.ensures.taken)
-    (subst (λ x. has_provable_sort strict (tables_of c.args.earlier.now) x (tree_of c.args.store.now c.in_ok-claim.claim.0) ≡ false) (sym ctx)
-    (provable strict c.args.earlier.now c.args.store.now.context _ c.sort_of.result false (c.sort_of.ensures.sort _ c.requires.over) (sym c.is_provable.ensures ∙ c.if-is_provable.false)))
+    hyp-other strict (tables_of c.args.env.now) at n st _ _ (ap pop_expr is ∙ c.in_ok-claim.ensures.taken)
+    (subst (λ x. has_provable_sort strict (tables_of c.args.env.now) x (tree_of c.args.store.now c.in_ok-claim.claim.0) ≡ false) (sym ctx)
+    (provable strict c.args.env.now c.args.store.now.context _ c.sort_of.result false (c.sort_of.ensures.sort _ c.requires.over) (sym c.is_provable.ensures ∙ c.if-is_provable.false)))
 
 -- ---- what the calls ask
 

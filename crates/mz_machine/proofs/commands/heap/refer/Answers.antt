@@ -3,7 +3,7 @@ use Rattle.std.specs.Prelude.{slice_get}
 use Rattle.mz_unify.specs.Stored.{item_at}
 use Rattle.mz_machine.proofs.Popping.{item-in-at, item-at-heap, no-item-at-heap}
 use Rattle.mz_machine.proofs.RowResults.{ref-none, ref-row}
-use Rattle.mz_unify_theory.specs.Profile.{strict}
+use Rattle.mz_machine_theory.specs.Profile.{strict}
 use Rattle.mz_machine.proofs.commands.heap.refer.Goals as goal
 
 pub returns-in_default-clause-row : goal.returns-in_default-clause-row

@@ -1,5 +1,5 @@
 use Rattle.std.proofs.Common.{◌∙◌, ◌∷◌, Ok, sym, ap}
-use Rattle.mz_unify_theory.specs.Profile.{strict}
+use Rattle.mz_machine_theory.specs.Profile.{strict}
 use Rattle.mz_unify.specs.Stored.{item_at}
 use Rattle.mz_machine_theory.specs.Premises.{is_conversion}
 use Rattle.mz_machine.proofs.ConversionRows.{gives-stack}

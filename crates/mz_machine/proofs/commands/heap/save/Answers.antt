@@ -2,7 +2,7 @@ use Rattle.std.proofs.Common.{◌∙◌, ◌-◌, length, sym}
 use Rattle.mz_unify.specs.Stored.{item_at}
 use Rattle.mz_machine.proofs.Popping.{owed, top-is, no-top, item-in-at}
 use Rattle.mz_machine.proofs.RowResults.{save-none, save-other, save-row}
-use Rattle.mz_unify_theory.specs.Profile.{strict}
+use Rattle.mz_machine_theory.specs.Profile.{strict}
 use Rattle.mz_machine.proofs.commands.heap.save.Goals as goal
 
 pub returns-in_default-clause-row : goal.returns-in_default-clause-row

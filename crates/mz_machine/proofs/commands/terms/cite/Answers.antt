@@ -4,7 +4,7 @@ use Rattle.mz_unify.specs.Stored.{matching_at}
 use Rattle.mz_unify.specs.declared.unified.UnifyMode.TheVariants.{Use}
 use Rattle.mz_cmd.specs.declared.code.ProofCode.TheVariants as code
 use Rattle.mz_store.specs.Sharing.{IsOver, tree_of}
-use Rattle.mz_unify_theory.specs.Profile.{strict}
+use Rattle.mz_machine_theory.specs.Profile.{strict}
 use Rattle.mz_unify.proofs.Offered.{stopped-through, went-through}
 use Rattle.mz_machine_theory.specs.ProofMachine.{cited}
 use Rattle.mz_machine_theory.specs.Bodies.{row_steps}
@@ -21,12 +21,12 @@ returns-in-Err-clause-ids g c = tt
 
 pub returns-in-Err-clause-cited : goal.returns-in-Err-clause-cited
 returns-in-Err-clause-cited g c st ctx is =
-    stops-as c.in-Err.stop _ (λ k. cited strict (tables_of c.args.earlier.now) c.args.t st ≡ Err k) (λ k h. cited-stopped strict (tables_of c.args.earlier.now) c.args.t st k h) (c.in-Err.ensures.taken st ctx is)
+    stops-as c.in-Err.stop _ (λ k. cited strict (tables_of c.args.env.now) c.args.t st ≡ Err k) (λ k h. cited-stopped strict (tables_of c.args.env.now) c.args.t st k h) (c.in-Err.ensures.taken st ctx is)
 
 pub returns-in-Err-clause-steps : goal.returns-in-Err-clause-steps
 returns-in-Err-clause-steps g c st ctx is = (
-  stops-as c.in-Err.stop _ (λ k. c.args.steps.now ≡ c.args.steps.now + row_steps strict (tables_of c.args.earlier.now) code.Thm c.args.t st)
-      (λ k h. no-more _ _ (thm-stopped-steps strict (tables_of c.args.earlier.now) c.args.t st k h)) (c.in-Err.ensures.taken st ctx is),
+  stops-as c.in-Err.stop _ (λ k. c.args.steps.now ≡ c.args.steps.now + row_steps strict (tables_of c.args.env.now) code.Thm c.args.t st)
+      (λ k h. no-more _ _ (thm-stopped-steps strict (tables_of c.args.env.now) c.args.t st k h)) (c.in-Err.ensures.taken st ctx is),
   omega arith,
 )
 
@@ -35,7 +35,7 @@ returns-in-Ok-through-clause-ids g c = (c.in-Ok.ensures.ids.0, (went-through c.u
 
 pub returns-in-Ok-through-clause-cited : goal.returns-in-Ok-through-clause-cited
 returns-in-Ok-through-clause-cited g c st ctx is =
-    let E = c.args.earlier.now in
+    let E = c.args.env.now in
     let s = c.args.store.now in
     let taken = c.in-Ok.ensures.taken st ctx is in
     let m = matching_at s Use (drop (thm_row E.file c.args.t).stream_at E.file) c.take_citation.new.spare.operands.items c.in-Ok.target c.take_citation.new.stack.items in
@@ -44,7 +44,7 @@ returns-in-Ok-through-clause-cited g c st ctx is =
 
 pub returns-in-Ok-through-clause-steps : goal.returns-in-Ok-through-clause-steps
 returns-in-Ok-through-clause-steps g c st ctx is =
-    let E = c.args.earlier.now in
+    let E = c.args.env.now in
     let s = c.args.store.now in
     let taken = c.in-Ok.ensures.taken st ctx is in
     let m = matching_at s Use (drop (thm_row E.file c.args.t).stream_at E.file) c.take_citation.new.spare.operands.items c.in-Ok.target c.take_citation.new.stack.items in (
@@ -57,7 +57,7 @@ returns-in-Err-through-clause-ids g c = tt
 
 pub returns-in-Err-through-clause-cited : goal.returns-in-Err-through-clause-cited
 returns-in-Err-through-clause-cited g c st ctx is =
-    let E = c.args.earlier.now in
+    let E = c.args.env.now in
     let s = c.args.store.now in
     let taken = c.in-Ok.ensures.taken st ctx is in
     let m = matching_at s Use (drop (thm_row E.file c.args.t).stream_at E.file) c.take_citation.new.spare.operands.items c.in-Ok.target c.take_citation.new.stack.items in
@@ -66,7 +66,7 @@ returns-in-Err-through-clause-cited g c st ctx is =
 
 pub returns-in-Err-through-clause-steps : goal.returns-in-Err-through-clause-steps
 returns-in-Err-through-clause-steps g c st ctx is =
-    let E = c.args.earlier.now in
+    let E = c.args.env.now in
     let s = c.args.store.now in
     let taken = c.in-Ok.ensures.taken st ctx is in
     let m = matching_at s Use (drop (thm_row E.file c.args.t).stream_at E.file) c.take_citation.new.spare.operands.items c.in-Ok.target c.take_citation.new.stack.items in (
@@ -87,7 +87,7 @@ pub take_citation-requires-clause-stack : goal.take_citation-requires-clause-sta
 take_citation-requires-clause-stack g c = c.requires.stack
 
 pub unify_in-requires-clause-over : goal.unify_in-requires-clause-over
-unify_in-requires-clause-over g c = subst (λ sigs. IsOver sigs c.args.store.now) (sym (signatures-before c.args.earlier.now)) c.requires.over
+unify_in-requires-clause-over g c = subst (λ sigs. IsOver sigs c.args.store.now) (sym (signatures-before c.args.env.now)) c.requires.over
 
 pub unify_in-requires-clause-operands : goal.unify_in-requires-clause-operands
 unify_in-requires-clause-operands g c = rw c.deref.ensures.value c.in-Ok.ensures.ids.1

@@ -7,7 +7,7 @@ use Rattle.mz_store.specs.declared.item.Id.{Id}
 use Rattle.mz_store.specs.declared.item.Item.{Item as Kept}
 use Rattle.mz_base.specs.Gaps.{gaps_of}
 use Rattle.mz_unify.specs.Stored.{items_at}
-use Rattle.mz_unify_theory.specs.Profile.{plain, strict}
+use Rattle.mz_machine_theory.specs.Profile.{plain, strict}
 use Rattle.mz_machine_theory.specs.MachineState.{Kind}
 use Rattle.mz_machine_theory.specs.ProofMachine.{proof_end, ends_with}
 use Rattle.mz_machine_theory.specs.Bodies.{match_steps}
@@ -29,7 +29,7 @@ use Rattle.mz_machine.proofs.machine.Setting.finish.Goals as goal
 pub end-requires-clause-row : goal.end-requires-clause-row
 end-requires-clause-row g c =
     let t = c.args.self.now in
-    subst (λ (k : Kind). IsNextRow t.earlier.file t.earlier.rows t.row k) (kind-byte t.kind) c.requires.0.may_run.next
+    subst (λ (k : Kind). IsNextRow t.env.file t.env.rows t.row k) (kind-byte t.kind) c.requires.0.may_run.next
 
 pub end-requires-clause-mode : goal.end-requires-clause-mode
 end-requires-clause-mode g c = c.requires.0.mode ∙ ap mode_for (kind-byte c.args.self.now.kind)
@@ -37,25 +37,25 @@ end-requires-clause-mode g c = c.requires.0.mode ∙ ap mode_for (kind-byte c.ar
 pub end-requires-clause-context : goal.end-requires-clause-context
 end-requires-clause-context g c =
     let t = c.args.self.now in
-    subst (λ (k : Kind). IsContextOf (heading_by t.earlier.file t.row k).params c.args.parts.now.store.context) (kind-byte t.kind) c.requires.0.context
+    subst (λ (k : Kind). IsContextOf (heading_by t.env.file t.row k).params c.args.parts.now.store.context) (kind-byte t.kind) c.requires.0.context
 
 pub end-requires-clause-params : goal.end-requires-clause-params
 end-requires-clause-params g c =
     let t = c.args.self.now in
-    subst (λ (k : Kind). AreFirst c.args.parts.now.store (length (heading_by t.earlier.file t.row k).params)) (kind-byte t.kind) c.requires.0.params
+    subst (λ (k : Kind). AreFirst c.args.parts.now.store (length (heading_by t.env.file t.row k).params)) (kind-byte t.kind) c.requires.0.params
 
 pub end-requires-clause-many : goal.end-requires-clause-many
 end-requires-clause-many g c =
     let t = c.args.self.now in
-    subst (λ (k : Kind). t.entered.params ≡ length (heading_by t.earlier.file t.row k).params) (kind-byte t.kind) (own-many t.earlier.file t.row (kind_at (byte_of t.kind)) t.entered c.requires.1)
+    subst (λ (k : Kind). t.entered.params ≡ length (heading_by t.env.file t.row k).params) (kind-byte t.kind) (own-many t.env.file t.row (kind_at (byte_of t.kind)) t.entered c.requires.1)
 
 pub counted-requires-clause-bound : goal.counted-requires-clause-bound
 counted-requires-clause-bound g c =
     let t = c.args.self.now in
-    let ps = (heading_of t.earlier.file (byte_of t.kind) t.row).params in
+    let ps = (heading_of t.env.file (byte_of t.kind) t.row).params in
     omega (
       arith,
-      own-bound t.earlier.file t.row (kind_at (byte_of t.kind)) t.entered c.requires.1,
+      own-bound t.env.file t.row (kind_at (byte_of t.kind)) t.entered c.requires.1,
       bound-more ps c.args.parts.now.store.context c.requires.0.context,
       context-longer ps c.args.parts.now.store.context c.requires.0.context,
     )
@@ -64,16 +64,16 @@ pub returns-in-Ok-clause-run : goal.returns-in-Ok-clause-run
 returns-in-Ok-clause-run g c =
     let s = c.args.parts.now.store in
     let heap = c.args.parts.now.heap.items in
-    let h = heading_of c.args.self.now.earlier.file (byte_of c.args.self.now.kind) c.args.self.now.row in
+    let h = heading_of c.args.self.now.env.file (byte_of c.args.self.now.kind) c.args.self.now.row in
     let st = state_at s heap c.args.parts.now.stack.items c.args.parts.now.hyps.items in
-    let ended = same-three (λ (k : Kind) (stack : List Kept) (hyps : List Id). proof_end strict (tables_of c.args.self.now.earlier) (heading_by c.args.self.now.earlier.file c.args.self.now.row k) (state_at s heap stack hyps))
+    let ended = same-three (λ (k : Kind) (stack : List Kept) (hyps : List Id). proof_end strict (tables_of c.args.self.now.env) (heading_by c.args.self.now.env.file c.args.self.now.row k) (state_at s heap stack hyps))
     (kind_of c.args.self.now.kind) (kind_at (byte_of c.args.self.now.kind)) c.deref.result.now c.args.parts.now.stack.items c.deref-2.result.now c.args.parts.now.hyps.items
     (sym (kind-byte c.args.self.now.kind)) c.deref.ensures.value c.deref-2.ensures.value in
     let is = ap (λ (stack : List Kept). state_at s heap stack c.deref-2.result.now) c.deref.ensures.value ∙ ap (λ (hyps : List Id). state_at s heap c.args.parts.now.stack.items hyps) c.deref-2.ensures.value in
     let hyps : c.counted.result.hyps ≡ length c.args.parts.now.hyps.items = c.counted.ensures.hyps ∙ ap length c.deref-in-Ok.ensures.value in
     let dummies : c.counted.result.dummies + length h.params ≡ length s.context =
-    omega (arith, c.counted.ensures.dummies, own-bound c.args.self.now.earlier.file c.args.self.now.row (kind_at (byte_of c.args.self.now.kind)) c.args.self.now.entered c.requires.1, bound-more h.params s.context c.requires.0.context) in
-    let tables = tables_before c.args.self.now.earlier.file c.args.self.now.earlier.rows in
+    omega (arith, c.counted.ensures.dummies, own-bound c.args.self.now.env.file c.args.self.now.row (kind_at (byte_of c.args.self.now.kind)) c.args.self.now.entered c.requires.1, bound-more h.params s.context c.requires.0.context) in
+    let tables = tables_before c.args.self.now.env.file c.args.self.now.env.rows in
     let es = reverse c.args.parts.now.equations.items in
     let written = end-plain (gaps_of c.args.self.now.mode) tables h st ∙ sym ended ∙ c.in-Ok.ensures.row heap ∙ ap Ok is in
     let whole = end-whole (plain (gaps_of c.args.self.now.mode)) tables h st (stored s) es (items_at s c.args.parts.now.stack.items) c.requires.2 written in
@@ -83,23 +83,23 @@ pub returns-in-Ok-clause-steps : goal.returns-in-Ok-clause-steps
 returns-in-Ok-clause-steps g c =
     let s = c.args.parts.now.store in
     let heap = c.args.parts.now.heap.items in
-    let many = same-three (λ (k : Kind) (stack : List Kept) (hyps : List Id). match_steps strict (tables_of c.args.self.now.earlier) (state_at s heap stack hyps) (ends_with strict (tables_of c.args.self.now.earlier) (heading_by c.args.self.now.earlier.file c.args.self.now.row k) (state_at s heap stack hyps)))
+    let many = same-three (λ (k : Kind) (stack : List Kept) (hyps : List Id). match_steps strict (tables_of c.args.self.now.env) (state_at s heap stack hyps) (ends_with strict (tables_of c.args.self.now.env) (heading_by c.args.self.now.env.file c.args.self.now.row k) (state_at s heap stack hyps)))
     (kind_of c.args.self.now.kind) (kind_at (byte_of c.args.self.now.kind)) c.deref.result.now c.args.parts.now.stack.items c.deref-2.result.now c.args.parts.now.hyps.items
     (sym (kind-byte c.args.self.now.kind)) c.deref.ensures.value c.deref-2.ensures.value in
-    (omega (arith, c.in-Ok.ensures.steps heap, c.tick.ensures, many, ends-steps (gaps_of c.args.self.now.mode) (tables_before c.args.self.now.earlier.file c.args.self.now.earlier.rows) (state_at s heap c.args.parts.now.stack.items c.args.parts.now.hyps.items) (heading_of c.args.self.now.earlier.file (byte_of c.args.self.now.kind) c.args.self.now.row), end-counts (plain (gaps_of c.args.self.now.mode)) (tables_before c.args.self.now.earlier.file c.args.self.now.earlier.rows) (heading_of c.args.self.now.earlier.file (byte_of c.args.self.now.kind) c.args.self.now.row) (state_at s heap c.args.parts.now.stack.items c.args.parts.now.hyps.items) (stored s) (reverse c.args.parts.now.equations.items) (items_at s c.args.parts.now.stack.items) c.requires.2))
+    (omega (arith, c.in-Ok.ensures.steps heap, c.tick.ensures, many, ends-steps (gaps_of c.args.self.now.mode) (tables_before c.args.self.now.env.file c.args.self.now.env.rows) (state_at s heap c.args.parts.now.stack.items c.args.parts.now.hyps.items) (heading_of c.args.self.now.env.file (byte_of c.args.self.now.kind) c.args.self.now.row), end-counts (plain (gaps_of c.args.self.now.mode)) (tables_before c.args.self.now.env.file c.args.self.now.env.rows) (heading_of c.args.self.now.env.file (byte_of c.args.self.now.kind) c.args.self.now.row) (state_at s heap c.args.parts.now.stack.items c.args.parts.now.hyps.items) (stored s) (reverse c.args.parts.now.equations.items) (items_at s c.args.parts.now.stack.items) c.requires.2))
 
 pub returns-in-Err-Rule-clause-run : goal.returns-in-Err-Rule-clause-run
 returns-in-Err-Rule-clause-run g c =
     let s = c.args.parts.now.store in
     let heap = c.args.parts.now.heap.items in
-    let ended = same-three (λ (k : Kind) (stack : List Kept) (hyps : List Id). proof_end strict (tables_of c.args.self.now.earlier) (heading_by c.args.self.now.earlier.file c.args.self.now.row k) (state_at s heap stack hyps))
+    let ended = same-three (λ (k : Kind) (stack : List Kept) (hyps : List Id). proof_end strict (tables_of c.args.self.now.env) (heading_by c.args.self.now.env.file c.args.self.now.row k) (state_at s heap stack hyps))
     (kind_of c.args.self.now.kind) (kind_at (byte_of c.args.self.now.kind)) c.deref.result.now c.args.parts.now.stack.items c.deref-2.result.now c.args.parts.now.hyps.items
     (sym (kind-byte c.args.self.now.kind)) c.deref.ensures.value c.deref-2.ensures.value in
-    let tables = tables_before c.args.self.now.earlier.file c.args.self.now.earlier.rows in
-    let h = heading_of c.args.self.now.earlier.file (byte_of c.args.self.now.kind) c.args.self.now.row in
+    let tables = tables_before c.args.self.now.env.file c.args.self.now.env.rows in
+    let h = heading_of c.args.self.now.env.file (byte_of c.args.self.now.kind) c.args.self.now.row in
     let st = state_at s heap c.args.parts.now.stack.items c.args.parts.now.hyps.items in
     let refused = stopped c.in-Err-Rule.field-0 c.in-Err-Rule.rule
-    (λ (k : K). proof_end strict (tables_of c.args.self.now.earlier) (heading_by c.args.self.now.earlier.file c.args.self.now.row (kind_of c.args.self.now.kind)) (state_at s heap c.deref.result.now c.deref-2.result.now) ≡ Err k)
+    (λ (k : K). proof_end strict (tables_of c.args.self.now.env) (heading_by c.args.self.now.env.file c.args.self.now.row (kind_of c.args.self.now.kind)) (state_at s heap c.deref.result.now c.deref-2.result.now) ≡ Err k)
     c.in-Err-Rule.field-0-is (c.in-Err-Rule.ensures.row heap) in
     end-refused (plain (gaps_of c.args.self.now.mode)) tables h st (stored s) (reverse c.args.parts.now.equations.items) (items_at s c.args.parts.now.stack.items) c.requires.2 c.in-Err-Rule.rule
     (end-plain (gaps_of c.args.self.now.mode) tables h st ∙ sym ended ∙ refused)
@@ -108,11 +108,11 @@ pub returns-in-Err-Rule-clause-steps : goal.returns-in-Err-Rule-clause-steps
 returns-in-Err-Rule-clause-steps g c =
     let s = c.args.parts.now.store in
     let heap = c.args.parts.now.heap.items in
-    let many = same-three (λ (k : Kind) (stack : List Kept) (hyps : List Id). match_steps strict (tables_of c.args.self.now.earlier) (state_at s heap stack hyps) (ends_with strict (tables_of c.args.self.now.earlier) (heading_by c.args.self.now.earlier.file c.args.self.now.row k) (state_at s heap stack hyps)))
+    let many = same-three (λ (k : Kind) (stack : List Kept) (hyps : List Id). match_steps strict (tables_of c.args.self.now.env) (state_at s heap stack hyps) (ends_with strict (tables_of c.args.self.now.env) (heading_by c.args.self.now.env.file c.args.self.now.row k) (state_at s heap stack hyps)))
     (kind_of c.args.self.now.kind) (kind_at (byte_of c.args.self.now.kind)) c.deref.result.now c.args.parts.now.stack.items c.deref-2.result.now c.args.parts.now.hyps.items
     (sym (kind-byte c.args.self.now.kind)) c.deref.ensures.value c.deref-2.ensures.value in
     let so-many = stopped c.in-Err-Rule.field-0 c.in-Err-Rule.rule
-    (λ (k : K). c.end.new.steps ≡ c.tick.new.self + match_steps strict (tables_of c.args.self.now.earlier) (state_at s heap c.deref.result.now c.deref-2.result.now)
-    (ends_with strict (tables_of c.args.self.now.earlier) (heading_by c.args.self.now.earlier.file c.args.self.now.row (kind_of c.args.self.now.kind)) (state_at s heap c.deref.result.now c.deref-2.result.now)))
+    (λ (k : K). c.end.new.steps ≡ c.tick.new.self + match_steps strict (tables_of c.args.self.now.env) (state_at s heap c.deref.result.now c.deref-2.result.now)
+    (ends_with strict (tables_of c.args.self.now.env) (heading_by c.args.self.now.env.file c.args.self.now.row (kind_of c.args.self.now.kind)) (state_at s heap c.deref.result.now c.deref-2.result.now)))
     c.in-Err-Rule.field-0-is (c.in-Err-Rule.ensures.steps heap) in
-    (omega (arith, so-many, c.tick.ensures, many, ends-steps (gaps_of c.args.self.now.mode) (tables_before c.args.self.now.earlier.file c.args.self.now.earlier.rows) (state_at s heap c.args.parts.now.stack.items c.args.parts.now.hyps.items) (heading_of c.args.self.now.earlier.file (byte_of c.args.self.now.kind) c.args.self.now.row), end-counts (plain (gaps_of c.args.self.now.mode)) (tables_before c.args.self.now.earlier.file c.args.self.now.earlier.rows) (heading_of c.args.self.now.earlier.file (byte_of c.args.self.now.kind) c.args.self.now.row) (state_at s heap c.args.parts.now.stack.items c.args.parts.now.hyps.items) (stored s) (reverse c.args.parts.now.equations.items) (items_at s c.args.parts.now.stack.items) c.requires.2))
+    (omega (arith, so-many, c.tick.ensures, many, ends-steps (gaps_of c.args.self.now.mode) (tables_before c.args.self.now.env.file c.args.self.now.env.rows) (state_at s heap c.args.parts.now.stack.items c.args.parts.now.hyps.items) (heading_of c.args.self.now.env.file (byte_of c.args.self.now.kind) c.args.self.now.row), end-counts (plain (gaps_of c.args.self.now.mode)) (tables_before c.args.self.now.env.file c.args.self.now.env.rows) (heading_of c.args.self.now.env.file (byte_of c.args.self.now.kind) c.args.self.now.row) (state_at s heap c.args.parts.now.stack.items c.args.parts.now.hyps.items) (stored s) (reverse c.args.parts.now.equations.items) (items_at s c.args.parts.now.stack.items) c.requires.2))

@@ -10,6 +10,6 @@ pub returns-clause-number : goal.returns-clause-number
 returns-clause-number c = λ e at n is.
     let both : Some (tree c.at.result.now) ≡ Some e = sym c.at.ensures ∙ at in
     let at-e : tree c.at.result.now ≡ e = cc in
-    let same = c.lent.ensures ∙ at-e in
-    let (f, partner, numbered) = subst (λ (o : Option ℕ). IfSome o (λ i. (f : Tree) × SameTree c.args.publics.now c.lent.result f × IsNumbered c.enter-number.new.self f i)) is c.enter-number.ensures.number in
+    let same = c.borrowed.ensures ∙ at-e in
+    let (f, partner, numbered) = subst (λ (o : Option ℕ). IfSome o (λ i. (f : Tree) × SameTree c.args.publics.now c.borrowed.result f × IsNumbered c.enter-number.new.self f i)) is c.enter-number.ensures.number in
     (f, subst (λ (d : Tree). SameTree c.args.publics.now d f) same partner, numbered)

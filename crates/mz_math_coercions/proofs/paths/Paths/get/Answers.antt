@@ -4,8 +4,7 @@ use Rattle.mz_math_coercions.proofs.paths.Paths.get.Goals as goal
 
 pub returns-then-path-to : goal.returns-then-path-to
 returns-then-path-to c = λ cs are.
-    let below = c.paths-test.true in
-    let many = c.len-i-end.ensures in
-    let all = c.args.self.now.found.ok.0 in
-    found-at cs c.args.self.now.found.items c.paths.i c.index-path.result.now c.args.from c.args.to c.in_ok-share.field-0 are (omega (arith, below, many, all)) c.index-path.ensures
+    let below = c.if-place-len.false in
+    let many = c.len.ensures in
+    found-at cs c.args.self.now.found.items c.in-Some.place c.index-path.result.now c.args.from c.args.to c.in_ok-share.field-0 are (omega (arith, below, many)) c.index-path.ensures
     c.if-path-from.true c.if-path-to.true c.in_ok-share.ensures

@@ -30,34 +30,34 @@ returns-in_default-clause-steps g c n st ctx is =
     no-more _ _ (stopped-steps portable _ st n _ (of-variable portable _ st of-numbered _ _ _ _ (ap pop_unfolding is ∙ c.in-Ok.ensures.taken) (sym c.head.ensures ∙ c.in_default.is)))
 
 pub has_body-requires : goal.has_body-requires
-has_body-requires g c = term-there c.args.earlier.now c.args.nodes.now c.requires.over c.in-Ok.items.1.0 c.in-Some.term c.in-Ok.ensures.ids.1 (sym c.head.ensures ∙ c.in-Some.is)
+has_body-requires g c = term-there c.args.env.now c.args.nodes.now c.requires.over c.in-Ok.items.1.0 c.in-Some.term c.in-Ok.ensures.ids.1 (sym c.head.ensures ∙ c.in-Some.is)
 
 pub returns-then-not-has_body-clause-row : goal.returns-then-not-has_body-clause-row
 returns-then-not-has_body-clause-row g c at n st ctx is =
     let h = sym c.head.ensures ∙ c.in-Some.is in
-    let there = row-there c.args.earlier.now c.in-Some.term (term-there c.args.earlier.now c.args.nodes.now c.requires.over c.in-Ok.items.1.0 c.in-Some.term c.in-Ok.ensures.ids.1 h) in
+    let there = row-there c.args.env.now c.in-Some.term (term-there c.args.env.now c.args.nodes.now c.requires.over c.in-Ok.items.1.0 c.in-Some.term c.in-Ok.ensures.ids.1 h) in
     unfold-stopped portable _ st at n _ (not-defined portable _ st of-numbered _ _ _ _ (ap pop_unfolding is ∙ c.in-Ok.ensures.taken) c.in-Some.term h
-    (no-stream c.args.earlier.now c.in-Some.term there (sym c.has_body.ensures.row ∙ c.if-not-has_body.true)))
+    (no-stream c.args.env.now c.in-Some.term there (sym c.has_body.ensures.row ∙ c.if-not-has_body.true)))
 
 pub returns-then-not-has_body-clause-steps : goal.returns-then-not-has_body-clause-steps
 returns-then-not-has_body-clause-steps g c n st ctx is =
     let h = sym c.head.ensures ∙ c.in-Some.is in
-    let there = row-there c.args.earlier.now c.in-Some.term (term-there c.args.earlier.now c.args.nodes.now c.requires.over c.in-Ok.items.1.0 c.in-Some.term c.in-Ok.ensures.ids.1 h) in
+    let there = row-there c.args.env.now c.in-Some.term (term-there c.args.env.now c.args.nodes.now c.requires.over c.in-Ok.items.1.0 c.in-Some.term c.in-Ok.ensures.ids.1 h) in
     no-more _ _ (stopped-steps portable _ st n _ (not-defined portable _ st of-numbered _ _ _ _ (ap pop_unfolding is ∙ c.in-Ok.ensures.taken) c.in-Some.term h
-    (no-stream c.args.earlier.now c.in-Some.term there (sym c.has_body.ensures.row ∙ c.if-not-has_body.true))))
+    (no-stream c.args.env.now c.in-Some.term there (sym c.has_body.ensures.row ∙ c.if-not-has_body.true))))
 
 pub stream_of_term-stream-requires : goal.stream_of_term-stream-requires
-stream_of_term-stream-requires g c = row-there c.args.earlier.now c.in-Some.term (term-there c.args.earlier.now c.args.nodes.now c.requires.over c.in-Ok.items.1.0 c.in-Some.term c.in-Ok.ensures.ids.1 (sym c.head.ensures ∙ c.in-Some.is))
+stream_of_term-stream-requires g c = row-there c.args.env.now c.in-Some.term (term-there c.args.env.now c.args.nodes.now c.requires.over c.in-Ok.items.1.0 c.in-Some.term c.in-Ok.ensures.ids.1 (sym c.head.ensures ∙ c.in-Some.is))
 
 pub unify_in-requires-clause-over : goal.unify_in-requires-clause-over
-unify_in-requires-clause-over g c = subst (λ sigs. IsOver sigs c.args.nodes.now) (sym (signatures-before c.args.earlier.now)) c.requires.over
+unify_in-requires-clause-over g c = subst (λ sigs. IsOver sigs c.args.nodes.now) (sym (signatures-before c.args.env.now)) c.requires.over
 
 pub returns-clause-ids : goal.returns-clause-ids
 returns-clause-ids g c = ids-pushed c.args.nodes.now _ _ _ c.push.result c.push.ensures.ok (c.in-Ok.ensures.ids.0, c.in-Ok.ensures.ids.2) c.in-Ok.ensures.ids.3
 
 pub returns-clause-row : goal.returns-clause-row
 returns-clause-row g c at n st ctx is =
-    let E = c.args.earlier.now in
+    let E = c.args.env.now in
     let s = c.args.nodes.now in
     let t = c.in-Some.term in
     let l = expr_of s c.in-Ok.items.1.0 in
@@ -72,7 +72,7 @@ returns-clause-row g c at n st ctx is =
 
 pub returns-clause-steps : goal.returns-clause-steps
 returns-clause-steps g c n st ctx is =
-    let E = c.args.earlier.now in
+    let E = c.args.env.now in
     let s = c.args.nodes.now in
     let t = c.in-Some.term in
     let l = expr_of s c.in-Ok.items.1.0 in
@@ -84,7 +84,7 @@ returns-clause-steps g c n st ctx is =
 
 pub returns-in_err-through-clause-row : goal.returns-in_err-through-clause-row
 returns-in_err-through-clause-row g c at n st ctx is =
-    let E = c.args.earlier.now in
+    let E = c.args.env.now in
     let s = c.args.nodes.now in
     let t = c.in-Some.term in
     let l = expr_of s c.in-Ok.items.1.0 in
@@ -98,7 +98,7 @@ returns-in_err-through-clause-row g c at n st ctx is =
 
 pub returns-in_err-through-clause-steps : goal.returns-in_err-through-clause-steps
 returns-in_err-through-clause-steps g c n st ctx is =
-    let E = c.args.earlier.now in
+    let E = c.args.env.now in
     let s = c.args.nodes.now in
     let t = c.in-Some.term in
     let l = expr_of s c.in-Ok.items.1.0 in

@@ -11,19 +11,19 @@ use Rattle.mz_pmachine.proofs.commands.heap.hyp.Goals as goal
 pub returns-in_err-claim-clause-row : goal.returns-in_err-claim-clause-row
 returns-in_err-claim-clause-row c at n st ctx is =
     let p = err_from_is_err_and c.from_residual.result c.from_residual.ensures.1 in
-    rw (p.1, p.2) (hyp-err portable (tables_of c.args.earlier.now) at n st _ (ap pop_expr is ∙ c.in_err-claim.ensures.taken))
+    rw (p.1, p.2) (hyp-err portable (tables_of c.args.env.now) at n st _ (ap pop_expr is ∙ c.in_err-claim.ensures.taken))
 
 pub returns-then-is_provable-clause-row : goal.returns-then-is_provable-clause-row
 returns-then-is_provable-clause-row c at n st ctx is =
-    hyp-row portable (tables_of c.args.earlier.now) at n st _ _ (ap pop_expr is ∙ c.in_ok-claim.ensures.taken)
-    (subst (λ x. has_provable_sort portable (tables_of c.args.earlier.now) x (expr_of c.args.nodes.now c.in_ok-claim.claim.0) ≡ true) (sym ctx)
-    (provable portable c.args.earlier.now c.args.nodes.now.context _ c.sort_of.result true (c.sort_of.ensures.sort _ c.requires.over) (sym c.is_provable.ensures ∙ c.if-is_provable.true)))
+    hyp-row portable (tables_of c.args.env.now) at n st _ _ (ap pop_expr is ∙ c.in_ok-claim.ensures.taken)
+    (subst (λ x. has_provable_sort portable (tables_of c.args.env.now) x (expr_of c.args.nodes.now c.in_ok-claim.claim.0) ≡ true) (sym ctx)
+    (provable portable c.args.env.now c.args.nodes.now.context _ c.sort_of.result true (c.sort_of.ensures.sort _ c.requires.over) (sym c.is_provable.ensures ∙ c.if-is_provable.true)))
 
 pub returns-else-is_provable-clause-row : goal.returns-else-is_provable-clause-row
 returns-else-is_provable-clause-row c at n st ctx is =
-    hyp-other portable (tables_of c.args.earlier.now) at n st _ _ (ap pop_expr is ∙ c.in_ok-claim.ensures.taken)
-    (subst (λ x. has_provable_sort portable (tables_of c.args.earlier.now) x (expr_of c.args.nodes.now c.in_ok-claim.claim.0) ≡ false) (sym ctx)
-    (provable portable c.args.earlier.now c.args.nodes.now.context _ c.sort_of.result false (c.sort_of.ensures.sort _ c.requires.over) (sym c.is_provable.ensures ∙ c.if-is_provable.false)))
+    hyp-other portable (tables_of c.args.env.now) at n st _ _ (ap pop_expr is ∙ c.in_ok-claim.ensures.taken)
+    (subst (λ x. has_provable_sort portable (tables_of c.args.env.now) x (expr_of c.args.nodes.now c.in_ok-claim.claim.0) ≡ false) (sym ctx)
+    (provable portable c.args.env.now c.args.nodes.now.context _ c.sort_of.result false (c.sort_of.ensures.sort _ c.requires.over) (sym c.is_provable.ensures ∙ c.if-is_provable.false)))
 
 -- ---- what the calls ask
 

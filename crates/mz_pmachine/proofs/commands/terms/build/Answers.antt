@@ -18,41 +18,41 @@ use Rattle.mz_pmachine.proofs.commands.terms.build.Goals as goal
 
 pub returns-then-t-terms-clause-built : goal.returns-then-t-terms-clause-built
 returns-then-t-terms-clause-built c st ctx is =
-    built-none portable (tables_of c.args.earlier.now) c.args.at c.args.t st (no-term-before c.args.earlier.now c.args.t (omega (arith, c.terms.ensures.rows, c.if-t-terms.true)))
+    built-none portable (tables_of c.args.env.now) c.args.at c.args.t st (no-term-before c.args.env.now c.args.t (omega (arith, c.terms.ensures.rows, c.if-t-terms.true)))
 
 pub returns-in_err-pop_operands-clause-built : goal.returns-in_err-pop_operands-clause-built
 returns-in_err-pop_operands-clause-built c st ctx is =
     let p = err_from_is_err_and c.from_residual.result c.from_residual.ensures.1 in
-    let row = term-before c.args.earlier.now c.args.t (let e : c.args.t < c.args.earlier.now.rows.terms = omega (arith, c.terms.ensures.rows, c.if-t-terms.false) in e) in
-    rw (p.1, p.2) (stops-as c.in_err-pop_operands.field-0.0 _ (λ k. built portable (tables_of c.args.earlier.now) c.args.at c.args.t st ≡ Err k)
-    (λ k h. built-few portable (tables_of c.args.earlier.now) c.args.at c.args.t st (term_of_file c.args.earlier.now.file c.args.t) row k
-    (takes-its-own c.args.earlier.now c.args.t st _ c.arity_of.result _ c.arity_of.ensures is h)) c.in_err-pop_operands.ensures.taken)
+    let row = term-before c.args.env.now c.args.t (let e : c.args.t < c.args.env.now.rows.terms = omega (arith, c.terms.ensures.rows, c.if-t-terms.false) in e) in
+    rw (p.1, p.2) (stops-as c.in_err-pop_operands.field-0.0 _ (λ k. built portable (tables_of c.args.env.now) c.args.at c.args.t st ≡ Err k)
+    (λ k h. built-few portable (tables_of c.args.env.now) c.args.at c.args.t st (term_of_file c.args.env.now.file c.args.t) row k
+    (takes-its-own c.args.env.now c.args.t st _ c.arity_of.result _ c.arity_of.ensures is h)) c.in_err-pop_operands.ensures.taken)
 
 pub check_operands-requires-clause-many : goal.check_operands-requires-clause-many
 check_operands-requires-clause-many c = ap length c.deref.ensures.value ∙ c.in_ok-pop_operands.ensures.many ∙ c.arity_of.ensures
 
 pub returns-in-Err-clause-built : goal.returns-in-Err-clause-built
 returns-in-Err-clause-built c st ctx is =
-    let row = term-before c.args.earlier.now c.args.t (let e : c.args.t < c.args.earlier.now.rows.terms = omega (arith, c.terms.ensures.rows, c.if-t-terms.false) in e) in
-    built-unfit portable (tables_of c.args.earlier.now) c.args.at c.args.t st (term_of_file c.args.earlier.now.file c.args.t) row (map tree_of) (λ _. refl) _ _
-    (takes-its-own c.args.earlier.now c.args.t st _ c.arity_of.result _ c.arity_of.ensures is c.in_ok-pop_operands.ensures.taken) c.in-Err.rule
-    (subst (λ x. operands_fit (signatures_of c.args.earlier.now) x (trees_at c.args.nodes.now c.pop_operands.new.operands.items) (binders_of (term_row c.args.earlier.now.file c.args.t).words.params) ≡ Err c.in-Err.rule) (sym ctx)
-    (subst (λ ids. operands_fit (signatures_of c.args.earlier.now) c.args.nodes.now.context (trees_at c.args.nodes.now ids) (binders_of (term_row c.args.earlier.now.file c.args.t).words.params) ≡ Err c.in-Err.rule) c.deref.ensures.value c.in-Err.ensures))
+    let row = term-before c.args.env.now c.args.t (let e : c.args.t < c.args.env.now.rows.terms = omega (arith, c.terms.ensures.rows, c.if-t-terms.false) in e) in
+    built-unfit portable (tables_of c.args.env.now) c.args.at c.args.t st (term_of_file c.args.env.now.file c.args.t) row (map tree_of) (λ _. refl) _ _
+    (takes-its-own c.args.env.now c.args.t st _ c.arity_of.result _ c.arity_of.ensures is c.in_ok-pop_operands.ensures.taken) c.in-Err.rule
+    (subst (λ x. operands_fit (signatures_of c.args.env.now) x (trees_at c.args.nodes.now c.pop_operands.new.operands.items) (binders_of (term_row c.args.env.now.file c.args.t).words.params) ≡ Err c.in-Err.rule) (sym ctx)
+    (subst (λ ids. operands_fit (signatures_of c.args.env.now) c.args.nodes.now.context (trees_at c.args.nodes.now ids) (binders_of (term_row c.args.env.now.file c.args.t).words.params) ≡ Err c.in-Err.rule) c.deref.ensures.value c.in-Err.ensures))
 
 pub app-requires-clause-over : goal.app-requires-clause-over
-app-requires-clause-over c = over-words c.args.earlier.now c.args.nodes.now c.requires.over
+app-requires-clause-over c = over-words c.args.env.now c.args.nodes.now c.requires.over
 
 pub app-requires-clause-fit : goal.app-requires-clause-fit
 app-requires-clause-fit c =
-    subst (λ ids. CanTake (words_before c.args.earlier.now) c.args.nodes.now.context c.args.t (trees_in c.args.nodes.now ids)) (sym c.deref-2.ensures.value)
-    (can-take c.args.earlier.now c.args.nodes.now c.args.t c.pop_operands.new.operands.items (omega (arith, c.terms.ensures.rows, c.if-t-terms.false)) c.requires.over c.in_ok-pop_operands.ensures.ids.0
+    subst (λ ids. CanTake (words_before c.args.env.now) c.args.nodes.now.context c.args.t (trees_in c.args.nodes.now ids)) (sym c.deref-2.ensures.value)
+    (can-take c.args.env.now c.args.nodes.now c.args.t c.pop_operands.new.operands.items (omega (arith, c.terms.ensures.rows, c.if-t-terms.false)) c.requires.over c.in_ok-pop_operands.ensures.ids.0
     (c.in_ok-pop_operands.ensures.many ∙ c.arity_of.ensures)
-    (subst (λ ids. operands_fit (signatures_of c.args.earlier.now) c.args.nodes.now.context (trees_at c.args.nodes.now ids) (binders_of (term_row c.args.earlier.now.file c.args.t).words.params) ≡ Ok tt) c.deref.ensures.value c.in_default.ensures))
+    (subst (λ ids. operands_fit (signatures_of c.args.env.now) c.args.nodes.now.context (trees_at c.args.nodes.now ids) (binders_of (term_row c.args.env.now.file c.args.t).words.params) ≡ Ok tt) c.deref.ensures.value c.in_default.ensures))
 
 pub returns-clause-grows : goal.returns-clause-grows
 returns-clause-grows c = record {
   keeps = c.in-Ok.ensures.kept;
-  over = over-rows c.args.earlier.now c.app.new.self c.in-Ok.ensures.over;
+  over = over-rows c.args.env.now c.app.new.self c.in-Ok.ensures.over;
   mode = c.app.ensures.mode;
   context = ([], c.app.ensures.context ∙ sym (append-nil c.args.nodes.now.context), no-dummies);
 }
@@ -63,15 +63,15 @@ returns-clause-ids c =
 
 pub returns-clause-built : goal.returns-clause-built
 returns-clause-built c st ctx is =
-    let row = term-before c.args.earlier.now c.args.t (let e : c.args.t < c.args.earlier.now.rows.terms = omega (arith, c.terms.ensures.rows, c.if-t-terms.false) in e) in
+    let row = term-before c.args.env.now c.args.t (let e : c.args.t < c.args.env.now.rows.terms = omega (arith, c.terms.ensures.rows, c.if-t-terms.false) in e) in
     let made : expr_of c.app.new.self c.in-Ok.made.0 ≡ an_application c.args.at c.args.t (operands_from (exprs_at c.args.nodes.now c.pop_operands.new.operands.items)) =
     c.in-Ok.ensures.holds.1 ∙ ap (λ ids. an_application c.args.at c.args.t (exprs_of c.args.nodes.now ids)) c.deref-2.ensures.value
     ∙ ap (an_application c.args.at c.args.t) (sym (from-exprs c.args.nodes.now c.pop_operands.new.operands.items)) in
     rw (made, items-kept c.args.nodes.now c.app.new.self c.in-Ok.ensures.kept c.pop_operands.new.stack.items c.in_ok-pop_operands.ensures.ids.1)
-    (built-row portable (tables_of c.args.earlier.now) c.args.at c.args.t st (term_of_file c.args.earlier.now.file c.args.t) row (map tree_of) (λ _. refl) _ _
-    (takes-its-own c.args.earlier.now c.args.t st _ c.arity_of.result _ c.arity_of.ensures is c.in_ok-pop_operands.ensures.taken)
-    (subst (λ x. operands_fit (signatures_of c.args.earlier.now) x (trees_at c.args.nodes.now c.pop_operands.new.operands.items) (binders_of (term_row c.args.earlier.now.file c.args.t).words.params) ≡ Ok tt) (sym ctx)
-    (subst (λ ids. operands_fit (signatures_of c.args.earlier.now) c.args.nodes.now.context (trees_at c.args.nodes.now ids) (binders_of (term_row c.args.earlier.now.file c.args.t).words.params) ≡ Ok tt) c.deref.ensures.value c.in_default.ensures)))
+    (built-row portable (tables_of c.args.env.now) c.args.at c.args.t st (term_of_file c.args.env.now.file c.args.t) row (map tree_of) (λ _. refl) _ _
+    (takes-its-own c.args.env.now c.args.t st _ c.arity_of.result _ c.arity_of.ensures is c.in_ok-pop_operands.ensures.taken)
+    (subst (λ x. operands_fit (signatures_of c.args.env.now) x (trees_at c.args.nodes.now c.pop_operands.new.operands.items) (binders_of (term_row c.args.env.now.file c.args.t).words.params) ≡ Ok tt) (sym ctx)
+    (subst (λ ids. operands_fit (signatures_of c.args.env.now) c.args.nodes.now.context (trees_at c.args.nodes.now ids) (binders_of (term_row c.args.env.now.file c.args.t).words.params) ≡ Ok tt) c.deref.ensures.value c.in_default.ensures)))
 
 pub returns-clause-next : goal.returns-clause-next
 returns-clause-next c = omega (arith, c.in-Ok.ensures.next)

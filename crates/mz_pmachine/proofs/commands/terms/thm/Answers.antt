@@ -4,7 +4,7 @@ use Rattle.mz_cmd.specs.declared.code.ProofCode.TheVariants as code
 use Rattle.mz_pmachine_unify.specs.Numbering.{IsOver, expr_of}
 use Rattle.mz_store.specs.declared.item.Item.TheVariants.{Proof}
 use Rattle.mz_pmachine_theory.specs.NodeIdentity.{portable}
-use Rattle.mz_unify_theory.specs.Profile.{proof}
+use Rattle.mz_machine_theory.specs.Profile.{proof}
 use Rattle.mz_unify.proofs.Offered.{stopped-through, went-through}
 use Rattle.mz_pmachine_unify.proofs.Offered.{items-push, items-in-both}
 use Rattle.mz_machine_theory.specs.ProofMachine.{proof_step}
@@ -19,41 +19,41 @@ use Rattle.mz_pmachine.proofs.commands.terms.thm.Goals as goal
 pub returns-in_err-target-clause-plain : goal.returns-in_err-target-clause-plain
 returns-in_err-target-clause-plain g c at st ctx is =
     let p = err_from_is_err_and c.from_residual.result c.from_residual.ensures.1 in
-    rw (p.1, p.2) (stops-as c.in_err-target.field-0.0 _ (λ k. proof_step portable (tables_of c.args.earlier.now) at code.Thm c.args.t st ≡ Err k)
-    (λ k h. thm-stopped portable (tables_of c.args.earlier.now) at c.args.t st k h) (c.in_err-target.ensures.taken st ctx is))
+    rw (p.1, p.2) (stops-as c.in_err-target.field-0.0 _ (λ k. proof_step portable (tables_of c.args.env.now) at code.Thm c.args.t st ≡ Err k)
+    (λ k h. thm-stopped portable (tables_of c.args.env.now) at c.args.t st k h) (c.in_err-target.ensures.taken st ctx is))
 
 pub returns-in_err-target-clause-saved : goal.returns-in_err-target-clause-saved
 returns-in_err-target-clause-saved g c at st ctx is =
     let p = err_from_is_err_and c.from_residual.result c.from_residual.ensures.1 in
-    rw (p.1, p.2) (stops-as c.in_err-target.field-0.0 _ (λ k. proof_step portable (tables_of c.args.earlier.now) at code.ThmSave c.args.t st ≡ Err k)
-    (λ k h. thm-save-stopped portable (tables_of c.args.earlier.now) at c.args.t st k h) (c.in_err-target.ensures.taken st ctx is))
+    rw (p.1, p.2) (stops-as c.in_err-target.field-0.0 _ (λ k. proof_step portable (tables_of c.args.env.now) at code.ThmSave c.args.t st ≡ Err k)
+    (λ k h. thm-save-stopped portable (tables_of c.args.env.now) at c.args.t st k h) (c.in_err-target.ensures.taken st ctx is))
 
 pub returns-in_err-target-clause-steps : goal.returns-in_err-target-clause-steps
 returns-in_err-target-clause-steps g c st ctx is =
     let p = err_from_is_err_and c.from_residual.result c.from_residual.ensures.1 in
-    rw (p.1, p.2) (stops-as c.in_err-target.field-0.0 _ (λ k. c.args.steps.now ≡ c.args.steps.now + row_steps portable (tables_of c.args.earlier.now) code.Thm c.args.t st)
-    (λ k h. no-more _ _ (thm-stopped-steps portable (tables_of c.args.earlier.now) c.args.t st k h)) (c.in_err-target.ensures.taken st ctx is))
+    rw (p.1, p.2) (stops-as c.in_err-target.field-0.0 _ (λ k. c.args.steps.now ≡ c.args.steps.now + row_steps portable (tables_of c.args.env.now) code.Thm c.args.t st)
+    (λ k h. no-more _ _ (thm-stopped-steps portable (tables_of c.args.env.now) c.args.t st k h)) (c.in_err-target.ensures.taken st ctx is))
 
 pub unify_in-requires-clause-over : goal.unify_in-requires-clause-over
-unify_in-requires-clause-over g c = subst (λ sigs. IsOver sigs c.args.nodes.now) (sym (signatures-before c.args.earlier.now)) c.requires.over
+unify_in-requires-clause-over g c = subst (λ sigs. IsOver sigs c.args.nodes.now) (sym (signatures-before c.args.env.now)) c.requires.over
 
 pub returns-in_err-through-clause-plain : goal.returns-in_err-through-clause-plain
 returns-in_err-through-clause-plain g c at st ctx is =
     let p = err_from_is_err_and c.from_residual-in_err-through.result c.from_residual-in_err-through.ensures.1 in
-    rw (p.1, p.2) (stopped-through c.unify_in.result _ _ (λ k. proof_step portable (tables_of c.args.earlier.now) at code.Thm c.args.t st ≡ Err k) c.in_err-through.field-0.0 c.in_err-through.ensures c.unify_in.ensures.run
-    (λ place k h. thm-refused portable (tables_of c.args.earlier.now) at c.args.t st _ (c.in_ok-target.ensures.taken st ctx is) place k (cited-run c.args.earlier.now c.args.nodes.now st ctx c.args.t c.stream_of_thm-stream.result.now c.stream_of_thm-stream.ensures.stream c.take_citation.new.spare.operands.items c.deref-operands.result.now c.deref-operands.ensures.value c.in_ok-target.target c.take_citation.new.stack.items ∙ h)))
+    rw (p.1, p.2) (stopped-through c.unify_in.result _ _ (λ k. proof_step portable (tables_of c.args.env.now) at code.Thm c.args.t st ≡ Err k) c.in_err-through.field-0.0 c.in_err-through.ensures c.unify_in.ensures.run
+    (λ place k h. thm-refused portable (tables_of c.args.env.now) at c.args.t st _ (c.in_ok-target.ensures.taken st ctx is) place k (cited-run c.args.env.now c.args.nodes.now st ctx c.args.t c.stream_of_thm-stream.result.now c.stream_of_thm-stream.ensures.stream c.take_citation.new.spare.operands.items c.deref-operands.result.now c.deref-operands.ensures.value c.in_ok-target.target c.take_citation.new.stack.items ∙ h)))
 
 pub returns-in_err-through-clause-saved : goal.returns-in_err-through-clause-saved
 returns-in_err-through-clause-saved g c at st ctx is =
     let p = err_from_is_err_and c.from_residual-in_err-through.result c.from_residual-in_err-through.ensures.1 in
-    rw (p.1, p.2) (stopped-through c.unify_in.result _ _ (λ k. proof_step portable (tables_of c.args.earlier.now) at code.ThmSave c.args.t st ≡ Err k) c.in_err-through.field-0.0 c.in_err-through.ensures c.unify_in.ensures.run
-    (λ place k h. thm-save-refused portable (tables_of c.args.earlier.now) at c.args.t st _ (c.in_ok-target.ensures.taken st ctx is) place k (cited-run c.args.earlier.now c.args.nodes.now st ctx c.args.t c.stream_of_thm-stream.result.now c.stream_of_thm-stream.ensures.stream c.take_citation.new.spare.operands.items c.deref-operands.result.now c.deref-operands.ensures.value c.in_ok-target.target c.take_citation.new.stack.items ∙ h)))
+    rw (p.1, p.2) (stopped-through c.unify_in.result _ _ (λ k. proof_step portable (tables_of c.args.env.now) at code.ThmSave c.args.t st ≡ Err k) c.in_err-through.field-0.0 c.in_err-through.ensures c.unify_in.ensures.run
+    (λ place k h. thm-save-refused portable (tables_of c.args.env.now) at c.args.t st _ (c.in_ok-target.ensures.taken st ctx is) place k (cited-run c.args.env.now c.args.nodes.now st ctx c.args.t c.stream_of_thm-stream.result.now c.stream_of_thm-stream.ensures.stream c.take_citation.new.spare.operands.items c.deref-operands.result.now c.deref-operands.ensures.value c.in_ok-target.target c.take_citation.new.stack.items ∙ h)))
 
 pub returns-in_err-through-clause-steps : goal.returns-in_err-through-clause-steps
 returns-in_err-through-clause-steps g c st ctx is =
     let p = err_from_is_err_and c.from_residual-in_err-through.result c.from_residual-in_err-through.ensures.1 in
-    rw (p.1, p.2) (stopped-through c.unify_in.result _ _ (λ k. c.unify_in.new.steps ≡ c.args.steps.now + row_steps portable (tables_of c.args.earlier.now) code.Thm c.args.t st) c.in_err-through.field-0.0 c.in_err-through.ensures c.unify_in.ensures.steps
-    (λ place k h. so-many _ _ _ _ h (thm-steps portable (tables_of c.args.earlier.now) c.args.t st _ (c.in_ok-target.ensures.taken st ctx is) ∙ cited-count c.args.earlier.now c.args.nodes.now st ctx c.args.t c.stream_of_thm-stream.result.now c.stream_of_thm-stream.ensures.stream c.take_citation.new.spare.operands.items c.deref-operands.result.now c.deref-operands.ensures.value c.in_ok-target.target c.take_citation.new.stack.items)))
+    rw (p.1, p.2) (stopped-through c.unify_in.result _ _ (λ k. c.unify_in.new.steps ≡ c.args.steps.now + row_steps portable (tables_of c.args.env.now) code.Thm c.args.t st) c.in_err-through.field-0.0 c.in_err-through.ensures c.unify_in.ensures.steps
+    (λ place k h. so-many _ _ _ _ h (thm-steps portable (tables_of c.args.env.now) c.args.t st _ (c.in_ok-target.ensures.taken st ctx is) ∙ cited-count c.args.env.now c.args.nodes.now st ctx c.args.t c.stream_of_thm-stream.result.now c.stream_of_thm-stream.ensures.stream c.take_citation.new.spare.operands.items c.deref-operands.result.now c.deref-operands.ensures.value c.in_ok-target.target c.take_citation.new.stack.items)))
 
 pub returns-clause-ids : goal.returns-clause-ids
 returns-clause-ids g c =
@@ -65,20 +65,20 @@ returns-clause-ids g c =
 pub returns-clause-plain : goal.returns-clause-plain
 returns-clause-plain g c at st ctx is =
     let run = (went-through c.unify_in.result _ _ _ c.in_ok-through.ensures c.unify_in.ensures.run).1 in
-    let row = thm-row portable (tables_of c.args.earlier.now) at c.args.t st _ (c.in_ok-target.ensures.taken st ctx is) run.0 (cited-run c.args.earlier.now c.args.nodes.now st ctx c.args.t c.stream_of_thm-stream.result.now c.stream_of_thm-stream.ensures.stream c.take_citation.new.spare.operands.items c.deref-operands.result.now c.deref-operands.ensures.value c.in_ok-target.target c.take_citation.new.stack.items ∙ run.1) in
+    let row = thm-row portable (tables_of c.args.env.now) at c.args.t st _ (c.in_ok-target.ensures.taken st ctx is) run.0 (cited-run c.args.env.now c.args.nodes.now st ctx c.args.t c.stream_of_thm-stream.result.now c.stream_of_thm-stream.ensures.stream c.take_citation.new.spare.operands.items c.deref-operands.result.now c.deref-operands.ensures.value c.in_ok-target.target c.take_citation.new.stack.items ∙ run.1) in
     rw (c.in_ok-push.ensures.ok, items-push c.args.nodes.now c.unify_in.new.hyps.items (Proof c.in_ok-target.target))
     (row ∙ ap (λ xs. Ok (with_stack st (proof (expr_of c.args.nodes.now c.in_ok-target.target.0) ∷ xs))) run.3)
 
 pub returns-clause-saved : goal.returns-clause-saved
 returns-clause-saved g c at st ctx is =
     let run = (went-through c.unify_in.result _ _ _ c.in_ok-through.ensures c.unify_in.ensures.run).1 in
-    let row = thm-save-row portable (tables_of c.args.earlier.now) at c.args.t st _ (c.in_ok-target.ensures.taken st ctx is) run.0 (cited-run c.args.earlier.now c.args.nodes.now st ctx c.args.t c.stream_of_thm-stream.result.now c.stream_of_thm-stream.ensures.stream c.take_citation.new.spare.operands.items c.deref-operands.result.now c.deref-operands.ensures.value c.in_ok-target.target c.take_citation.new.stack.items ∙ run.1) in
+    let row = thm-save-row portable (tables_of c.args.env.now) at c.args.t st _ (c.in_ok-target.ensures.taken st ctx is) run.0 (cited-run c.args.env.now c.args.nodes.now st ctx c.args.t c.stream_of_thm-stream.result.now c.stream_of_thm-stream.ensures.stream c.take_citation.new.spare.operands.items c.deref-operands.result.now c.deref-operands.ensures.value c.in_ok-target.target c.take_citation.new.stack.items ∙ run.1) in
     rw (c.in_ok-push.ensures.ok, items-push c.args.nodes.now c.unify_in.new.hyps.items (Proof c.in_ok-target.target))
     (row
     ∙ ap (λ xs. Ok (record (with_stack st (proof (expr_of c.args.nodes.now c.in_ok-target.target.0) ∷ xs)) { heap = st.heap ++ proof (expr_of c.args.nodes.now c.in_ok-target.target.0) ∷ [] })) run.3)
 
 pub returns-clause-steps : goal.returns-clause-steps
-returns-clause-steps g c st ctx is = so-many _ _ _ _ (went-through c.unify_in.result _ _ _ c.in_ok-through.ensures c.unify_in.ensures.steps).1 (thm-steps portable (tables_of c.args.earlier.now) c.args.t st _ (c.in_ok-target.ensures.taken st ctx is) ∙ cited-count c.args.earlier.now c.args.nodes.now st ctx c.args.t c.stream_of_thm-stream.result.now c.stream_of_thm-stream.ensures.stream c.take_citation.new.spare.operands.items c.deref-operands.result.now c.deref-operands.ensures.value c.in_ok-target.target c.take_citation.new.stack.items)
+returns-clause-steps g c st ctx is = so-many _ _ _ _ (went-through c.unify_in.result _ _ _ c.in_ok-through.ensures c.unify_in.ensures.steps).1 (thm-steps portable (tables_of c.args.env.now) c.args.t st _ (c.in_ok-target.ensures.taken st ctx is) ∙ cited-count c.args.env.now c.args.nodes.now st ctx c.args.t c.stream_of_thm-stream.result.now c.stream_of_thm-stream.ensures.stream c.take_citation.new.spare.operands.items c.deref-operands.result.now c.deref-operands.ensures.value c.in_ok-target.target c.take_citation.new.stack.items)
 
 -- ---- what stops it behind the stream
 
@@ -123,14 +123,14 @@ take_citation-requires-clause-over g c = c.requires.over
 pub take_citation-requires-clause-stack : goal.take_citation-requires-clause-stack
 take_citation-requires-clause-stack g c = c.requires.stack
 
-pub kept_apart-requires : goal.kept_apart-requires
-kept_apart-requires g c = record { ids = rw c.deref-operands.ensures.value c.in_ok-target.ensures.ids.1 }
+pub kept_disjoint-requires : goal.kept_disjoint-requires
+kept_disjoint-requires g c = record { ids = rw c.deref-operands.ensures.value c.in_ok-target.ensures.ids.1 }
 
 pub unify_in-requires-clause-operands : goal.unify_in-requires-clause-operands
 unify_in-requires-clause-operands g c = rw c.deref-operands.ensures.value c.in_ok-target.ensures.ids.1
 
 pub unify_in-requires-clause-apart : goal.unify_in-requires-clause-apart
-unify_in-requires-clause-apart g c = c.kept_apart.ensures _ c.requires.over
+unify_in-requires-clause-apart g c = c.kept_disjoint.ensures _ c.requires.over
 
 pub unify_in-requires-clause-target : goal.unify_in-requires-clause-target
 unify_in-requires-clause-target g c = c.in_ok-target.ensures.ids.0

@@ -8,6 +8,6 @@ use Rattle.mz_prefix.proofs.names.Names.is_hidden.Goals as goal
 pub returns-else-mentions_local : goal.returns-else-mentions_local
 returns-else-mentions_local c =
     let v = spoken c.args.self.now in
-    let lent = c.lent-body.ensures in
-    ap not (c.is_short.ensures v ∙ ap (is_short v) lent)
-    ∙ ap (λ m. m || not (is_short v c.args.body.now)) (sym c.if-mentions_local.false ∙ c.mentions_local.ensures ∙ ap (mentions_local c.args.self.now.locals.items) lent)
+    let borrowed = c.borrowed-body.ensures in
+    ap not (c.is_short.ensures v ∙ ap (is_short v) borrowed)
+    ∙ ap (λ m. m || not (is_short v c.args.body.now)) (sym c.if-mentions_local.false ∙ c.mentions_local.ensures ∙ ap (mentions_local c.args.self.now.locals.items) borrowed)

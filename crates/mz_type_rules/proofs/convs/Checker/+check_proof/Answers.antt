@@ -270,8 +270,19 @@ check_let-returns-in_err-check_proof-clause-judged t c =
     (stopped_before (proof_rules env ctx hyps lets p (part (parts n) 2)) _ s
     (subst (λ m. Stops s (proof_rules env ctx hyps lets p m)) c.part.ensures c.in_err-check_proof.ensures.judged))
 
-pub check_let-name_claim-requires : goal.check_let-name_claim-requires
-check_let-name_claim-requires t c =
+pub check_let-name_claim-requires-clause-stated : goal.check_let-name_claim-requires-clause-stated
+check_let-name_claim-requires-clause-stated t c =
+    let from : c.len-from.result ≡ length c.args.claims.now.items = omega (arith, c.len-from.ensures) in
+    let hyps = c.args.self.now.hyps.now in
+    let before = c.args.lets.now in
+    let p = proof_view c.args.stated.now in
+    let one = c.check_proof.new.claims.items in
+    ap (operand (claim_trees one)) from ∙ last_same c.args.claims.now.items one _ c.in_ok-check_proof.ensures.claims
+    ∙ ap (λ e. proved e hyps before.lets p) (sym c.requires.over.0) ∙ ap (λ h. proved before.env h before.lets p) (sym c.requires.over.1)
+    ∙ ap (λ z. proved z.env z.hyps z.lets p) (sym c.in_ok-check_proof.ensures.same)
+
+pub check_let-name_claim-requires-clause-within : goal.check_let-name_claim-requires-clause-within
+check_let-name_claim-requires-clause-within t c =
     let from : c.len-from.result ≡ length c.args.claims.now.items = omega (arith, c.len-from.ensures) in
     let env = c.args.self.now.env.now in
     let hyps = c.args.self.now.hyps.now in

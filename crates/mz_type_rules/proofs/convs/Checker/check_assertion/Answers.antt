@@ -6,7 +6,7 @@ use Rattle.mz_logic_theory.specs.Tree.{instance, instances}
 use Rattle.mz_logic_theory.specs.Declaration.{signatures}
 use Rattle.mz_logic_theory.specs.DeclView.{assertion_view}
 use Rattle.mz_logic_theory.specs.Sorts.{Fits}
-use Rattle.mz_logic_theory.specs.Variables.{Apart}
+use Rattle.mz_logic_theory.specs.Variables.{AreDisjoint}
 use Rattle.mz_logic_theory.specs.View.{tree}
 use Rattle.mz_mmu_theory.specs.Stops.{Stops}
 use Rattle.mz_mmu_theory.specs.declared.fault.Stop.TheVariants.{Mem}
@@ -44,8 +44,8 @@ returns-in_err-refuse-clause-proved c =
     (subst (λ ps. Judges c.check_operands.result (operand_rules sigs ctx es (parts (part (parts n) 1)) ps)) c.as_slice-params.ensures
     (subst (λ ns. Judges c.check_operands.result (operand_rules sigs ctx es ns c.as_slice-params.result.now)) c.parts_of.ensures c.check_operands.ensures))))
 
-pub are_apart-requires : goal.are_apart-requires
-are_apart-requires c =
+pub are_disjoint-requires : goal.are_disjoint-requires
+are_disjoint-requires c =
     let sigs = signatures c.args.self.now.env.now in
     let ctx = c.args.self.now.ctx.now in
     let a = assertion_view c.args.thm.now in
@@ -71,12 +71,12 @@ returns-then-not-apart-clause-proved c =
     let a = assertion_view c.args.thm.now in
     let es = c.args.es.now in
     let n = first c.args.nodes.now in
-    step.apart_fails sigs ctx a es (claim_trees c.args.claims.now) n
+    step.disjoint_rule_fails sigs ctx a es (claim_trees c.args.claims.now) n
     (sym c.len.ensures ∙ c.if-len-params.false ∙ ap length c.as_slice-params.ensures, length-claims c.args.claims.now ∙ c.if-claims-len.false ∙ c.len-else-len-params.ensures) c.fault-then-not-apart.result
     (told_holds (operand_rules sigs ctx es (parts (part (parts n) 1)) a.params) c.check_operands.result c.refuse.result c.in_ok-refuse.field-0 c.refuse.ensures c.in_ok-refuse.was
     (subst (λ ps. Judges c.check_operands.result (operand_rules sigs ctx es (parts (part (parts n) 1)) ps)) c.as_slice-params.ensures
     (subst (λ ns. Judges c.check_operands.result (operand_rules sigs ctx es ns c.as_slice-params.result.now)) c.parts_of.ensures c.check_operands.ensures)))
-    c.fault-then-not-apart.ensures (λ apart. true≢false (sym (c.in_ok-apart.ensures.1 (subst (λ ps. Apart ctx es ps) (sym c.as_slice-params.ensures) apart)) ∙ c.if-not-apart.true))
+    c.fault-then-not-apart.ensures (λ apart. true≢false (sym (c.in_ok-apart.ensures.1 (subst (λ ps. AreDisjoint ctx es ps) (sym c.as_slice-params.ensures) apart)) ∙ c.if-not-apart.true))
 
 pub returns-in_err-check_claims-clause-proved : goal.returns-in_err-check_claims-clause-proved
 returns-in_err-check_claims-clause-proved c =
@@ -92,7 +92,7 @@ returns-in_err-check_claims-clause-proved c =
     (told_holds (operand_rules sigs ctx es (parts (part (parts n) 1)) a.params) c.check_operands.result c.refuse.result c.in_ok-refuse.field-0 c.refuse.ensures c.in_ok-refuse.was
     (subst (λ ps. Judges c.check_operands.result (operand_rules sigs ctx es (parts (part (parts n) 1)) ps)) c.as_slice-params.ensures
     (subst (λ ns. Judges c.check_operands.result (operand_rules sigs ctx es ns c.as_slice-params.result.now)) c.parts_of.ensures c.check_operands.ensures)))
-    (subst (λ ps. Apart ctx es ps) c.as_slice-params.ensures (c.in_ok-apart.ensures.0 c.if-not-apart.false))
+    (subst (λ ps. AreDisjoint ctx es ps) c.as_slice-params.ensures (c.in_ok-apart.ensures.0 c.if-not-apart.false))
     (subst (λ ns. Stops s (subproof_rules (claim_trees c.args.claims.now) ns (instances es a.hyps))) c.parts_after.ensures c.in_err-check_claims.ensures.judged))
 
 pub returns-clause-proved : goal.returns-clause-proved
@@ -107,7 +107,7 @@ returns-clause-proved c =
           (told_holds (operand_rules sigs ctx es (parts (part (parts n) 1)) a.params) c.check_operands.result c.refuse.result c.in_ok-refuse.field-0 c.refuse.ensures c.in_ok-refuse.was
           (subst (λ ps. Judges c.check_operands.result (operand_rules sigs ctx es (parts (part (parts n) 1)) ps)) c.as_slice-params.ensures
           (subst (λ ns. Judges c.check_operands.result (operand_rules sigs ctx es ns c.as_slice-params.result.now)) c.parts_of.ensures c.check_operands.ensures)))
-          (subst (λ ps. Apart ctx es ps) c.as_slice-params.ensures (c.in_ok-apart.ensures.0 c.if-not-apart.false))
+          (subst (λ ps. AreDisjoint ctx es ps) c.as_slice-params.ensures (c.in_ok-apart.ensures.0 c.if-not-apart.false))
           (subst (λ ns. AllHold (subproof_rules (claim_trees c.args.claims.now) ns (instances es a.hyps))) c.parts_after.ensures c.in_ok-check_claims.ensures.judged),
       c.instance.ensures,
     )

@@ -1,6 +1,0 @@
-use Rattle.std.proofs.Common.{ℕ, ◌<◌}
-use Rattle.mz_logic_theory.specs.Variables.{ApartAt}
-use Rattle.mz_logic.proofs.disjoint.are_apart_by_pairs.Given as goal
-
-abbrev pub invariant-loop-j : goal.invariant-loop-j
-invariant-loop-j l = (k : ℕ) → k < l.j → (i : ℕ) → ApartAt l.ctx l.es l.params i k

@@ -1,8 +1,0 @@
-use Rattle.std.proofs.Common.{◌<◌, sym, subst}
-use Rattle.mz_layout_tables.specs.Tables.{term_count}
-use Rattle.mz_machine_env.specs.Before.{Before}
-use Rattle.mz_machine_env.proofs.BeforeLaws.{row-in-file}
-use Rattle.mz_machine_env.proofs.rows_before.Earlier.own_result.Goals as goal
-
-pub result-requires : goal.result-requires
-result-requires c = row-in-file _ _ (subst (λ (b : Before). c.args.row < term_count b.file) (sym c.self.view_is) c.requires)

@@ -1,0 +1,8 @@
+use Rattle.std.proofs.Common.{◌<◌, sym, subst}
+use Rattle.mz_layout_tables.specs.Tables.{term_count}
+use Rattle.mz_machine_env.proofs.BeforeLaws.{row-in-file}
+use Rattle.mz_machine_env.specs.Before.{Before}
+use Rattle.mz_machine_env.proofs.rows_before.Environment.own_term_param.Goals as goal
+
+pub param-requires-clause-term : goal.param-requires-clause-term
+param-requires-clause-term c = row-in-file c.self.inside.mmb.now c.args.row (subst (λ (b : Before). c.args.row < term_count b.file) (sym c.self.view_is) c.requires.row)

@@ -1,0 +1,9 @@
+use Rattle.std.proofs.Common.{◌<◌, length, sym, subst}
+use Rattle.mz_machine_env.specs.Before.{words_before}
+use Rattle.mz_machine_env.proofs.BeforeLaws.{words-in-file}
+use Rattle.mz_machine_env.proofs.rows_before.EnvironmentTerms.arity.Goals as goal
+
+pub arity-requires : goal.arity-requires
+arity-requires c =
+    words-in-file (record { file = c.self.inside.mmb.now; rows = c.self.inside.rows }) c.args.t c.self.invariant.1
+    (subst (λ b. c.args.t < length (words_before b)) (sym c.self.view_is) c.requires)

@@ -1,4 +1,0 @@
-use Rattle.mz_unify.proofs.rows.kept_apart.Goals as goal
-
-pub returns-in-Body : goal.returns-in-Body
-returns-in-Body c sigs over body = c.variables.ensures sigs over

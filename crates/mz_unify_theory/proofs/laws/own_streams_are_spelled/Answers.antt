@@ -1,5 +1,0 @@
-use Rattle.mz_unify_theory.proofs.Exact.{assertions-spelled, definitions-spelled}
-use Rattle.mz_unify_theory.proofs.laws.own_streams_are_spelled.Goals as goal
-
-pub returns : goal.returns
-returns c = record { assertions = assertions-spelled; definitions = definitions-spelled }
